@@ -1,0 +1,75 @@
+//! The numbers of a design file: words of 16 bits, longs and range numbers of 32 bits.
+//!
+//! Each call reads or writes one number at a byte place in a slice. A word has its low byte first.
+//! A long and a range number have their high word first, and in each word the low byte first.
+#![tactic(auto)]
+
+ghost use Rattle.std.specs.Prelude.{◌≡◌, ◌+◌, ◌≤◌, length};
+ghost use Rattle.dgn_words.specs.Numbers.{word_at, long_at, range_long_at, word_bytes, long_bytes, range_long_bytes, long_word_bytes, put};
+
+use byteorder::{ByteOrder, LittleEndian};
+
+/// The word at byte `at`: two bytes, the low byte first, without sign.
+pub fn word(b: &[u8], at: usize) -> u16
+    requires { at + 2 ≤ length b.now }
+    ensures { result ≡ word_at b.now at }
+{
+    LittleEndian::read_u16(&b[at..])
+}
+
+/// Writes the word `v` at byte `at` and leaves every other byte.
+pub fn put_word(b: &mut [u8], at: usize, v: u16)
+    requires { at + 2 ≤ length b.old }
+    ensures { b.new ≡ put b.old at (word_bytes v) }
+{
+    LittleEndian::write_u16(&mut b[at..], v);
+}
+
+/// The long at byte `at`: four bytes, the high word first, as two's complement.
+pub fn long(b: &[u8], at: usize) -> i32
+    requires { at + 4 ≤ length b.now }
+    ensures { result ≡ long_at b.now at }
+{
+    let high = u32::from(word(b, at));
+    let low = u32::from(word(b, at + 2));
+    (high * 65536 + low).cast_signed()
+}
+
+/// Writes the long `v` at byte `at` and leaves every other byte.
+pub fn put_long(b: &mut [u8], at: usize, v: i32)
+    requires { at + 4 ≤ length b.old }
+    ensures { b.new ≡ put b.old at (long_bytes v) }
+{
+    put_words(b, at, v.cast_unsigned());
+}
+
+/// The range number at byte `at`: four bytes, the high word first, read without sign, less
+/// 2147483648.
+pub fn range_long(b: &[u8], at: usize) -> i32
+    requires { at + 4 ≤ length b.now }
+    ensures { result ≡ range_long_at b.now at }
+{
+    let high = i64::from(word(b, at));
+    let low = i64::from(word(b, at + 2));
+    (high * 65536 + low - 2147483648) as i32
+}
+
+/// Writes the range number `v` at byte `at` and leaves every other byte.
+pub fn put_range_long(b: &mut [u8], at: usize, v: i32)
+    requires { at + 4 ≤ length b.old }
+    ensures { b.new ≡ put b.old at (range_long_bytes v) }
+{
+    put_words(b, at, (i64::from(v) + 2147483648) as u32);
+}
+
+// Writes the two words of `u`, the high one first.
+fn put_words(b: &mut [u8], at: usize, u: u32)
+    requires { at + 4 ≤ length b.old }
+    ensures { b.new ≡ put b.old at (long_word_bytes u) }
+{
+    put_word(b, at, (u / 65536) as u16);
+    put_word(b, at + 2, (u % 65536) as u16);
+}
+
+#[cfg(test)]
+mod tests;
