@@ -1,6 +1,6 @@
 -- The numbers of a design file, as they stand in its bytes. A word is two bytes, the low byte first.
 -- A long is four bytes: its high word first, and in each word the low byte first.
-use Rattle.std.specs.Prelude.{ℕ, ◌+◌, ◌*◌, ◌/◌, ◌%◌, ◌^◌, List, [], ◌∷◌, ◌++◌, length, take, drop, slice_index, ℤ, pos, ◌+ℤ◌, ◌-ℤ◌, nat_lt, if◌then◌else◌, unsigned_abs}
+use Rattle.std.specs.Prelude.{ℕ, zero, suc, ◌+◌, ◌*◌, ◌/◌, ◌%◌, ◌^◌, List, [], ◌∷◌, ◌++◌, length, take, drop, slice_index, ℤ, pos, ◌+ℤ◌, ◌-ℤ◌, nat_lt, if◌then◌else◌, unsigned_abs}
 use Rattle.std.specs.Int.{w32, cast_unsigned}
 
 -- the word at place p
@@ -18,6 +18,11 @@ signed u = if nat_lt u (2 ^ 31) then pos u else pos u -ℤ pos (2 ^ 32)
 -- the long at place p: the four bytes, read as two's complement
 abbrev pub long_at : List ℕ → ℕ → ℤ
 long_at b p = signed (long_word_at b p)
+
+-- the n longs that stand side by side from place p on
+abbrev pub longs_at : ℕ → List ℕ → ℕ → List ℤ
+longs_at zero b p = []
+longs_at (suc n) b p = long_at b p ∷ longs_at n b (p + 4)
 
 -- the range number at place p: the four bytes without sign, less 2147483648
 abbrev pub range_long_at : List ℕ → ℕ → ℤ

@@ -1,0 +1,66 @@
+//! The view of an element's points.
+
+ghost use Rattle.std.specs.Prelude.{◌≡◌, ◌+◌, ◌*◌, ◌<◌, ◌≤◌, length, slice_get};
+ghost use Rattle.dgn_words.specs.Numbers.{longs_at};
+ghost use Rattle.body_vertex.specs.Points.{points_at};
+
+use dgn_words::long;
+use std::array;
+use std::marker::Model;
+
+/// The points of an element, borrowed from its bytes. A contract sees the list of its points, each
+/// a list of `DIM` coordinates.
+#[derive(Debug, Drop)]
+pub struct Path<'a, const DIM: usize> {
+    bytes: &'a [u8],
+    start: usize,
+    count: usize,
+}
+
+impl<'a, const DIM: usize> Model for Path<'a, DIM> {
+    ghost use Rattle.std.specs.Prelude.{ℕ, ◌+◌, ◌*◌, ◌≤◌, List, ℤ, length};
+    ghost use Rattle.body_vertex.specs.Points.{points_at};
+
+    ghost Value = { List (List ℤ) };
+
+    ghost view = { λ p. points_at p.count DIM p.bytes.now p.start };
+
+    ghost invariant = { λ p. p.start + 4 * DIM * p.count ≤ length p.bytes.now };
+}
+
+impl<'a, const DIM: usize> Path<'a, DIM> {
+    // The `count` points that stand side by side in `bytes` from `start` on.
+    pub(crate) fn new(bytes: &'a [u8], start: usize, count: usize) -> Self
+        requires { start + 4 * DIM * count ≤ length bytes.now }
+        ensures { result ≡ points_at count DIM bytes.now start }
+    {
+        Path {
+            bytes,
+            start,
+            count,
+        }
+    }
+
+    /// The number of points: 2 for a line, and the count word for any other type.
+    pub fn count(&self) -> usize
+        ensures { result ≡ length self.now }
+    {
+        self.count
+    }
+
+    /// Point `i`, one coordinate for each axis.
+    pub fn point(&self, i: usize) -> [i32; DIM]
+        requires { i < length self.now }
+        ensures { slice_get self.now i ≡ Some result }
+    {
+        longs(self.bytes, self.start + 4 * DIM * i)
+    }
+}
+
+// The longs that stand side by side in `b` from `at` on.
+fn longs<const N: usize>(b: &[u8], at: usize) -> [i32; N]
+    requires { at + 4 * N ≤ length b.now }
+    ensures { result ≡ longs_at N b.now at }
+{
+    array::from_fn(|axis| long(b, at + 4 * axis))
+}
