@@ -10,7 +10,7 @@ const SIGNS: [u8; 40] = *b" ABCDEFGHIJKLMNOPQRSTUVWXYZ$.%0123456789";
 // How many words three signs make.
 const WORDS: u16 = 64000;
 
-/// The three signs of the word `w`. None exactly where `w` is 64000 or more.
+/// The three signs of the word `w`. Words from 64000 on have none, and they alone give None.
 pub fn unpack(w: u16) -> Option<[u8; 3]>
     ensures none { IsNone result ↔ (64000 ≤ w) }
     ensures signs { IfSome result (λ c. c ≡ signs_of w) }
@@ -23,8 +23,8 @@ pub fn unpack(w: u16) -> Option<[u8; 3]>
     }
 }
 
-/// The word of the three signs `c`. None exactly where a byte isn't one of the forty signs, as a
-/// lower-case letter isn't.
+/// The word of the three signs `c`. It is None where one of the bytes is no sign of the table, as a
+/// lower-case letter, and only there.
 pub fn pack(c: [u8; 3]) -> Option<u16>
     ensures some { IsSome result ↔ All IsSign c }
     ensures word { result ≡ word_of c }

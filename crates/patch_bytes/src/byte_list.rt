@@ -20,7 +20,7 @@ impl Model for ByteList {
 }
 
 impl ByteList {
-    /// The empty list. It takes no memory.
+    /// A list without bytes. It takes no memory.
     pub fn new(alloc: Global) -> Self
         ensures { result ≡ [] }
     {
@@ -29,7 +29,7 @@ impl ByteList {
         }
     }
 
-    /// Puts `v` last. A push that finds no memory changes nothing.
+    /// Adds `v` at the end. Where there is no memory for it, the list stays as it was.
     pub fn push(&mut self, v: u8) -> Result<(), AllocError>
         ensures ok { OnOk result (self.new ≡ self.old ++ v ∷ []) }
         ensures err { OnErr result (self.new ≡ self.old) }
@@ -52,7 +52,7 @@ impl ByteList {
         self.kept.is_empty()
     }
 
-    /// The byte at `i`, counted from 0. None exactly where `i` is at or past the length.
+    /// The byte at `i`, counted from 0. At and past the length, and only there, it is None.
     pub fn get(&self, i: usize) -> Option<u8>
         ensures { result ≡ slice_get self.now i }
     {
@@ -66,7 +66,7 @@ impl ByteList {
         self.kept.as_slice()
     }
 
-    /// Keeps the first `n` bytes. It changes nothing where there are no more than `n`.
+    /// Drops what stands behind the first `n` bytes. A list of at most `n` bytes stays as it was.
     pub fn truncate(&mut self, n: usize)
         ensures { self.new ≡ take n self.old }
     {

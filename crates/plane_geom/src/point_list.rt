@@ -22,7 +22,7 @@ impl Model for PointList {
 }
 
 impl PointList {
-    /// The empty list. It takes no memory.
+    /// A list without points. It takes no memory.
     pub fn new(alloc: Global) -> Self
         ensures { result ≡ [] }
     {
@@ -31,7 +31,7 @@ impl PointList {
         }
     }
 
-    /// Puts `v` last. A push that finds no memory changes nothing.
+    /// Adds `v` at the end. Where there is no memory for it, the list stays as it was.
     pub fn push(&mut self, v: [i32; 3]) -> Result<(), AllocError>
         ensures ok { OnOk result (self.new ≡ self.old ++ v ∷ []) }
         ensures err { OnErr result (self.new ≡ self.old) }
@@ -54,7 +54,7 @@ impl PointList {
         self.kept.is_empty()
     }
 
-    /// The point at `i`, counted from 0. None exactly where `i` is at or past the length.
+    /// The point at `i`, counted from 0. At and past the length, and only there, it is None.
     pub fn get(&self, i: usize) -> Option<[i32; 3]>
         ensures { result ≡ slice_get self.now i }
     {
