@@ -1,0 +1,3 @@
+pub mod FileMaps
+pub mod Gathering
+pub mod Telling

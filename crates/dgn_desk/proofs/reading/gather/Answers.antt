@@ -1,0 +1,29 @@
+use Rattle.std.proofs.Common.{refl, ◌∙◌, arith}
+use Rattle.dgn_desk.proofs.Gathering.{gathered_none, gathered_more, only_left}
+use Rattle.dgn_desk.proofs.reading.gather.Goals as goal
+
+pub pieces-init : goal.pieces-init
+pieces-init g c = record {
+  told = rw c.new-all.ensures.items (gathered_none (g.D.Desk.content c.args.desk.now));
+  room = c.requires.piece;
+  reads = refl;
+  writes = refl;
+}
+
+pub pieces-preserved : goal.pieces-preserved
+pieces-preserved g c =
+    let before = c.pieces.invariant in
+    let got = c.in_ok-count.ensures in
+    let entry = g.D.Desk.content c.args.desk.now in
+    let more = gathered_more entry (g.D.Desk.content c.pieces.desk) _ c.pieces.all.items c.read_front.new.piece c.in_ok-count.count before.told got.bytes got.told in
+    record {
+      told = rw (c.in_ok-extend_from_slice.ensures.items, c.split_at.ensures.front) more;
+      room = omega (arith, c.read_front.auto.piece);
+      reads = got.cause ∙ before.reads;
+      writes = got.other ∙ before.writes;
+    }
+
+pub returns-in_err-extend_from_slice-clause-told : goal.returns-in_err-extend_from_slice-clause-told
+returns-in_err-extend_from_slice-clause-told g c =
+    let before = c.pieces.invariant in
+    only_left _ _ _ (gathered_more (g.D.Desk.content c.args.desk.now) (g.D.Desk.content c.pieces.desk) _ c.pieces.all.items c.read_front.new.piece c.in_ok-count.count before.told c.in_ok-count.ensures.bytes c.in_ok-count.ensures.told)

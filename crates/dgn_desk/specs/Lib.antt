@@ -1,0 +1,4 @@
+pub mod Content
+pub mod Desk
+pub mod FileLaws
+pub mod FileMap

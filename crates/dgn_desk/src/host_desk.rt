@@ -1,0 +1,100 @@
+ghost use Rattle.std.specs.Prelude.{◌≡◌, None, Err};
+ghost use Rattle.dgn_desk.specs.Desk.{Counts};
+
+use crate::desk::Desk;
+use crate::stop::Stop;
+use std::fs;
+use std::io::{Read, Write};
+use std::rt::Files;
+
+/// The desk of the machine: the files of the system and standard output.
+///
+/// A name is a path as std takes it. All that is said goes to standard output, and nothing goes to
+/// standard error. Each error of the system is answered as `Failed` and counted, want of memory in the
+/// system too; the desk itself takes no memory. It tells nothing of what it holds.
+#[derive(Drop)]
+pub struct HostDesk<R: Files> {
+    rt: R,
+    reading: Option<R::File>,
+    writing: Option<R::File>,
+    read_faults: u64,
+    write_faults: u64,
+}
+
+impl<R: Files + Print + Drop> HostDesk<R> {
+    /// A desk over this runtime, with no faults, that has begun no file.
+    pub fn new(rt: R) -> HostDesk<R>
+        ensures read_faults { ⟦<HostDesk<R> as Desk>⟧.read_faults result ≡ 0 }
+        ensures write_faults { ⟦<HostDesk<R> as Desk>⟧.write_faults result ≡ 0 }
+    {
+        HostDesk {
+            rt,
+            reading: None,
+            writing: None,
+            read_faults: 0,
+            write_faults: 0,
+        }
+    }
+}
+
+impl<R: Files + Print + Drop> Desk for HostDesk<R> {
+    ghost read_faults = { λ d. d.read_faults };
+
+    ghost write_faults = { λ d. d.write_faults };
+
+    ghost content = { λ _. None };
+
+    fn begin_read(&mut self, name: &str) -> Result<(), Stop> {
+        let Ok(file) = fs::open(&self.rt, name) else {
+            return failed(&mut self.read_faults);
+        };
+        self.reading = Some(file);
+        Ok(())
+    }
+
+    /// Where no file was begun, 0.
+    fn read(&mut self, buf: &mut [u8]) -> Result<usize, Stop> {
+        let Some(file) = &mut self.reading else {
+            return Ok(0);
+        };
+        match file.read(buf) {
+            Ok(count) => Ok(count),
+            Err(_) => failed(&mut self.read_faults),
+        }
+    }
+
+    fn begin_write(&mut self, name: &str) -> Result<(), Stop> {
+        let Ok(file) = fs::create(&self.rt, name) else {
+            return failed(&mut self.write_faults);
+        };
+        self.writing = Some(file);
+        Ok(())
+    }
+
+    /// Where no file was begun, `Failed`.
+    fn write(&mut self, bytes: &[u8]) -> Result<usize, Stop> {
+        let Some(file) = &mut self.writing else {
+            return failed(&mut self.write_faults);
+        };
+        match file.write(bytes) {
+            Ok(count) if count > 0 || bytes.is_empty() => Ok(count),
+            _ => failed(&mut self.write_faults),
+        }
+    }
+
+    fn say(&mut self, bytes: &[u8]) -> Result<usize, Stop> {
+        match self.rt.write_some(bytes) {
+            Ok(count) if count > 0 || bytes.is_empty() => Ok(count),
+            _ => failed(&mut self.write_faults),
+        }
+    }
+}
+
+// Counts one more fault, up to the last value of the counter, and answers it.
+fn failed<T>(count: &mut u64) -> Result<T, Stop>
+    ensures cause { Counts count.old count.new result }
+    ensures answer { result ≡ Err Stop.Failed }
+{
+    *count = count.saturating_add(1);
+    Err(Stop::Failed)
+}

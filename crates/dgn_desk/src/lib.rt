@@ -1,0 +1,21 @@
+//! The outside of the program, as a trait: files that are read and written by name, and a place to say
+//! things. Its contract counts the faults and, for a desk that tells it, gives the content.
+#![tactic(auto)]
+
+mod desk;
+mod file_map;
+mod host_desk;
+mod reading;
+mod stop;
+mod sure_desk;
+mod writing;
+
+pub use desk::Desk;
+pub use host_desk::HostDesk;
+pub use reading::{ReadEnd, read_all};
+pub use stop::Stop;
+pub use sure_desk::SureDesk;
+pub use writing::{say_all, write_file};
+
+#[cfg(test)]
+mod tests;

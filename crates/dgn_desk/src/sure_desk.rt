@@ -1,0 +1,129 @@
+ghost use Rattle.std.specs.Prelude.{◌≡◌, ◌≤◌, [], Some, OnOk, OnErr};
+ghost use Rattle.std.specs.Option.{option_copied};
+ghost use Rattle.std.specs.FinMap as maps;
+ghost use Rattle.dgn_desk.specs.Content.{with_file};
+
+use crate::desk::Desk;
+use crate::file_map::FileMap;
+use crate::stop::Stop;
+use std::alloc::{AllocError, Global};
+use std::marker::Model;
+
+/// A desk of memory that never fails: it can only want memory.
+///
+/// A name that isn't there reads as an empty file, and writes go to the file of the empty name until
+/// one is begun. `read`, `write` and `say` move at most as many bytes at once as it is made with.
+#[derive(Drop)]
+pub struct SureDesk {
+    alloc: Global,
+    piece: usize,
+    files: FileMap,
+    reading: Vec<u8>,
+    at: usize,
+    target: String,
+    said: Vec<u8>,
+}
+
+impl Model for SureDesk {
+    ghost use Rattle.std.specs.Prelude.{◌≤◌, Some, drop, vec_len, string_bytes};
+    ghost use Rattle.dgn_desk.specs.Content.{Content, coded_content};
+
+    ghost Value = { Content };
+
+    ghost coded = { coded_content };
+
+    ghost view = { λ d. record {
+      files = d.files;
+      left = drop d.at d.reading.items;
+      target = Some (string_bytes d.target);
+      said = d.said.items;
+    } };
+
+    ghost invariant = { λ d. (d.at ≤ vec_len d.reading) × (1 ≤ d.piece) };
+}
+
+impl SureDesk {
+    /// A desk that holds no files, has nothing left to read and has said nothing. It moves at most
+    /// `piece` bytes at once.
+    pub fn new(alloc: Global, piece: usize) -> SureDesk
+        requires { 1 ≤ piece }
+        ensures { result ≡ record { files = maps.empty; left = []; target = Some []; said = [] } }
+    {
+        SureDesk {
+            alloc,
+            piece,
+            files: FileMap::new(alloc),
+            reading: Vec::new(alloc),
+            at: 0,
+            target: String::new(alloc),
+            said: Vec::new(alloc),
+        }
+    }
+
+    /// Sets a file. A reading of it that was begun goes on over its former bytes.
+    pub fn add(&mut self, name: &str, bytes: Vec<u8>) -> Result<(), AllocError>
+        ensures ok { OnOk result (self.new ≡ record self.old { files = with_file name.now bytes.items self.old.files }) }
+        ensures err { OnErr result (self.new ≡ self.old) }
+    {
+        self.files.set(name, bytes)
+    }
+
+    /// The bytes of a file. None exactly where it isn't there.
+    pub fn file(&self, name: &str) -> Option<&[u8]>
+        ensures { option_copied result ≡ maps.get self.now.files name.now }
+    {
+        self.files.get(name)
+    }
+
+    /// All that was said.
+    pub fn said(&self) -> &[u8]
+        ensures { result.now ≡ self.now.said }
+    {
+        self.said.as_slice()
+    }
+}
+
+impl Desk for SureDesk {
+    ghost read_faults = { λ _. 0 };
+
+    ghost write_faults = { λ _. 0 };
+
+    ghost content = { λ c. Some c };
+
+    fn begin_read(&mut self, name: &str) -> Result<(), Stop> {
+        let bytes = self.files.get(name).unwrap_or(&[]);
+        self.reading = Vec::from_slice(self.alloc, bytes)?;
+        self.at = 0;
+        Ok(())
+    }
+
+    fn read(&mut self, buf: &mut [u8]) -> Result<usize, Stop> {
+        let (_, left) = self.reading.as_slice().split_at(self.at);
+        let count = left.len().min(buf.len()).min(self.piece);
+        let (front, _) = left.split_at(count);
+        buf[..count].copy_from_slice(front);
+        self.at += count;
+        Ok(count)
+    }
+
+    fn begin_write(&mut self, name: &str) -> Result<(), Stop> {
+        let target = String::from_str(self.alloc, name)?;
+        self.files.set(name, Vec::new(self.alloc))?;
+        self.target = target;
+        Ok(())
+    }
+
+    fn write(&mut self, bytes: &[u8]) -> Result<usize, Stop> {
+        let count = bytes.len().min(self.piece);
+        let (front, _) = bytes.split_at(count);
+        self.files.append(self.target.as_str(), front)?;
+        Ok(count)
+    }
+
+    fn say(&mut self, bytes: &[u8]) -> Result<usize, Stop> {
+        let count = bytes.len().min(self.piece);
+        let (front, _) = bytes.split_at(count);
+        self.said.extend_from_slice(front)?;
+        Ok(count)
+    }
+}
