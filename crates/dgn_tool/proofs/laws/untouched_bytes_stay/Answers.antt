@@ -1,0 +1,5 @@
+use Rattle.dgn_tool.proofs.Untouched.{untouched}
+use Rattle.dgn_tool.proofs.laws.untouched_bytes_stay.Goals as goal
+
+pub returns : goal.returns
+returns c = untouched

@@ -1,0 +1,10 @@
+use Rattle.std.proofs.Common.{◌≡◌, ◌<◌, length, arith, ◌==◌, false}
+use Rattle.std.proofs.lemmas.Bool.Decides.{nat_tests}
+use Rattle.dgn_tool.proofs.Pieces.{lines_of-first}
+use Rattle.dgn_tool.proofs.script.next_line.Goals as goal
+
+pub returns : goal.returns
+returns c =
+    let test : false ≡ (length c.args.text.now == 0) = c.if-is_empty.ensures in
+    let some : 0 < length c.args.text.now = grind (arith, nat_tests) in
+    (rw (c.strip_return.ensures, c.first_piece.ensures.piece, c.first_piece.ensures.rest) (lines_of-first c.args.text.now some), c.first_piece.ensures.shorter some)
