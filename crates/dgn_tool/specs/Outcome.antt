@@ -1,6 +1,6 @@
 -- What a run comes to: a status, what is said, and the file that is written, computed from the words of
 -- the command line and the files that they name.
-use Rattle.std.specs.Prelude.{ℕ, ◌≡◌, nat_lt, ◌&&◌, not, if◌then◌else◌, List, [], ◌∷◌, ◌++◌, length, codes, Option, Some, None, ⊤}
+use Rattle.std.specs.Prelude.{ℕ, ◌≡◌, nat_lt, ◌&&◌, not, if◌then◌else◌, List, [], ◌∷◌, ◌++◌, length, codes, Option, Some, None, IfSome, ⊤}
 use Rattle.std.specs.List.{list_any}
 use Rattle.std.specs.Str.{bytes_eq}
 use Rattle.dgn_desk.specs.Content.{Files, Content, bytes_of, with_file}
@@ -86,3 +86,7 @@ pub record Leaves (o : Outcome) (status : Status) (old : Content) (now : Option 
   pub told_is : now ≡ Some content
   pub said_is : content.said ≡ old.said ++ o.text
   pub files_are : content.files ≡ files_after o.file old.files
+
+-- where a run came to an ending, over a desk that told what it holds, it ended with the outcome that its files have
+abbrev pub EndsAs : Status → (Files → Outcome) → Option Content → Option Content → Type 0
+EndsAs status o old now = IsEnding status → IfSome old (λ c. Leaves (o c.files) status c now)

@@ -17,9 +17,12 @@ pub fn answer(
     command: &Recolor,
 ) -> Result<bool, AllocError>
     requires { (d : Drawing) × IsPlaced file.old places.now d }
-    ensures text { OnOk result (out.new.items ≡ out.old.items ++ text_of (vec_len places.now.starts) command.now) }
-    ensures refused { IfOk result (λ refused. refused ≡ is_refused (vec_len places.now.starts) command.now) }
-    ensures file { OnOk result ((d : Drawing) → IsPlaced file.old places.now d → IsPlaced file.new places.now (drawing_after command.now d)) }
+    ensures text { OnOk result
+        (out.new.items ≡ out.old.items ++ text_of (vec_len places.now.starts) command.now) }
+    ensures refused { IfOk result
+        (λ refused. refused ≡ is_refused (vec_len places.now.starts) command.now) }
+    ensures file { OnOk result
+        ((d : Drawing) → IsPlaced file.old places.now d → IsPlaced file.new places.now (drawing_after command.now d)) }
     ensures err { OnErr result (file.new ≡ file.old) }
 {
     let element = command.element as usize;
@@ -41,7 +44,8 @@ pub fn answer(
 fn recolor(file: &mut [u8], places: &Places, element: usize, color: u8)
     requires there { element < vec_len places.now.starts }
     requires placed { (d : Drawing) × IsPlaced file.old places.now d }
-    ensures { (d : Drawing) → IsPlaced file.old places.now d → IsPlaced file.new places.now (record { elements = recolored element color d.elements; tail = d.tail }) }
+    ensures { (d : Drawing) → IsPlaced file.old places.now d → IsPlaced file.new places.now
+        (record { elements = recolored element color d.elements; tail = d.tail }) }
 {
     let start = places.starts[element] as usize;
     file[start + 35] = color;

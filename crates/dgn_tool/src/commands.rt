@@ -24,9 +24,12 @@ pub fn run_all<D: Desk>(
     requires { (d : Drawing) × IsPlaced file.old places.now d }
     ensures cause { Counts (D.write_faults desk.old) (D.write_faults desk.new) result }
     ensures other { D.read_faults desk.new ≡ D.read_faults desk.old }
-    ensures refused { IfOk result (λ refused. refused ≡ list_any (is_refused (vec_len places.now.starts)) commands.now) }
-    ensures said { OnOk result (D.content desk.new ≡ option_map (spoken (texts_of (vec_len places.now.starts) commands.now)) (D.content desk.old)) }
-    ensures file { OnOk result ((d : Drawing) → IsPlaced file.old places.now d → IsPlaced file.new places.now (drawing_after_all commands.now d)) }
+    ensures refused { IfOk result
+        (λ refused. refused ≡ list_any (is_refused (vec_len places.now.starts)) commands.now) }
+    ensures said { OnOk result
+        (D.content desk.new ≡ option_map (spoken (texts_of (vec_len places.now.starts) commands.now)) (D.content desk.old)) }
+    ensures file { OnOk result
+        ((d : Drawing) → IsPlaced file.old places.now d → IsPlaced file.new places.now (drawing_after_all commands.now d)) }
 {
     let mut out = Vec::new(alloc);
     let mut refused = false;

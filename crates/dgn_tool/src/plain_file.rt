@@ -29,7 +29,9 @@ fn ends(bytes: &[u8]) -> bool
 
 // The size of the plain line that begins here, or none where something else does.
 fn line_size(bytes: &[u8]) -> Option<usize>
-    ensures { MatchOption result (is_line bytes.now ≡ false) (λ size. (is_line bytes.now ≡ true) × (size ≡ size_of bytes.now) × (52 ≤ size) × (size ≤ length bytes.now)) }
+    ensures { MatchOption result
+        (is_line bytes.now ≡ false)
+        (λ size. (is_line bytes.now ≡ true) × (size ≡ size_of bytes.now) × (52 ≤ size) × (size ≤ length bytes.now)) }
 {
     if bytes.len() < 52 {
         return None;
@@ -48,7 +50,9 @@ fn line_size(bytes: &[u8]) -> Option<usize>
 /// The places of the elements of a plain file, or none where the file isn't plain.
 pub fn open(alloc: Global, file: &[u8]) -> Result<Option<Places>, AllocError>
     requires { length file.now ≤ 67108864 }
-    ensures { IfOk result (λ found. MatchOption found (drawing_of file.now ≡ None) (λ p. (d : Drawing) × (drawing_of file.now ≡ Some d) × IsPlaced file.now p d)) }
+    ensures { IfOk result (λ found. MatchOption found
+        (drawing_of file.now ≡ None)
+        (λ p. (d : Drawing) × (drawing_of file.now ≡ Some d) × IsPlaced file.now p d)) }
 {
     if !has_plain_tcb(file) {
         return Ok(None);

@@ -39,7 +39,9 @@ fn read_line(line: &[u8]) -> Option<Recolor>
 
 // The first line, and what stands behind it.
 fn next_line(text: &[u8]) -> Option<(&[u8], &[u8])>
-    ensures { MatchOption result (lines_of text.now ≡ []) (λ r. (lines_of text.now ≡ r.0.now ∷ lines_of r.1.now) × (length r.1.now < length text.now)) }
+    ensures { MatchOption result
+        (lines_of text.now ≡ [])
+        (λ r. (lines_of text.now ≡ r.0.now ∷ lines_of r.1.now) × (length r.1.now < length text.now)) }
 {
     if text.is_empty() {
         return None;
@@ -60,7 +62,9 @@ fn strip_return(line: &[u8]) -> &[u8]
 
 // The first word, and what stands behind it.
 fn next_word(line: &[u8]) -> Option<(&[u8], &[u8])>
-    ensures { MatchOption result (words_of line.now ≡ []) (λ r. words_of line.now ≡ r.0.now ∷ words_of r.1.now) }
+    ensures { MatchOption result
+        (words_of line.now ≡ [])
+        (λ r. words_of line.now ≡ r.0.now ∷ words_of r.1.now) }
 {
     let mut rest = line;
     'pieces: while !rest.is_empty() {

@@ -1,9 +1,10 @@
-ghost use Rattle.std.specs.Prelude.{◌≡◌, ◌≤◌, ⊤, List, map, length, vec_len, string_bytes, option_map, IfSome, IsNone, IsSome};
+ghost use Rattle.std.specs.Prelude.{◌≡◌, map, string_bytes, option_map, Some, IsNone, IsSome};
 ghost use Rattle.dgn_desk.specs.Content.{bytes_of, OnlyLeftDiffers};
 ghost use Rattle.dgn_desk.specs.Desk.{Rose};
 ghost use Rattle.dgn_tool.specs.PlainFile.{Drawing};
 ghost use Rattle.dgn_tool.specs.Places.{IsPlaced};
-ghost use Rattle.dgn_tool.specs.Outcome.{Names, edit_names, outcome, edit_outcome, design_outcome, told, ended, IsEnding, Leaves};
+ghost use Rattle.dgn_tool.specs.Outcome.{edit_names, outcome, edit_outcome, design_outcome, told, ended};
+ghost use Rattle.dgn_tool.specs.Outcome.{IsEnding, EndsAs};
 
 use crate::commands::run_all;
 use crate::places::Places;
@@ -18,13 +19,24 @@ const MOST_DESIGN: usize = 67108864;
 
 const MOST_SCRIPT: usize = 1048576;
 
-/// Runs the program with these words of its command line over this desk.
+/// Runs the program with these words, those of the command line behind the program's name, over this
+/// desk, and answers how it ended.
+///
+/// `edit IN SCRIPT OUT` reads the design file IN and the script SCRIPT whole, runs the commands of the
+/// script and writes OUT. The files, the texts and the status are those of `outcome`; `Status` says when
+/// each status comes. Where the desk fails, or there is no memory, the run ends at once and says nothing
+/// more.
 pub fn run<D: Desk>(alloc: Global, words: &[String], desk: &mut D) -> Status
-    ensures outcome { IsEnding result → IfSome (D.content desk.old) (λ c. Leaves (outcome (map string_bytes words.now) c.files) result c (D.content desk.new)) }
+    ensures outcome { EndsAs result
+        (outcome (map string_bytes words.now)) (D.content desk.old) (D.content desk.new) }
     ensures usage { result ≡ Status.Usage → IsNone (edit_names (map string_bytes words.now)) }
-    ensures improper { IsNone (edit_names (map string_bytes words.now)) → IsEnding result → result ≡ Status.Usage }
-    ensures read_fault { result ≡ Status.ReadFault → IsSome (edit_names (map string_bytes words.now)) × Rose (D.read_faults desk.old) (D.read_faults desk.new) × OnlyLeftDiffers (D.content desk.old) (D.content desk.new) }
-    ensures write_fault { result ≡ Status.WriteFault → Rose (D.write_faults desk.old) (D.write_faults desk.new) }
+    ensures improper { IsNone (edit_names (map string_bytes words.now)) → IsEnding result
+        → result ≡ Status.Usage }
+    ensures read_fault { result ≡ Status.ReadFault → IsSome (edit_names (map string_bytes words.now))
+        × Rose (D.read_faults desk.old) (D.read_faults desk.new)
+        × OnlyLeftDiffers (D.content desk.old) (D.content desk.new) }
+    ensures write_fault { result ≡ Status.WriteFault
+        → Rose (D.write_faults desk.old) (D.write_faults desk.new) }
 {
     match edit_words(words) {
         Some((input, script, output)) => edit(alloc, desk, input, script, output),
@@ -38,7 +50,8 @@ pub fn run<D: Desk>(alloc: Global, words: &[String], desk: &mut D) -> Status
 
 // IN, SCRIPT and OUT, where the words are of the form `edit IN SCRIPT OUT`.
 fn edit_words(words: &[String]) -> Option<(&str, &str, &str)>
-    ensures { option_map (λ n. record { input = n.0.now; script = n.1.now; output = n.2.now }) result ≡ edit_names (map string_bytes words.now) }
+    ensures { option_map (λ n. record { input = n.0.now; script = n.1.now; output = n.2.now }) result
+        ≡ edit_names (map string_bytes words.now) }
 {
     let [command, input, script, output] = words else {
         return None;
@@ -51,7 +64,9 @@ fn edit_words(words: &[String]) -> Option<(&str, &str, &str)>
 
 // Reads and opens IN, and goes on with it.
 fn edit<D: Desk>(alloc: Global, desk: &mut D, input: &str, script: &str, output: &str) -> Status
-    ensures outcome { IsEnding result → IfSome (D.content desk.old) (λ c. Leaves (edit_outcome (bytes_of c.files input.now) (bytes_of c.files script.now) output.now) result c (D.content desk.new)) }
+    ensures outcome { EndsAs result
+        (λ files. edit_outcome (bytes_of files input.now) (bytes_of files script.now) output.now)
+        (D.content desk.old) (D.content desk.new) }
     ensures usage { result ≡ Status.Usage → ⊥ }
     ensures read { result ≡ Status.ReadFault → Rose (D.read_faults desk.old) (D.read_faults desk.new) }
     ensures unread { result ≡ Status.ReadFault → OnlyLeftDiffers (D.content desk.old) (D.content desk.new) }
@@ -80,7 +95,9 @@ fn edit_design<D: Desk>(
     output: &str,
 ) -> Status
     requires { (d : Drawing) × IsPlaced design.old places.now d }
-    ensures outcome { (d : Drawing) → IsPlaced design.old places.now d → IsEnding result → IfSome (D.content desk.old) (λ c. Leaves (design_outcome (Some d) (bytes_of c.files script.now) output.now) result c (D.content desk.new)) }
+    ensures outcome { (d : Drawing) → IsPlaced design.old places.now d → EndsAs result
+        (λ files. design_outcome (Some d) (bytes_of files script.now) output.now)
+        (D.content desk.old) (D.content desk.new) }
     ensures usage { result ≡ Status.Usage → ⊥ }
     ensures read { result ≡ Status.ReadFault → Rose (D.read_faults desk.old) (D.read_faults desk.new) }
     ensures unread { result ≡ Status.ReadFault → OnlyLeftDiffers (D.content desk.old) (D.content desk.new) }
@@ -109,7 +126,9 @@ fn finish<D: Desk>(
     output: &str,
 ) -> Status
     requires { (d : Drawing) × IsPlaced design.old places.now d }
-    ensures outcome { (d : Drawing) → IsPlaced design.old places.now d → IsEnding result → IfSome (D.content desk.old) (λ c. Leaves (told d commands.now output.now) result c (D.content desk.new)) }
+    ensures outcome { (d : Drawing) → IsPlaced design.old places.now d → EndsAs result
+        (λ _. told d commands.now output.now)
+        (D.content desk.old) (D.content desk.new) }
     ensures usage { result ≡ Status.Usage → ⊥ }
     ensures read { result ≡ Status.ReadFault → ⊥ }
     ensures write { result ≡ Status.WriteFault → Rose (D.write_faults desk.old) (D.write_faults desk.new) }
@@ -129,7 +148,7 @@ fn finish<D: Desk>(
 // Ends the run with a line.
 fn end<D: Desk>(desk: &mut D, line: &[u8], status: Status) -> Status
     requires { IsEnding status }
-    ensures outcome { IsEnding result → IfSome (D.content desk.old) (λ c. Leaves (ended status line.now) result c (D.content desk.new)) }
+    ensures outcome { EndsAs result (λ _. ended status line.now) (D.content desk.old) (D.content desk.new) }
     ensures kept { IsEnding result → result ≡ status }
     ensures read { result ≡ Status.ReadFault → ⊥ }
     ensures write { result ≡ Status.WriteFault → Rose (D.write_faults desk.old) (D.write_faults desk.new) }
