@@ -4,11 +4,9 @@
 
 ghost use Rattle.std.specs.Prelude.{◌≡◌, ◌+◌, ◌*◌, ◌≤◌, ◌⊎◌, ◌↔◌, length, IsSome, IfSome};
 ghost use Rattle.std.specs.Option.{SomeIff};
-ghost use Rattle.dgn_words.specs.Numbers.{longs_at};
 ghost use Rattle.body_text.specs.Texts.{origin_of, chars_of, TextFits, node_origin_of, node_end};
 
-use dgn_words::long;
-use std::array;
+use dgn_words::longs;
 
 /// What a text says, and where.
 #[derive(Clone, Copy, Debug, PartialEq, Eq)]
@@ -55,14 +53,6 @@ pub fn node<const DIM: usize>(b: &[u8]) -> Option<[i32; DIM]>
         return None;
     }
     Some(longs(b, origin))
-}
-
-// The longs that stand side by side in `b` from `at` on.
-fn longs<const N: usize>(b: &[u8], at: usize) -> [i32; N]
-    requires { at + 4 * N ≤ length b.now }
-    ensures { result ≡ longs_at N b.now at }
-{
-    array::from_fn(|axis| long(b, at + 4 * axis))
 }
 
 #[cfg(test)]

@@ -1,11 +1,9 @@
 //! The view of an element's points.
 
 ghost use Rattle.std.specs.Prelude.{◌≡◌, ◌+◌, ◌*◌, ◌<◌, ◌≤◌, length, slice_get};
-ghost use Rattle.dgn_words.specs.Numbers.{longs_at};
 ghost use Rattle.body_vertex.specs.Points.{points_at};
 
-use dgn_words::long;
-use std::array;
+use dgn_words::longs;
 use std::marker::Model;
 
 /// The points of an element, borrowed from its bytes. A contract sees the list of its points, each
@@ -55,12 +53,4 @@ impl<'a, const DIM: usize> Path<'a, DIM> {
     {
         longs(self.bytes, self.start + 4 * DIM * i)
     }
-}
-
-// The longs that stand side by side in `b` from `at` on.
-fn longs<const N: usize>(b: &[u8], at: usize) -> [i32; N]
-    requires { at + 4 * N ≤ length b.now }
-    ensures { result ≡ longs_at N b.now at }
-{
-    array::from_fn(|axis| long(b, at + 4 * axis))
 }

@@ -1,2 +1,2 @@
 pub mod Writes
-pub mod Longs
+pub mod Rows

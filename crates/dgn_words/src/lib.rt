@@ -4,10 +4,11 @@
 //! A long and a range number have their high word first, and in each word the low byte first.
 #![tactic(auto)]
 
-ghost use Rattle.std.specs.Prelude.{◌≡◌, ◌+◌, ◌≤◌, length};
-ghost use Rattle.dgn_words.specs.Numbers.{word_at, long_at, range_long_at, word_bytes, long_bytes, range_long_bytes, long_word_bytes, put};
+ghost use Rattle.std.specs.Prelude.{◌≡◌, ◌+◌, ◌*◌, ◌≤◌, length};
+ghost use Rattle.dgn_words.specs.Numbers.{word_at, long_at, longs_at, range_long_at, word_bytes, long_bytes, range_long_bytes, long_word_bytes, put};
 
 use byteorder::{ByteOrder, LittleEndian};
+use std::array;
 
 /// The word at byte `at`: two bytes, the low byte first, without sign.
 pub fn word(b: &[u8], at: usize) -> u16
@@ -33,6 +34,14 @@ pub fn long(b: &[u8], at: usize) -> i32
     let high = u32::from(word(b, at));
     let low = u32::from(word(b, at + 2));
     (high * 65536 + low).cast_signed()
+}
+
+/// The `N` longs that stand side by side from byte `at` on, as the numbers of a point do.
+pub fn longs<const N: usize>(b: &[u8], at: usize) -> [i32; N]
+    requires { at + 4 * N ≤ length b.now }
+    ensures { result ≡ longs_at N b.now at }
+{
+    array::from_fn(|k| long(b, at + 4 * k))
 }
 
 /// Writes the long `v` at byte `at` and leaves every other byte.

@@ -49,3 +49,10 @@ fn words_read_and_written(rt: HostRuntime) -> Result<(), Fail> {
     assert_eq!(rt; row, [0xA1, 0x96, 0x2C, 0xA2]);
     Ok(())
 }
+
+#[test]
+fn longs_side_by_side(rt: HostRuntime) -> Result<(), Fail> {
+    let row = [0xA1, 0x00, 0x00, 0x64, 0x00, 0xFF, 0xFF, 0xFB, 0xFF, 0xA2];
+    assert_eq!(rt; longs::<2>(&row, 1), [100, -5]);
+    Ok(())
+}

@@ -3,15 +3,13 @@
 //! A header is the bytes of its element, borrowed. `DIM` is the dimension of the file, 2 or 3.
 #![tactic(auto)]
 
-ghost use Rattle.std.specs.Prelude.{◌≡◌, ◌↔◌, ◌+◌, ◌*◌, ◌<◌, ◌≤◌, ◌==◌, ◌⊎◌, if◌then◌else◌, length, map, IsNone, IfSome};
-ghost use Rattle.std.specs.List.{range_with_len};
-ghost use Rattle.dgn_words.specs.Numbers.{long_at};
+ghost use Rattle.std.specs.Prelude.{◌≡◌, ◌↔◌, ◌+◌, ◌*◌, ◌<◌, ◌≤◌, ◌==◌, ◌⊎◌, if◌then◌else◌, length, IsNone, IfSome};
 ghost use Rattle.group_head.specs.Headers.{total_at, name_at, origin_at, cell_end};
 
 mod names;
 pub mod types;
 
-use dgn_words::{long, word};
+use dgn_words::{longs, word};
 pub use names::name_text;
 use types::Cell;
 
@@ -59,18 +57,6 @@ fn origin_place(dim: usize) -> usize
     ensures { result ≡ (if dim == 2 then 84 else 112) }
 {
     if dim == 2 { 84 } else { 112 }
-}
-
-// The longs that stand side by side from byte `at` on.
-fn longs<const DIM: usize>(b: &[u8], at: usize) -> [i32; DIM]
-    requires { at + 4 * DIM ≤ length b.now }
-    ensures { result ≡ map (λ k. long_at b.now (at + 4 * k)) (range_with_len 0 DIM) }
-{
-    let mut numbers = [0; DIM];
-    for axis in 0..DIM {
-        numbers[axis] = long(b, at + 4 * axis);
-    }
-    numbers
 }
 
 #[cfg(test)]
