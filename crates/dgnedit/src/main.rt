@@ -3,10 +3,9 @@
 
 use dgn_desk::HostDesk;
 use dgn_tool::{Status, run};
-use std::env;
-use std::io;
 use std::process::ExitCode;
 use std::rt::Env;
+use std::{env, io};
 
 fn main(rt: HostRuntime) -> ExitCode {
     let alloc = rt.alloc();
