@@ -2,7 +2,7 @@
 use Rattle.std.proofs.Common.{◌≡◌, ℕ, ◌≤◌, ◌+◌, List, ◌++◌, length, take, drop, Option, Some, None, option_map, Result, Ok, Err, refl, sym, ap, ◌∙◌, inr, append_assoc, arith}
 use Rattle.std.proofs.Math.Seq.{take-append_seam, take-append-add}
 use Rattle.std.proofs.lemmas.List.{take-append-drop, length-append}
-use Rattle.dgn_desk.specs.Content.{Content, filed, spoken, written, with_file}
+use Rattle.dgn_desk.specs.Content.{Content, filed, spoken, written, written_to, with_file, HasTarget}
 use Rattle.dgn_desk.specs.Desk.{SaysAll, AddsAll, FilesAll}
 use Rattle.dgn_desk.specs.declared.stop.Stop.{Stop}
 use Rattle.dgn_desk.specs.FileLaws.{bytes_of-with_file-same, with_file-with_file}
@@ -52,3 +52,13 @@ filed_all (Err e) name body tail old new added =
       omega (arith, added.1, length-append body tail),
       added.2 ∙ ap (λ part. option_map (filed name part) old) (sym (take-append-add body tail added.0)),
     )
+
+-- writing keeps the name that writes go to
+written_target : (target : Option (List ℕ)) (bytes : List ℕ) (c : Content) → (written_to target bytes c).target ≡ c.target
+written_target None bytes c = refl
+written_target (Some name) bytes c = refl
+
+-- so after a write there is one still
+pub target_written : (bytes : List ℕ) (old new : Option Content) → new ≡ option_map (written bytes) old → HasTarget old → HasTarget new
+target_written bytes None new told target = rw told tt
+target_written bytes (Some c) new told target = rw (told, written_target c.target bytes c) target

@@ -1,6 +1,6 @@
 -- What a desk holds, where it tells it: its files by name, the bytes that are left of the file being
 -- read, the name that writes go to, and all that was said. Names and texts are lists of bytes.
-use Rattle.std.specs.Prelude.{ℕ, ◌≡◌, List, [], ◌++◌, drop, Option, Some, None, unwrap_or, option_map, refl}
+use Rattle.std.specs.Prelude.{ℕ, ◌≡◌, List, [], ◌++◌, drop, Option, Some, None, IsSome, IfSome, unwrap_or, option_map, refl}
 use Rattle.std.specs.Ordering.{nat_cmp}
 use Rattle.std.specs.Cmp.Lexicographic.{slice_cmp}
 use Rattle.std.specs.Coded.{Coded, code_by, coded×, coded_ℕ, coded_list, coded_option}
@@ -63,3 +63,11 @@ spoken bytes c = record c { said = c.said ++ bytes }
 -- reading alone was done: nothing but what is left to read may differ
 abbrev pub OnlyLeftDiffers : Option Content → Option Content → Type 0
 OnlyLeftDiffers old new = (left : List ℕ) × (new ≡ option_map (with_left left) old)
+
+-- the named file is there, where it is told which are
+abbrev pub HasFile : List ℕ → Option Content → Type 0
+HasFile name content = IfSome content (λ c. IsSome (maps.get c.files name))
+
+-- there is a name that writes go to, where that is told
+abbrev pub HasTarget : Option Content → Type 0
+HasTarget content = IfSome content (λ c. IsSome c.target)

@@ -1,6 +1,6 @@
 -- What the calls of a desk answer and change. What a desk holds is told or not, and each clause says
 -- what is told after a call by what was told before it.
-use Rattle.std.specs.Prelude.{ℕ, ◌≡◌, ◌⊎◌, ◌+◌, ◌-◌, ◌^◌, ◌≤◌, ◌<◌, min, List, [], ◌++◌, length, take, Option, option_map, Result, Ok, Err, IfOk, IfSome}
+use Rattle.std.specs.Prelude.{ℕ, ◌≡◌, ◌⊎◌, ◌+◌, ◌-◌, ◌^◌, ◌≤◌, ◌<◌, min, List, [], ◌++◌, length, take, Option, option_map, Result, Ok, Err, IfOk, IfSome, Bool, IsTrue, ⊤}
 use Rattle.dgn_desk.specs.declared.stop.Stop.{Stop}
 use Rattle.dgn_desk.specs.declared.stop.Stop.TheVariants.{Failed, Memory}
 use Rattle.dgn_desk.specs.declared.reading.ReadEnd.{ReadEnd}
@@ -16,6 +16,16 @@ abbrev pub Counts : {T : Type 0} → ℕ → ℕ → Result T Stop → Type 0
 Counts before now (Ok x) = now ≡ before
 Counts before now (Err Failed) = (before ≤ now) × Rose before now
 Counts before now (Err Memory) = now ≡ before
+
+-- a call didn't fail: it succeeded, or found no memory
+abbrev pub DoesNotFail : {T : Type 0} → Result T Stop → Type 0
+DoesNotFail (Ok x) = ⊤
+DoesNotFail (Err Failed) = ⊥
+DoesNotFail (Err Memory) = ⊤
+
+-- a desk that was willing is so still
+abbrev pub StaysWilling : Bool → Bool → Type 0
+StaysWilling before now = IsTrue before → IsTrue now
 
 -- what is told after a call: the change that it makes where it succeeds, else what was told before
 abbrev pub Changes : {T : Type 0} → Result T Stop → (T → Content → Content) → Option Content → Option Content → Type 0
@@ -63,3 +73,10 @@ ReadCounts before now (Ok x) = now ≡ before
 ReadCounts before now (Err ends.Fault) = (before ≤ now) × Rose before now
 ReadCounts before now (Err ends.TooLong) = now ≡ before
 ReadCounts before now (Err ends.Memory) = now ≡ before
+
+-- the reading of a whole file didn't end by a fault
+abbrev pub DoesNotFault : {T : Type 0} → Result T ReadEnd → Type 0
+DoesNotFault (Ok x) = ⊤
+DoesNotFault (Err ends.Fault) = ⊥
+DoesNotFault (Err ends.TooLong) = ⊤
+DoesNotFault (Err ends.Memory) = ⊤

@@ -1,4 +1,5 @@
-ghost use Rattle.std.specs.Prelude.{◌≡◌, None, Err};
+ghost use Rattle.std.specs.Prelude.{◌≡◌, None, Err, false};
+ghost use Rattle.std.proofs.Common.{rules};
 ghost use Rattle.dgn_desk.specs.Desk.{Counts};
 
 use crate::desk::Desk;
@@ -11,7 +12,7 @@ use std::rt::Files;
 ///
 /// A name is a path as std takes it. All that is said goes to standard output, and nothing goes to
 /// standard error. Each error of the system is answered as `Failed` and counted, want of memory in the
-/// system too; the desk itself takes no memory. It tells nothing of what it holds.
+/// system too; the desk itself takes no memory. It tells nothing of what it holds, and is never willing.
 #[derive(Drop)]
 pub struct HostDesk<R: Files> {
     rt: R,
@@ -43,6 +44,10 @@ impl<R: Files + Print + Drop> Desk for HostDesk<R> {
     ghost write_faults = { λ d. d.write_faults };
 
     ghost content = { λ _. None };
+
+    ghost willing = { λ _. false };
+
+    ghost tells = { Prim.search rules };
 
     fn begin_read(&mut self, name: &str) -> Result<(), Stop> {
         let Ok(file) = fs::open(&self.rt, name) else {

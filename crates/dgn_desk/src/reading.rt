@@ -1,7 +1,7 @@
-ghost use Rattle.std.specs.Prelude.{◌≡◌, ◌+◌, ◌<◌, ◌≤◌, ◌^◌, length, vec_len, IfOk, IfSome, IsErrOf};
+ghost use Rattle.std.specs.Prelude.{◌≡◌, ◌+◌, ◌<◌, ◌≤◌, ◌^◌, length, vec_len, IfOk, IfSome, IsErrOf, IsTrue};
 ghost use Rattle.dgn_desk.specs.declared.reading.ReadEnd.TheVariants.{Memory};
-ghost use Rattle.dgn_desk.specs.Content.{bytes_of, consumed, OnlyLeftDiffers};
-ghost use Rattle.dgn_desk.specs.Desk.{Counts, Changes, Reads, ReadCounts, end_of};
+ghost use Rattle.dgn_desk.specs.Content.{bytes_of, consumed, OnlyLeftDiffers, HasFile};
+ghost use Rattle.dgn_desk.specs.Desk.{Counts, Changes, Reads, ReadCounts, StaysWilling, DoesNotFail, DoesNotFault, end_of};
 
 use crate::desk::Desk;
 use crate::stop::Stop;
@@ -44,8 +44,8 @@ const PIECE: usize = 65536;
 ///
 /// `TooLong` comes exactly where the file has more than `limit` bytes, a fault and want of memory
 /// before that aside. `Fault` comes only where the desk's count of faults of reading rose in this
-/// call. Over any desk it ends at `limit + 1` bytes at the latest. Nothing but what is left to read
-/// changes.
+/// call, and never over a willing desk that has the file. Over any desk it ends at `limit + 1` bytes at
+/// the latest. Nothing but what is left to read changes, and a willing desk stays willing.
 pub fn read_all<D: Desk>(
     alloc: Global,
     desk: &mut D,
@@ -59,6 +59,8 @@ pub fn read_all<D: Desk>(
     ensures cause { ReadCounts (D.read_faults desk.old) (D.read_faults desk.new) result }
     ensures other { D.write_faults desk.new ≡ D.write_faults desk.old }
     ensures told { OnlyLeftDiffers (D.content desk.old) (D.content desk.new) }
+    ensures stays { StaysWilling (D.willing desk.old) (D.willing desk.new) }
+    ensures able { IsTrue (D.willing desk.old) → HasFile name.now (D.content desk.old) → DoesNotFault result }
 {
     desk.begin_read(name)?;
     let mut piece = zeros(alloc, PIECE)?;
@@ -80,6 +82,8 @@ fn gather<D: Desk>(
     ensures cause { ReadCounts (D.read_faults desk.old) (D.read_faults desk.new) result }
     ensures other { D.write_faults desk.new ≡ D.write_faults desk.old }
     ensures told { OnlyLeftDiffers (D.content desk.old) (D.content desk.new) }
+    ensures stays { StaysWilling (D.willing desk.old) (D.willing desk.new) }
+    ensures able { IsTrue (D.willing desk.old) → DoesNotFault result }
 {
     let mut all = Vec::new(alloc);
     'pieces: while all.len() <= limit {
@@ -103,6 +107,8 @@ fn read_front<D: Desk>(desk: &mut D, piece: &mut [u8], most: usize) -> Result<us
     ensures most { IfOk result (λ count. count ≤ most) }
     ensures bytes { Reads result (D.content desk.old) piece.new }
     ensures told { Changes result consumed (D.content desk.old) (D.content desk.new) }
+    ensures stays { StaysWilling (D.willing desk.old) (D.willing desk.new) }
+    ensures able { IsTrue (D.willing desk.old) → DoesNotFail result }
 {
     let room = piece.len().min(most);
     desk.read(&mut piece[..room])

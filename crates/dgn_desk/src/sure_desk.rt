@@ -1,4 +1,5 @@
-ghost use Rattle.std.specs.Prelude.{◌≡◌, ◌≤◌, [], Some, OnOk, OnErr};
+ghost use Rattle.std.specs.Prelude.{◌≡◌, ◌≤◌, [], Some, OnOk, OnErr, true};
+ghost use Rattle.std.proofs.Common.{rules};
 ghost use Rattle.std.specs.Option.{option_copied};
 ghost use Rattle.std.specs.FinMap as maps;
 ghost use Rattle.dgn_desk.specs.Content.{with_file};
@@ -9,7 +10,7 @@ use crate::stop::Stop;
 use std::alloc::{AllocError, Global};
 use std::marker::Model;
 
-/// A desk of memory that never fails: it can only want memory.
+/// A desk of memory that never fails and is always willing: it can only want memory.
 ///
 /// A name that isn't there reads as an empty file, and writes go to the file of the empty name until
 /// one is begun. `read`, `write` and `say` move at most as many bytes at once as it is made with.
@@ -89,6 +90,10 @@ impl Desk for SureDesk {
     ghost write_faults = { λ _. 0 };
 
     ghost content = { λ c. Some c };
+
+    ghost willing = { λ _. true };
+
+    ghost tells = { Prim.search rules };
 
     fn begin_read(&mut self, name: &str) -> Result<(), Stop> {
         let bytes = self.files.get(name).unwrap_or(&[]);

@@ -1,6 +1,7 @@
 // The desk of the machine on a real file, and the calls over desks of memory in small pieces.
 
-ghost use Rattle.std.specs.Prelude.{◌≡◌, None, Err};
+ghost use Rattle.std.specs.Prelude.{◌≡◌, None, Err, false};
+ghost use Rattle.std.proofs.Common.{rules};
 ghost use Rattle.dgn_desk.specs.Desk.{Counts};
 
 use super::*;
@@ -201,6 +202,10 @@ impl Desk for Stopping {
     ghost write_faults = { λ d. d.writes };
 
     ghost content = { λ _. None };
+
+    ghost willing = { λ _. false };
+
+    ghost tells = { Prim.search rules };
 
     fn begin_read(&mut self, name: &str) -> Result<(), Stop> {
         if self.stops() {

@@ -1,15 +1,18 @@
-ghost use Rattle.std.specs.Prelude.{◌≡◌, ◌++◌, ℕ, List, Option, option_map};
-ghost use Rattle.dgn_desk.specs.Content.{Content, filed};
-ghost use Rattle.dgn_desk.specs.Desk.{Counts, SaysAll, FilesAll, AddsAll};
+ghost use Rattle.std.specs.Prelude.{◌≡◌, ◌++◌, ℕ, List, Option, option_map, IsTrue};
+ghost use Rattle.dgn_desk.specs.Content.{Content, filed, HasTarget};
+ghost use Rattle.dgn_desk.specs.Desk.{Counts, SaysAll, FilesAll, AddsAll, StaysWilling, DoesNotFail};
 
 use crate::desk::Desk;
 use crate::stop::Stop;
 
-/// Says all the bytes. Where the desk stops, some first part of them was said.
+/// Says all the bytes. Where the desk stops, some first part of them was said. A willing desk doesn't
+/// fail, and stays willing.
 pub fn say_all<D: Desk>(desk: &mut D, bytes: &[u8]) -> Result<(), Stop>
     ensures cause { Counts (D.write_faults desk.old) (D.write_faults desk.new) result }
     ensures other { D.read_faults desk.new ≡ D.read_faults desk.old }
     ensures told { SaysAll result bytes.now (D.content desk.old) (D.content desk.new) }
+    ensures stays { StaysWilling (D.willing desk.old) (D.willing desk.new) }
+    ensures able { IsTrue (D.willing desk.old) → DoesNotFail result }
 {
     let mut rest = bytes;
     'pieces: while !rest.is_empty() {
@@ -21,11 +24,14 @@ pub fn say_all<D: Desk>(desk: &mut D, bytes: &[u8]) -> Result<(), Stop>
 }
 
 /// Makes the named file hold the body and then the tail. Where the desk stops, the file wasn't begun
-/// and nothing changed, or it holds some first part of these bytes.
+/// and nothing changed, or it holds some first part of these bytes. A willing desk doesn't fail, and
+/// stays willing.
 pub fn write_file<D: Desk>(desk: &mut D, name: &str, body: &[u8], tail: &[u8]) -> Result<(), Stop>
     ensures cause { Counts (D.write_faults desk.old) (D.write_faults desk.new) result }
     ensures other { D.read_faults desk.new ≡ D.read_faults desk.old }
     ensures told { FilesAll result name.now (body.now ++ tail.now) (D.content desk.old) (D.content desk.new) }
+    ensures stays { StaysWilling (D.willing desk.old) (D.willing desk.new) }
+    ensures able { IsTrue (D.willing desk.old) → DoesNotFail result }
 {
     desk.begin_write(name)?;
     write_more(desk, body)?;
@@ -37,6 +43,8 @@ fn write_more<D: Desk>(desk: &mut D, bytes: &[u8]) -> Result<(), Stop>
     ensures cause { Counts (D.write_faults desk.old) (D.write_faults desk.new) result }
     ensures other { D.read_faults desk.new ≡ D.read_faults desk.old }
     ensures told { (name so_far : List ℕ) (c : Option Content) → D.content desk.old ≡ option_map (filed name so_far) c → AddsAll result name so_far bytes.now c (D.content desk.new) }
+    ensures stays { StaysWilling (D.willing desk.old) (D.willing desk.new) }
+    ensures able { IsTrue (D.willing desk.old) → HasTarget (D.content desk.old) → DoesNotFail result }
 {
     let mut rest = bytes;
     'pieces: while !rest.is_empty() {

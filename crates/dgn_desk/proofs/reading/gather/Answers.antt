@@ -8,6 +8,7 @@ pieces-init g c = record {
   room = c.requires.piece;
   reads = refl;
   writes = refl;
+  stays = λ willing. willing;
 }
 
 pub pieces-preserved : goal.pieces-preserved
@@ -21,6 +22,7 @@ pieces-preserved g c =
       room = omega (arith, c.read_front.auto.piece);
       reads = got.cause ∙ before.reads;
       writes = got.other ∙ before.writes;
+      stays = λ willing. got.stays (before.stays willing);
     }
 
 pub returns-in_err-extend_from_slice-clause-told : goal.returns-in_err-extend_from_slice-clause-told

@@ -1,5 +1,6 @@
 use Rattle.std.proofs.Common.{◌≡◌, ◌+◌, ◌-◌, ◌<◌, length, vec_len}
 use Rattle.dgn_desk.proofs.Gathering.{IsGathered}
+use Rattle.dgn_desk.specs.Desk.{StaysWilling}
 use Rattle.dgn_desk.proofs.reading.gather.Given as goal
 
 abbrev pub invariant-pieces : goal.invariant-pieces
@@ -9,6 +10,7 @@ invariant-pieces g l =
       room : 0 < length l.piece;
       reads : g.D.Desk.read_faults l.desk ≡ g.D.Desk.read_faults l.fn.desk;
       writes : g.D.Desk.write_faults l.desk ≡ g.D.Desk.write_faults l.fn.desk;
+      stays : StaysWilling (g.D.Desk.willing l.fn.desk) (g.D.Desk.willing l.desk);
     }
 
 abbrev pub decreases-pieces : goal.decreases-pieces

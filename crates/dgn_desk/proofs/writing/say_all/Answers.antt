@@ -22,4 +22,5 @@ pieces-preserved g c =
       told = said.told ∙ ap (option_map (spoken (take count rest))) before.told ∙ spoken-append before.done (take count rest) _;
       writes = said.cause ∙ before.writes;
       reads = said.other ∙ before.reads;
+      stays = λ willing. said.stays (before.stays willing);
     }

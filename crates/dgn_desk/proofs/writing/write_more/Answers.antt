@@ -1,7 +1,7 @@
 use Rattle.std.proofs.Common.{◌++◌, take, option_map, ap, ◌∙◌, append_assoc}
 use Rattle.std.proofs.lemmas.Result.{err_from_is_err_and}
 use Rattle.dgn_desk.specs.Content.{filed, written}
-use Rattle.dgn_desk.proofs.Telling.{written-filed, added_part, moved}
+use Rattle.dgn_desk.proofs.Telling.{written-filed, added_part, moved, target_written}
 use Rattle.dgn_desk.proofs.writing.write_more.Goals as goal
 
 pub returns-in_err-count-clause-told : goal.returns-in_err-count-clause-told
@@ -25,4 +25,6 @@ pieces-preserved g c =
           ∙ ap (λ bytes. option_map (filed name bytes) old) (append_assoc so_far before.done (take count rest));
       writes = wrote.cause ∙ before.writes;
       reads = wrote.other ∙ before.reads;
+      stays = λ willing. wrote.stays (before.stays willing);
+      target = λ target. target_written (take count rest) _ _ wrote.told (before.target target);
     }
