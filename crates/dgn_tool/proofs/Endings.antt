@@ -1,11 +1,12 @@
 -- What is told over a run: how an ending leaves it, and that reading before it changes nothing there.
-use Rattle.std.proofs.Common.{◌≡◌, ◌<◌, ◌≤◌, List, ℕ, ◌++◌, length, nat_lt, true, false, take, drop, Bool, cond, vec_len, Vec, Option, Some, None, refl, sym, ap, ◌∙◌, subst, arith}
-use Rattle.std.specs.Prelude.{option_map, IfSome, codes}
+use Rattle.std.proofs.Common.{◌≡◌, ◌<◌, ◌≤◌, List, ℕ, ◌++◌, length, nat_lt, nat_le, true, false, take, drop, Bool, cond, vec_len, Vec, Option, Some, None, refl, sym, ap, ◌∙◌, subst, arith}
+use Rattle.std.specs.Prelude.{option_map, IfSome, IsSome, IsTrue, codes}
+use Rattle.std.specs.FinMap as maps
 use Rattle.std.specs.List.{list_any}
 use Rattle.std.proofs.lemmas.List.{take-append-drop}
 use Rattle.std.proofs.lemmas.Bool.Decides.{nat_tests}
-use Rattle.dgn_desk.specs.Content.{Content, Files, bytes_of, filed, spoken, with_left, OnlyLeftDiffers}
-use Rattle.dgn_tool.specs.Outcome.{Outcome, ended, told, script_outcome, design_outcome, edit_outcome, Leaves}
+use Rattle.dgn_desk.specs.Content.{Content, Files, bytes_of, filed, spoken, with_left, OnlyLeftDiffers, HasFile}
+use Rattle.dgn_tool.specs.Outcome.{Outcome, ended, told, script_outcome, design_outcome, edit_outcome, Leaves, comes_to_script, HasBoth}
 use Rattle.dgn_tool.specs.PlainFile.{Drawing, drawing_of, file_of}
 use Rattle.dgn_tool.specs.Places.{IsPlaced}
 use Rattle.dgn_tool.specs.Recoloring.{is_refused, texts_of, drawing_after_all}
@@ -93,6 +94,19 @@ overruns_design name script output old long =
     known name old (λ b. 67108864 < length b) (λ fs. edit_outcome (bytes_of fs name) (bytes_of fs script) output) (λ _. ended statuses.TooLong (codes "too long design\n"))
     (λ fs h. design_too_long (bytes_of fs name) (bytes_of fs script) output h)
     long
+
+-- an IN within its limit that opens comes to SCRIPT
+comes : (design : List ℕ) (d : Drawing) → length design ≤ 67108864 → drawing_of design ≡ Some d → IsTrue (comes_to_script design)
+comes design d within found =
+    let test : nat_le (length design) 67108864 ≡ true = grind (arith, nat_tests) in
+    rw (test, found) refl
+
+-- after such an IN was read, SCRIPT is there
+pub script_there : (input script design : List ℕ) (d : Drawing) (old mid : Option Content) → OnlyLeftDiffers old mid → IfSome old (λ c. design ≡ bytes_of c.files input) → length design ≤ 67108864 → drawing_of design ≡ Some d → IfSome old (λ c. HasBoth input script c.files) → HasFile script mid
+script_there input script design d None mid only whole within found has = rw only.1 tt
+script_there input script design d (Some c) mid only whole within found has =
+    let there : IsSome (maps.get c.files script) = has.1 (subst (λ b. IsTrue (comes_to_script b)) whole (comes design d within found)) in
+    rw only.1 there
 
 -- the commands were said and the file was written
 filed_so : (d : Drawing) (rs : List Recolor) (output bytes : List ℕ) (status : Status) (old mid now : Option Content) → mid ≡ option_map (spoken (texts_of (length d.elements) rs)) old → now ≡ option_map (filed output bytes) mid → bytes ≡ file_of (drawing_after_all rs d) → status ≡ (told d rs output).status → IfSome old (λ c. Leaves (told d rs output) status c now)

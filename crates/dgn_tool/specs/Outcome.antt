@@ -1,6 +1,7 @@
 -- What a run comes to: a status, what is said, and the file that is written, computed from the words of
 -- the command line and the files that they name.
-use Rattle.std.specs.Prelude.{ℕ, ◌≡◌, nat_lt, ◌&&◌, not, if◌then◌else◌, List, [], ◌∷◌, ◌++◌, length, codes, Option, Some, None, IfSome, ⊤}
+use Rattle.std.specs.Prelude.{ℕ, ◌≡◌, nat_lt, nat_le, Bool, ◌&&◌, not, if◌then◌else◌, List, [], ◌∷◌, ◌++◌, length, codes, Option, Some, None, is_some, IsSome, IfSome, IsTrue, ⊤}
+use Rattle.std.specs.FinMap as maps
 use Rattle.std.specs.List.{list_any}
 use Rattle.std.specs.Str.{bytes_eq}
 use Rattle.dgn_desk.specs.Content.{Files, Content, bytes_of, with_file}
@@ -90,3 +91,22 @@ pub record Leaves (o : Outcome) (status : Status) (old : Content) (now : Option 
 -- where a run came to an ending, over a desk that told what it holds, it ended with the outcome that its files have
 abbrev pub EndsAs : Status → (Files → Outcome) → Option Content → Option Content → Type 0
 EndsAs status o old now = IsEnding status → IfSome old (λ c. Leaves (o c.files) status c now)
+
+-- a status that no fault made: that of an ending, or Memory
+abbrev pub IsFaultless : Status → Type 0
+IsFaultless statuses.ReadFault = ⊥
+IsFaultless statuses.WriteFault = ⊥
+IsFaultless _ = ⊤
+
+-- whether SCRIPT is read after this IN: it is within its limit, and opens as a plain file
+abbrev pub comes_to_script : List ℕ → Bool
+comes_to_script design = nat_le (length design) 67108864 && is_some (drawing_of design)
+
+-- IN is there, and SCRIPT is where it is read after IN
+abbrev pub HasBoth : List ℕ → List ℕ → Files → Type 0
+HasBoth input script files = IsSome (maps.get files input) × (IsTrue (comes_to_script (bytes_of files input)) → IsSome (maps.get files script))
+
+-- the files that a run comes to read are there, by the names in its words
+abbrev pub HasFiles : Option Names → Files → Type 0
+HasFiles None files = ⊤
+HasFiles (Some n) files = HasBoth n.input n.script files

@@ -1,7 +1,7 @@
-ghost use Rattle.std.specs.Prelude.{◌≡◌, vec_len, option_map, IfOk, OnOk};
+ghost use Rattle.std.specs.Prelude.{◌≡◌, vec_len, option_map, IfOk, OnOk, IsTrue};
 ghost use Rattle.std.specs.List.{list_any};
 ghost use Rattle.dgn_desk.specs.Content.{spoken};
-ghost use Rattle.dgn_desk.specs.Desk.{Counts};
+ghost use Rattle.dgn_desk.specs.Desk.{Counts, StaysWilling, DoesNotFail};
 ghost use Rattle.dgn_tool.specs.PlainFile.{Drawing};
 ghost use Rattle.dgn_tool.specs.Places.{IsPlaced};
 ghost use Rattle.dgn_tool.specs.Recoloring.{is_refused, texts_of, drawing_after_all};
@@ -30,6 +30,8 @@ pub fn run_all<D: Desk>(
         (D.content desk.new ≡ option_map (spoken (texts_of (vec_len places.now.starts) commands.now)) (D.content desk.old)) }
     ensures file { OnOk result
         ((d : Drawing) → IsPlaced file.old places.now d → IsPlaced file.new places.now (drawing_after_all commands.now d)) }
+    ensures stays { StaysWilling (D.willing desk.old) (D.willing desk.new) }
+    ensures able { IsTrue (D.willing desk.old) → DoesNotFail result }
 {
     let mut out = Vec::new(alloc);
     let mut refused = false;

@@ -1,10 +1,10 @@
-ghost use Rattle.std.specs.Prelude.{◌≡◌, map, string_bytes, option_map, Some, IsNone, IsSome};
-ghost use Rattle.dgn_desk.specs.Content.{bytes_of, OnlyLeftDiffers};
+ghost use Rattle.std.specs.Prelude.{◌≡◌, map, string_bytes, option_map, Some, IsNone, IsSome, IfSome, IsTrue};
+ghost use Rattle.dgn_desk.specs.Content.{bytes_of, OnlyLeftDiffers, HasFile};
 ghost use Rattle.dgn_desk.specs.Desk.{Rose};
 ghost use Rattle.dgn_tool.specs.PlainFile.{Drawing};
 ghost use Rattle.dgn_tool.specs.Places.{IsPlaced};
 ghost use Rattle.dgn_tool.specs.Outcome.{edit_names, outcome, edit_outcome, design_outcome, told, ended};
-ghost use Rattle.dgn_tool.specs.Outcome.{IsEnding, EndsAs};
+ghost use Rattle.dgn_tool.specs.Outcome.{IsEnding, EndsAs, IsFaultless, HasBoth, HasFiles};
 
 use crate::commands::run_all;
 use crate::places::Places;
@@ -25,7 +25,8 @@ const MOST_SCRIPT: usize = 1048576;
 /// `edit IN SCRIPT OUT` reads the design file IN and the script SCRIPT whole, runs the commands of the
 /// script and writes OUT. The files, the texts and the status are those of `outcome`; `Status` says when
 /// each status comes. Where the desk fails, or there is no memory, the run ends at once and says nothing
-/// more.
+/// more. Where the desk doesn't fail, the run comes to its ending unless there is no memory; and a willing
+/// desk doesn't fail, where it has the files that the run comes to read.
 pub fn run<D: Desk>(alloc: Global, words: &[String], desk: &mut D) -> Status
     ensures outcome { EndsAs result
         (outcome (map string_bytes words.now)) (D.content desk.old) (D.content desk.new) }
@@ -37,6 +38,11 @@ pub fn run<D: Desk>(alloc: Global, words: &[String], desk: &mut D) -> Status
         × OnlyLeftDiffers (D.content desk.old) (D.content desk.new) }
     ensures write_fault { result ≡ Status.WriteFault
         → Rose (D.write_faults desk.old) (D.write_faults desk.new) }
+    ensures complete { ¬ Rose (D.read_faults desk.old) (D.read_faults desk.new)
+        → ¬ Rose (D.write_faults desk.old) (D.write_faults desk.new) → IsFaultless result }
+    ensures complete_willing { IsTrue (D.willing desk.old)
+        → IfSome (D.content desk.old) (λ c. HasFiles (edit_names (map string_bytes words.now)) c.files)
+        → IsFaultless result }
 {
     match edit_words(words) {
         Some((input, script, output)) => edit(alloc, desk, input, script, output),
@@ -71,6 +77,8 @@ fn edit<D: Desk>(alloc: Global, desk: &mut D, input: &str, script: &str, output:
     ensures read { result ≡ Status.ReadFault → Rose (D.read_faults desk.old) (D.read_faults desk.new) }
     ensures unread { result ≡ Status.ReadFault → OnlyLeftDiffers (D.content desk.old) (D.content desk.new) }
     ensures write { result ≡ Status.WriteFault → Rose (D.write_faults desk.old) (D.write_faults desk.new) }
+    ensures able { IsTrue (D.willing desk.old)
+        → IfSome (D.content desk.old) (λ c. HasBoth input.now script.now c.files) → IsFaultless result }
 {
     let mut design = match read_all(alloc, desk, input, MOST_DESIGN) {
         Ok(design) => design,
@@ -102,6 +110,7 @@ fn edit_design<D: Desk>(
     ensures read { result ≡ Status.ReadFault → Rose (D.read_faults desk.old) (D.read_faults desk.new) }
     ensures unread { result ≡ Status.ReadFault → OnlyLeftDiffers (D.content desk.old) (D.content desk.new) }
     ensures write { result ≡ Status.WriteFault → Rose (D.write_faults desk.old) (D.write_faults desk.new) }
+    ensures able { IsTrue (D.willing desk.old) → HasFile script.now (D.content desk.old) → IsFaultless result }
 {
     let text = match read_all(alloc, desk, script, MOST_SCRIPT) {
         Ok(text) => text,
@@ -132,6 +141,7 @@ fn finish<D: Desk>(
     ensures usage { result ≡ Status.Usage → ⊥ }
     ensures read { result ≡ Status.ReadFault → ⊥ }
     ensures write { result ≡ Status.WriteFault → Rose (D.write_faults desk.old) (D.write_faults desk.new) }
+    ensures able { IsTrue (D.willing desk.old) → IsFaultless result }
 {
     let refused = match run_all(alloc, desk, design, places, commands) {
         Ok(refused) => refused,
@@ -152,6 +162,7 @@ fn end<D: Desk>(desk: &mut D, line: &[u8], status: Status) -> Status
     ensures kept { IsEnding result → result ≡ status }
     ensures read { result ≡ Status.ReadFault → ⊥ }
     ensures write { result ≡ Status.WriteFault → Rose (D.write_faults desk.old) (D.write_faults desk.new) }
+    ensures able { IsTrue (D.willing desk.old) → IsFaultless result }
 {
     match say_all(desk, line) {
         Ok(()) => status,

@@ -23,4 +23,5 @@ commands-preserved g c =
       ran = ran_more count c.args.commands.now (drop (c.commands.command-index + 1) c.args.commands.now) command c.commands.refused c.in-Ok.was_refused c.args.places.now c.args.file.now c.commands.file c.answer.new.file (g.D.Desk.content c.args.desk.now) (g.D.Desk.content c.commands.desk) (g.D.Desk.content c.say_all.new.desk) ran answered.refused told answered.file;
       write = said.cause ∙ c.commands.invariant.write;
       read = said.other ∙ c.commands.invariant.read;
+      stays = λ willing. said.stays (c.commands.invariant.stays willing);
     }

@@ -5,7 +5,7 @@ use Rattle.dgn_tool.specs.Outcome.{ended, design_outcome, edit_outcome}
 use Rattle.dgn_tool.specs.PlainFile.{drawing_of}
 use Rattle.dgn_tool.specs.Places.{IsPlaced}
 use Rattle.dgn_tool.specs.declared.status.Status.TheVariants as statuses
-use Rattle.dgn_tool.proofs.Endings.{through, read_twice, overruns_design, reads_design, items_within}
+use Rattle.dgn_tool.proofs.Endings.{through, read_twice, overruns_design, reads_design, items_within, script_there}
 use Rattle.dgn_tool.proofs.top.edit.Goals as goal
 
 pub returns-in-Err-TooLong-clause-outcome : goal.returns-in-Err-TooLong-clause-outcome
@@ -40,3 +40,11 @@ returns-in-Ok-None-clause-outcome g c =
     through (λ fs. edit_outcome (bytes_of fs c.args.input.now) (bytes_of fs c.args.script.now) c.args.output.now) (λ _. ended statuses.Unbuilt (codes "unbuilt\n")) c.end-in-Ok-None.result (g.D.Desk.content c.args.desk.now) (g.D.Desk.content c.read_all.new.desk) (g.D.Desk.content c.end-in-Ok-None.new.desk) read.told
     (reads_design c.args.input.now c.args.script.now c.in-Ok.design.items c.args.output.now None (g.D.Desk.content c.args.desk.now) read.whole (items_within c.in-Ok.design 67108864 read.within) found)
     (c.end-in-Ok-None.ensures.outcome ending)
+
+pub returns-in-Ok-Some-clause-able : goal.returns-in-Ok-Some-clause-able
+returns-in-Ok-Some-clause-able g c =
+    let read = c.in-Ok.ensures in
+    let opened = rw c.in-Ok-Some.field-0-is at c.in-Ok-Some.ensures in
+    let found : drawing_of c.in-Ok.design.items ≡ Some opened.0 = ap drawing_of (sym c.deref.ensures.value) ∙ opened.1 in
+    λ willing has. c.edit_design.ensures.able (read.stays willing)
+    (script_there c.args.input.now c.args.script.now c.in-Ok.design.items opened.0 (g.D.Desk.content c.args.desk.now) (g.D.Desk.content c.read_all.new.desk) read.told read.whole (items_within c.in-Ok.design 67108864 read.within) found has)
