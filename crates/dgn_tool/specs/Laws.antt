@@ -22,7 +22,8 @@ pub record ArePlain (es : List (List ℕ)) : Type 0 where
   pub size : length first ≡ 1536
   pub each : All IsPlainLine lines
 
--- the file is the drawing's elements and tail, one behind the other; it begins as a TCB of two dimensions, and nothing or FF FF begins the tail
+-- the file is the drawing's elements and tail, one behind the other; it begins as a TCB of two
+-- dimensions, and nothing or FF FF begins the tail
 pub record IsPlainFile (f : List ℕ) (d : Drawing) : Type 0 where
   pub whole : f ≡ file_of d
   pub tcb : is_plain_tcb f ≡ true
@@ -33,10 +34,16 @@ pub record IsPlainFile (f : List ℕ) (d : Drawing) : Type 0 where
 abbrev pub PlainFilesOpen : Type 0
 PlainFilesOpen = (f : List ℕ) (d : Drawing) → (drawing_of f ≡ Some d) ↔ IsPlainFile f d
 
--- whether a command recolours the byte at this place of a drawing's file: it isn't refused, and byte 35 of its element stands there
+-- whether a command recolours the byte at this place of a drawing's file: it isn't refused, and byte
+-- 35 of its element stands there
 abbrev pub recolors_at : Drawing → ℕ → Recolor → Bool
 recolors_at d p r = not (is_refused (length d.elements) r) && (p == slice_index (starts_of 0 d.elements) r.element + 35)
 
 -- the file that an edit writes is as long as IN, and has IN's byte at each place that no command recolours
 abbrev pub UntouchedBytesStay : Type 0
-UntouchedBytesStay = (design script output name out : List ℕ) (d : Drawing) (rs : List Recolor) → drawing_of design ≡ Some d → recolors_of script ≡ Some rs → (edit_outcome design script output).file ≡ Some (name, out) → (length out ≡ length design) × ((p : ℕ) → list_any (recolors_at d p) rs ≡ false → slice_index out p ≡ slice_index design p)
+UntouchedBytesStay =
+    (design script output name out : List ℕ) (d : Drawing) (rs : List Recolor)
+    → drawing_of design ≡ Some d → recolors_of script ≡ Some rs
+    → (edit_outcome design script output).file ≡ Some (name, out)
+    → (length out ≡ length design)
+    × ((p : ℕ) → list_any (recolors_at d p) rs ≡ false → slice_index out p ≡ slice_index design p)

@@ -37,7 +37,9 @@ drawing_after_all rs d = record { elements = after_all rs d.elements; tail = d.t
 
 -- the line that a command says on a drawing of so many elements
 abbrev pub text_of : ℕ → Recolor → List ℕ
-text_of count r = if nat_lt r.element count then (if r.element == 0 then codes "refused opaque 0\n" else codes "ok\n") else codes "refused unknown " ++ decimal r.element ++ codes "\n"
+text_of count r =
+    if nat_lt r.element count then (if r.element == 0 then codes "refused opaque 0\n" else codes "ok\n")
+    else codes "refused unknown " ++ decimal r.element ++ codes "\n"
 
 -- what all commands say
 abbrev pub texts_of : ℕ → List Recolor → List ℕ

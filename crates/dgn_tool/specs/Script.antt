@@ -28,11 +28,14 @@ words_of line = filter (λ word. not (length word == 0)) (slice_split (λ b. b =
 
 -- digits, of which the first isn't 0 unless it stands alone
 abbrev pub is_number_word : List ℕ → Bool
-is_number_word word = not (length word == 0) && (not (slice_index word 0 == 48) || (length word == 1)) && list_all is_ascii_digit word
+is_number_word word =
+    not (length word == 0) && (not (slice_index word 0 == 48) || (length word == 1))
+    && list_all is_ascii_digit word
 
 -- the number that a word spells, where it is one of at most so much
 abbrev pub number_within : ℕ → List ℕ → Option ℕ
-number_within most word = if is_number_word word && nat_le (digits_value 10 word) most then Some (digits_value 10 word) else None
+number_within most word =
+    if is_number_word word && nat_le (digits_value 10 word) most then Some (digits_value 10 word) else None
 
 -- the recolouring with this number of an element and this colour
 abbrev pub recolor_with : Option ℕ → Option ℕ → Option Recolor
@@ -45,13 +48,16 @@ abbrev pub recolor_by : List (List ℕ) → Option Recolor
 recolor_by [] = None
 recolor_by (a ∷ []) = None
 recolor_by (a ∷ n ∷ []) = None
-recolor_by (a ∷ n ∷ c ∷ []) = if bytes_eq a (codes "color") then recolor_with (number_within 4294967295 n) (number_within 255 c) else None
+recolor_by (a ∷ n ∷ c ∷ []) =
+    if bytes_eq a (codes "color") then recolor_with (number_within 4294967295 n) (number_within 255 c)
+    else None
 recolor_by (a ∷ n ∷ c ∷ d ∷ ws) = None
 
 -- the recolourings of all these lines, where each asks for one
 abbrev pub recolors_by : List (List ℕ) → Option (List Recolor)
 recolors_by [] = Some []
-recolors_by (line ∷ lines) = option_and_then (λ r. option_map (λ rs. r ∷ rs) (recolors_by lines)) (recolor_by (words_of line))
+recolors_by (line ∷ lines) =
+    option_and_then (λ r. option_map (λ rs. r ∷ rs) (recolors_by lines)) (recolor_by (words_of line))
 
 -- the recolourings of a script
 abbrev pub recolors_of : List ℕ → Option (List Recolor)
