@@ -1,0 +1,115 @@
+-- The end of each form's body, as the numbers that code computes.
+use Rattle.std.proofs.Common.{◌≡◌, ℕ, ◌+◌, ◌*◌, ◌≤◌, List, length, ap, sym, ◌∙◌, refl, Bool, true, false, cond, ◌⊎◌, inl, inr, ◌<◌, Option, Some, None, arith}
+use Rattle.std.specs.Prelude.{◌==◌, SomeIff, IfSome, IfNone}
+use Rattle.std.specs.declared.result.Result.TheVariants.{Err}
+use Rattle.std.proofs.lemmas.Bool.{cases_Bool, ltb-false}
+use Rattle.dgn_layout.specs.declared.types.Class.{Class}
+use Rattle.dgn_layout.specs.Classes.{class_of}
+use Rattle.dgn_drawing.specs.declared.body_fault.BodyFault.{BodyFault}
+use Rattle.dgn_drawing.specs.WellFormed.{IsDimension}
+use Rattle.dgn_drawing.specs.Faults.{is_short, is_shown, element_fault, IsSoundIn, IsSound}
+use Rattle.dgn_words.specs.Numbers.{word_at}
+use Rattle.elem_head.specs.Head.{kind_of}
+use Rattle.body_text.specs.Texts.{text_end, node_end}
+use Rattle.group_head.specs.Headers.{cell_end}
+use Rattle.dgn_drawing.specs.declared.form.Form.{Form}
+use Rattle.dgn_drawing.specs.Forms.{form_in, form_of}
+use Rattle.dgn_drawing.specs.Reading.{end_in, end_at, form_at}
+use Rattle.dgn_drawing.proofs.Places.{is_line, is_points, line_end, row_end, in_both}
+
+module _ (form : Form) (dim : ℕ) (b : List ℕ) (these : form ≡ form_at b) where
+  pub end-line : form ≡ Form.Line → end_in form dim b ≡ 36 + 4 * dim * 2
+  unfolding end_in
+  end-line is = ap (λ (f : Form). end_in f dim b) is ∙ line_end (kind_of b) dim b (is_line (kind_of b) (sym these ∙ is))
+
+  pub end-points : form ≡ Form.Points → end_in form dim b ≡ 38 + 4 * dim * word_at b 36
+  unfolding end_in
+  end-points is = ap (λ (f : Form). end_in f dim b) is ∙ row_end (kind_of b) dim b (is_points (kind_of b) (sym these ∙ is))
+
+  pub end-text : form ≡ Form.Text → end_in form dim b ≡ text_end dim b
+  unfolding end_in
+  end-text is = ap (λ (f : Form). end_in f dim b) is
+
+  pub end-node : form ≡ Form.Node → end_in form dim b ≡ node_end dim
+  unfolding end_in
+  end-node is = ap (λ (f : Form). end_in f dim b) is
+
+  pub end-cell : form ≡ Form.Cell → end_in form dim b ≡ cell_end dim
+  unfolding end_in
+  end-cell is = ap (λ (f : Form). end_in f dim b) is
+
+  pub end-header : form ≡ Form.Header → end_in form dim b ≡ 40
+  unfolding end_in
+  end-header is = ap (λ (f : Form). end_in f dim b) is
+
+  pub end-plain : form ≡ Form.Plain → end_in form dim b ≡ 36
+  unfolding end_in
+  end-plain is = ap (λ (f : Form). end_in f dim b) is
+
+  pub end-silent : form ≡ Form.Silent → end_in form dim b ≡ 4
+  unfolding end_in
+  end-silent is = ap (λ (f : Form). end_in f dim b) is
+
+-- an end that was found is the end, and one that wasn't found lies past the element's end
+pub found-end : (r : Option ℕ) (P : Type 0) (v e : ℕ) → SomeIff r P v → e ≡ v → IfSome r (λ x. x ≡ e)
+found-end None P v e says same = tt
+found-end (Some x) P v e says same = says.1 ∙ sym same
+
+pub none-end : (r : Option ℕ) (m n v e : ℕ) → SomeIff r (m ≤ n) v → m ≤ e → IfNone r (n < e)
+none-end None m n v e says past = grind arith
+none-end (Some x) m n v e says past = tt
+
+-- a header's body holds its total
+abbrev pub counted_form : Form → Bool
+counted_form Form.Node = true
+counted_form Form.Cell = true
+counted_form Form.Header = true
+counted_form other = false
+
+pub counted_in : (kind : ℕ) → counted_form (form_in Class.Counted kind) ≡ true
+counted_in kind = each (kind == 2) (kind == 7)
+  where
+    each : (s t : Bool) → counted_form (cond s Form.Cell (cond t Form.Node Form.Header)) ≡ true
+    each true t = refl
+    each false true = refl
+    each false false = refl
+
+header_end : (f : Form) (dim : ℕ) (b : List ℕ) → IsDimension dim → counted_form f ≡ true → 40 ≤ end_in f dim b
+unfolding end_in
+header_end Form.Line dim b axes counted = absurd (cc)
+header_end Form.Points dim b axes counted = absurd (cc)
+header_end Form.Text dim b axes counted = absurd (cc)
+header_end Form.Node dim b axes counted = in_both (λ (d : ℕ). 40 ≤ node_end d) (omega arith) (omega arith) axes
+header_end Form.Cell dim b axes counted = in_both (λ (d : ℕ). 40 ≤ cell_end d) (omega arith) (omega arith) axes
+header_end Form.Header dim b axes counted = omega arith
+header_end Form.Plain dim b axes counted = absurd (cc)
+header_end Form.Silent dim b axes counted = absurd (cc)
+
+pub counted_form_of : (kind : ℕ) → class_of kind ≡ Class.Counted → counted_form (form_of kind) ≡ true
+unfolding form_of
+counted_form_of kind is = ap (λ (k : Class). counted_form (form_in k kind)) is ∙ counted_in kind
+
+-- an element without a fault ends behind its body
+pub sound_end : (dim : ℕ) (b : List ℕ) → IsSoundIn dim b → end_at dim b ≤ length b
+sound_end dim b sound = elim (cases_Bool (is_short dim b)) [
+  | inl short ↦ absurd (let e = sound.fault in let f : element_fault dim b ≡ Err BodyFault.Short = rw short refl in cc)
+  | inr long ↦ ltb-false (length b) (end_at dim b) long
+]
+
+pub total_within : (b : List ℕ) → IsSound b → class_of (kind_of b) ≡ Class.Counted → 40 ≤ length b
+total_within b (inl sound) is = let e = sound_end 2 b sound in let h = header_end (form_at b) 2 b (inl refl) (counted_form_of (kind_of b) is) in omega arith
+total_within b (inr sound) is = let e = sound_end 3 b sound in let h = header_end (form_at b) 3 b (inr refl) (counted_form_of (kind_of b) is) in omega arith
+
+-- an element is silent or has a display part
+pub shown_cases : (f : Form) → (is_shown f ≡ true) ⊎ (f ≡ Form.Silent)
+shown_cases Form.Line = inl refl
+shown_cases Form.Points = inl refl
+shown_cases Form.Text = inl refl
+shown_cases Form.Node = inl refl
+shown_cases Form.Cell = inl refl
+shown_cases Form.Header = inl refl
+shown_cases Form.Plain = inl refl
+shown_cases Form.Silent = inr refl
+
+pub shown_from : (f : Form) → (f ≡ Form.Silent → ⊥) → is_shown f ≡ true
+shown_from f isnt = elim (shown_cases f) [ inl shown ↦ shown | inr silent ↦ absurd (isnt silent) ]

@@ -1,0 +1,17 @@
+pub mod Has
+pub mod Fields
+pub mod Places
+pub mod Displays
+pub mod Bodies
+pub mod Written
+pub mod Read
+pub mod Worked
+pub mod Sits
+pub mod Ends
+pub mod Rows
+pub mod Opening
+pub mod Fronts
+pub mod Openings
+pub mod Offsets
+pub mod Shown
+pub mod WorkedOpening

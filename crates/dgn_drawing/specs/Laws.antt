@@ -1,0 +1,102 @@
+-- What holds of all well formed records and their spellings.
+use Rattle.std.specs.Prelude.{ℤ, ℕ, ◌≡◌, ◌-◌, ◌/◌, IsFalse, List, [], ◌++◌, drop, length}
+use Rattle.elem_head.specs.Head.{head_of, symbology_of, properties_of}
+use Rattle.range_code.specs.Ranges.{range_of}
+use Rattle.body_vertex.specs.Points.{points_of}
+use Rattle.body_text.specs.Texts.{origin_of, chars_count, chars_of, node_origin_of}
+use Rattle.group_head.specs.Headers.{total_at, name_at, origin_at}
+use Rattle.dgn_drawing.specs.Element.{Display, Parts, Line, Points, Text, Node, Cell, Header, Plain, Body, Silent, Shown, Element}
+use Rattle.dgn_drawing.specs.Spelling.{spell, size_of, body_end}
+use Rattle.dgn_drawing.specs.WellFormed.{IsDimension, IsWellFormed, begins_with_mark}
+use Rattle.dgn_drawing.specs.Reading.{has_bit_6, group_of, index_of, number_at, end_at, element_at}
+use Rattle.dgn_drawing.specs.Rows.{row_at, row_of}
+use Rattle.dgn_drawing.specs.Faults.{IsWhole, is_short, breaks_attribute_rule}
+
+-- well formed records of one dimension with one spelling are the same record
+abbrev pub OneSpellingOneRecord : Type 0
+OneSpellingOneRecord =
+    (dim : ℕ) (e f : Element) → IsDimension dim → IsWellFormed dim e → IsWellFormed dim f → spell e ≡ spell f → e ≡ f
+
+-- and where one spelling begins another, nothing is behind it
+abbrev pub NoSpellingBeginsAnother : Type 0
+NoSpellingBeginsAnother =
+    (dim : ℕ) (e f : Element) → IsDimension dim → IsWellFormed dim e → IsWellFormed dim f
+    → (more : List ℕ) → spell e ++ more ≡ spell f → more ≡ []
+
+-- the first four bytes hold the record's level, bits, type and number of words behind them
+pub record HeadSits (e : Element) : Type 0 where
+  pub head : head_of (spell e) ≡ record {
+    level = e.level;
+    cbit = e.cbit;
+    kind = e.kind;
+    deleted = e.deleted;
+    words = (size_of e - 4) / 2;
+  }
+  pub bit6 : has_bit_6 (spell e) ≡ e.bit6
+
+-- the display header holds the record's display part
+pub record DisplaySits (b : List ℕ) (d : Display) : Type 0 where
+  pub range : range_of b ≡ record { lo = d.low; hi = d.high }
+  pub group : group_of b ≡ d.group
+  pub index : index_of b ≡ d.index
+  pub properties : properties_of b ≡ d.properties
+  pub symbology : symbology_of b ≡ record { color = d.color; weight = d.weight; style = d.style }
+
+-- a text's fields hold the record's origin and characters
+pub record TextSits (dim : ℕ) (b : List ℕ) (origin : List ℤ) (chars : List ℕ) : Type 0 where
+  pub origin_is : origin_of dim b ≡ origin
+  pub count_is : chars_count dim b ≡ length chars
+  pub chars_are : chars_of dim b ≡ chars
+
+-- a text node's fields hold the record's total and origin
+pub record NodeSits (dim : ℕ) (b : List ℕ) (total : ℕ) (origin : List ℤ) : Type 0 where
+  pub total_is : total_at b ≡ total
+  pub origin_is : node_origin_of dim b ≡ origin
+
+-- a cell header's fields hold the record's total, name and origin
+pub record CellSits (dim : ℕ) (b : List ℕ) (total : ℕ) (name : List ℕ) (origin : List ℤ) : Type 0 where
+  pub total_is : total_at b ≡ total
+  pub name_is : name_at b ≡ name
+  pub origin_is : origin_at dim b ≡ origin
+
+-- the fields of each type hold the record's parts
+abbrev pub PartsSit : ℕ → ℕ → List ℕ → Parts → Type 0
+PartsSit dim kind b (Line points) = points_of dim kind b ≡ points
+PartsSit dim kind b (Points points) = points_of dim kind b ≡ points
+PartsSit dim kind b (Text run origin spare chars) = TextSits dim b origin chars
+PartsSit dim kind b (Node total run origin) = NodeSits dim b total origin
+PartsSit dim kind b (Cell total name run origin) = CellSits dim b total name origin
+PartsSit dim kind b (Header total number) = (total_at b ≡ total) × (number_at b ≡ number)
+PartsSit dim kind b Plain = Unit {0}
+
+-- the body stands behind the first four bytes, and its rest behind its end
+abbrev pub BodySits : ℕ → Element → Body → Type 0
+BodySits dim e (Silent rest) = drop 4 (spell e) ≡ rest
+BodySits dim e (Shown display parts rest) =
+    DisplaySits (spell e) display × PartsSit dim e.kind (spell e) parts × (drop (body_end e) (spell e) ≡ rest)
+
+-- every field of a well formed record is what stands at its place in the record's spelling
+abbrev pub RecordsSitAtTheirPlaces : Type 0
+RecordsSitAtTheirPlaces =
+    (dim : ℕ) (e : Element) → IsDimension dim → IsWellFormed dim e → HeadSits e × BodySits dim e e.body
+
+-- the bytes of one whole element without a fault, and without the mark that ends a file's elements,
+-- spell the well formed record that is read from them
+abbrev pub BytesAreRecords : Type 0
+BytesAreRecords =
+    (dim : ℕ) (b : List ℕ) → IsDimension dim → IsWhole b
+    → IsFalse (is_short dim b) → IsFalse (breaks_attribute_rule dim b) → IsFalse (begins_with_mark b)
+    → (spell (element_at dim b) ≡ b) × IsWellFormed dim (element_at dim b)
+
+-- the spelling of a well formed record is the bytes of one whole element without a fault, from which the
+-- record and its row are read, and its body ends where the tables say
+pub record IsRecordRead (dim : ℕ) (e : Element) : Type 0 where
+  pub whole : IsWhole (spell e)
+  pub long : IsFalse (is_short dim (spell e))
+  pub rule : IsFalse (breaks_attribute_rule dim (spell e))
+  pub ends : end_at dim (spell e) ≡ body_end e
+  pub element : element_at dim (spell e) ≡ e
+  pub row : row_at (spell e) ≡ row_of e
+
+abbrev pub RecordsAreRead : Type 0
+RecordsAreRead = (dim : ℕ) (e : Element) → IsDimension dim → IsWellFormed dim e → IsRecordRead dim e

@@ -1,0 +1,10 @@
+pub mod Forms
+pub mod Element
+pub mod Spelling
+pub mod WellFormed
+pub mod Reading
+pub mod Faults
+pub mod Laws
+pub mod Rows
+pub mod Opening
+pub mod Items

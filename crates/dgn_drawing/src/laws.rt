@@ -1,0 +1,23 @@
+//! What holds of all elements. Each call does nothing; its contract is the law.
+
+ghost use Rattle.dgn_drawing.specs.Laws.{OneSpellingOneRecord, NoSpellingBeginsAnother, RecordsSitAtTheirPlaces, BytesAreRecords, RecordsAreRead};
+
+/// One spelling, one record: in one dimension two well formed records with one spelling are equal,
+/// and no spelling is a proper prefix of another.
+pub fn one_spelling_one_record()
+    ensures one { OneSpellingOneRecord }
+    ensures no_prefix { NoSpellingBeginsAnother }
+{}
+
+/// Records sit at their places: level, bits, type, numbers, words, points and characters of a well
+/// formed record are what the fields of the format's tables hold in its spelling.
+pub fn records_sit_at_their_places()
+    ensures { RecordsSitAtTheirPlaces }
+{}
+
+/// Bytes and records are the same thing: bytes without a fault spell the record that is read from
+/// them, and the spelling of a record is bytes without a fault from which that record is read.
+pub fn bytes_are_records()
+    ensures spelled { BytesAreRecords }
+    ensures read { RecordsAreRead }
+{}

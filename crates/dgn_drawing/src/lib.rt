@@ -1,0 +1,22 @@
+//! Elements of a design file as records, and the words that the crates above share.
+#![tactic(auto)]
+
+mod body_fault;
+mod check;
+mod edit;
+mod form;
+mod items;
+pub mod laws;
+mod row;
+mod symb_change;
+pub mod types;
+
+pub use body_fault::BodyFault;
+pub use check::{check_elem, row_of};
+pub use edit::Edit;
+pub use items::item;
+pub use row::Row;
+pub use symb_change::SymbChange;
+
+#[cfg(test)]
+mod tests;

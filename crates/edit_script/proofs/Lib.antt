@@ -1,0 +1,4 @@
+mod FirstFault
+mod InOrder
+mod Numerals
+mod Pieces

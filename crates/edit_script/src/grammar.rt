@@ -1,0 +1,76 @@
+ghost use Rattle.std.specs.Prelude.{◌≡◌};
+ghost use Rattle.std.specs.List.{list_any};
+ghost use Rattle.std.specs.Str.{bytes_eq};
+ghost use Rattle.edit_script.specs.Words.{words_of};
+ghost use Rattle.edit_script.specs.Grammar.{command_of, reading_of, color_command, is_unbuilt_name};
+
+use crate::command::Command;
+use crate::numbers::number;
+use crate::reading::Reading;
+use crate::words::{first_piece, next_word, strip_blanks};
+use dgn_drawing::{Edit, SymbChange};
+
+// The names of the commands that aren't read yet.
+const UNBUILT_NAMES: [&str; 22] = [
+    "move", "copy", "sym", "delete", "line", "string", "shape", "text", "undo", "levels", "fence",
+    "nofence", "show", "elements", "refs", "tree", "links", "select", "fmove", "fcopy", "fsym",
+    "fdelete",
+];
+
+// What a line says.
+pub fn read_line(line: &[u8]) -> Reading
+    ensures { result ≡ command_of line.now }
+{
+    let line = strip_blanks(line);
+    if line.is_empty() || line[0] == b'#' {
+        return Reading::Nothing;
+    }
+    let (name, rest) = first_piece(line, b' ');
+    read_command(name, rest)
+}
+
+// What a line says that begins with this word and goes on with these bytes.
+fn read_command(name: &[u8], rest: &[u8]) -> Reading
+    ensures { result ≡ reading_of name.now rest.now }
+{
+    if name == b"color".as_slice() {
+        Reading::asking(read_color(rest))
+    } else if is_unbuilt(name) {
+        Reading::Unbuilt
+    } else {
+        Reading::Bad
+    }
+}
+
+// Whether a word is the name of a command that isn't read yet.
+fn is_unbuilt(name: &[u8]) -> bool
+    ensures { result ≡ is_unbuilt_name name.now }
+{
+    is_among(name, &UNBUILT_NAMES)
+}
+
+// Whether a word is one of these names.
+fn is_among(word: &[u8], names: &[&str]) -> bool
+    ensures { result ≡ list_any (λ known. bytes_eq known.now word.now) names.now }
+{
+    names.iter().any(|known| known.as_bytes() == word)
+}
+
+// The command of `color` with these bytes behind it: the number of an element, and a colour.
+fn read_color(rest: &[u8]) -> Option<Command>
+    ensures { result ≡ color_command (words_of rest.now) }
+{
+    let (element, rest) = next_word(rest)?;
+    let (color, rest) = next_word(rest)?;
+    if next_word(rest).is_some() {
+        return None;
+    }
+    let n = number(element, u32::MAX)?;
+    let color = number(color, 255)? as u8;
+    let change = SymbChange {
+        color: Some(color),
+        weight: None,
+        style: None,
+    };
+    Some(Command::Edit(Edit::Sym { n, change }))
+}

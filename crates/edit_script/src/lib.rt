@@ -1,0 +1,23 @@
+//! The script language of `dgnedit`, of which each line is one command.
+//!
+//! The bytes are cut at each LF, and one CR at the end of a line is dropped. The words of a line stand
+//! between blanks. Empty lines, lines of blanks, and lines whose first byte that isn't a blank is `#`
+//! are no commands.
+#![tactic(auto)]
+
+mod command;
+mod fault;
+mod grammar;
+pub mod laws;
+mod lines;
+mod numbers;
+mod reading;
+mod script;
+mod words;
+
+pub use command::Command;
+pub use fault::ScriptFault;
+pub use script::read_script;
+
+#[cfg(test)]
+mod tests;

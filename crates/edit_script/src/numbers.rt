@@ -1,0 +1,33 @@
+ghost use Rattle.std.specs.Prelude.{◌≡◌};
+ghost use Rattle.std.specs.List.{list_all};
+ghost use Rattle.std.specs.Char.{is_ascii_digit};
+ghost use Rattle.edit_script.specs.Numbers.{is_number_word, number_within};
+
+// The number that a word spells, where it is at most so much.
+pub fn number(word: &[u8], most: u32) -> Option<u32>
+    ensures { result ≡ number_within most word.now }
+{
+    if !is_number(word) {
+        return None;
+    }
+    let Ok(text) = str::from_utf8(word) else {
+        return None;
+    };
+    let Ok(value) = text.parse::<u32>() else {
+        return None;
+    };
+    if value <= most { Some(value) } else { None }
+}
+
+// Whether a word is a number: digits, with no 0 in front.
+fn is_number(word: &[u8]) -> bool
+    ensures { result ≡ is_number_word word.now }
+{
+    !word.is_empty() && (word[0] != b'0' || word.len() == 1) && all_digits(word)
+}
+
+fn all_digits(word: &[u8]) -> bool
+    ensures { result ≡ list_all is_ascii_digit word.now }
+{
+    word.iter().all(|b| b.is_ascii_digit())
+}

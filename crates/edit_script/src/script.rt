@@ -1,0 +1,34 @@
+ghost use Rattle.std.specs.Prelude.{◌≡◌, ◌≤◌, length, Ok, IfOk, IfErr};
+ghost use Rattle.edit_script.specs.Script.{commands_of, Tells};
+
+use crate::command::Command;
+use crate::fault::ScriptFault;
+use crate::grammar::read_line;
+use crate::lines::next_line;
+use crate::reading::Reading;
+use std::alloc::Global;
+
+/// The commands of a script of at most 1048576 bytes, in the order of its lines.
+///
+/// `Line` and `Unbuilt` come exactly where the first line that isn't read is bad or unbuilt, and tell
+/// its number. `Memory` comes where the list of commands can't grow.
+pub fn read_script(alloc: Global, bytes: &[u8]) -> Result<Vec<Command>, ScriptFault>
+    requires { length bytes.now ≤ 1048576 }
+    ensures commands { IfOk result (λ v. commands_of bytes.now ≡ Ok v.items) }
+    ensures fault { IfErr result (Tells bytes.now) }
+{
+    let mut commands = Vec::new(alloc);
+    let mut rest = bytes;
+    let mut number = 1;
+    'lines: while let Some((line, behind)) = next_line(rest) {
+        match read_line(line) {
+            Reading::Nothing => {}
+            Reading::Asks(command) => commands.push(command).map_err(|_| ScriptFault::Memory)?,
+            Reading::Bad => return Err(ScriptFault::Line { number }),
+            Reading::Unbuilt => return Err(ScriptFault::Unbuilt { number }),
+        }
+        rest = behind;
+        number += 1;
+    }
+    Ok(commands)
+}

@@ -1,0 +1,120 @@
+// Scripts that are read, scripts that aren't, and the texts of the faults.
+
+use super::*;
+use dgn_drawing::Edit;
+use std::test::Fail;
+
+#[test]
+fn scripts_that_are_read(rt: HostRuntime) -> Result<(), Fail> {
+    let alloc = rt.alloc();
+    let rows: [(&[u8], &[(u32, u8)]); 12] = [
+        (b"", &[]),
+        (b"color 1 7\ncolor 9 1\n", &[(1, 7), (9, 1)]),
+        (b"color 1 7", &[(1, 7)]),
+        (b"color 1 7\r", &[(1, 7)]),
+        (b"  color  1   3  \r\n\r\ncolor 1 4\r\n", &[(1, 3), (1, 4)]),
+        (
+            b"color 0 0\ncolor 4294967295 255\n",
+            &[(0, 0), (4294967295, 255)],
+        ),
+        (b"   ", &[]),
+        (b"\r\n\r\n\r", &[]),
+        (b"\n\n   \n", &[]),
+        (b"# color 1 256\n", &[]),
+        (b"   # \t\n#\ncolor 2 5\n", &[(2, 5)]),
+        (b"#\r\n color 3 10 \n\n", &[(3, 10)]),
+    ];
+    for (script, wanted) in rows {
+        assert!(rt; script.len() <= 1048576);
+        let read = read_script(alloc, script);
+        assert!(rt; read.is_ok(), "at {}", script.len());
+        if let Ok(commands) = read {
+            assert_eq!(rt; commands.len(), wanted.len());
+            for (command, (element, color)) in commands.iter().zip(wanted) {
+                match command {
+                    Command::Edit(Edit::Sym { n, change }) => {
+                        assert_eq!(rt; *n, *element);
+                        assert_eq!(rt; change.color, Some(*color));
+                        assert_eq!(rt; change.weight, None);
+                        assert_eq!(rt; change.style, None);
+                    }
+                }
+            }
+        }
+    }
+    Ok(())
+}
+
+#[test]
+fn scripts_that_are_not_read(rt: HostRuntime) -> Result<(), Fail> {
+    let alloc = rt.alloc();
+    let bad: [(&[u8], u32); 20] = [
+        (b"color 1 1\n\ncolour 1 1\n", 3),
+        (b"# a\r\n\r\n   \r\n  # b\r\ncolor 1\r\n", 5),
+        (b"\n\n\nx", 4),
+        (b"\tcolor 1 7", 1),
+        (b"color\t1 7", 1),
+        (b"color 1 7\t\n", 1),
+        (b"color 1 256", 1),
+        (b"color 4294967296 1", 1),
+        (b"color 99999999999999999999 1", 1),
+        (b"color 01 1", 1),
+        (b"color 1 00", 1),
+        (b"color -1 1", 1),
+        (b"color +1 1", 1),
+        (b"color 1 1 1", 1),
+        (b"color 1 1 # red", 1),
+        (b"color", 1),
+        (b"col 1 1", 1),
+        (b"Color 1 1", 1),
+        (b"color 1 1\r\r\n", 1),
+        (b"color 1 1\nshows\nshow\n", 2),
+    ];
+    for (script, line) in bad {
+        assert!(rt; script.len() <= 1048576);
+        let fault = read_script(alloc, script).err();
+        assert_eq!(rt; fault, Some(ScriptFault::Line { number: line }));
+    }
+    let unbuilt: [(&[u8], u32); 6] = [
+        (b"show\nundo\n\n# x\nmove 1 +1 2\n", 1),
+        (b"show\r\nundo\r\n\r\n# x\r\nmove 1 +1 2\r\n", 1),
+        (b"# x\n\nmove 1 +1 2\r\ncolour\n", 3),
+        (b"color 1 1\n fsym inside 3 2 1\n", 2),
+        (b"text", 1),
+        (b"color 1 1\nundo", 2),
+    ];
+    for (script, line) in unbuilt {
+        assert!(rt; script.len() <= 1048576);
+        let fault = read_script(alloc, script).err();
+        assert_eq!(rt; fault, Some(ScriptFault::Unbuilt { number: line }));
+    }
+    Ok(())
+}
+
+// The names of the whole language but `color`.
+const NAMES: [&str; 22] = [
+    "move", "copy", "sym", "delete", "line", "string", "shape", "text", "undo", "levels", "fence",
+    "nofence", "show", "elements", "refs", "tree", "links", "select", "fmove", "fcopy", "fsym",
+    "fdelete",
+];
+
+#[test]
+fn names_and_texts(rt: HostRuntime) -> Result<(), Fail> {
+    let alloc = rt.alloc();
+    for name in NAMES {
+        let script = name.as_bytes();
+        assert!(rt; script.len() <= 1048576);
+        let fault = read_script(alloc, script).err();
+        assert_eq!(rt; fault, Some(ScriptFault::Unbuilt { number: 1 }));
+    }
+    let texts = [
+        (ScriptFault::Line { number: 3 }, "line 3"),
+        (ScriptFault::Memory, "no memory"),
+        (ScriptFault::Unbuilt { number: 3 }, "unbuilt"),
+    ];
+    for (fault, text) in texts {
+        let shown = format!(in alloc; "{fault}")?;
+        assert_eq!(rt; shown.as_str(), text);
+    }
+    Ok(())
+}

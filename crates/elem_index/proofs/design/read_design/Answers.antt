@@ -1,0 +1,29 @@
+use Rattle.std.proofs.Common.{◌∙◌, sym, ap, List, ℕ, subst, arith, length, ◌≤◌}
+use Rattle.std.proofs.lemmas.Result.{err_from_is_err_and}
+use Rattle.dgn_drawing.specs.Opening.{is_tcb, dimension}
+use Rattle.elem_index.specs.Opened.{opening}
+use Rattle.elem_index.specs.Answers.{IsRun, TellsFault}
+use Rattle.elem_index.proofs.Finds.{opening-other}
+use Rattle.elem_index.proofs.Places.{run_whole, run_told}
+use Rattle.elem_index.proofs.design.read_design.Goals as goal
+
+pub returns-then-not-begins_with_tcb-clause-told : goal.returns-then-not-begins_with_tcb-clause-told
+returns-then-not-begins_with_tcb-clause-told c =
+    opening-other c.args.bytes.items (ap is_tcb (sym c.deref.ensures.value) ∙ sym c.begins_with_tcb.ensures ∙ c.if-not-begins_with_tcb.true)
+
+pub returns-in_err-kept-clause-told : goal.returns-in_err-kept-clause-told
+returns-in_err-kept-clause-told c =
+    let p = err_from_is_err_and c.from_residual.result c.from_residual.ensures.1 in
+    rw (p.1, p.2) (subst (λ (f : List ℕ). TellsFault (opening f) c.in_err-kept.field-0.0) c.deref-3.ensures.value c.in_err-kept.ensures.told)
+
+pub returns-in-Ok-clause-whole : goal.returns-in-Ok-clause-whole
+returns-in-Ok-clause-whole c =
+    let few : length c.args.bytes.items ≤ 67108864 = omega (arith, ap (length {A = ℕ}) c.deref.ensures.value, c.deref.ensures.len, c.requires) in
+    run_whole _ c.args.bytes.items c.in_ok-kept.end (subst (λ (f : List ℕ). IsRun f c.in_ok-kept.kept.items c.in_ok-kept.end) c.deref-3.ensures.value c.in_ok-kept.ensures.opens)
+    few (c.dimension-dim.ensures ∙ ap dimension c.deref-2.ensures.value) c.in-Ok.ensures.items c.in-Ok.ensures.tail
+
+pub returns-in-Ok-clause-told : goal.returns-in-Ok-clause-told
+returns-in-Ok-clause-told c =
+    let few : length c.args.bytes.items ≤ 67108864 = omega (arith, ap (length {A = ℕ}) c.deref.ensures.value, c.deref.ensures.len, c.requires) in
+    run_told (record { dim = c.dimension-dim.result; body = c.split_off.new.self; tail = c.in-Ok.tail; kept = c.in_ok-kept.kept }) c.args.bytes.items c.in_ok-kept.end (subst (λ (f : List ℕ). IsRun f c.in_ok-kept.kept.items c.in_ok-kept.end) c.deref-3.ensures.value c.in_ok-kept.ensures.opens)
+    few (c.dimension-dim.ensures ∙ ap dimension c.deref-2.ensures.value) c.in-Ok.ensures.items c.in-Ok.ensures.tail

@@ -1,0 +1,5 @@
+pub mod Offsets
+pub mod Opened
+pub mod Design
+pub mod Answers
+pub mod Laws

@@ -1,0 +1,118 @@
+ghost use Rattle.std.specs.Prelude.{◌≡◌, ◌≤◌, ◌<◌, ◌+◌, ◌++◌, ◌↔◌, length, vec_len, IfOk, IfErr, IsNone, IfSome, map, slice_get, option_map};
+ghost use Rattle.dgn_drawing.specs.Spelling.{spell};
+ghost use Rattle.dgn_drawing.specs.Rows.{row_of};
+ghost use Rattle.elem_index.specs.Offsets.{offset_of};
+ghost use Rattle.elem_index.specs.Opened.{opening};
+ghost use Rattle.elem_index.specs.Design.{elements, IsWhole};
+ghost use Rattle.elem_index.specs.Answers.{HasToldFault, Tells};
+
+use crate::open_fault::OpenFault;
+use crate::walk::{begins_with_tcb, dimension, elements_in};
+use dgn_drawing::{Row, row_of};
+use std::alloc::{AllocError, Global};
+
+/// A design file that is open: its dimension, the bytes of its elements, and the bytes behind them.
+///
+/// Elements are numbered in file order, from 0. Where each one begins is kept beside the bytes.
+#[derive(Drop)]
+pub struct Design {
+    /// The dimension, 2 or 3.
+    pub dim: u8,
+    /// The elements, one behind the other.
+    pub body: Vec<u8>,
+    /// What stands behind them: nothing, or bytes that begin with FF FF.
+    pub tail: Vec<u8>,
+    // The byte at which each element begins.
+    kept: Vec<u32>,
+}
+
+/// Opens the bytes of a file.
+///
+/// NotDesign comes exactly where they don't begin with 08 09 FE 02 or C8 09 FE 02. Cut, Short and Attr
+/// come exactly by the first faulty element: one that the file doesn't hold whole, one that ends
+/// before its body does, and one with attribute data in a wrong place, in this order.
+pub fn read_design(alloc: Global, mut bytes: Vec<u8>) -> Result<Design, OpenFault>
+    requires { vec_len bytes ≤ 67108864 }
+    ensures whole { IfOk result IsWhole }
+    ensures text { IfOk result (λ d. d.body.items ++ d.tail.items ≡ bytes.items) }
+    ensures fault { IfErr result (HasToldFault bytes.items) }
+    ensures told { Tells (opening bytes.items) result }
+{
+    if !begins_with_tcb(&bytes) {
+        return Err(OpenFault::NotDesign);
+    }
+    let dim = dimension(&bytes);
+    let (kept, end) = elements_in(alloc, &bytes)?;
+    match bytes.split_off(end) {
+        Ok(tail) => Ok(Design {
+            dim,
+            body: bytes,
+            tail,
+            kept,
+        }),
+        Err(_) => Err(OpenFault::Memory),
+    }
+}
+
+impl Design {
+    /// The number of elements.
+    pub fn count(&self) -> u32
+        requires { IsWhole self.now }
+        ensures { result ≡ length (elements self.now) }
+    {
+        self.kept.len() as u32
+    }
+
+    /// The bytes of element `n`. None exactly where there are no more than `n` elements.
+    pub fn element(&self, n: u32) -> Option<&[u8]>
+        requires { IsWhole self.now }
+        ensures none { IsNone result ↔ (length (elements self.now) ≤ n) }
+        ensures bytes { option_map (λ b. b.now) result ≡ option_map spell (slice_get (elements self.now) n) }
+    {
+        let start = self.offset(n)?;
+        let end = self.end_of(n);
+        Some(&self.body[start..end])
+    }
+
+    /// The byte of the body at which element `n` begins. None exactly where there are no more than `n`
+    /// elements.
+    pub fn offset(&self, n: u32) -> Option<usize>
+        requires { IsWhole self.now }
+        ensures none { IsNone result ↔ (length (elements self.now) ≤ n) }
+        ensures place { IfSome result (λ at. at ≡ offset_of (elements self.now) n) }
+    {
+        if n < self.count() {
+            Some(self.kept[n as usize] as usize)
+        } else {
+            None
+        }
+    }
+
+    // The byte of the body behind element `n`, where there is one.
+    fn end_of(&self, n: u32) -> usize
+        requires whole { IsWhole self.now }
+        requires known { n < length (elements self.now) }
+        ensures { result ≡ offset_of (elements self.now) (n + 1) }
+    {
+        match self.offset(n + 1) {
+            Some(next) => next,
+            None => self.body.len(),
+        }
+    }
+
+    /// The row of each element, in file order: what the nesting looks at.
+    pub fn rows(&self) -> Result<Vec<Row>, AllocError>
+        requires { IsWhole self.now }
+        ensures { IfOk result (λ rows. rows.items ≡ map row_of (elements self.now)) }
+    {
+        let count = self.count();
+        let mut rows = Vec::with_capacity(*self.kept.allocator(), self.kept.len())?;
+        for n in 0..count {
+            match self.element(n) {
+                Some(bytes) => rows.push(row_of(bytes))?,
+                None => unreachable!(),
+            }
+        }
+        Ok(rows)
+    }
+}

@@ -1,0 +1,14 @@
+//! Opens design files: which bytes are one, where its elements stand, and what is wrong with one that
+//! isn't.
+#![tactic(auto)]
+
+mod design;
+pub mod laws;
+mod open_fault;
+mod walk;
+
+pub use design::{Design, read_design};
+pub use open_fault::OpenFault;
+
+#[cfg(test)]
+mod tests;

@@ -1,0 +1,89 @@
+// From element to element through a file.
+
+ghost use Rattle.std.specs.Prelude.{◌≡◌, ◌≤◌, length, true, IfOk, IfErr};
+ghost use Rattle.dgn_drawing.specs.Opening.{is_tcb, dimension};
+ghost use Rattle.dgn_drawing.specs.WellFormed.{IsDimension, begins_with_mark};
+ghost use Rattle.elem_index.specs.Answers.{BeginsSound, BeginsFaulty, IsRun, HasToldFault, TellsFault};
+ghost use Rattle.elem_index.specs.Opened.{opening};
+
+use crate::open_fault::OpenFault;
+use dgn_drawing::{BodyFault, check_elem};
+use elem_head::head;
+use std::alloc::Global;
+
+// The byte of the TCB whose bit 6 says that the file has three dimensions.
+const DIMENSION_BYTE: usize = 1214;
+
+// How many bytes say the size of an element.
+const HEAD_END: usize = 4;
+
+// Whether the bytes begin as a TCB does.
+pub(crate) fn begins_with_tcb(f: &[u8]) -> bool
+    ensures { result ≡ is_tcb f.now }
+{
+    matches!(f, [0x08 | 0xC8, 0x09, 0xFE, 0x02, ..])
+}
+
+// Whether the bytes begin with the mark that ends the elements.
+fn begins_with_mark(rest: &[u8]) -> bool
+    ensures { result ≡ begins_with_mark rest.now }
+{
+    matches!(rest, [0xFF, 0xFF, ..])
+}
+
+// The dimension of the file.
+pub(crate) fn dimension(f: &[u8]) -> u8
+    ensures { result ≡ dimension f.now }
+{
+    match f.get(DIMENSION_BYTE) {
+        Some(byte) if byte / 64 % 2 == 1 => 3,
+        _ => 2,
+    }
+}
+
+// The offsets of all elements of the file, and the byte behind the last one.
+pub(crate) fn elements_in(alloc: Global, f: &[u8]) -> Result<(Vec<u32>, usize), OpenFault>
+    requires few { length f.now ≤ 67108864 }
+    requires tcb { is_tcb f.now ≡ true }
+    ensures opens { IfOk result (λ run. IsRun f.now run.0.items run.1) }
+    ensures fault { IfErr result (HasToldFault f.now) }
+    ensures told { IfErr result (TellsFault (opening f.now)) }
+{
+    let dim = dimension(f);
+    let mut kept = Vec::new(alloc);
+    let mut at = 0;
+    'elements: while at < f.len() {
+        let (_, rest) = f.split_at(at);
+        if begins_with_mark(rest) {
+            break;
+        }
+        let size = sound_size(dim, at as u32, rest)?;
+        match kept.push(at as u32) {
+            Ok(()) => {}
+            Err(_) => return Err(OpenFault::Memory),
+        }
+        at += size;
+    }
+    Ok((kept, at))
+}
+
+// The size of the sound element that the bytes begin with, which stand at place `at` of a file.
+fn sound_size(dim: u8, at: u32, rest: &[u8]) -> Result<usize, OpenFault>
+    requires { IsDimension dim }
+    ensures sound { IfOk result (BeginsSound dim rest.now) }
+    ensures fault { IfErr result (BeginsFaulty dim at rest.now) }
+{
+    if rest.len() < HEAD_END {
+        return Err(OpenFault::Cut { at });
+    }
+    let size = HEAD_END + 2 * usize::from(head(rest).words);
+    if rest.len() < size {
+        return Err(OpenFault::Cut { at });
+    }
+    let (first, _) = rest.split_at(size);
+    match check_elem(dim, first) {
+        Ok(()) => Ok(size),
+        Err(BodyFault::Short) => Err(OpenFault::Short { at }),
+        Err(BodyFault::Attr) => Err(OpenFault::Attr { at }),
+    }
+}
