@@ -15,3 +15,4 @@ pub mod Openings
 pub mod Offsets
 pub mod Shown
 pub mod WorkedOpening
+pub mod Looks

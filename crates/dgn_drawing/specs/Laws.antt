@@ -10,6 +10,9 @@ use Rattle.dgn_drawing.specs.Spelling.{spell, size_of, body_end}
 use Rattle.dgn_drawing.specs.WellFormed.{IsDimension, IsWellFormed, begins_with_mark}
 use Rattle.dgn_drawing.specs.Reading.{has_bit_6, group_of, index_of, number_at, end_at, element_at}
 use Rattle.dgn_drawing.specs.Rows.{row_at, row_of}
+use Rattle.dgn_words.specs.Numbers.{put}
+use Rattle.dgn_drawing.specs.declared.symb_change.SymbChange.{SymbChange}
+use Rattle.dgn_drawing.specs.Changes.{look_changed, recolour, look_bytes, HasByteColor}
 use Rattle.dgn_drawing.specs.Faults.{IsWhole, is_short, breaks_attribute_rule}
 
 -- well formed records of one dimension with one spelling are the same record
@@ -100,3 +103,18 @@ pub record IsRecordRead (dim : ℕ) (e : Element) : Type 0 where
 
 abbrev pub RecordsAreRead : Type 0
 RecordsAreRead = (dim : ℕ) (e : Element) → IsDimension dim → IsWellFormed dim e → IsRecordRead dim e
+
+-- a shown record with another look: its spelling is the record's with the two bytes of the look put at byte
+-- 34, and it is well formed
+pub record IsLookPut (dim : ℕ) (change : SymbChange) (e : Element) (d : Display) : Type 0 where
+  pub spelled : spell (recolour change e) ≡ put (spell e) 34 (look_bytes (look_changed change d))
+  pub good : IsWellFormed dim (recolour change e)
+
+abbrev pub LooksAreTwoBytes : Type 0
+LooksAreTwoBytes =
+    (dim : ℕ) (change : SymbChange) (e : Element) (d : Display) (parts : Parts) (rest : List ℕ) → HasByteColor change
+    → IsWellFormed dim e → e.body ≡ Shown d parts rest → IsLookPut dim change e d
+
+-- and a silent record stays
+abbrev pub SilentRecordsStay : Type 0
+SilentRecordsStay = (change : SymbChange) (e : Element) (rest : List ℕ) → e.body ≡ Silent rest → recolour change e ≡ e

@@ -8,3 +8,4 @@ pub mod Laws
 pub mod Rows
 pub mod Opening
 pub mod Items
+pub mod Changes

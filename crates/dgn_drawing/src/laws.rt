@@ -1,6 +1,6 @@
 //! What holds of all elements. Each call does nothing; its contract is the law.
 
-ghost use Rattle.dgn_drawing.specs.Laws.{OneSpellingOneRecord, NoSpellingBeginsAnother, RecordsSitAtTheirPlaces, BytesAreRecords, RecordsAreRead};
+ghost use Rattle.dgn_drawing.specs.Laws.{OneSpellingOneRecord, NoSpellingBeginsAnother, RecordsSitAtTheirPlaces, BytesAreRecords, RecordsAreRead, LooksAreTwoBytes, SilentRecordsStay};
 
 /// One spelling, one record: in one dimension two well formed records with one spelling are equal,
 /// and no spelling is a proper prefix of another.
@@ -20,4 +20,11 @@ pub fn records_sit_at_their_places()
 pub fn bytes_are_records()
     ensures spelled { BytesAreRecords }
     ensures read { RecordsAreRead }
+{}
+
+/// A look is two bytes: another colour, weight or style is written at byte 34 and leaves every other
+/// byte of the element, which stays one without a fault. A silent element has no look, and stays.
+pub fn looks_are_two_bytes()
+    ensures shown { LooksAreTwoBytes }
+    ensures silent { SilentRecordsStay }
 {}
