@@ -127,6 +127,7 @@ look_of dim change e d parts rest b fits good is =
     record {
       spelled = subst (λ (x : Body). spell (recolour change (with_body e x)) ≡ put (spell (with_body e x)) 34 (look_bytes (look_changed change d))) (sym is) (spell-look change e d parts rest fits held.0);
       good = recolour_good dim change (with_body e b) fits good;
+      size = size-recolour dim change (with_body e b) fits good;
     }
 
 pub looks_put : LooksAreTwoBytes

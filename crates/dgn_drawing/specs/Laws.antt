@@ -105,10 +105,11 @@ abbrev pub RecordsAreRead : Type 0
 RecordsAreRead = (dim : ℕ) (e : Element) → IsDimension dim → IsWellFormed dim e → IsRecordRead dim e
 
 -- a shown record with another look: its spelling is the record's with the two bytes of the look put at byte
--- 34, and it is well formed
+-- 34, and it is well formed and as large
 pub record IsLookPut (dim : ℕ) (change : SymbChange) (e : Element) (d : Display) : Type 0 where
   pub spelled : spell (recolour change e) ≡ put (spell e) 34 (look_bytes (look_changed change d))
   pub good : IsWellFormed dim (recolour change e)
+  pub size : size_of (recolour change e) ≡ size_of e
 
 abbrev pub LooksAreTwoBytes : Type 0
 LooksAreTwoBytes =
