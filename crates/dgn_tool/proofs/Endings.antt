@@ -1,19 +1,20 @@
 -- What is told over a run: how an ending leaves it, and that reading before it changes nothing there.
-use Rattle.std.proofs.Common.{◌≡◌, ◌<◌, ◌≤◌, List, ℕ, ◌++◌, length, nat_lt, nat_le, true, false, take, drop, Bool, cond, vec_len, Vec, Option, Some, None, refl, sym, ap, ◌∙◌, subst, arith}
-use Rattle.std.specs.Prelude.{option_map, IfSome, IsSome, IsTrue, codes}
+use Rattle.std.proofs.Common.{◌≡◌, ◌<◌, ◌≤◌, List, ℕ, length, nat_lt, nat_le, true, false, Bool, cond, vec_len, Vec, Option, Some, None, refl, sym, ap, ◌∙◌, subst, arith}
+use Rattle.std.specs.Prelude.{option_map, IfSome, IsSome, IsTrue, codes, Result, Ok}
 use Rattle.std.specs.FinMap as maps
-use Rattle.std.specs.List.{list_any}
-use Rattle.std.proofs.lemmas.List.{take-append-drop}
 use Rattle.std.proofs.lemmas.Bool.Decides.{nat_tests}
-use Rattle.dgn_desk.specs.Content.{Content, Files, bytes_of, filed, spoken, with_left, OnlyLeftDiffers, HasFile}
-use Rattle.dgn_tool.specs.Outcome.{Outcome, ended, told, script_outcome, design_outcome, edit_outcome, Leaves, comes_to_script, HasBoth}
-use Rattle.dgn_tool.specs.PlainFile.{Drawing, drawing_of, file_of}
-use Rattle.dgn_tool.specs.Places.{IsPlaced}
-use Rattle.dgn_tool.specs.Recoloring.{is_refused, texts_of, drawing_after_all}
-use Rattle.dgn_tool.specs.declared.places.Places.{Places}
-use Rattle.dgn_tool.proofs.Recolored.{placed_count, starts_len}
-use Rattle.dgn_tool.specs.Script.{recolors_of}
-use Rattle.dgn_tool.specs.declared.recolor.Recolor.{Recolor}
+use Rattle.dgn_desk.specs.Content.{Content, Files, bytes_of, spoken, with_left, OnlyLeftDiffers, HasFile}
+use Rattle.dgn_drawing.specs.Opening.{Fault}
+use Rattle.elem_index.specs.declared.open_fault.OpenFault.{OpenFault}
+use Rattle.elem_index.specs.Opened.{Opened, opening}
+use Rattle.elem_index.specs.Answers.{TellsFault}
+use Rattle.edit_script.specs.Script.{commands_of}
+use Rattle.edit_script.specs.declared.command.Command.{Command}
+use Rattle.edit_script.specs.declared.fault.ScriptFault.{ScriptFault}
+use Rattle.dgn_tool.specs.Edits.{numbered}
+use Rattle.dgn_tool.specs.Unbuilt.{has_unbuilt}
+use Rattle.dgn_tool.specs.Outcome.{Outcome, ended, script_outcome, scripted, design_outcome, opened_outcome, input_outcome, checked, Leaves, EndsAs, EndsEarly, OpensAs, IsEnding, comes_to_script, HasBoth}
+use Rattle.dgn_tool.specs.Told.{told_fault}
 use Rattle.dgn_tool.specs.declared.status.Status.{Status}
 use Rattle.dgn_tool.specs.declared.status.Status.TheVariants as statuses
 
@@ -39,92 +40,118 @@ pub known : (name : List ℕ) (old : Option Content) (P : List ℕ → Type 0) (
 known name None P o q step fact = tt
 known name (Some c) P o q step fact = step c.files fact
 
+-- a `Vec` of at most n items is a list of at most n
+pub items_within : {X Z : Type 0} (v : Vec X Z) (n : ℕ) → vec_len v ≤ n → length v.items ≤ n
+items_within v n h = subst (λ k. k ≤ n) v.ok.0 h
+
 -- IN has too many bytes
-pub design_too_long : (design script output : List ℕ) → 67108864 < length design → edit_outcome design script output ≡ ended statuses.TooLong (codes "too long design\n")
-design_too_long design script output h =
-    let test : nat_lt 67108864 (length design) ≡ true = grind (arith, nat_tests) in
+input_too_long : (input : List ℕ) (go_on : Opened → Outcome) → 67108864 < length input → input_outcome input go_on ≡ ended statuses.TooLong (codes "too long design\n")
+input_too_long input go_on h =
+    let test : nat_lt 67108864 (length input) ≡ true = grind (arith, nat_tests) in
     rw test refl
 
 -- IN has no more bytes than it may
-pub design_opens : (design script output : List ℕ) (found : Option Drawing) → length design ≤ 67108864 → drawing_of design ≡ found → edit_outcome design script output ≡ design_outcome found script output
-design_opens design script output found h e =
-    let test : nat_lt 67108864 (length design) ≡ false = grind (arith, nat_tests) in
+input_opens : (input : List ℕ) (go_on : Opened → Outcome) (found : Result Opened Fault) → length input ≤ 67108864 → opening input ≡ found → input_outcome input go_on ≡ opened_outcome found go_on
+input_opens input go_on found h e =
+    let test : nat_lt 67108864 (length input) ≡ false = grind (arith, nat_tests) in
     rw (test, e) refl
 
+-- a run that ends since IN has too many bytes
+pub ends_too_long : (name : List ℕ) (status : Status) (old mid now : Option Content) → OnlyLeftDiffers old mid → IfSome old (λ c. 67108864 < length (bytes_of c.files name)) → EndsAs status (λ _. ended statuses.TooLong (codes "too long design\n")) mid now → EndsEarly name old now status
+ends_too_long name status old mid now only long ends go_on ending =
+    through (λ files. input_outcome (bytes_of files name) (go_on files)) (λ _. ended statuses.TooLong (codes "too long design\n")) status old mid now only
+    (known name old (λ b. 67108864 < length b) (λ files. input_outcome (bytes_of files name) (go_on files)) (λ _. ended statuses.TooLong (codes "too long design\n")) (λ files h. input_too_long (bytes_of files name) (go_on files) h) long)
+    (ends ending)
+
+-- a fault that is told, of a file that has it
+fault_outcome : (found : Result Opened Fault) (fault : OpenFault) (go_on : Opened → Outcome) → TellsFault found fault → (fault ≡ OpenFault.Memory → ⊥) → opened_outcome found go_on ≡ told_fault fault
+fault_outcome found OpenFault.NotDesign go_on tells some = ap (λ (r : Result Opened Fault). opened_outcome r go_on) tells
+fault_outcome found (OpenFault.Cut at) go_on tells some = ap (λ (r : Result Opened Fault). opened_outcome r go_on) tells
+fault_outcome found (OpenFault.Short at) go_on tells some = ap (λ (r : Result Opened Fault). opened_outcome r go_on) tells
+fault_outcome found (OpenFault.Attr at) go_on tells some = ap (λ (r : Result Opened Fault). opened_outcome r go_on) tells
+fault_outcome found OpenFault.Memory go_on tells some = absurd (some refl)
+
+-- a fault that is known ends a run so
+pub fault_ends : (fault this : OpenFault) (status : Status) (old now : Option Content) → fault ≡ this → EndsAs status (λ _. told_fault this) old now → EndsAs status (λ _. told_fault fault) old now
+fault_ends fault this status old now is ends = subst (λ (f : OpenFault). EndsAs status (λ _. told_fault f) old now) (sym is) ends
+
+-- a run that ends since IN doesn't open
+pub ends_at_fault : (name text : List ℕ) (fault : OpenFault) (status : Status) (old mid now : Option Content) → OnlyLeftDiffers old mid → IfSome old (λ c. text ≡ bytes_of c.files name) → length text ≤ 67108864 → TellsFault (opening text) fault → (fault ≡ OpenFault.Memory → status ≡ statuses.Memory) → EndsAs status (λ _. told_fault fault) mid now → EndsEarly name old now status
+ends_at_fault name text fault status old mid now only whole within tells some ends go_on ending =
+    through (λ files. input_outcome (bytes_of files name) (go_on files)) (λ _. told_fault fault) status old mid now only
+    (known name old (λ b. text ≡ b) (λ files. input_outcome (bytes_of files name) (go_on files)) (λ _. told_fault fault)
+    (λ files is.
+    input_opens (bytes_of files name) (go_on files) (opening text) (subst (λ b. length {A = ℕ} b ≤ 67108864) is within) (ap opening (sym is))
+    ∙ fault_outcome (opening text) fault (go_on files) tells (λ none. subst IsEnding (some none) ending))
+    whole)
+    (ends ending)
+
+-- what was read of IN opens so
+pub opens_so : (name text : List ℕ) (d : Opened) (old : Option Content) → IfSome old (λ c. text ≡ bytes_of c.files name) → length text ≤ 67108864 → opening text ≡ Ok d → OpensAs name old d
+opens_so name text d None whole within opens = tt
+opens_so name text d (Some c) whole within opens = (subst (λ b. length {A = ℕ} b ≤ 67108864) whole within, ap opening (sym whole) ∙ opens)
+
 -- SCRIPT has too many bytes
-pub script_too_long : (d : Drawing) (script output : List ℕ) → 1048576 < length script → design_outcome (Some d) script output ≡ ended statuses.TooLong (codes "too long script\n")
+script_too_long : (d : Opened) (script output : List ℕ) → 1048576 < length script → scripted d script output ≡ ended statuses.TooLong (codes "too long script\n")
 script_too_long d script output h =
     let test : nat_lt 1048576 (length script) ≡ true = grind (arith, nat_tests) in
     rw test refl
 
 -- SCRIPT has no more bytes than it may
-pub script_reads : (d : Drawing) (script output : List ℕ) (found : Option (List Recolor)) → length script ≤ 1048576 → recolors_of script ≡ found → design_outcome (Some d) script output ≡ script_outcome d found output
+script_reads : (d : Opened) (script output : List ℕ) (found : Result (List Command) ScriptFault) → length script ≤ 1048576 → commands_of script ≡ found → scripted d script output ≡ script_outcome d found output
 script_reads d script output found h e =
     let test : nat_lt 1048576 (length script) ≡ false = grind (arith, nat_tests) in
     rw (test, e) refl
 
--- a `Vec` of at most n items is a list of at most n
-pub items_within : {X Z : Type 0} (v : Vec X Z) (n : ℕ) → vec_len v ≤ n → length v.items ≤ n
-items_within v n h = subst (λ k. k ≤ n) v.ok.0 h
-
 -- the outcome by what was read of SCRIPT
-pub reads_script : (d : Drawing) (name text output : List ℕ) (found : Option (List Recolor)) (old : Option Content) → IfSome old (λ c. text ≡ bytes_of c.files name) → length text ≤ 1048576 → found ≡ recolors_of text → IfSome old (λ c. design_outcome (Some d) (bytes_of c.files name) output ≡ script_outcome d found output)
+pub reads_script : (d : Opened) (name text output : List ℕ) (found : Result (List Command) ScriptFault) (old : Option Content) → IfSome old (λ c. text ≡ bytes_of c.files name) → length text ≤ 1048576 → commands_of text ≡ found → IfSome old (λ c. scripted d (bytes_of c.files name) output ≡ script_outcome d found output)
 reads_script d name text output found old whole within e =
-    known name old (λ b. text ≡ b) (λ fs. design_outcome (Some d) (bytes_of fs name) output) (λ _. script_outcome d found output)
-    (λ fs is. script_reads d (bytes_of fs name) output found (subst (λ b. length {A = ℕ} b ≤ 1048576) is within) (ap recolors_of (sym is) ∙ sym e))
+    known name old (λ b. text ≡ b) (λ fs. scripted d (bytes_of fs name) output) (λ _. script_outcome d found output)
+    (λ fs is. script_reads d (bytes_of fs name) output found (subst (λ b. length {A = ℕ} b ≤ 1048576) is within) (ap commands_of (sym is) ∙ e))
     whole
 
 -- the outcome where SCRIPT has too many bytes
-pub overruns_script : (d : Drawing) (name output : List ℕ) (old : Option Content) → IfSome old (λ c. 1048576 < length (bytes_of c.files name)) → IfSome old (λ c. design_outcome (Some d) (bytes_of c.files name) output ≡ ended statuses.TooLong (codes "too long script\n"))
+pub overruns_script : (d : Opened) (name output : List ℕ) (old : Option Content) → IfSome old (λ c. 1048576 < length (bytes_of c.files name)) → IfSome old (λ c. scripted d (bytes_of c.files name) output ≡ ended statuses.TooLong (codes "too long script\n"))
 overruns_script d name output old long =
-    known name old (λ b. 1048576 < length b) (λ fs. design_outcome (Some d) (bytes_of fs name) output) (λ _. ended statuses.TooLong (codes "too long script\n"))
+    known name old (λ b. 1048576 < length b) (λ fs. scripted d (bytes_of fs name) output) (λ _. ended statuses.TooLong (codes "too long script\n"))
     (λ fs h. script_too_long d (bytes_of fs name) output h)
     long
 
--- the outcome by what was read of IN
-pub reads_design : (name script text output : List ℕ) (found : Option Drawing) (old : Option Content) → IfSome old (λ c. text ≡ bytes_of c.files name) → length text ≤ 67108864 → drawing_of text ≡ found → IfSome old (λ c. edit_outcome (bytes_of c.files name) (bytes_of c.files script) output ≡ design_outcome found (bytes_of c.files script) output)
-reads_design name script text output found old whole within e =
-    known name old (λ b. text ≡ b) (λ fs. edit_outcome (bytes_of fs name) (bytes_of fs script) output) (λ fs. design_outcome found (bytes_of fs script) output)
-    (λ fs is. design_opens (bytes_of fs name) (bytes_of fs script) output found (subst (λ b. length {A = ℕ} b ≤ 67108864) is within) (ap drawing_of (sym is) ∙ e))
-    whole
-
--- the outcome where IN has too many bytes
-pub overruns_design : (name script output : List ℕ) (old : Option Content) → IfSome old (λ c. 67108864 < length (bytes_of c.files name)) → IfSome old (λ c. edit_outcome (bytes_of c.files name) (bytes_of c.files script) output ≡ ended statuses.TooLong (codes "too long design\n"))
-overruns_design name script output old long =
-    known name old (λ b. 67108864 < length b) (λ fs. edit_outcome (bytes_of fs name) (bytes_of fs script) output) (λ _. ended statuses.TooLong (codes "too long design\n"))
-    (λ fs h. design_too_long (bytes_of fs name) (bytes_of fs script) output h)
-    long
-
--- an IN within its limit that opens comes to SCRIPT
-comes : (design : List ℕ) (d : Drawing) → length design ≤ 67108864 → drawing_of design ≡ Some d → IsTrue (comes_to_script design)
-comes design d within found =
-    let test : nat_le (length design) 67108864 ≡ true = grind (arith, nat_tests) in
-    rw (test, found) refl
+-- an IN within its limit that opens and may be edited comes to SCRIPT
+comes : (input : List ℕ) (d : Opened) → length input ≤ 67108864 → opening input ≡ Ok d → has_unbuilt d.elements ≡ false → IsTrue (comes_to_script input)
+comes input d within opens built =
+    let test : nat_le (length input) 67108864 ≡ true = grind (arith, nat_tests) in
+    rw (test, opens, built) refl
 
 -- after such an IN was read, SCRIPT is there
-pub script_there : (input script design : List ℕ) (d : Drawing) (old mid : Option Content) → OnlyLeftDiffers old mid → IfSome old (λ c. design ≡ bytes_of c.files input) → length design ≤ 67108864 → drawing_of design ≡ Some d → IfSome old (λ c. HasBoth input script c.files) → HasFile script mid
-script_there input script design d None mid only whole within found has = rw only.1 tt
-script_there input script design d (Some c) mid only whole within found has =
-    let there : IsSome (maps.get c.files script) = has.1 (subst (λ b. IsTrue (comes_to_script b)) whole (comes design d within found)) in
+pub script_there : (input script : List ℕ) (d : Opened) (old mid : Option Content) → OnlyLeftDiffers old mid → OpensAs input old d → has_unbuilt d.elements ≡ false → IfSome old (λ c. HasBoth input script c.files) → HasFile script mid
+script_there input script d None mid only opens built has = rw only.1 tt
+script_there input script d (Some c) mid only opens built has =
+    let there : IsSome (maps.get c.files script) = has.1 (comes (bytes_of c.files input) d opens.0 opens.1 built) in
     rw only.1 there
 
--- the commands were said and the file was written
-filed_so : (d : Drawing) (rs : List Recolor) (output bytes : List ℕ) (status : Status) (old mid now : Option Content) → mid ≡ option_map (spoken (texts_of (length d.elements) rs)) old → now ≡ option_map (filed output bytes) mid → bytes ≡ file_of (drawing_after_all rs d) → status ≡ (told d rs output).status → IfSome old (λ c. Leaves (told d rs output) status c now)
-filed_so d rs output bytes status None mid now said filed_is is e = tt
-filed_so d rs output bytes status (Some c) mid now said filed_is is e =
-    record {
-      status_is = e;
-      content = filed output (file_of (drawing_after_all rs d)) (spoken (texts_of (length d.elements) rs) c);
-      told_is = rw (filed_is, said, is) refl;
-      said_is = refl;
-      files_are = refl;
-    }
+-- IN is there where both are
+pub input_there : (input script : List ℕ) (old : Option Content) → IfSome old (λ c. HasBoth input script c.files) → HasFile input old
+input_there input script None has = tt
+input_there input script (Some c) has = has.0
 
--- the same, by what the calls that ran the commands and wrote the file ensure
-pub finished : (d : Drawing) (rs : List Recolor) (p : Places) (old_file new_file output body tail : List ℕ) (refused : Bool) (status : Status) (old mid now : Option Content) → IsPlaced old_file p d → IsPlaced new_file p (drawing_after_all rs d) → mid ≡ option_map (spoken (texts_of (vec_len p.starts) rs)) old → now ≡ option_map (filed output (body ++ tail)) mid → body ≡ take p.body new_file → tail ≡ drop p.body new_file → refused ≡ list_any (is_refused (vec_len p.starts)) rs → status ≡ cond refused statuses.SomeRefused statuses.Done → IfSome old (λ c. Leaves (told d rs output) status c now)
-finished d rs p old_file new_file output body tail refused status old mid now placed after said filed_is front back any is =
-    let count : vec_len p.starts ≡ length d.elements = sym (starts_len p) ∙ placed_count old_file p d placed in
-    let texts : mid ≡ option_map (spoken (texts_of (length d.elements) rs)) old = subst (λ n. mid ≡ option_map (spoken (texts_of n rs)) old) count said in
-    let all : refused ≡ list_any (is_refused (length d.elements)) rs = subst (λ n. refused ≡ list_any (is_refused n) rs) count any in
-    let whole : body ++ tail ≡ file_of (drawing_after_all rs d) = rw (front, back, take-append-drop p.body new_file) after.whole in
-    filed_so d rs output (body ++ tail) status old mid now texts filed_is whole (is ∙ ap (λ b. cond b statuses.SomeRefused statuses.Done) all)
+-- where IN opens, `check` says how many elements it has
+pub counts : (name : List ℕ) (d : Opened) (count : ℕ) (old : Option Content) → OpensAs name old d → count ≡ length d.elements → IfSome old (λ c. input_outcome (bytes_of c.files name) checked ≡ ended statuses.Done (numbered (codes "elements ") count))
+counts name d count None opens is = tt
+counts name d count (Some c) opens is =
+    input_opens (bytes_of c.files name) checked (Ok d) opens.0 opens.1
+    ∙ ap (λ (n : ℕ). ended statuses.Done (numbered (codes "elements ") n)) (sym is)
+
+-- where IN opens and may not be edited, `edit` says so
+pub not_built : (name script output : List ℕ) (d : Opened) (old : Option Content) → OpensAs name old d → has_unbuilt d.elements ≡ true → IfSome old (λ c. input_outcome (bytes_of c.files name) (λ x. design_outcome x (bytes_of c.files script) output) ≡ ended statuses.Unbuilt (codes "unbuilt\n"))
+not_built name script output d None opens unbuilt = tt
+not_built name script output d (Some c) opens unbuilt =
+    input_opens (bytes_of c.files name) (λ x. design_outcome x (bytes_of c.files script) output) (Ok d) opens.0 opens.1
+    ∙ ap (λ (b : Bool). cond b (ended statuses.Unbuilt (codes "unbuilt\n")) (scripted d (bytes_of c.files script) output)) unbuilt
+
+-- where it may, `edit` goes on with SCRIPT
+pub built : (name script output : List ℕ) (d : Opened) (old : Option Content) → OpensAs name old d → has_unbuilt d.elements ≡ false → IfSome old (λ c. input_outcome (bytes_of c.files name) (λ x. design_outcome x (bytes_of c.files script) output) ≡ scripted d (bytes_of c.files script) output)
+built name script output d None opens clear = tt
+built name script output d (Some c) opens clear =
+    input_opens (bytes_of c.files name) (λ x. design_outcome x (bytes_of c.files script) output) (Ok d) opens.0 opens.1
+    ∙ ap (λ (b : Bool). cond b (ended statuses.Unbuilt (codes "unbuilt\n")) (scripted d (bytes_of c.files script) output)) clear

@@ -1,8 +1,9 @@
-pub mod Endings
-pub mod Numerals
-pub mod Ran
-pub mod Opened
-pub mod Pieces
-pub mod Plain
-pub mod Recolored
-pub mod Untouched
+mod Puts
+mod Changed
+mod Reopened
+mod Untouched
+mod Looked
+mod Endings
+mod Heads
+mod Ran
+mod Finished

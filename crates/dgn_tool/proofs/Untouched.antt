@@ -1,120 +1,97 @@
--- A byte that no command recolours is as it was.
-use Rattle.std.proofs.Common.{◌≡◌, ◌≢◌, ℕ, ◌+◌, ◌≤◌, ◌<◌, Bool, true, false, cond, List, [], ◌∷◌, length, nat_lt, Option, Some, refl, sym, ap, subst, ◌∙◌, arith, length-append, zero-add}
-use Rattle.std.specs.Prelude.{All, slice_set, slice_index, ◌||◌, ◌&&◌, not, ◌==◌, codes}
-use Rattle.std.specs.List.{concat, list_any}
-use Rattle.std.proofs.lemmas.Bool.Decides.{nat_tests}
-use Rattle.std.proofs.lemmas.List.{get_or-set_other}
-use Rattle.dgn_tool.specs.PlainFile.{Drawing, file_of, drawing_of}
-use Rattle.dgn_tool.specs.Places.{starts_of}
-use Rattle.dgn_tool.specs.Script.{recolors_of}
-use Rattle.dgn_tool.specs.Recoloring.{is_refused, recolored, drawing_after, drawing_after_all}
-use Rattle.dgn_tool.specs.declared.status.Status.TheVariants as statuses
-use Rattle.dgn_tool.specs.Outcome.{ended, edit_outcome, design_outcome, script_outcome}
-use Rattle.dgn_tool.specs.Laws.{IsPlainFile, recolors_at}
-use Rattle.dgn_tool.specs.declared.recolor.Recolor.{Recolor}
-use Rattle.dgn_tool.proofs.Recolored.{stands, starts_of-recolored, count-recolored, length-recolored, long-recolored}
-use Rattle.dgn_tool.proofs.Plain.{opens, plain_long}
+-- The file that commands make: it opens, and its bytes are those of the file before at each place that no
+-- accepted edit writes.
+use Rattle.std.proofs.Common.{◌≡◌, ℕ, ◌+◌, ◌≤◌, List, [], ◌∷◌, ◌++◌, length, get_or, refl, sym, ap, ◌∙◌, subst, arith, length-append}
+use Rattle.std.specs.Prelude.{slice_get, All}
+use Rattle.std.proofs.lemmas.List.Elements.{All-head, All-tail}
+use Rattle.dgn_drawing.specs.Element.{Element}
+use Rattle.dgn_drawing.specs.Spelling.{spelling}
+use Rattle.dgn_drawing.specs.Changes.{look_changed, look_bytes, HasByteColor}
+use Rattle.dgn_drawing.specs.Opening.{Opens}
+use Rattle.dgn_drawing.specs.declared.edit.Edit.{Edit}
+use Rattle.dgn_drawing.specs.declared.edit.Edit.TheVariants as edit
+use Rattle.dgn_drawing.specs.declared.symb_change.SymbChange.{SymbChange}
+use Rattle.elem_index.specs.Offsets.{offset_of}
+use Rattle.edit_script.specs.declared.command.Command.{Command}
+use Rattle.dgn_tool.specs.Edits.{answer_at, answer_of, after_answer, after, edit_in}
+use Rattle.dgn_tool.specs.Laws.{Made, with_made, remaining, IsEdited, HasByte, IsEditedFile, UntouchedBytesStay}
+use Rattle.dgn_tool.specs.declared.answer.Answer.{Answer}
+use Rattle.dgn_tool.specs.declared.answer.Answer.TheVariants.{Done, Unknown, Deleted, Opaque}
+use Rattle.dgn_tool.proofs.Puts.{length-put, put-keeps}
+use Rattle.dgn_tool.proofs.Changed.{look_within}
+use Rattle.dgn_tool.proofs.Reopened.{accepted, is_shown, reopened, shown_long, good_at}
 
--- each element has a colour
-abbrev pub AreLong : List (List ℕ) → Type 0
-AreLong es = All (λ e. 36 ≤ length e) es
+-- one edit: the file opens with the elements after it, and stays where it writes nothing
+record IsStep (dim : ℕ) (es : List Element) (t : List ℕ) (e : Edit) (answer : Answer) : Type 0 where
+  opens : Opens (spelling (after_answer answer es e) ++ t) dim (after_answer answer es e) t
+  long : length (spelling (after_answer answer es e) ++ t) ≡ length (spelling es ++ t)
+  stays : (p : ℕ) → (answer ≡ Done → ¬ IsEdited es e p) → get_or (spelling (after_answer answer es e) ++ t) p 0 ≡ get_or (spelling es ++ t) p 0
 
--- two files that agree at a place
-record Agree (p : ℕ) (a b : List ℕ) : Type 0 where
-  byte : slice_index a p ≡ slice_index b p
-
-one_refused : (d : Drawing) (r : Recolor) → is_refused (length d.elements) r ≡ true → drawing_after r d ≡ d
-one_refused d r h = rw h refl
-
-or_parts : (a b : Bool) → (a || b) ≡ false → (a ≡ false) × (b ≡ false)
-or_parts true b h = cc
-or_parts false b h = (refl, h)
-
-and_second : (a b : Bool) → a ≡ true → (a && b) ≡ false → b ≡ false
-and_second true b e h = h
-and_second false b e h = cc
-
--- the drawing with one element recoloured, where the command is accepted
-abbrev colored : Drawing → Recolor → Drawing
-colored d r = record { elements = recolored r.element r.color d.elements; tail = d.tail }
-
-one_accepted : (d : Drawing) (r : Recolor) → is_refused (length d.elements) r ≡ false → drawing_after r d ≡ colored d r
-one_accepted d r h = rw h refl
-
--- the commands that follow recolour the same places
-same_places : (d : Drawing) (r : Recolor) (p : ℕ) (rs : List Recolor) → list_any (recolors_at d p) rs ≡ false → list_any (recolors_at (colored d r) p) rs ≡ false
-same_places d r p rs h =
-    let F : ℕ → List ℕ → Type 0 = λ count starts. list_any (λ (c : Recolor). not (is_refused count c) && (p == slice_index starts c.element + 35)) rs ≡ false in
-    let es : List (List ℕ) = recolored r.element r.color d.elements in
-    subst (λ n. F n (starts_of 0 es)) (sym (count-recolored d.elements r.element r.color))
-    (subst (λ starts. F (length d.elements) starts) (sym (starts_of-recolored 0 d.elements r.element r.color)) h)
-
-color_agrees : (d : Drawing) (r : Recolor) (p : ℕ) → AreLong d.elements → is_refused (length d.elements) r ≡ false → recolors_at d p r ≡ false → Agree p (file_of (colored d r)) (file_of d)
-color_agrees d r p long accepted h =
-    let tests = or_parts (not (nat_lt r.element (length d.elements))) (r.element == 0) accepted in
-    let there : r.element < length d.elements = grind (arith, nat_tests, tests.0) in
-    let s = stands 0 d.elements r.element r.color long there in
-    let start : slice_index (starts_of 0 d.elements) r.element ≡ s.before = s.start ∙ zero-add s.before in
-    let elsewhere : (p == slice_index (starts_of 0 d.elements) r.element + 35) ≡ false = and_second (not (is_refused (length d.elements) r)) _ (ap not accepted) h in
-    let other : p ≢ s.before + 35 = λ e. let same : (p == slice_index (starts_of 0 d.elements) r.element + 35) ≡ true = grind (arith, nat_tests, start, e) in cc in
-    let written : slice_set (file_of d) (s.before + 35) r.color ≡ file_of (colored d r) = s.written d.tail in
-    record {
-      byte = ap (λ bytes. slice_index bytes p) (sym written) ∙ get_or-set_other (file_of d) (s.before + 35) p r.color 0 other;
+module _ (dim : ℕ) (t : List ℕ) where
+  module _ (es : List Element) (opens : Opens (spelling es ++ t) dim es t) where
+    refused : (e : Edit) (answer : Answer) → after_answer answer es e ≡ es → IsStep dim es t e answer
+    refused e answer same = record {
+      opens = subst (λ (xs : List Element). Opens (spelling xs ++ t) dim xs t) (sym same) opens;
+      long = ap (λ (xs : List Element). length (spelling xs ++ t)) same;
+      stays = λ p _. ap (λ (xs : List Element). get_or (spelling xs ++ t) p 0) same;
     }
 
-length_colored : (d : Drawing) (r : Recolor) → length (file_of (colored d r)) ≡ length (file_of d)
-length_colored d r = omega (arith, length-append (concat (recolored r.element r.color d.elements)) d.tail, length-append (concat d.elements) d.tail, length-recolored d.elements r.element r.color)
+    looked : (n : ℕ) (change : SymbChange) → HasByteColor change → answer_at n (slice_get es n) ≡ Done → IsStep dim es t (edit.Sym n change) Done
+    looked n change fits done =
+        let a = accepted es n done in
+        let good = good_at dim change es t fits opens n a.element a.found in
+        let shown = is_shown dim a.element good a.loud in
+        let size = shown_long dim a.element good shown in
+        let new = reopened dim change es t fits opens n a.element a.found shown.display shown.parts shown.rest shown.body size in
+        let within = look_within n es a.element a.found size in
+        let inside : (offset_of es n + 34) + 2 ≤ length (spelling es ++ t) = omega (arith, within, length-append (spelling es) t) in
+        let look : List ℕ = look_bytes (look_changed change shown.display) in
+        record {
+          opens = new.opens;
+          long = ap (length {A = ℕ}) new.bytes ∙ length-put (spelling es ++ t) look (offset_of es n + 34) inside;
+          stays = λ p outside.
+              ap (λ (l : List ℕ). get_or l p 0) new.bytes
+              ∙ put-keeps (spelling es ++ t) look (offset_of es n + 34) p inside (λ from to. outside refl (from, omega arith));
+        }
 
--- no command changes the length of the file
-length_after : (rs : List Recolor) (d : Drawing) → length (file_of (drawing_after_all rs d)) ≡ length (file_of d)
-length_after [] d = refl
-length_after (r ∷ rs) d =
-    elim (is_refused (length d.elements) r) as (λ x. is_refused (length d.elements) r ≡ x → length (file_of (drawing_after_all rs (drawing_after r d))) ≡ length (file_of d)) [
-      | true ↦ λ refused. subst (λ x. length (file_of (drawing_after_all rs x)) ≡ length (file_of d)) (sym (one_refused d r refused)) (length_after rs d)
-      | false ↦ λ accepted. subst (λ x. length (file_of (drawing_after_all rs x)) ≡ length (file_of d)) (sym (one_accepted d r accepted))
-          (length_after rs (colored d r) ∙ length_colored d r)
-    ] refl
+    by_answer : (n : ℕ) (change : SymbChange) → HasByteColor change → (answer : Answer) → answer_at n (slice_get es n) ≡ answer → IsStep dim es t (edit.Sym n change) answer
+    by_answer n change fits Done is = looked n change fits is
+    by_answer n change fits (Unknown m) is = refused (edit.Sym n change) (Unknown m) refl
+    by_answer n change fits (Deleted m) is = refused (edit.Sym n change) (Deleted m) refl
+    by_answer n change fits (Opaque m) is = refused (edit.Sym n change) (Opaque m) refl
 
--- a byte that none of the commands recolours
-agrees : (rs : List Recolor) (d : Drawing) (p : ℕ) → AreLong d.elements → list_any (recolors_at d p) rs ≡ false → Agree p (file_of (drawing_after_all rs d)) (file_of d)
-agrees [] d p long h = record { byte = refl }
-agrees (r ∷ rs) d p long h =
-    let parts = or_parts (recolors_at d p r) (list_any (recolors_at d p) rs) h in
-    elim (is_refused (length d.elements) r) as (λ x. is_refused (length d.elements) r ≡ x → Agree p (file_of (drawing_after_all rs (drawing_after r d))) (file_of d)) [
-      | true ↦ λ refused. subst (λ x. Agree p (file_of (drawing_after_all rs x)) (file_of d)) (sym (one_refused d r refused)) (agrees rs d p long parts.1)
-      | false ↦ λ accepted.
-          let one : Agree p (file_of (colored d r)) (file_of d) = color_agrees d r p long accepted parts.0 in
-          let rest : Agree p (file_of (drawing_after_all rs (colored d r))) (file_of (colored d r)) =
-          agrees rs (colored d r) p (long-recolored d.elements r.element r.color long) (same_places d r p rs parts.1) in
-          subst (λ x. Agree p (file_of (drawing_after_all rs x)) (file_of d)) (sym (one_accepted d r accepted)) (record { byte = rest.byte ∙ one.byte })
-    ] refl
+    step : (e : Edit) → HasByte e → IsStep dim es t e (answer_of es e)
+    step (edit.Sym n change) fits = by_answer n change fits (answer_at n (slice_get es n)) refl
+    step (edit.Unbuilt none) fits = elim none [ ]
 
--- the file that is written is that of the drawing after the commands
-told_file : (output name whole out : List ℕ) → ◌≡◌ {A = Option (List ℕ × List ℕ)} (Some (output, whole)) (Some (name, out)) → out ≡ whole
-told_file output name whole out e =
-    let pair : ◌≡◌ {A = List ℕ × List ℕ} (output, whole) (name, out) = cc in
-    sym (ap (λ (t : List ℕ × List ℕ). t.1) pair)
+  -- an edit that isn't among those that are left writes nothing there
+  first_kept : (answer : Answer) (one : Made) (more : List Made) (p : ℕ) → All (λ m. ¬ IsEdited m.on m.edit p) (with_made answer one more) → answer ≡ Done → ¬ IsEdited one.on one.edit p
+  first_kept Done one more p all is = All-head (λ m. ¬ IsEdited m.on m.edit p) one more all
+  first_kept (Unknown m) one more p all is = absurd (let x = is in cc)
+  first_kept (Deleted m) one more p all is = absurd (let x = is in cc)
+  first_kept (Opaque m) one more p all is = absurd (let x = is in cc)
 
-script_file : (script output name out : List ℕ) (d : Drawing) (rs : List Recolor) → recolors_of script ≡ Some rs → (design_outcome (Some d) script output).file ≡ Some (name, out) → out ≡ file_of (drawing_after_all rs d)
-script_file script output name out d rs read e =
-    elim (nat_lt 1048576 (length script)) as (λ x. (cond x (ended statuses.TooLong (codes "too long script\n")) (script_outcome d (recolors_of script) output)).file ≡ Some (name, out) → out ≡ file_of (drawing_after_all rs d)) [
-      | true ↦ λ none. cc
-      | false ↦ λ some. told_file output name (file_of (drawing_after_all rs d)) out (subst (λ found. (script_outcome d found output).file ≡ Some (name, out)) read some)
-    ] e
+  rest_kept : (answer : Answer) (one : Made) (more : List Made) (p : ℕ) → All (λ m. ¬ IsEdited m.on m.edit p) (with_made answer one more) → All (λ m. ¬ IsEdited m.on m.edit p) more
+  rest_kept Done one more p all = All-tail (λ m. ¬ IsEdited m.on m.edit p) one more all
+  rest_kept (Unknown m) one more p all = all
+  rest_kept (Deleted m) one more p all = all
+  rest_kept (Opaque m) one more p all = all
 
-written_file : (design script output name out : List ℕ) (d : Drawing) (rs : List Recolor) → drawing_of design ≡ Some d → recolors_of script ≡ Some rs → (edit_outcome design script output).file ≡ Some (name, out) → out ≡ file_of (drawing_after_all rs d)
-written_file design script output name out d rs opened read e =
-    elim (nat_lt 67108864 (length design)) as (λ x. (cond x (ended statuses.TooLong (codes "too long design\n")) (design_outcome (drawing_of design) script output)).file ≡ Some (name, out) → out ≡ file_of (drawing_after_all rs d)) [
-      | true ↦ λ none. cc
-      | false ↦ λ some. script_file script output name out d rs read (subst (λ found. (design_outcome found script output).file ≡ Some (name, out)) opened some)
-    ] e
+  edited_file : (cs : List Command) (es : List Element) → Opens (spelling es ++ t) dim es t → All (λ c. HasByte (edit_in c)) cs → IsEditedFile (spelling es ++ t) dim es t cs
+  edited_file [] es opens fits = record { long = refl; opens = opens; stays = λ p _. refl }
+  edited_file (c ∷ cs) es opens fits =
+      let e : Edit = edit_in c in
+      let one = step es opens e (All-head (λ c. HasByte (edit_in c)) c cs fits) in
+      let more = edited_file cs (after es e) one.opens (All-tail (λ c. HasByte (edit_in c)) c cs fits) in
+      record {
+        long = more.long ∙ one.long;
+        opens = more.opens;
+        stays = λ p all.
+            more.stays p (rest_kept (answer_of es e) (record { on = es; edit = e }) (remaining cs (after es e)) p all)
+            ∙ one.stays p (first_kept (answer_of es e) (record { on = es; edit = e }) (remaining cs (after es e)) p all);
+      }
 
--- the law
-pub untouched : (design script output name out : List ℕ) (d : Drawing) (rs : List Recolor) → drawing_of design ≡ Some d → recolors_of script ≡ Some rs → (edit_outcome design script output).file ≡ Some (name, out) → (length out ≡ length design) × ((p : ℕ) → list_any (recolors_at d p) rs ≡ false → slice_index out p ≡ slice_index design p)
-untouched design script output name out d rs opened read e =
-    let is : out ≡ file_of (drawing_after_all rs d) = written_file design script output name out d rs opened read e in
-    let plain : IsPlainFile design d = opens design d opened in
-    let long : AreLong d.elements = plain_long design d plain in (
-      ap (length {A = ℕ}) is ∙ length_after rs d ∙ ap (length {A = ℕ}) (sym plain.whole),
-      λ p h. ap (λ bytes. slice_index bytes p) is ∙ (agrees rs d p long h).byte ∙ ap (λ bytes. slice_index bytes p) (sym plain.whole),
-    )
+pub untouched : UntouchedBytesStay
+untouched f dim es t cs opens fits =
+    let whole : spelling es ++ t ≡ f = sym opens.whole in
+    subst (λ (g : List ℕ). IsEditedFile g dim es t cs) whole
+    (edited_file dim t cs es (subst (λ (g : List ℕ). Opens g dim es t) opens.whole opens) fits)

@@ -1,49 +1,53 @@
--- Laws over the definitions of this crate, each of them the contract of a function in `laws`.
-use Rattle.std.specs.Prelude.{ℕ, ◌≡◌, ◌+◌, ◌==◌, Bool, true, false, ◌&&◌, not, List, ◌∷◌, ◌↔◌, length, slice_index, Some, All}
-use Rattle.std.specs.List.{list_any}
-use Rattle.elem_head.specs.Head.{size_of}
-use Rattle.dgn_tool.specs.PlainFile.{Drawing, file_of, is_line, is_end, is_plain_tcb, drawing_of}
-use Rattle.dgn_tool.specs.Places.{starts_of}
-use Rattle.dgn_tool.specs.Script.{recolors_of}
-use Rattle.dgn_tool.specs.Recoloring.{is_refused}
-use Rattle.dgn_tool.specs.Outcome.{edit_outcome}
-use Rattle.dgn_tool.specs.declared.recolor.Recolor.{Recolor}
+-- What holds of every drawing that opens and every list of commands, each the contract of a function in
+-- `laws`.
+use Rattle.std.specs.Prelude.{ℕ, ◌≡◌, ◌+◌, ◌<◌, ◌≤◌, List, [], ◌∷◌, ◌++◌, length, slice_index, All}
+use Rattle.dgn_drawing.specs.Element.{Element}
+use Rattle.dgn_drawing.specs.Spelling.{spelling}
+use Rattle.dgn_drawing.specs.Changes.{HasByteColor}
+use Rattle.dgn_drawing.specs.Opening.{Opens}
+use Rattle.dgn_drawing.specs.declared.edit.Edit.{Edit}
+use Rattle.dgn_drawing.specs.declared.edit.Edit.TheVariants as edit
+use Rattle.elem_index.specs.Offsets.{offset_of}
+use Rattle.edit_script.specs.declared.command.Command.{Command}
+use Rattle.dgn_tool.specs.Edits.{answer_of, after, after_all, edit_in}
+use Rattle.dgn_tool.specs.declared.answer.Answer.{Answer}
+use Rattle.dgn_tool.specs.declared.answer.Answer.TheVariants.{Done}
 
--- these bytes are one plain line, from its first byte to its last
-pub record IsPlainLine (e : List ℕ) : Type 0 where
-  pub line : is_line e ≡ true
-  pub whole : length e ≡ size_of e
+-- an edit that is left in a drawing, and the elements that it was made on
+pub record Made : Type 0 where
+  pub on : List Element
+  pub edit : Edit
 
--- the elements of a plain file: one of 1,536 bytes, and plain lines
-pub record ArePlain (es : List (List ℕ)) : Type 0 where
-  pub first : List ℕ
-  pub lines : List (List ℕ)
-  pub are : es ≡ first ∷ lines
-  pub size : length first ≡ 1536
-  pub each : All IsPlainLine lines
+-- an edit before those behind it, where its answer is that it is done
+abbrev pub with_made : Answer → Made → List Made → List Made
+with_made Done one more = one ∷ more
+with_made refused one more = more
 
--- the file is the drawing's elements and tail, one behind the other; it begins as a TCB of two
--- dimensions, and nothing or FF FF begins the tail
-pub record IsPlainFile (f : List ℕ) (d : Drawing) : Type 0 where
-  pub whole : f ≡ file_of d
-  pub tcb : is_plain_tcb f ≡ true
-  pub elements : ArePlain d.elements
-  pub tail : is_end d.tail ≡ true
+-- the edits that commands leave, the first one first
+abbrev pub remaining : List Command → List Element → List Made
+remaining [] es = []
+remaining (c ∷ cs) es =
+    with_made (answer_of es (edit_in c)) (record { on = es; edit = edit_in c }) (remaining cs (after es (edit_in c)))
 
--- a file has a drawing just where it is that of a plain file, and then it has no other
-abbrev pub PlainFilesOpen : Type 0
-PlainFilesOpen = (f : List ℕ) (d : Drawing) → (drawing_of f ≡ Some d) ↔ IsPlainFile f d
+-- the place is in a field that an edit writes: the two bytes of the look, at byte 34 of the element
+abbrev pub IsEdited : List Element → Edit → ℕ → Type 0
+IsEdited es (edit.Sym n change) p = (offset_of es n + 34 ≤ p) × (p < offset_of es n + 36)
+IsEdited es (edit.Unbuilt none) p = elim none [ ]
 
--- whether a command recolours the byte at this place of a drawing's file: it isn't refused, and byte
--- 35 of its element stands there
-abbrev pub recolors_at : Drawing → ℕ → Recolor → Bool
-recolors_at d p r = not (is_refused (length d.elements) r) && (p == slice_index (starts_of 0 d.elements) r.element + 35)
+-- the colour of an edit, where one is given, is a byte
+abbrev pub HasByte : Edit → Type 0
+HasByte (edit.Sym n change) = HasByteColor change
+HasByte (edit.Unbuilt none) = elim none [ ]
 
--- the file that an edit writes is as long as IN, and has IN's byte at each place that no command recolours
+-- the file that the commands make of an opened one is as long, opens with the elements after them and the
+-- same tail, and has its bytes at each place that no edit that is left writes
+pub record IsEditedFile (f : List ℕ) (dim : ℕ) (es : List Element) (t : List ℕ) (cs : List Command) : Type 0 where
+  pub long : length (spelling (after_all cs es) ++ t) ≡ length f
+  pub opens : Opens (spelling (after_all cs es) ++ t) dim (after_all cs es) t
+  pub stays : (p : ℕ) → All (λ m. ¬ IsEdited m.on m.edit p) (remaining cs es)
+      → slice_index (spelling (after_all cs es) ++ t) p ≡ slice_index f p
+
 abbrev pub UntouchedBytesStay : Type 0
 UntouchedBytesStay =
-    (design script output name out : List ℕ) (d : Drawing) (rs : List Recolor)
-    → drawing_of design ≡ Some d → recolors_of script ≡ Some rs
-    → (edit_outcome design script output).file ≡ Some (name, out)
-    → (length out ≡ length design)
-    × ((p : ℕ) → list_any (recolors_at d p) rs ≡ false → slice_index out p ≡ slice_index design p)
+    (f : List ℕ) (dim : ℕ) (es : List Element) (t : List ℕ) (cs : List Command)
+    → Opens f dim es t → All (λ c. HasByte (edit_in c)) cs → IsEditedFile f dim es t cs

@@ -1,7 +1,8 @@
-pub mod Laws
-pub mod Outcome
-pub mod PlainFile
-pub mod Places
-pub mod Recoloring
-pub mod Script
 pub mod Status
+pub mod Request
+pub mod RequestView
+pub mod Edits
+pub mod Unbuilt
+pub mod Outcome
+pub mod Told
+pub mod Laws

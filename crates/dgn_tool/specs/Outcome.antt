@@ -1,14 +1,18 @@
 -- What a run comes to: a status, what is said, and the file that is written, computed from the words of
 -- the command line and the files that they name.
-use Rattle.std.specs.Prelude.{ℕ, ◌≡◌, nat_lt, nat_le, Bool, ◌&&◌, not, if◌then◌else◌, List, [], ◌∷◌, ◌++◌, length, codes, Option, Some, None, is_some, IsSome, IfSome, IsTrue, ⊤}
+use Rattle.std.specs.Prelude.{ℕ, ◌≡◌, ◌≤◌, nat_lt, nat_le, Bool, false, ◌&&◌, not, if◌then◌else◌, List, [], ◌++◌, length, codes, Option, Some, None, Result, Ok, Err, IsSome, IfSome, IsTrue, ⊤}
 use Rattle.std.specs.FinMap as maps
-use Rattle.std.specs.List.{list_any}
-use Rattle.std.specs.Str.{bytes_eq}
 use Rattle.dgn_desk.specs.Content.{Files, Content, bytes_of, with_file}
-use Rattle.dgn_tool.specs.PlainFile.{Drawing, drawing_of, file_of}
-use Rattle.dgn_tool.specs.Script.{recolors_of}
-use Rattle.dgn_tool.specs.Recoloring.{is_refused, texts_of, drawing_after_all}
-use Rattle.dgn_tool.specs.declared.recolor.Recolor.{Recolor}
+use Rattle.dgn_drawing.specs.Spelling.{spelling}
+use Rattle.dgn_drawing.specs.Opening.{Fault, NotDesign, Cut, Short, Attr}
+use Rattle.elem_index.specs.Opened.{Opened, opening}
+use Rattle.edit_script.specs.Script.{commands_of}
+use Rattle.edit_script.specs.declared.command.Command.{Command}
+use Rattle.edit_script.specs.declared.fault.ScriptFault.{ScriptFault}
+use Rattle.edit_script.specs.declared.fault.ScriptFault.TheVariants as faults
+use Rattle.dgn_tool.specs.Request.{Request, Edit, Check, request_of}
+use Rattle.dgn_tool.specs.Edits.{numbered, after_all, texts_of, is_any_refused}
+use Rattle.dgn_tool.specs.Unbuilt.{has_unbuilt}
 use Rattle.dgn_tool.specs.declared.status.Status.{Status}
 use Rattle.dgn_tool.specs.declared.status.Status.TheVariants as statuses
 
@@ -18,55 +22,67 @@ pub record Outcome : Type 0 where
   pub text : List ℕ
   pub file : Option (List ℕ × List ℕ)
 
--- the files that `edit` names
-pub record Names : Type 0 where
-  pub input : List ℕ
-  pub script : List ℕ
-  pub output : List ℕ
-
--- the names in the words `edit IN SCRIPT OUT`, where IN and OUT are different
-abbrev pub edit_names : List (List ℕ) → Option Names
-edit_names [] = None
-edit_names (c ∷ []) = None
-edit_names (c ∷ i ∷ []) = None
-edit_names (c ∷ i ∷ s ∷ []) = None
-edit_names (c ∷ i ∷ s ∷ o ∷ []) = if bytes_eq c (codes "edit") && not (bytes_eq i o) then Some (record { input = i; script = s; output = o }) else None
-edit_names (c ∷ i ∷ s ∷ o ∷ w ∷ ws) = None
-
 -- an ending that says a line and writes nothing
 abbrev pub ended : Status → List ℕ → Outcome
 ended status line = record { status = status; text = line; file = None }
 
 -- what the commands come to on a drawing: their texts, and the file of the drawing after them
-abbrev pub told : Drawing → List Recolor → List ℕ → Outcome
-told d rs output = record {
-  status = if list_any (is_refused (length d.elements)) rs then statuses.SomeRefused else statuses.Done;
-  text = texts_of (length d.elements) rs;
-  file = Some (output, file_of (drawing_after_all rs d));
+abbrev pub told : Opened → List Command → List ℕ → Outcome
+told d cs output = record {
+  status = if is_any_refused cs d.elements then statuses.SomeRefused else statuses.Done;
+  text = texts_of cs d.elements;
+  file = Some (output, spelling (after_all cs d.elements) ++ d.tail);
 }
 
--- what the script comes to, where its lines could be read
-abbrev pub script_outcome : Drawing → Option (List Recolor) → List ℕ → Outcome
-script_outcome d None output = ended statuses.Unbuilt (codes "unbuilt\n")
-script_outcome d (Some rs) output = told d rs output
+-- what a script comes to that reads so; its reading alone never wants memory
+abbrev pub script_outcome : Opened → Result (List Command) ScriptFault → List ℕ → Outcome
+script_outcome d (Ok cs) output = told d cs output
+script_outcome d (Err (faults.Line number)) output = ended statuses.BadScript (numbered (codes "bad script line ") number)
+script_outcome d (Err (faults.Unbuilt number)) output = ended statuses.Unbuilt (codes "unbuilt\n")
+script_outcome d (Err faults.Memory) output = ended statuses.Memory []
 
--- what a design that was opened comes to
-abbrev pub design_outcome : Option Drawing → List ℕ → List ℕ → Outcome
-design_outcome None script output = ended statuses.Unbuilt (codes "unbuilt\n")
-design_outcome (Some d) script output = if nat_lt 1048576 (length script) then ended statuses.TooLong (codes "too long script\n") else script_outcome d (recolors_of script) output
+-- what `edit` comes to on a drawing that may be edited
+abbrev pub scripted : Opened → List ℕ → List ℕ → Outcome
+scripted d script output =
+    if nat_lt 1048576 (length script) then ended statuses.TooLong (codes "too long script\n")
+    else script_outcome d (commands_of script) output
 
--- what `edit` comes to on these bytes of IN and SCRIPT
-abbrev pub edit_outcome : List ℕ → List ℕ → List ℕ → Outcome
-edit_outcome design script output = if nat_lt 67108864 (length design) then ended statuses.TooLong (codes "too long design\n") else design_outcome (drawing_of design) script output
+-- what `edit` comes to on a drawing
+abbrev pub design_outcome : Opened → List ℕ → List ℕ → Outcome
+design_outcome d script output =
+    if has_unbuilt d.elements then ended statuses.Unbuilt (codes "unbuilt\n") else scripted d script output
 
--- what a run comes to, by the names in its words
-abbrev pub outcome_of : Option Names → Files → Outcome
+-- what `check` comes to on a drawing
+abbrev pub checked : Opened → Outcome
+checked d = ended statuses.Done (numbered (codes "elements ") (length d.elements))
+
+-- the line that says why a file isn't a design file, and where
+abbrev pub fault_line : Fault → List ℕ
+fault_line NotDesign = codes "bad design not-design at 0\n"
+fault_line (Cut at) = numbered (codes "bad design cut at ") at
+fault_line (Short at) = numbered (codes "bad design short at ") at
+fault_line (Attr at) = numbered (codes "bad design attributes at ") at
+
+-- what a file comes to that opens so, where a drawing goes on so
+abbrev pub opened_outcome : Result Opened Fault → (Opened → Outcome) → Outcome
+opened_outcome (Ok d) go_on = go_on d
+opened_outcome (Err fault) go_on = ended statuses.BadDesign (fault_line fault)
+
+-- what these bytes of IN come to, where a drawing goes on so
+abbrev pub input_outcome : List ℕ → (Opened → Outcome) → Outcome
+input_outcome input go_on =
+    if nat_lt 67108864 (length input) then ended statuses.TooLong (codes "too long design\n")
+    else opened_outcome (opening input) go_on
+
+-- what a run with this request comes to
+abbrev pub outcome_of : Option Request → Files → Outcome
 outcome_of None files = ended statuses.Usage (codes "usage: dgnedit edit IN SCRIPT OUT, check IN, gen SEED COUNT OUT\n")
-outcome_of (Some n) files = edit_outcome (bytes_of files n.input) (bytes_of files n.script) n.output
+outcome_of (Some (Edit input script output)) files = input_outcome (bytes_of files input) (λ d. design_outcome d (bytes_of files script) output)
+outcome_of (Some (Check input)) files = input_outcome (bytes_of files input) checked
 
 -- what a run with these words comes to
 abbrev pub outcome : List (List ℕ) → Files → Outcome
-outcome words files = outcome_of (edit_names words) files
+outcome words files = outcome_of (request_of words) files
 
 -- the files after a run
 abbrev pub files_after : Option (List ℕ × List ℕ) → Files → Files
@@ -92,21 +108,37 @@ pub record Leaves (o : Outcome) (status : Status) (old : Content) (now : Option 
 abbrev pub EndsAs : Status → (Files → Outcome) → Option Content → Option Content → Type 0
 EndsAs status o old now = IsEnding status → IfSome old (λ c. Leaves (o c.files) status c now)
 
+-- a run that reads the named IN first ended so, whatever it would have gone on with
+abbrev pub EndsEarly : List ℕ → Option Content → Option Content → Status → Type 0
+EndsEarly name old now status =
+    (go_on : Files → Opened → Outcome) → EndsAs status (λ files. input_outcome (bytes_of files name) (go_on files)) old now
+
+-- the named IN is within its limit and opens as this, where the desk told it
+abbrev pub OpensAs : List ℕ → Option Content → Opened → Type 0
+OpensAs name old d =
+    IfSome old (λ c. (length (bytes_of c.files name) ≤ 67108864) × (opening (bytes_of c.files name) ≡ Ok d))
+
 -- a status that no fault made: that of an ending, or Memory
 abbrev pub IsFaultless : Status → Type 0
 IsFaultless statuses.ReadFault = ⊥
 IsFaultless statuses.WriteFault = ⊥
 IsFaultless _ = ⊤
 
--- whether SCRIPT is read after this IN: it is within its limit, and opens as a plain file
+-- whether a drawing may be edited
+abbrev pub is_edited : Result Opened Fault → Bool
+is_edited (Ok d) = not (has_unbuilt d.elements)
+is_edited (Err fault) = false
+
+-- whether SCRIPT is read after this IN: it is within its limit, opens, and may be edited
 abbrev pub comes_to_script : List ℕ → Bool
-comes_to_script design = nat_le (length design) 67108864 && is_some (drawing_of design)
+comes_to_script input = nat_le (length input) 67108864 && is_edited (opening input)
 
 -- IN is there, and SCRIPT is where it is read after IN
 abbrev pub HasBoth : List ℕ → List ℕ → Files → Type 0
 HasBoth input script files = IsSome (maps.get files input) × (IsTrue (comes_to_script (bytes_of files input)) → IsSome (maps.get files script))
 
--- the files that a run comes to read are there, by the names in its words
-abbrev pub HasFiles : Option Names → Files → Type 0
+-- the files that a run with this request comes to read are there
+abbrev pub HasFiles : Option Request → Files → Type 0
 HasFiles None files = ⊤
-HasFiles (Some n) files = HasBoth n.input n.script files
+HasFiles (Some (Edit input script output)) files = HasBoth input script files
+HasFiles (Some (Check input)) files = IsSome (maps.get files input)

@@ -1,15 +1,10 @@
-//! Laws over the definitions that the contracts cite. The functions do nothing; each states a law and is
-//! proved.
+//! Laws over the definitions that the contracts cite. The function does nothing; its contract is the law.
 
-ghost use Rattle.dgn_tool.specs.Laws.{PlainFilesOpen, UntouchedBytesStay};
+ghost use Rattle.dgn_tool.specs.Laws.{UntouchedBytesStay};
 
-/// A file has a drawing exactly where it is a plain file, and it has one drawing at most.
-pub fn plain_files_open()
-    ensures { PlainFilesOpen }
-{}
-
-/// The file that an edit writes has the bytes of the file that was read, at each place that no accepted
-/// command recolours.
+/// The file that an edit writes is as long as the file that was read, it opens as the elements that the
+/// accepted commands make and the same tail, and it has that file's byte at each place but the two of
+/// the look of an element that an accepted command names.
 pub fn untouched_bytes_stay()
     ensures { UntouchedBytesStay }
 {}

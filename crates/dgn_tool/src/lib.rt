@@ -3,13 +3,15 @@
 
 mod answer;
 mod commands;
+mod edits;
+mod ending;
 pub mod laws;
-mod places;
-mod plain_file;
-mod recolor;
-mod script;
+mod lines;
+mod opening;
+mod request;
 mod status;
 mod top;
+mod unbuilt;
 
 pub use status::Status;
 pub use top::run;

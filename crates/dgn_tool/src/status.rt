@@ -4,15 +4,15 @@ ghost use Rattle.dgn_tool.specs.Status.{number_of};
 /// How a run ended. The numbers, from 0 in this order, are the exit status of the program.
 #[derive(Clone, Copy, Debug, PartialEq, Eq, Drop)]
 pub enum Status {
-    /// Every command was done, and OUT was written.
+    /// Every command was done, and OUT was written; or IN was checked.
     Done,
     /// OUT was written, and at least one command was refused.
     SomeRefused,
     /// The words are of no form.
     Usage,
-    /// A line of the script is no command.
+    /// The first line of the script that isn't read is bad: it is no command of the language.
     BadScript,
-    /// IN is no design file.
+    /// IN is no design file: an element or its beginning is at fault.
     BadDesign,
     /// Reading a file failed.
     ReadFault,
@@ -22,7 +22,8 @@ pub enum Status {
     Memory,
     /// IN has more than 67108864 bytes, or SCRIPT more than 1048576.
     TooLong,
-    /// IN or SCRIPT is of a form that isn't built yet.
+    /// IN has elements that belong together, or the first line of SCRIPT that isn't read has a command
+    /// that isn't built yet.
     Unbuilt,
 }
 

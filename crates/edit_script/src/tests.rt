@@ -38,6 +38,8 @@ fn scripts_that_are_read(rt: HostRuntime) -> Result<(), Fail> {
                         assert_eq!(rt; change.weight, None);
                         assert_eq!(rt; change.style, None);
                     }
+                    Command::Edit(Edit::Unbuilt(never)) | Command::Unbuilt(never) =>
+                        match *never {},
                 }
             }
         }

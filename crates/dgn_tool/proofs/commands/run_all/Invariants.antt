@@ -1,11 +1,11 @@
-use Rattle.std.proofs.Common.{◌≡◌, vec_len, drop}
-use Rattle.dgn_tool.proofs.Ran.{Ran}
+use Rattle.std.proofs.Common.{◌≡◌, drop}
 use Rattle.dgn_desk.specs.Desk.{StaysWilling}
+use Rattle.dgn_tool.proofs.Ran.{Ran}
 use Rattle.dgn_tool.proofs.commands.run_all.Given as goal
 
 abbrev pub invariant-commands : goal.invariant-commands
 invariant-commands g l = record {
-  ran : Ran (vec_len l.places.starts) l.commands (drop l.command-index l.commands) l.refused l.places l.fn.file l.file (g.D.Desk.content l.fn.desk) (g.D.Desk.content l.desk);
+  ran : Ran l.commands (drop l.command-index l.commands) l.refused l.fn.design l.design (g.D.Desk.content l.fn.desk) (g.D.Desk.content l.desk);
   write : g.D.Desk.write_faults l.desk ≡ g.D.Desk.write_faults l.fn.desk;
   read : g.D.Desk.read_faults l.desk ≡ g.D.Desk.read_faults l.fn.desk;
   stays : StaysWilling (g.D.Desk.willing l.fn.desk) (g.D.Desk.willing l.desk);

@@ -1,0 +1,75 @@
+"""What the benches share: the bytes of a drawing, and the time and memory of a command."""
+
+import os
+import struct
+import subprocess
+import sys
+import tempfile
+import time
+
+SIZE = 67108864
+ROUNDS = 5
+TCB = bytes([8, 9, 0xFE, 2]) + bytes(1532)
+END = b'\xff\xff'
+
+
+def long(value):
+    value &= 0xFFFFFFFF
+    return struct.pack('<HH', value >> 16, value & 0xFFFF)
+
+
+def offset_long(value):
+    return long(value + 0x80000000)
+
+
+def line(x, data=b''):
+    """A line on level 1 from x,0 to x+100,50: 52 bytes, and attribute data behind them."""
+    low = offset_long(x) + offset_long(0) + offset_long(0)
+    high = offset_long(x + 100) + offset_long(50) + offset_long(0)
+    words = struct.pack('<HHH', 0, 10, 0x0800 if data else 0)
+    points = long(x) + long(0) + long(x + 100) + long(50)
+    head = bytes([1, 3]) + struct.pack('<H', 24 + len(data) // 2)
+    return head + low + high + words + bytes(2) + points + data
+
+
+def write_drawing(path, pieces, count, tail):
+    """A TCB, so many elements, which are these pieces again and again, and a tail."""
+    chunk = b''.join(pieces)
+    size = len(pieces[0])
+    with open(path, 'wb') as out:
+        out.write(TCB)
+        for _ in range(count // len(pieces)):
+            out.write(chunk)
+        out.write(chunk[:size * (count % len(pieces))] + tail)
+
+
+def seconds(words, folder, made, said):
+    """How long a command takes, and its peak memory in MB. It has to make a file `out` of so many bytes,
+    or none, and to say so many bytes."""
+    path = os.path.join(folder, 'out')
+    if os.path.exists(path):
+        os.remove(path)
+    with open(os.path.join(folder, 'said'), 'wb') as text:
+        start = time.perf_counter()
+        child = subprocess.Popen(words, cwd=folder, stdout=text)
+        _, status, usage = os.wait4(child.pid, 0)
+        end = time.perf_counter()
+    child.returncode = os.waitstatus_to_exitcode(status)
+    if child.returncode != 0:
+        raise SystemExit('%s ended with %d' % (words[0], child.returncode))
+    size = os.path.getsize(path) if os.path.exists(path) else None
+    if size != made or os.path.getsize(os.path.join(folder, 'said')) != said:
+        raise SystemExit('%s wrote or said something else' % words[0])
+    return end - start, usage.ru_maxrss / 1024
+
+
+def run_bench(bench, usage):
+    """Runs a bench on the program and in the folder that the words name, or in a temporary folder."""
+    if len(sys.argv) not in (2, 3):
+        raise SystemExit(usage)
+    program = os.path.abspath(sys.argv[1])
+    if len(sys.argv) == 3:
+        bench(program, sys.argv[2])
+    else:
+        with tempfile.TemporaryDirectory() as folder:
+            bench(program, folder)

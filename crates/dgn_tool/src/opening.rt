@@ -1,0 +1,62 @@
+ghost use Rattle.std.specs.Prelude.{◌≡◌, IfOk, IfErr, OnOk, IsErrOf, IsTrue};
+ghost use Rattle.dgn_desk.specs.Content.{OnlyLeftDiffers, HasFile};
+ghost use Rattle.dgn_desk.specs.Desk.{Rose, StaysWilling};
+ghost use Rattle.elem_index.specs.Design.{IsWhole};
+ghost use Rattle.elem_index.specs.Answers.{opened_of};
+ghost use Rattle.dgn_tool.specs.Outcome.{IsEnding, EndsAs, EndsEarly, OpensAs, IsFaultless};
+ghost use Rattle.dgn_tool.specs.Told.{told_fault};
+
+use crate::ending::{end, end_numbered};
+use crate::status::Status;
+use dgn_desk::{Desk, ReadEnd, read_all};
+use elem_index::{Design, OpenFault, read_design};
+use std::alloc::Global;
+
+// The most bytes that a design file may have.
+const MOST_DESIGN: usize = 67108864;
+
+/// Reads and opens IN, or ends the run.
+pub fn open_design<D: Desk>(alloc: Global, desk: &mut D, input: &str) -> Result<Design, Status>
+    ensures whole { IfOk result IsWhole }
+    ensures opened { IfOk result (λ d. OpensAs input.now (D.content desk.old) (opened_of d)) }
+    ensures told { OnOk result (OnlyLeftDiffers (D.content desk.old) (D.content desk.new)) }
+    ensures quiet { OnOk result (D.write_faults desk.new ≡ D.write_faults desk.old) }
+    ensures calm { OnOk result (D.read_faults desk.new ≡ D.read_faults desk.old) }
+    ensures stays { OnOk result (StaysWilling (D.willing desk.old) (D.willing desk.new)) }
+    ensures ended { IfErr result (EndsEarly input.now (D.content desk.old) (D.content desk.new)) }
+    ensures usage { IsErrOf result Status.Usage → ⊥ }
+    ensures read { IsErrOf result Status.ReadFault → Rose (D.read_faults desk.old) (D.read_faults desk.new) }
+    ensures unread { IsErrOf result Status.ReadFault → OnlyLeftDiffers (D.content desk.old) (D.content desk.new) }
+    ensures write { IsErrOf result Status.WriteFault → Rose (D.write_faults desk.old) (D.write_faults desk.new) }
+    ensures able { IsTrue (D.willing desk.old) → HasFile input.now (D.content desk.old) → IfErr result IsFaultless }
+{
+    let bytes = match read_all(alloc, desk, input, MOST_DESIGN) {
+        Ok(bytes) => bytes,
+        Err(ReadEnd::TooLong) => return Err(end(desk, b"too long design\n", Status::TooLong)),
+        Err(ReadEnd::Fault) => return Err(Status::ReadFault),
+        Err(ReadEnd::Memory) => return Err(Status::Memory),
+    };
+    match read_design(alloc, bytes) {
+        Ok(design) => Ok(design),
+        Err(fault) => Err(end_bad_design(alloc, desk, fault)),
+    }
+}
+
+// Ends the run with what is wrong with IN.
+fn end_bad_design<D: Desk>(alloc: Global, desk: &mut D, fault: OpenFault) -> Status
+    ensures outcome { EndsAs result (λ _. told_fault fault) (D.content desk.old) (D.content desk.new) }
+    ensures memory { fault ≡ OpenFault.Memory → result ≡ Status.Memory }
+    ensures usage { result ≡ Status.Usage → ⊥ }
+    ensures read { result ≡ Status.ReadFault → ⊥ }
+    ensures write { result ≡ Status.WriteFault → Rose (D.write_faults desk.old) (D.write_faults desk.new) }
+    ensures able { IsTrue (D.willing desk.old) → IsFaultless result }
+{
+    let bad = Status::BadDesign;
+    match fault {
+        OpenFault::NotDesign => end(desk, b"bad design not-design at 0\n", bad),
+        OpenFault::Cut { at } => end_numbered(alloc, desk, b"bad design cut at ", at, bad),
+        OpenFault::Short { at } => end_numbered(alloc, desk, b"bad design short at ", at, bad),
+        OpenFault::Attr { at } => end_numbered(alloc, desk, b"bad design attributes at ", at, bad),
+        OpenFault::Memory => Status::Memory,
+    }
+}
