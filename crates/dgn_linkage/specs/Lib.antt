@@ -1,0 +1,3 @@
+pub mod Linkages
+pub mod Links
+pub mod Laws

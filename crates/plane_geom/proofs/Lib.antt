@@ -1,0 +1,4 @@
+pub mod Readings
+pub mod Signs
+pub mod Axes
+pub mod Touching

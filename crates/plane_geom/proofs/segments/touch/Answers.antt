@@ -1,0 +1,18 @@
+-- Segments touch exactly where the three tests pass.
+use Rattle.plane_geom.proofs.Axes.{blocked}
+use Rattle.plane_geom.proofs.Touching.{boxes, splits_second, exchanged, touches}
+use Rattle.plane_geom.proofs.segments.touch.Goals as goal
+
+pub returns-then-not-boxes_meet : goal.returns-then-not-boxes_meet
+returns-then-not-boxes_meet c = blocked c.boxes_meet.result c.if-not-boxes_meet.true c.boxes_meet.ensures.1 (boxes c.args.p c.args.q c.args.r c.args.s)
+
+pub returns-then-not-splits : goal.returns-then-not-splits
+returns-then-not-splits c = blocked c.splits.result c.if-not-splits.true c.splits.ensures.1 (splits_second c.args.p c.args.q c.args.r c.args.s)
+
+pub returns : goal.returns
+returns c =
+    let p = c.args.p in
+    let q = c.args.q in
+    let r = c.args.r in
+    let s = c.args.s in
+    (λ t. touches p q r s (c.boxes_meet.ensures.0 c.if-not-boxes_meet.false) (c.splits.ensures.0 c.if-not-splits.false) (c.splits-2.ensures.0 t), λ t. c.splits-2.ensures.1 (splits_second r s p q (exchanged p q r s t)))
