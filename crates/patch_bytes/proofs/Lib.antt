@@ -1,0 +1,4 @@
+pub mod Laying
+pub mod Same
+pub mod Spans
+pub mod Steps

@@ -1,0 +1,40 @@
+// Writing patches, and writing them back.
+
+ghost use Rattle.std.specs.Prelude.{◌≡◌, length, map};
+ghost use Rattle.patch_bytes.specs.Puts.{lay, old_of, write_back as written_back, IsWithin, AreWithin};
+ghost use Rattle.patch_bytes.specs.PatchView.{put_of};
+
+use crate::Patch;
+
+/// Writes the bytes of `p` at its place in `buf`, and gives the patch that holds what stood there.
+/// Every other byte stays.
+pub fn swap_in(buf: &mut [u8], p: Patch) -> Patch
+    requires { IsWithin (length buf.old) (put_of p) }
+    ensures written { buf.new ≡ lay buf.old (put_of p) }
+    ensures restores { put_of result ≡ old_of buf.old (put_of p) }
+{
+    let from = p.at as usize;
+    let len = usize::from(p.len);
+    let place = &mut buf[from..from + len];
+    let mut bytes = [0; 4];
+    bytes[..len].copy_from_slice(place);
+    place.copy_from_slice(&p.bytes[..len]);
+    Patch {
+        at: p.at,
+        len: p.len,
+        bytes,
+    }
+}
+
+/// Writes the bytes of each patch of `list` at its place in `buf`, the last first.
+pub fn write_back(buf: &mut [u8], list: &[Patch])
+    requires { AreWithin (length buf.old) (map put_of list.now) }
+    ensures { buf.new ≡ written_back buf.old (map put_of list.now) }
+{
+    let mut left = list.len();
+    while left > 0 {
+        left -= 1;
+        let last = left;
+        swap_in(buf, list[last]);
+    }
+}

@@ -1,0 +1,3 @@
+pub mod Swapping
+pub mod Undoings
+pub mod WritingBack
