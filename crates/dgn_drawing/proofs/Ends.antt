@@ -1,8 +1,9 @@
 -- The end of each form's body, as the numbers that code computes.
 use Rattle.std.proofs.Common.{◌≡◌, ℕ, ◌+◌, ◌*◌, ◌≤◌, List, length, ap, sym, ◌∙◌, refl, Bool, true, false, cond, ◌⊎◌, inl, inr, ◌<◌, Option, Some, None, arith}
 use Rattle.std.specs.Prelude.{◌==◌, SomeIff, IfSome, IfNone}
-use Rattle.std.specs.declared.result.Result.TheVariants.{Err}
+use Rattle.std.specs.declared.result.Result.TheVariants.{Ok, Err}
 use Rattle.std.proofs.lemmas.Bool.{cases_Bool, ltb-false}
+use Rattle.std.proofs.lemmas.Bool.Decides.{nat_tests}
 use Rattle.dgn_layout.specs.declared.types.Class.{Class}
 use Rattle.dgn_layout.specs.Classes.{class_of}
 use Rattle.dgn_drawing.specs.declared.body_fault.BodyFault.{BodyFault}
@@ -113,3 +114,15 @@ shown_cases Form.Silent = inr refl
 
 pub shown_from : (f : Form) → (f ≡ Form.Silent → ⊥) → is_shown f ≡ true
 shown_from f isnt = elim (shown_cases f) [ inl shown ↦ shown | inr silent ↦ absurd (isnt silent) ]
+
+-- an element of which nothing is read has no fault
+silent_form : (b : List ℕ) → class_of (kind_of b) ≡ Class.Silent → form_at b ≡ Form.Silent
+unfolding form_of
+silent_form b silent = ap (λ (c : Class). form_in c (kind_of b)) silent
+
+pub silent_sound : (dim : ℕ) (b : List ℕ) → class_of (kind_of b) ≡ Class.Silent → 4 ≤ length b → element_fault dim b ≡ Ok tt
+silent_sound dim b silent long =
+    let end : end_at dim b ≡ 4 = end-silent (form_at b) dim b refl (silent_form b silent) in
+    let short : is_short dim b ≡ false = grind (arith, nat_tests) in
+    let shown : is_shown (form_at b) ≡ false = ap is_shown (silent_form b silent) in
+    rw (short, shown) refl

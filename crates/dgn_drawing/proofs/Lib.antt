@@ -15,4 +15,5 @@ pub mod Openings
 pub mod Offsets
 pub mod Shown
 pub mod WorkedOpening
+pub mod WorkedShown
 pub mod Looks

@@ -9,3 +9,6 @@ pub mod Rows
 pub mod Opening
 pub mod Items
 pub mod Changes
+pub mod Nesting
+pub mod Numbering
+pub mod Shown

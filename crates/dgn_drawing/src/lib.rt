@@ -7,6 +7,7 @@ mod edit;
 mod form;
 mod items;
 pub mod laws;
+mod mask;
 mod row;
 mod symb_change;
 pub mod types;
@@ -15,6 +16,7 @@ pub use body_fault::BodyFault;
 pub use check::{check_elem, row_of};
 pub use edit::Edit;
 pub use items::item;
+pub use mask::Mask;
 pub use row::Row;
 pub use symb_change::SymbChange;
 

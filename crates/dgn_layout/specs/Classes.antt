@@ -1,6 +1,6 @@
 -- The class of each element type. It says what the body of such an element holds, and so which of its
 -- fields are read and which are coordinates.
-use Rattle.std.specs.Prelude.{ℕ, ◌==◌, Bool, false, ◌||◌, List, [], ◌∷◌, if◌then◌else◌}
+use Rattle.std.specs.Prelude.{ℕ, ◌==◌, Bool, true, false, ◌||◌, List, [], ◌∷◌, if◌then◌else◌}
 use Rattle.dgn_layout.specs.declared.types.Class.{Class}
 use Rattle.dgn_layout.specs.declared.types.Class.TheVariants.{Vertices, Words, Counted, Run, Floating, Boxed, Silent}
 
@@ -19,3 +19,8 @@ class_of kind =
     else if is_among kind (15 ∷ 16 ∷ 23 ∷ []) then Floating
     else if is_among kind (22 ∷ 33 ∷ 35 ∷ []) then Boxed
     else Silent
+
+-- whether nothing is read of the bodies of a class, nor a display header
+abbrev pub is_silent : Class → Bool
+is_silent Class.Silent = true
+is_silent other = false

@@ -1,11 +1,13 @@
 -- What the answers of opening a file say.
-use Rattle.std.specs.Prelude.{ℕ, ◌≡◌, ◌≤◌, IsTrue, IsFalse, List, length, take, drop}
+use Rattle.std.specs.Prelude.{ℕ, ◌≡◌, ◌≤◌, IsTrue, IsFalse, Option, Some, None, List, length, take, drop}
 use Rattle.std.specs.declared.result.Result.{Result}
 use Rattle.std.specs.declared.result.Result.TheVariants.{Ok, Err}
-use Rattle.elem_head.specs.Head.{size_of as size_said}
+use Rattle.dgn_layout.specs.Classes.{class_of, is_silent}
+use Rattle.elem_head.specs.Head.{kind_of, words_after, size_of as size_said}
 use Rattle.dgn_drawing.specs.declared.body_fault.BodyFault.{BodyFault}
 use Rattle.dgn_drawing.specs.Element.{Element}
 use Rattle.dgn_drawing.specs.Spelling.{spelling}
+use Rattle.dgn_drawing.specs.WellFormed.{begins_with_mark}
 use Rattle.dgn_drawing.specs.Faults.{element_fault}
 use Rattle.dgn_drawing.specs.Opening.{Fault, NotDesign, Cut, Short, Attr, HasFault, HasBodyFault, Opens, is_cut, first_element, dimension}
 use Rattle.elem_index.specs.declared.design.Design.{Design}
@@ -44,6 +46,23 @@ pub record BeginsSound (dim : ℕ) (b : List ℕ) (size : ℕ) : Type 0 where
   pub whole : IsFalse (is_cut b)
   pub sound : element_fault dim (first_element b) ≡ Ok tt
   pub long : size ≡ size_said b
+
+-- bytes begin with four that say that nothing follows, of a type of which nothing is read
+pub record BeginsBare (b : List ℕ) : Type 0 where
+  pub long : 4 ≤ length b
+  pub words : words_after b ≡ 0
+  pub silent : IsTrue (is_silent (class_of (kind_of b)))
+
+-- bytes begin with the mark, or with an element without fault, of that size
+abbrev pub BeginsNext : ℕ → List ℕ → Option ℕ → Type 0
+BeginsNext dim b None = IsTrue (begins_with_mark b)
+BeginsNext dim b (Some size) = IsFalse (begins_with_mark b) × BeginsSound dim b size
+
+-- the file opens, and has so many elements
+pub record HasCount (f : List ℕ) (count : ℕ) : Type 0 where
+  pub opened : Opened
+  pub found : opening f ≡ Ok opened
+  pub counted : count ≡ length opened.elements
 
 -- the element that begins the bytes at place p has the fault that is told
 abbrev pub BeginsFaulty : ℕ → ℕ → List ℕ → OpenFault → Type 0

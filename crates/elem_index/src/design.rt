@@ -1,13 +1,13 @@
-ghost use Rattle.std.specs.Prelude.{◌≡◌, ◌≤◌, ◌<◌, ◌+◌, ◌++◌, ◌↔◌, length, vec_len, IfOk, IfErr, IsNone, IfSome, map, slice_get, option_map};
+ghost use Rattle.std.specs.Prelude.{◌≡◌, ◌≤◌, ◌<◌, ◌+◌, ◌++◌, ◌↔◌, length, vec_len, IfOk, IfErr, IsErrOf, IsNone, IfSome, map, slice_get, option_map};
 ghost use Rattle.dgn_drawing.specs.Spelling.{spell};
 ghost use Rattle.dgn_drawing.specs.Rows.{row_of};
 ghost use Rattle.elem_index.specs.Offsets.{offset_of};
 ghost use Rattle.elem_index.specs.Opened.{opening};
 ghost use Rattle.elem_index.specs.Design.{elements, IsWhole};
-ghost use Rattle.elem_index.specs.Answers.{HasToldFault, Tells};
+ghost use Rattle.elem_index.specs.Answers.{HasCount, HasToldFault, Tells, TellsFault};
 
 use crate::open_fault::OpenFault;
-use crate::walk::{begins_with_tcb, dimension, elements_in};
+use crate::walk::{begins_with_tcb, count_in, dimension, elements_in};
 use dgn_drawing::{Row, row_of};
 use std::alloc::{AllocError, Global};
 
@@ -52,6 +52,21 @@ pub fn read_design(alloc: Global, mut bytes: Vec<u8>) -> Result<Design, OpenFaul
         }),
         Err(_) => Err(OpenFault::Memory),
     }
+}
+
+/// How many elements the bytes of a file have. The faults come exactly where `read_design` gives them.
+/// Nothing is kept and no memory is taken, so Memory never comes.
+pub fn count_elements(bytes: &[u8]) -> Result<u32, OpenFault>
+    requires { length bytes.now ≤ 67108864 }
+    ensures count { IfOk result (HasCount bytes.now) }
+    ensures fault { IfErr result (HasToldFault bytes.now) }
+    ensures told { IfErr result (TellsFault (opening bytes.now)) }
+    ensures memory { IsErrOf result OpenFault.Memory → ⊥ }
+{
+    if !begins_with_tcb(bytes) {
+        return Err(OpenFault::NotDesign);
+    }
+    count_in(bytes)
 }
 
 impl Design {

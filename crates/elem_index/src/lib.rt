@@ -7,7 +7,7 @@ pub mod laws;
 mod open_fault;
 mod walk;
 
-pub use design::{Design, read_design};
+pub use design::{Design, count_elements, read_design};
 pub use open_fault::OpenFault;
 
 #[cfg(test)]

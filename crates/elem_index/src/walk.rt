@@ -1,13 +1,14 @@
 // From element to element through a file.
 
-ghost use Rattle.std.specs.Prelude.{◌≡◌, ◌≤◌, length, true, IfOk, IfErr};
+ghost use Rattle.std.specs.Prelude.{◌≡◌, ◌≤◌, length, true, IfOk, IfErr, IsErr, IsErrOf, IsTrue, IsFalse};
 ghost use Rattle.dgn_drawing.specs.Opening.{is_tcb, dimension};
 ghost use Rattle.dgn_drawing.specs.WellFormed.{IsDimension, begins_with_mark};
-ghost use Rattle.elem_index.specs.Answers.{BeginsSound, BeginsFaulty, IsRun, HasToldFault, TellsFault};
+ghost use Rattle.elem_index.specs.Answers.{BeginsSound, BeginsFaulty, BeginsBare, BeginsNext, HasCount, IsRun, HasToldFault, TellsFault};
 ghost use Rattle.elem_index.specs.Opened.{opening};
 
 use crate::open_fault::OpenFault;
 use dgn_drawing::{BodyFault, check_elem};
+use dgn_layout::is_silent;
 use elem_head::head;
 use std::alloc::Global;
 
@@ -54,10 +55,9 @@ pub(crate) fn elements_in(alloc: Global, f: &[u8]) -> Result<(Vec<u32>, usize), 
     let mut at = 0;
     'elements: while at < f.len() {
         let (_, rest) = f.split_at(at);
-        if begins_with_mark(rest) {
+        let Some(size) = next_size(dim, at as u32, rest)? else {
             break;
-        }
-        let size = sound_size(dim, at as u32, rest)?;
+        };
         match kept.push(at as u32) {
             Ok(()) => {}
             Err(_) => return Err(OpenFault::Memory),
@@ -67,8 +67,51 @@ pub(crate) fn elements_in(alloc: Global, f: &[u8]) -> Result<(Vec<u32>, usize), 
     Ok((kept, at))
 }
 
-// The size of the sound element that the bytes begin with, which stand at place `at` of a file.
-fn sound_size(dim: u8, at: u32, rest: &[u8]) -> Result<usize, OpenFault>
+// How many elements the file has.
+pub(crate) fn count_in(f: &[u8]) -> Result<u32, OpenFault>
+    requires few { length f.now ≤ 67108864 }
+    requires tcb { is_tcb f.now ≡ true }
+    ensures count { IfOk result (HasCount f.now) }
+    ensures fault { IfErr result (HasToldFault f.now) }
+    ensures told { IfErr result (TellsFault (opening f.now)) }
+    ensures memory { IsErrOf result OpenFault.Memory → ⊥ }
+{
+    let dim = dimension(f);
+    let mut count = 0;
+    let mut at = 0;
+    'elements: while at < f.len() {
+        let (_, rest) = f.split_at(at);
+        let Some(size) = next_size(dim, at as u32, rest)? else {
+            break;
+        };
+        at += size;
+        count += 1;
+    }
+    Ok(count)
+}
+
+// The size of the sound element that the bytes begin with, which stand at place `at` of a file, or none
+// where they begin with the mark that ends the elements.
+#[inline(always)]
+fn next_size(dim: u8, at: u32, rest: &[u8]) -> Result<Option<usize>, OpenFault>
+    requires { IsDimension dim }
+    ensures next { IfOk result (BeginsNext dim rest.now) }
+    ensures fault { IfErr result (BeginsFaulty dim at rest.now) }
+    ensures more { IsErr result → IsFalse (begins_with_mark rest.now) }
+{
+    if is_bare(rest) {
+        Ok(Some(HEAD_END))
+    } else if begins_with_mark(rest) {
+        Ok(None)
+    } else {
+        let size = checked_size(dim, at, rest)?;
+        Ok(Some(size))
+    }
+}
+
+// The size of the sound element that the bytes begin with, by all that an element can have wrong.
+#[inline(never)]
+fn checked_size(dim: u8, at: u32, rest: &[u8]) -> Result<usize, OpenFault>
     requires { IsDimension dim }
     ensures sound { IfOk result (BeginsSound dim rest.now) }
     ensures fault { IfErr result (BeginsFaulty dim at rest.now) }
@@ -85,5 +128,19 @@ fn sound_size(dim: u8, at: u32, rest: &[u8]) -> Result<usize, OpenFault>
         Ok(()) => Ok(size),
         Err(BodyFault::Short) => Err(OpenFault::Short { at }),
         Err(BodyFault::Attr) => Err(OpenFault::Attr { at }),
+    }
+}
+
+// Whether the bytes begin with a head that says that nothing follows, of a type of which nothing is read,
+// and not with the mark: that is a sound element of four bytes. It is asked first, so that a walk over many
+// of them waits for no size to be read.
+#[inline(always)]
+fn is_bare(rest: &[u8]) -> bool
+    ensures bare { IsTrue result → BeginsBare rest.now }
+    ensures more { IsTrue result → IsFalse (begins_with_mark rest.now) }
+{
+    match rest {
+        [first, kind, 0, 0, ..] => is_silent(kind % 128) && (*first != 0xFF || *kind != 0xFF),
+        _ => false,
     }
 }

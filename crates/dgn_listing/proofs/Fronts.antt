@@ -1,0 +1,44 @@
+-- Where a writer of several pieces stops for want of memory: the pieces before are written, and a front of one.
+use Rattle.std.proofs.Common.{ℕ, ◌≡◌, ◌+◌, ◌<◌, ◌++◌, List, length, take, drop, get_or, Result, Ok, Err, ap, sym, ◌∙◌, subst, arith, append_assoc, length-append}
+use Rattle.std.specs.Prelude.{OnErr}
+use Rattle.std.specs.List.{flat_map}
+use Rattle.std.proofs.lemmas.List.{take-append-le, take-append-drop, drop_more}
+use Rattle.std.proofs.lemmas.List.Concat.{flat_map-append}
+use Rattle.std.proofs.Math.Seq.{take-append-add}
+use Rattle.dgn_listing.specs.Lines.{AppendsFrontOf}
+
+-- a front of the first piece
+pub first : (a b old new : List ℕ) → AppendsFrontOf a old new → AppendsFrontOf (a ++ b) old new
+first a b old new f = record {
+  count = f.count;
+  within = omega (arith, length-append a b, f.within);
+  bytes = f.bytes ∙ ap (λ (t : List ℕ). old ++ t) (sym (take-append-le f.count a b f.within));
+}
+
+-- the first piece, and a front of what follows
+pub later : (a b old mid new : List ℕ) → mid ≡ old ++ a → AppendsFrontOf b mid new → AppendsFrontOf (a ++ b) old new
+later a b old mid new before f = record {
+  count = length a + f.count;
+  within = omega (arith, length-append a b, f.within);
+  bytes = f.bytes ∙ (ap (λ (t : List ℕ). t ++ take f.count b) before ∙ (append_assoc old a (take f.count b) ∙ ap (λ (t : List ℕ). old ++ t) (sym (take-append-add a b f.count))));
+}
+
+-- the pieces of the elements before one, and a front of its own
+pub among : {X : Type 0} (f : X → List ℕ) (xs : List X) (i : ℕ) (d : X) (old mid new : List ℕ) → i < length xs → mid ≡ old ++ flat_map f (take i xs) → AppendsFrontOf (f (get_or xs i d)) mid new → AppendsFrontOf (flat_map f xs) old new
+among f xs i d old mid new within before front =
+    let parts : flat_map f (take i xs) ++ flat_map f (drop i xs) ≡ flat_map f xs = sym (flat_map-append f (take i xs) (drop i xs)) ∙ ap (flat_map f) (take-append-drop i xs) in
+    let rest : flat_map f (drop i xs) ≡ f (get_or xs i d) ++ flat_map f (drop (i + 1) xs) = ap (flat_map f) (drop_more xs i d within) in
+    let whole : flat_map f (take i xs) ++ (f (get_or xs i d) ++ flat_map f (drop (i + 1) xs)) ≡ flat_map f xs = ap (λ (t : List ℕ). flat_map f (take i xs) ++ t) (sym rest) ∙ parts in
+    subst (λ (t : List ℕ). AppendsFrontOf t old new) whole
+    (later (flat_map f (take i xs)) (f (get_or xs i d) ++ flat_map f (drop (i + 1) xs)) old mid new before
+    (first (f (get_or xs i d)) (flat_map f (drop (i + 1) xs)) mid new front))
+
+-- what holds of an exit is said of its result
+pub said : {E : Type 0} (r : Result (Unit {0}) E) (text old new : List ℕ) → AppendsFrontOf text old new → OnErr r (AppendsFrontOf text old new)
+said (Ok x) text old new f = tt
+said (Err e) text old new f = f
+
+-- a front of the last piece
+pub last : {E : Type 0} (r : Result (Unit {0}) E) (a b old mid new : List ℕ) → mid ≡ old ++ a → OnErr r (AppendsFrontOf b mid new) → OnErr r (AppendsFrontOf (a ++ b) old new)
+last (Ok x) a b old mid new before f = tt
+last (Err e) a b old mid new before f = later a b old mid new before f

@@ -1,0 +1,3 @@
+pub mod ItemTexts
+pub mod Lines
+pub mod TreeTexts

@@ -1,0 +1,148 @@
+// What is said of the trees of worked drawings: a cell, broken nesting, runs, and marked elements.
+
+ghost use Rattle.std.specs.Prelude.{◌≡◌, map, IfOk};
+ghost use Rattle.dgn_drawing.specs.Rows.{row_of};
+ghost use Rattle.elem_index.specs.Design.{elements, IsWhole};
+
+use crate::write_tree;
+use elem_index::{Design, read_design};
+use nest_tree::{Nest, nest};
+use std::alloc::{AllocError, Global};
+use std::process::Abort;
+use std::test::Fail;
+
+// The cell ABC at 0,0 with the total 53.
+const CELL: [u8; 92] = [
+    0x01, 0x02, 0x2C, 0x00, 0x00, 0x80, 0x00, 0x00, 0x00, 0x80, 0x00, 0x00, 0x00, 0x80, 0x00, 0x00,
+    0x00, 0x80, 0x64, 0x00, 0x00, 0x80, 0x32, 0x00, 0x00, 0x80, 0x00, 0x00, 0x00, 0x00, 0x1E, 0x00,
+    0x00, 0x00, 0x00, 0x00, 0x35, 0x00, 0x93, 0x06, 0x00, 0x00, 0x00, 0x00, 0x00, 0x00, 0x00, 0x00,
+    0x00, 0x00, 0x00, 0x00, 0xAA, 0xAA, 0xAA, 0xAA, 0xAA, 0xAA, 0xAA, 0xAA, 0xAA, 0xAA, 0xAA, 0xAA,
+    0xAA, 0xAA, 0xAA, 0xAA, 0xAA, 0xAA, 0xAA, 0xAA, 0xAA, 0xAA, 0xAA, 0xAA, 0xAA, 0xAA, 0xAA, 0xAA,
+    0xAA, 0xAA, 0xAA, 0xAA, 0x00, 0x00, 0x00, 0x00, 0x00, 0x00, 0x00, 0x00,
+];
+
+// A line from 0,0 to 100,50 on level 1, with bit C.
+const MEMBER: [u8; 52] = [
+    0x81, 0x03, 0x18, 0x00, 0x00, 0x80, 0x00, 0x00, 0x00, 0x80, 0x00, 0x00, 0x00, 0x80, 0x00, 0x00,
+    0x00, 0x80, 0x64, 0x00, 0x00, 0x80, 0x32, 0x00, 0x00, 0x80, 0x00, 0x00, 0x00, 0x00, 0x0A, 0x00,
+    0x00, 0x00, 0x00, 0x00, 0x00, 0x00, 0x00, 0x00, 0x00, 0x00, 0x00, 0x00, 0x00, 0x00, 0x64, 0x00,
+    0x00, 0x00, 0x32, 0x00,
+];
+
+// A B-spline's header with the range 0,0 to 9,9.
+const SPLINE: [u8; 36] = [
+    0x01, 0x1B, 0x10, 0x00, 0x00, 0x80, 0x00, 0x00, 0x00, 0x80, 0x00, 0x00, 0x00, 0x80, 0x00, 0x00,
+    0x00, 0x80, 0x09, 0x00, 0x00, 0x80, 0x09, 0x00, 0x00, 0x80, 0x00, 0x00, 0x00, 0x00, 0x02, 0x00,
+    0x00, 0x00, 0x00, 0x00,
+];
+
+// An element of the size of the B-spline's header with another first and second byte.
+fn blank(first: u8, second: u8) -> [u8; 36] {
+    let mut bytes = SPLINE;
+    bytes[0] = first;
+    bytes[1] = second;
+    bytes
+}
+
+// The cell with another second byte and another total.
+fn cell(second: u8, total: u8) -> [u8; 92] {
+    let mut bytes = CELL;
+    bytes[1] = second;
+    bytes[36] = total;
+    bytes
+}
+
+// The member with another second byte.
+fn member(second: u8) -> [u8; 52] {
+    let mut bytes = MEMBER;
+    bytes[1] = second;
+    bytes
+}
+
+// A file of two dimensions: a TCB, these elements, and the mark that ends them.
+fn file(alloc: Global, elements: &[&[u8]]) -> Result<Vec<u8>, AllocError> {
+    let mut bytes = Vec::from_slice(alloc, &[0x08, 0x09, 0xFE, 0x02])?;
+    bytes.resize(1536, 0)?;
+    for element in elements {
+        bytes.extend_from_slice(element)?;
+    }
+    bytes.extend_from_slice(&[0xFF, 0xFF])?;
+    Ok(bytes)
+}
+
+// The nesting of a design.
+fn nested(alloc: Global, d: &Design) -> Result<Nest, AllocError>
+    requires { IsWhole d.now }
+    ensures { IfOk result (λ t. t.rows ≡ map row_of (elements d.now)) }
+{
+    let rows = d.rows()?;
+    nest(alloc, &rows)
+}
+
+// The file of these elements says so of the tree of each number.
+fn says(
+    rt: &(impl AllocGlobal + Abort),
+    elements: &[&[u8]],
+    told: &[(u32, &str)],
+) -> Result<(), Fail> {
+    let bytes = file(rt.alloc(), elements)?;
+    assert!(rt; bytes.len() <= 67108864);
+    let design = read_design(rt.alloc(), bytes)?;
+    let nesting = nested(rt.alloc(), &design)?;
+    for (n, text) in told {
+        assert!(rt; *n < design.count());
+        let mut out = Vec::new(rt.alloc());
+        write_tree(rt.alloc(), &mut out, &design, &nesting, *n)?;
+        assert_eq!(rt; out.as_slice(), text.as_bytes(), "tree {n}");
+    }
+    Ok(())
+}
+
+#[test]
+fn a_cell(rt: HostRuntime) -> Result<(), Fail> {
+    says(
+        &rt,
+        &[&CELL, &MEMBER],
+        &[
+            (0, "0 0 9 8 leaf live\ntree 1\n"),
+            (1, "1 0 2 1 group live\n2 1 3 1 leaf live\ntree 2\n"),
+            (2, "2 1 3 1 leaf live\ntree 1\n"),
+        ],
+    )
+}
+
+#[test]
+fn broken_nesting(rt: HostRuntime) -> Result<(), Fail> {
+    says(
+        &rt,
+        &[&cell(2, 52), &MEMBER],
+        &[
+            (1, "1 0 2 1 loose live\ntree 1\n"),
+            (2, "2 0 3 1 leaf live orphan\ntree 1\n"),
+        ],
+    )
+}
+
+#[test]
+fn runs(rt: HostRuntime) -> Result<(), Fail> {
+    says(
+        &rt,
+        &[&SPLINE, &blank(0x81, 26), &blank(0x01, 34), &MEMBER],
+        &[
+            (1, "1 0 27 1 run live\n2 1 26 1 leaf live\ntree 2\n"),
+            (3, "3 0 34 1 run live\n4 1 3 1 leaf live\ntree 2\n"),
+        ],
+    )
+}
+
+#[test]
+fn marked_elements(rt: HostRuntime) -> Result<(), Fail> {
+    says(
+        &rt,
+        &[&cell(0x82, 53), &MEMBER, &CELL, &member(0x83)],
+        &[
+            (1, "1 0 2 1 group deleted\n2 1 3 1 leaf live\ntree 2\n"),
+            (3, "3 0 2 1 group live\n4 1 3 1 leaf deleted\ntree 2\n"),
+        ],
+    )
+}

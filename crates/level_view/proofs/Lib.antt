@@ -1,0 +1,10 @@
+pub mod Results
+pub mod Heads
+pub mod Numbers
+pub mod Joins
+pub mod Bare
+pub mod Stands
+pub mod Roots
+pub mod Trees
+pub mod Places
+pub mod Rows

@@ -1,0 +1,79 @@
+// The items of all trees, and of one.
+
+ghost use Rattle.std.specs.Prelude.{◌≡◌, ◌-◌, ◌≤◌, length, map, reverse, IfOk};
+ghost use Rattle.dgn_drawing.specs.Nesting.{itself};
+ghost use Rattle.dgn_drawing.specs.Rows.{row_of};
+ghost use Rattle.dgn_drawing.specs.Shown.{shown, tree_shown, IsRoot};
+ghost use Rattle.elem_index.specs.Design.{elements, IsWhole};
+ghost use Rattle.level_view.specs.Back.{read_back};
+
+use crate::back::add;
+use crate::place::place_of;
+use dgn_drawing::Mask;
+use dgn_drawing::types::Item;
+use elem_index::Design;
+use nest_tree::Nest;
+use std::alloc::{AllocError, Global};
+
+/// The items that the display shows of the drawing `d` under `mask`: those of all roots, in file order.
+/// `t` is the nesting of `d`.
+///
+/// A leaf that isn't marked deleted and whose level is in the mask gives its item, where it has one.
+/// So does the header of a B-spline, a run of type 24 or 27, and its parts give none. A group that
+/// isn't marked deleted, and whose members give at least one item, gives its header's item, whatever
+/// the header's level is, and then those of its members. The header of a shared cell definition, a run
+/// of type 34, a loose header and a group that is marked deleted give nothing, and neither does what
+/// stands below them.
+pub fn show(alloc: Global, d: &Design, t: &Nest, mask: Mask) -> Result<Vec<Item>, AllocError>
+    requires whole { IsWhole d.now }
+    requires nesting { t.now.rows ≡ map row_of (elements d.now) }
+    ensures { IfOk result (λ found. found.items ≡ shown d.now.dim mask (elements d.now)) }
+{
+    items_between(alloc, d, t, 0, d.count(), mask)
+}
+
+/// The items that the display shows of the tree of the root `n` under `mask`, by the rules of `show`.
+/// `t` is the nesting of `d`.
+pub fn tree_items(
+    alloc: Global,
+    d: &Design,
+    t: &Nest,
+    n: u32,
+    mask: Mask,
+) -> Result<Vec<Item>, AllocError>
+    requires whole { IsWhole d.now }
+    requires nesting { t.now.rows ≡ map row_of (elements d.now) }
+    requires root { IsRoot itself t.now.rows n }
+    ensures { IfOk result (λ found. found.items ≡ tree_shown d.now.dim mask (elements d.now) n) }
+{
+    let Some((first, end)) = t.span(n) else {
+        unreachable!()
+    };
+    items_between(alloc, d, t, first, end, mask)
+}
+
+// What the elements from number `first` on and before number `end` show.
+//
+// They are read from the last one back to the first, since whether a group's header is shown hangs on
+// what stands behind it.
+fn items_between(
+    alloc: Global,
+    d: &Design,
+    t: &Nest,
+    first: u32,
+    end: u32,
+    mask: Mask,
+) -> Result<Vec<Item>, AllocError>
+    requires whole { IsWhole d.now }
+    requires nesting { t.now.rows ≡ map row_of (elements d.now) }
+    requires ordered { first ≤ end }
+    requires within { end ≤ length (elements d.now) }
+    ensures { IfOk result (λ found. found.items ≡ read_back d.now.dim mask (elements d.now) first (end - first)) }
+{
+    let mut items = Vec::new(alloc);
+    for n in (first..end).rev() {
+        add(alloc, d.dim, mask, place_of(d, t, n), &mut items)?;
+    }
+    items.reverse();
+    Ok(items)
+}

@@ -1,0 +1,74 @@
+-- What is kept of the first element, from which reading goes on; and what is kept of all.
+use Rattle.std.proofs.Common.{◌≡◌, ℕ, ◌-◌, ◌<◌, List, [], ◌∷◌, ◌++◌, length, take, drop, map, refl, sym, ap, ◌∙◌, subst, arith}
+use Rattle.std.specs.Prelude.{None, slice_get, option_map}
+use Rattle.std.proofs.lemmas.List.{take_all}
+use Rattle.std.proofs.lemmas.Option.{slice_get-map}
+use Rattle.dgn_drawing.specs.declared.row.Row.{Row}
+use Rattle.dgn_drawing.specs.Nesting.{All, itself, nest}
+use Rattle.dgn_drawing.specs.Numbering.{Mark, marks}
+use Rattle.nest_tree.specs.declared.knot.Knot.{Knot}
+use Rattle.nest_tree.specs.declared.link.Link.{Link}
+use Rattle.nest_tree.specs.Sums.{sums_from}
+use Rattle.std.specs.List.{AllByRecursion}
+use Rattle.nest_tree.specs.Depths.{IsWordTotal}
+use Rattle.nest_tree.specs.Nested.{IsNest}
+use Rattle.nest_tree.specs.Places.{marks_in, link_of, ArePlaces}
+use Rattle.nest_tree.proofs.Stacks.{length-marks_in}
+
+first_sum : (rows : List Row) → 0 ∷ [] ≡ take 1 (sums_from 0 rows)
+unfolding sums_from
+first_sum [] = refl
+first_sum (r ∷ rows) = refl
+
+pub sums_begun : (rows : List Row) (old new : List ℕ) → old ≡ [] → new ≡ old ++ 0 ∷ [] → new ≡ take (length new) (sums_from 0 rows)
+sums_begun rows old new none is =
+    let one : new ≡ 0 ∷ [] = is ∙ ap (λ (l : List ℕ). l ++ 0 ∷ []) none in
+    one ∙ first_sum rows ∙ ap (λ (l : List ℕ). take (length l) (sums_from 0 rows)) (sym one)
+
+pub words_begun : (rows : List Row) (old new : List ℕ) → old ≡ [] → new ≡ old ++ 0 ∷ [] → AllByRecursion IsWordTotal (take (length new - 1) rows)
+words_begun rows old new none is =
+    let one : new ≡ 0 ∷ [] = is ∙ ap (λ (l : List ℕ). l ++ 0 ∷ []) none in
+    subst (λ (l : List ℕ). AllByRecursion IsWordTotal (take (length l - 1) rows)) (sym one) tt
+
+abbrev pub leaf_link : Link
+leaf_link = record { parent = None; depth = 0; knot = Knot.Leaf }
+
+first_place : (rows : List Row) → 0 < length rows → ArePlaces rows 1 (1 ∷ []) (leaf_link ∷ [])
+unfolding marks_in
+first_place [] some = absurd (omega arith)
+first_place (r ∷ rows) some = record { within = omega arith; ends_are = refl; links_are = refl }
+
+first_apart : (rows : List Row) → 0 < length rows → drop 1 (marks_in rows) ≡ marks (nest itself All (drop 1 rows)) 1 0 None
+unfolding marks_in
+first_apart [] some = absurd (omega arith)
+first_apart (r ∷ rows) some = refl
+
+one_of : {A : Type 0} (old new : List A) (x : A) → old ≡ [] → new ≡ old ++ x ∷ [] → new ≡ x ∷ []
+one_of {A} old new x none is = is ∙ ap (λ (l : List A). l ++ x ∷ []) none
+
+pub places_begun : (rows : List Row) (ends ends_new : List ℕ) (links links_new : List Link) → 0 < length rows → ends ≡ [] → ends_new ≡ ends ++ 1 ∷ [] → links ≡ [] → links_new ≡ links ++ leaf_link ∷ []
+    → ArePlaces rows (length ends_new) ends_new links_new
+places_begun rows ends ends_new links links_new some no_ends ends_is no_links links_is =
+    let e = one_of ends ends_new 1 no_ends ends_is in
+    let l = one_of links links_new leaf_link no_links links_is in
+    subst (λ (x : List ℕ). ArePlaces rows (length x) x links_new) (sym e)
+    (subst (λ (y : List Link). ArePlaces rows 1 (1 ∷ []) y) (sym l) (first_place rows some))
+
+pub apart_begun : (rows : List Row) (ends ends_new : List ℕ) → 0 < length rows → ends ≡ [] → ends_new ≡ ends ++ 1 ∷ []
+    → drop (length ends_new) (marks_in rows) ≡ marks (nest itself All (drop (length ends_new) rows)) (length ends_new) 0 None
+apart_begun rows ends ends_new some none is =
+    let e = one_of ends ends_new 1 none is in
+    subst (λ (x : List ℕ). drop (length x) (marks_in rows) ≡ marks (nest itself All (drop (length x) rows)) (length x) 0 None) (sym e) (first_apart rows some)
+
+-- what is kept of all elements
+module _ (rows : List Row) (sums ends : List ℕ) (links : List Link) (kept : IsNest rows sums ends links) where
+  all_marks : take (length rows) (marks_in rows) ≡ marks_in rows
+  all_marks = take_all (length rows) (marks_in rows) (omega (arith, length-marks_in rows))
+
+  pub ends_kept : (n : ℕ) → slice_get ends n ≡ option_map (λ (m : Mark). m.end) (slice_get (marks_in rows) n)
+  ends_kept n =
+      ap (λ (l : List ℕ). slice_get l n) (kept.places.ends_are ∙ ap (map (λ (m : Mark). m.end)) all_marks) ∙ slice_get-map (λ (m : Mark). m.end) (marks_in rows) n
+
+  pub links_kept : (n : ℕ) → slice_get links n ≡ option_map link_of (slice_get (marks_in rows) n)
+  links_kept n =
+      ap (λ (l : List Link). slice_get l n) (kept.places.links_are ∙ ap (map link_of) all_marks) ∙ slice_get-map link_of (marks_in rows) n

@@ -1,0 +1,19 @@
+pub mod Unfolded
+pub mod Apart
+pub mod ByRows
+pub mod Same
+pub mod Fills
+pub mod Fronts
+pub mod Weighed
+pub mod Summed
+pub mod Shaped
+pub mod Enters
+pub mod Stacks
+pub mod Placed
+mod Worked
+pub mod Begun
+pub mod Numbered
+pub mod Least
+pub mod Deep
+pub mod Told
+pub mod Elements

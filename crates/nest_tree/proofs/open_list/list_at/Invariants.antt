@@ -1,0 +1,8 @@
+use Rattle.nest_tree.specs.Places.{Going}
+use Rattle.nest_tree.proofs.open_list.list_at.Given as goal
+
+abbrev pub invariant-loop-list : goal.invariant-loop-list
+invariant-loop-list l = Going l.rows l.at l.list
+
+abbrev pub decreases-loop-list : goal.decreases-loop-list
+decreases-loop-list l = l.list.depth

@@ -1,0 +1,6 @@
+pub mod Sums
+pub mod Shapes
+pub mod Places
+pub mod Nested
+pub mod Depths
+pub mod Laws

@@ -1,0 +1,28 @@
+-- What a nesting is seen as, and what it keeps.
+use Rattle.std.specs.Prelude.{ℕ, ◌*◌, ◌<◌, ◌≤◌, ◌≡◌, min, List, length}
+use Rattle.std.specs.List.{AllByRecursion}
+use Rattle.dgn_drawing.specs.declared.row.Row.{Row}
+use Rattle.nest_tree.specs.declared.link.Link.{Link}
+use Rattle.nest_tree.specs.Sums.{weights, sums_from}
+use Rattle.nest_tree.specs.Shapes.{IsRow}
+use Rattle.nest_tree.specs.Depths.{IsWordTotal}
+use Rattle.nest_tree.specs.Places.{ArePlaces}
+
+-- a nesting: the rows of its elements, and how many more it has room for
+pub record Nested : Type 0 where
+  pub rows : List Row
+  pub spare : ℕ
+
+-- what it is with rows, and that room in each of its four lists
+abbrev pub nested_of : List Row → ℕ → ℕ → ℕ → ℕ → Nested
+nested_of rows a b c d = record { rows = rows; spare = min (min a b) (min c d) }
+
+-- what it keeps: rows of elements, their sums and their places
+pub record IsNest (rows : List Row) (sums ends : List ℕ) (links : List Link) : Type 0 where
+  pub some : 0 < length rows
+  pub few : length rows < 4294967295
+  pub each : AllByRecursion IsRow rows
+  pub words : AllByRecursion IsWordTotal rows
+  pub light : weights rows ≤ 4294967295 * length rows
+  pub are_sums : sums ≡ sums_from 0 rows
+  pub places : ArePlaces rows (length rows) ends links

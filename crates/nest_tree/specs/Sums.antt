@@ -1,0 +1,27 @@
+-- Sums of bytes from the front of the rows, which tell at once how many members a header has.
+use Rattle.std.specs.Prelude.{ℕ, ◌+◌, if◌then◌else◌, List, [], ◌∷◌, Option, None, Some, nat_le, ◌-◌}
+use Rattle.dgn_drawing.specs.declared.row.Row.{Row}
+use Rattle.dgn_drawing.specs.Nesting.{itself, whole_of, member_count}
+
+-- how much a row counts: its bytes, or more than any total leaves to members where it can't be one
+abbrev pub weight : Row → ℕ
+weight r = if r.cbit then r.size else 131109
+
+-- how much rows count together
+abbrev pub weights : List Row → ℕ
+weights [] = 0
+weights (r ∷ rs) = weight r + weights rs
+
+-- so much, and what it comes to with each row
+unfoldable pub sums_from : ℕ → List Row → List ℕ
+sums_from sum [] = sum ∷ []
+sums_from sum (r ∷ rs) = sum ∷ sums_from (sum + weight r) rs
+
+-- how many bytes the total of a header leaves to its members, unless the header has too many
+abbrev pub bytes_left : Row → Option ℕ
+bytes_left h = if nat_le h.size (whole_of h) then Some (whole_of h - h.size) else None
+
+-- how many of the rows behind the first one are its members, if it has any number of them
+abbrev pub members_in : List Row → Option ℕ
+members_in [] = None
+members_in (h ∷ r) = member_count itself h r

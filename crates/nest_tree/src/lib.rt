@@ -1,0 +1,19 @@
+//! Nests the elements of a drawing as trees, by their rows alone.
+#![tactic(auto)]
+
+mod knot;
+pub mod laws;
+mod link;
+mod nested;
+mod nesting;
+mod open_list;
+mod passes;
+mod shape;
+mod sums;
+
+pub use knot::Knot;
+pub use nested::Nest;
+pub use nesting::nest;
+
+#[cfg(test)]
+mod tests;

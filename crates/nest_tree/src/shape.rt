@@ -1,0 +1,144 @@
+// What the first element of a list is, and what stands below it.
+
+ghost use Rattle.std.specs.Prelude.{◌≡◌, ◌<◌, ◌==◌, ◌&&◌, Option, [], ◌∷◌};
+ghost use Rattle.dgn_drawing.specs.Nesting.{front_count, is_all, is_parts, is_counted, is_spline_part, has_bit, group_or_loose, run_over, leaf};
+ghost use Rattle.dgn_layout.specs.Classes.{class_of, is_among};
+ghost use Rattle.nest_tree.specs.Shapes.{scope_meant, shape_told, shape_in, rows_between, IsBetween};
+
+use crate::knot::Knot;
+use crate::sums::members;
+use dgn_drawing::Row;
+use dgn_layout::class;
+use dgn_layout::types::Class;
+
+// The list that is read.
+#[derive(Clone, Copy, Drop)]
+pub(crate) enum Scope {
+    // All elements.
+    All,
+    // Members of a header.
+    Members,
+    // The parts of a B-spline.
+    Parts,
+}
+
+// What an element is, and how many elements stand below it, read as which list.
+#[derive(Clone, Copy, Drop)]
+pub(crate) struct Shape {
+    pub(crate) knot: Knot,
+    pub(crate) inside: Scope,
+    pub(crate) count: usize,
+}
+
+const LEAF: Shape = Shape {
+    knot: Knot::Leaf,
+    inside: Scope::Members,
+    count: 0,
+};
+
+// Whether an element is a part of a B-spline where it follows one.
+fn is_spline_part(row: Row) -> bool
+    ensures { result ≡ is_spline_part row }
+{
+    row.cbit && matches!(row.kind, 21 | 25 | 26 | 28)
+}
+
+// How many rows from the front on are parts of a B-spline.
+fn spline_parts(rows: &[Row]) -> usize
+    ensures { result ≡ front_count is_spline_part rows.now }
+{
+    for (i, row) in rows.iter().enumerate() {
+        if !is_spline_part(*row) {
+            return i;
+        }
+    }
+    rows.len()
+}
+
+// How many rows from the front on have bit C.
+fn shared_parts(rows: &[Row]) -> usize
+    ensures { result ≡ front_count has_bit rows.now }
+{
+    for (i, row) in rows.iter().enumerate() {
+        if !row.cbit {
+            return i;
+        }
+    }
+    rows.len()
+}
+
+// Whether that is the type of a shared cell definition, in the list of all elements.
+fn is_shared(kind: u8, scope: Scope) -> bool
+    ensures { result ≡ (kind == 34 && is_all (scope_meant scope)) }
+{
+    kind == 34 && matches!(scope, Scope::All)
+}
+
+// Whether the list is the parts of a B-spline.
+fn is_parts(scope: Scope) -> bool
+    ensures { result ≡ is_parts (scope_meant scope) }
+{
+    matches!(scope, Scope::Parts)
+}
+
+// Whether a header of that type counts its members.
+fn is_counted(kind: u8) -> bool
+    requires { kind < 128 }
+    ensures { result ≡ is_counted (class_of kind) }
+{
+    matches!(class(kind), Class::Counted)
+}
+
+// Whether that is the type of a B-spline.
+fn is_spline(kind: u8) -> bool
+    ensures { result ≡ is_among kind (24 ∷ 27 ∷ []) }
+{
+    matches!(kind, 24 | 27)
+}
+
+// The shape of element `at` in a list of that scope, which ends before element `end`.
+pub(crate) fn shape_at(rows: &[Row], sums: &[u64], scope: Scope, at: usize, end: usize) -> Shape
+    requires { IsBetween rows.now sums.now at end }
+    ensures { result ≡ shape_told (shape_in scope (rows_between rows.now at end)) }
+{
+    let (_, rest) = rows.split_at(at + 1);
+    let (list, _) = rest.split_at(end - at - 1);
+    let kind = rows[at].kind;
+    if is_parts(scope) {
+        LEAF
+    } else if is_counted(kind) {
+        header(members(rows, sums, at, end))
+    } else if is_spline(kind) {
+        run(Scope::Parts, spline_parts(list))
+    } else if is_shared(kind, scope) {
+        run(Scope::Members, shared_parts(list))
+    } else {
+        LEAF
+    }
+}
+
+// A counted header over its members, if it has any number of them.
+fn header(members: Option<usize>) -> Shape
+    ensures { result ≡ shape_told (group_or_loose members) }
+{
+    let (knot, count) = match members {
+        Some(count) => (Knot::Group, count),
+        None => (Knot::Loose, 0),
+    };
+    Shape {
+        knot,
+        inside: Scope::Members,
+        count,
+    }
+}
+
+// The header of a run over so many parts.
+fn run(inside: Scope, count: usize) -> Shape
+    ensures { result ≡ shape_told (run_over (scope_meant inside) count) }
+{
+    Shape {
+        knot: Knot::Run,
+        inside,
+        count,
+    }
+}
