@@ -45,7 +45,7 @@ def write_drawing(path, pieces, count, tail):
 
 def seconds(words, folder, made, said):
     """How long a command takes, and its peak memory in MB. It has to make a file `out` of so many bytes,
-    or none, and to say so many bytes."""
+    or none, and to say so many bytes, if that is given."""
     path = os.path.join(folder, 'out')
     if os.path.exists(path):
         os.remove(path)
@@ -58,7 +58,7 @@ def seconds(words, folder, made, said):
     if child.returncode != 0:
         raise SystemExit('%s ended with %d' % (words[0], child.returncode))
     size = os.path.getsize(path) if os.path.exists(path) else None
-    if size != made or os.path.getsize(os.path.join(folder, 'said')) != said:
+    if size != made or said not in (None, os.path.getsize(os.path.join(folder, 'said'))):
         raise SystemExit('%s wrote or said something else' % words[0])
     return end - start, usage.ru_maxrss / 1024
 

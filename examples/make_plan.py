@@ -1,10 +1,11 @@
 #!/usr/bin/env python3
-"""Makes plan.dgn, a small drawing of plain lines, from the rules of the format.
+"""Makes two small drawings, plan.dgn and valve.dgn, from the rules of the format.
 
-    python3 examples/make_plan.py [FILE]
+    python3 examples/make_plan.py [FOLDER]
 
-The drawing is a plot of land with a house: the border (elements 1 to 4), the walls (5 to 10), the
-door (11) and a pipe that crosses the plot in three pieces (12 to 14). docs/FORMAT.md has the rules."""
+The first is a plot of land with a house, lines alone: the border (elements 1 to 4), the walls (5 to 10),
+the door (11) and a pipe that crosses the plot in three pieces (12 to 14). The second is a pipe (element 1)
+with a valve on it, a cell (2) of two lines that cross (3 and 4). docs/FORMAT.md has the rules."""
 
 import os
 import struct
@@ -27,28 +28,54 @@ def range_number(value):
     return long(value + 0x80000000)
 
 
-def line(level, start, end):
-    """An element of type 3, from start to end: 52 bytes, so 24 words follow the first two."""
-    head = bytes([level, 3]) + struct.pack('<H', 24)
-    low = [min(a, b) for a, b in zip(start, end)] + [0]
-    high = [max(a, b) for a, b in zip(start, end)] + [0]
-    ranges = b''.join(range_number(v) for v in low + high)
-    display = struct.pack('<HHH', 0, 10, 0) + bytes([0, 0])   # no group, no attribute data, colour 0
-    points = b''.join(long(v) for v in start + end)
-    return head + ranges + display + points
+def display(kind, level, low, high, behind, member=False):
+    """An element with a display header, and what stands behind it."""
+    size = 36 + len(behind)
+    head = bytes([level + 128 * member, kind]) + struct.pack('<H', (size - 4) // 2)
+    ranges = b''.join(range_number(v) for v in [*low, 0, *high, 0])
+    # no group; attribute data would begin at the end; no properties; style, weight and colour 0
+    return head + ranges + struct.pack('<HHH', 0, (size - 32) // 2, 0) + bytes([0, 0]) + behind
+
+
+def line(level, start, end, member=False):
+    """An element of type 3, from start to end."""
+    low = [min(a, b) for a, b in zip(start, end)]
+    high = [max(a, b) for a, b in zip(start, end)]
+    return display(3, level, low, high, b''.join(long(v) for v in start + end), member)
+
+
+def radix(signs):
+    """A word of three signs, each a capital letter or a blank."""
+    value = 0
+    for sign in signs:
+        value = value * 40 + (0 if sign == ' ' else ord(sign) - ord('A') + 1)
+    return struct.pack('<H', value)
+
+
+def cell(level, name, origin, low, high, members):
+    """A cell header of type 2 and its members, whose words from the total's end on it counts."""
+    name = name.ljust(6)
+    total = (92 + len(members) - 38) // 2
+    behind = struct.pack('<H', total) + radix(name[:3]) + radix(name[3:]) + bytes(42)
+    return display(2, level, low, high, behind + long(origin[0]) + long(origin[1])) + members
 
 
 def lines(level, points):
     return b''.join(line(level, a, b) for a, b in zip(points, points[1:]))
 
 
-def main():
-    folder = os.path.dirname(os.path.abspath(__file__))
-    path = sys.argv[1] if len(sys.argv) > 1 else os.path.join(folder, 'plan.dgn')
+def write(path, elements):
     tcb = bytes([8, 9, 0xFE, 2]) + bytes(1532)
-    body = tcb + lines(1, BORDER) + lines(2, WALLS) + lines(2, DOOR) + lines(10, PIPE)
     with open(path, 'wb') as out:
-        out.write(body + b'\xff\xff')
+        out.write(tcb + elements + b'\xff\xff')
+
+
+def main():
+    folder = sys.argv[1] if len(sys.argv) > 1 else os.path.dirname(os.path.abspath(__file__))
+    write(os.path.join(folder, 'plan.dgn'), lines(1, BORDER) + lines(2, WALLS) + lines(2, DOOR) + lines(10, PIPE))
+    cross = line(11, (480, -20), (520, 20), True) + line(11, (480, 20), (520, -20), True)
+    valve = cell(10, 'VLV', (500, 0), (480, -20), (520, 20), cross)
+    write(os.path.join(folder, 'valve.dgn'), line(10, (0, 0), (1000, 0)) + valve)
 
 
 if __name__ == '__main__':

@@ -5,6 +5,8 @@ use Rattle.std.specs.List.{AllByRecursion}
 use Rattle.dgn_words.specs.Numbers.{put}
 use Rattle.dgn_drawing.specs.Element.{Element}
 use Rattle.dgn_drawing.specs.Spelling.{spell, spelling, size_of}
+use Rattle.dgn_drawing.specs.Rows.{row_of}
+use Rattle.dgn_drawing.specs.declared.row.Row.{Row}
 use Rattle.elem_index.specs.Offsets.{offset_of}
 use Rattle.dgn_tool.specs.Edits.{changed}
 use Rattle.dgn_tool.proofs.Puts.{put-left, put-right}
@@ -28,6 +30,14 @@ sizes_changed zero f (x ∷ es) e found same =
     let is : x ≡ e = cc in
     ap (λ (k : ℕ). k ∷ map size_of es) (subst (λ (y : Element). size_of (f y) ≡ size_of y) (sym is) same)
 sizes_changed (suc n) f (x ∷ es) e found same = ap (λ (l : List ℕ). size_of x ∷ l) (sizes_changed n f es e found same)
+
+-- and so do the rows where its own does
+pub rows_changed : (n : ℕ) (f : Element → Element) (es : List Element) (e : Element) → slice_get es n ≡ Some e → row_of (f e) ≡ row_of e → map row_of (changed n f es) ≡ map row_of es
+rows_changed n f [] e found same = refl
+rows_changed zero f (x ∷ es) e found same =
+    let is : x ≡ e = cc in
+    ap (λ (r : Row). r ∷ map row_of es) (subst (λ (y : Element). row_of (f y) ≡ row_of y) (sym is) same)
+rows_changed (suc n) f (x ∷ es) e found same = ap (λ (l : List Row). row_of x ∷ l) (rows_changed n f es e found same)
 
 -- the bytes change where those of the element do
 pub spelling_changed : (n : ℕ) (f : Element → Element) (es : List Element) (e : Element) (p : ℕ) (x : List ℕ) → slice_get es n ≡ Some e → spell (f e) ≡ put (spell e) p x → p + length x ≤ size_of e → (t : List ℕ) → spelling (changed n f es) ++ t ≡ put (spelling es ++ t) (offset_of es n + p) x

@@ -1,5 +1,5 @@
 -- What is told over a run: how an ending leaves it, and that reading before it changes nothing there.
-use Rattle.std.proofs.Common.{◌≡◌, ◌<◌, ◌≤◌, List, ℕ, length, nat_lt, nat_le, true, false, Bool, cond, vec_len, Vec, Option, Some, None, refl, sym, ap, ◌∙◌, subst, arith}
+use Rattle.std.proofs.Common.{◌≡◌, ◌<◌, ◌≤◌, List, ℕ, length, nat_lt, nat_le, true, false, vec_len, Vec, Option, Some, None, refl, sym, ap, ◌∙◌, subst, arith}
 use Rattle.std.specs.Prelude.{option_map, IfSome, IsSome, IsTrue, codes, Result, Ok}
 use Rattle.std.specs.FinMap as maps
 use Rattle.std.proofs.lemmas.Bool.Decides.{nat_tests}
@@ -7,13 +7,12 @@ use Rattle.dgn_desk.specs.Content.{Content, Files, bytes_of, spoken, with_left, 
 use Rattle.dgn_drawing.specs.Opening.{Fault}
 use Rattle.elem_index.specs.declared.open_fault.OpenFault.{OpenFault}
 use Rattle.elem_index.specs.Opened.{Opened, opening}
-use Rattle.elem_index.specs.Answers.{TellsFault}
+use Rattle.elem_index.specs.Answers.{HasCount, TellsFault}
 use Rattle.edit_script.specs.Script.{commands_of}
 use Rattle.edit_script.specs.declared.command.Command.{Command}
 use Rattle.edit_script.specs.declared.fault.ScriptFault.{ScriptFault}
 use Rattle.dgn_tool.specs.Edits.{numbered}
-use Rattle.dgn_tool.specs.Unbuilt.{has_unbuilt}
-use Rattle.dgn_tool.specs.Outcome.{Outcome, ended, script_outcome, scripted, design_outcome, opened_outcome, input_outcome, checked, Leaves, EndsAs, EndsEarly, OpensAs, IsEnding, comes_to_script, HasBoth}
+use Rattle.dgn_tool.specs.Outcome.{Outcome, ended, script_outcome, scripted, opened_outcome, input_outcome, checked, Leaves, EndsAs, EndsEarly, OpensAs, IsEnding, comes_to_script, HasBoth}
 use Rattle.dgn_tool.specs.Told.{told_fault}
 use Rattle.dgn_tool.specs.declared.status.Status.{Status}
 use Rattle.dgn_tool.specs.declared.status.Status.TheVariants as statuses
@@ -117,17 +116,17 @@ overruns_script d name output old long =
     (λ fs h. script_too_long d (bytes_of fs name) output h)
     long
 
--- an IN within its limit that opens and may be edited comes to SCRIPT
-comes : (input : List ℕ) (d : Opened) → length input ≤ 67108864 → opening input ≡ Ok d → has_unbuilt d.elements ≡ false → IsTrue (comes_to_script input)
-comes input d within opens built =
+-- an IN within its limit that opens comes to SCRIPT
+comes : (input : List ℕ) (d : Opened) → length input ≤ 67108864 → opening input ≡ Ok d → IsTrue (comes_to_script input)
+comes input d within opens =
     let test : nat_le (length input) 67108864 ≡ true = grind (arith, nat_tests) in
-    rw (test, opens, built) refl
+    rw (test, opens) refl
 
 -- after such an IN was read, SCRIPT is there
-pub script_there : (input script : List ℕ) (d : Opened) (old mid : Option Content) → OnlyLeftDiffers old mid → OpensAs input old d → has_unbuilt d.elements ≡ false → IfSome old (λ c. HasBoth input script c.files) → HasFile script mid
-script_there input script d None mid only opens built has = rw only.1 tt
-script_there input script d (Some c) mid only opens built has =
-    let there : IsSome (maps.get c.files script) = has.1 (comes (bytes_of c.files input) d opens.0 opens.1 built) in
+pub script_there : (input script : List ℕ) (d : Opened) (old mid : Option Content) → OnlyLeftDiffers old mid → OpensAs input old d → IfSome old (λ c. HasBoth input script c.files) → HasFile script mid
+script_there input script d None mid only opens has = rw only.1 tt
+script_there input script d (Some c) mid only opens has =
+    let there : IsSome (maps.get c.files script) = has.1 (comes (bytes_of c.files input) d opens.0 opens.1) in
     rw only.1 there
 
 -- IN is there where both are
@@ -136,22 +135,17 @@ input_there input script None has = tt
 input_there input script (Some c) has = has.0
 
 -- where IN opens, `check` says how many elements it has
-pub counts : (name : List ℕ) (d : Opened) (count : ℕ) (old : Option Content) → OpensAs name old d → count ≡ length d.elements → IfSome old (λ c. input_outcome (bytes_of c.files name) checked ≡ ended statuses.Done (numbered (codes "elements ") count))
-counts name d count None opens is = tt
-counts name d count (Some c) opens is =
+counts_so : (name : List ℕ) (d : Opened) (count : ℕ) (old : Option Content) → OpensAs name old d → count ≡ length d.elements → IfSome old (λ c. input_outcome (bytes_of c.files name) checked ≡ ended statuses.Done (numbered (codes "elements ") count))
+counts_so name d count None opens is = tt
+counts_so name d count (Some c) opens is =
     input_opens (bytes_of c.files name) checked (Ok d) opens.0 opens.1
     ∙ ap (λ (n : ℕ). ended statuses.Done (numbered (codes "elements ") n)) (sym is)
 
--- where IN opens and may not be edited, `edit` says so
-pub not_built : (name script output : List ℕ) (d : Opened) (old : Option Content) → OpensAs name old d → has_unbuilt d.elements ≡ true → IfSome old (λ c. input_outcome (bytes_of c.files name) (λ x. design_outcome x (bytes_of c.files script) output) ≡ ended statuses.Unbuilt (codes "unbuilt\n"))
-not_built name script output d None opens unbuilt = tt
-not_built name script output d (Some c) opens unbuilt =
-    input_opens (bytes_of c.files name) (λ x. design_outcome x (bytes_of c.files script) output) (Ok d) opens.0 opens.1
-    ∙ ap (λ (b : Bool). cond b (ended statuses.Unbuilt (codes "unbuilt\n")) (scripted d (bytes_of c.files script) output)) unbuilt
+pub counts : (name text : List ℕ) (count : ℕ) (old : Option Content) → IfSome old (λ c. text ≡ bytes_of c.files name) → length text ≤ 67108864 → HasCount text count → IfSome old (λ c. input_outcome (bytes_of c.files name) checked ≡ ended statuses.Done (numbered (codes "elements ") count))
+counts name text count old whole within has =
+    counts_so name has.opened count old (opens_so name text has.opened old whole within has.found) has.counted
 
--- where it may, `edit` goes on with SCRIPT
-pub built : (name script output : List ℕ) (d : Opened) (old : Option Content) → OpensAs name old d → has_unbuilt d.elements ≡ false → IfSome old (λ c. input_outcome (bytes_of c.files name) (λ x. design_outcome x (bytes_of c.files script) output) ≡ scripted d (bytes_of c.files script) output)
-built name script output d None opens clear = tt
-built name script output d (Some c) opens clear =
-    input_opens (bytes_of c.files name) (λ x. design_outcome x (bytes_of c.files script) output) (Ok d) opens.0 opens.1
-    ∙ ap (λ (b : Bool). cond b (ended statuses.Unbuilt (codes "unbuilt\n")) (scripted d (bytes_of c.files script) output)) clear
+-- and `edit` goes on with SCRIPT
+pub goes_on : (name script output : List ℕ) (d : Opened) (old : Option Content) → OpensAs name old d → IfSome old (λ c. input_outcome (bytes_of c.files name) (λ x. scripted x (bytes_of c.files script) output) ≡ scripted d (bytes_of c.files script) output)
+goes_on name script output d None opens = tt
+goes_on name script output d (Some c) opens = input_opens (bytes_of c.files name) (λ x. scripted x (bytes_of c.files script) output) (Ok d) opens.0 opens.1

@@ -5,7 +5,7 @@ use Rattle.std.specs.List.{list_any}
 use Rattle.std.proofs.lemmas.List.{drop_more, drop_all}
 use Rattle.std.proofs.lemmas.Option.{slice_get_within, get_or_from_slice_get}
 use Rattle.dgn_layout.specs.declared.types.Class.{Class}
-use Rattle.dgn_layout.specs.Classes.{class_of}
+use Rattle.dgn_layout.specs.Classes.{class_of, is_silent}
 use Rattle.elem_head.specs.declared.types.Head.{Head}
 use Rattle.elem_head.specs.Head.{head_of}
 use Rattle.dgn_drawing.specs.Element.{Element}
@@ -15,7 +15,7 @@ use Rattle.dgn_drawing.proofs.Opening.{dimension_is}
 use Rattle.dgn_drawing.proofs.Sits.{all-sits}
 use Rattle.elem_index.specs.declared.design.Design.{Design}
 use Rattle.elem_index.specs.Design.{elements, IsWhole}
-use Rattle.dgn_tool.specs.Edits.{answer_at, is_silent}
+use Rattle.dgn_tool.specs.Edits.{answer_at}
 use Rattle.dgn_tool.specs.Unbuilt.{is_unbuilt, is_header, has_unbuilt}
 use Rattle.dgn_tool.specs.declared.answer.Answer.TheVariants.{Done, Deleted, Opaque}
 use Rattle.dgn_tool.proofs.Changed.{each_found}
@@ -59,16 +59,16 @@ module _ (d : Design) (whole : IsWhole d) (n : ℕ) (b : List ℕ) (is : Some b 
         let e_set : there.0.deleted ≡ true = sym deleted_said ∙ set in
         sym (ap (answer_at n) there.1 ∙ ap (λ (x : Bool). cond x (Deleted n) (cond (is_silent (class_of there.0.kind)) (Opaque n) Done)) e_set)
 
-    pub opaque_is : (class : Class) → class ≡ class_of h.kind → h.deleted ≡ false → is_silent class ≡ true → Opaque n ≡ answer_at n (slice_get (elements d) n)
-    opaque_is class of clear silent =
+    pub opaque_is : h.deleted ≡ false → is_silent (class_of h.kind) ≡ true → Opaque n ≡ answer_at n (slice_get (elements d) n)
+    opaque_is clear silent =
         let e_clear : there.0.deleted ≡ false = sym deleted_said ∙ clear in
-        let e_silent : is_silent (class_of there.0.kind) ≡ true = ap (λ (k : ℕ). is_silent (class_of k)) (sym kind_said) ∙ ap is_silent (sym of) ∙ silent in
+        let e_silent : is_silent (class_of there.0.kind) ≡ true = ap (λ (k : ℕ). is_silent (class_of k)) (sym kind_said) ∙ silent in
         sym (ap (answer_at n) there.1 ∙ ap (λ (x : Bool). cond x (Deleted n) (cond (is_silent (class_of there.0.kind)) (Opaque n) Done)) e_clear ∙ ap (λ (x : Bool). cond x (Opaque n) Done) e_silent)
 
-    pub done_is : (class : Class) → class ≡ class_of h.kind → h.deleted ≡ false → is_silent class ≡ false → Done ≡ answer_at n (slice_get (elements d) n)
-    done_is class of clear loud =
+    pub done_is : h.deleted ≡ false → is_silent (class_of h.kind) ≡ false → Done ≡ answer_at n (slice_get (elements d) n)
+    done_is clear loud =
         let e_clear : there.0.deleted ≡ false = sym deleted_said ∙ clear in
-        let e_loud : is_silent (class_of there.0.kind) ≡ false = ap (λ (k : ℕ). is_silent (class_of k)) (sym kind_said) ∙ ap is_silent (sym of) ∙ loud in
+        let e_loud : is_silent (class_of there.0.kind) ≡ false = ap (λ (k : ℕ). is_silent (class_of k)) (sym kind_said) ∙ loud in
         sym (ap (answer_at n) there.1 ∙ ap (λ (x : Bool). cond x (Deleted n) (cond (is_silent (class_of there.0.kind)) (Opaque n) Done)) e_clear ∙ ap (λ (x : Bool). cond x (Opaque n) Done) e_loud)
 
 -- whether the elements from this one on are built, by its own

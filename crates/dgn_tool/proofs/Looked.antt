@@ -1,5 +1,5 @@
 -- A design whose body has another look written into one element is whole, with that element changed.
-use Rattle.std.proofs.Common.{◌≡◌, ℕ, ◌+◌, ◌-◌, ◌*◌, ◌<◌, take, drop, get_or, set, Option, Some, None, ◌≤◌, List, [], ◌∷◌, ◌++◌, length, length-drop, refl, sym, ap, ◌∙◌, subst, arith}
+use Rattle.std.proofs.Common.{◌≡◌, map, ℕ, ◌+◌, ◌-◌, ◌*◌, ◌<◌, take, drop, get_or, set, Option, Some, None, ◌≤◌, List, [], ◌∷◌, ◌++◌, length, length-drop, refl, sym, ap, ◌∙◌, subst, arith}
 use Rattle.std.specs.Prelude.{slice_get, unwrap_or}
 use Rattle.std.specs.Option.{ForSome}
 use Rattle.std.proofs.lemmas.Option.{none-some, slice_get_within}
@@ -10,6 +10,7 @@ use Rattle.dgn_words.specs.Numbers.{put}
 use Rattle.dgn_drawing.specs.Element.{Element}
 use Rattle.dgn_drawing.specs.Spelling.{spell, spelling, size_of}
 use Rattle.dgn_drawing.specs.Changes.{recolour, look_changed, look_bytes, HasByteColor}
+use Rattle.dgn_drawing.specs.Rows.{row_of}
 use Rattle.dgn_drawing.specs.Laws.{BodySits}
 use Rattle.dgn_drawing.specs.Opening.{Opens, elements_of, offsets_from}
 use Rattle.dgn_drawing.specs.WellFormed.{IsDimension, IsWellFormed}
@@ -128,6 +129,9 @@ module _ (d : Design) (whole : IsWhole d) (n : ℕ) (a : Accepted (elements d) n
 
       pub new_elements : elements_of new_dim new_body ≡ changed n (recolour change) (elements d)
       new_elements = opens_elements new_body new_tail new_dim (changed n (recolour change) (elements d)) new_opens
+
+      pub new_rows : map row_of (elements_of new_dim new_body) ≡ map row_of (elements d)
+      new_rows = ap (map row_of) new_elements ∙ again.rows
 
       length-body : length new_body ≡ length d.body.items
       length-body =

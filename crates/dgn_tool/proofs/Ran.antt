@@ -1,25 +1,32 @@
 -- The commands of a script, one after the other: what those that ran have said and done, and what those
 -- that are left will.
-use Rattle.std.proofs.Common.{◌≡◌, ℕ, Bool, true, false, List, [], ◌∷◌, ◌++◌, Option, Some, None, refl, sym, ap, ◌∙◌, append_assoc}
+use Rattle.std.proofs.Common.{◌≡◌, ℕ, Bool, true, false, List, [], ◌∷◌, ◌++◌, map, Option, Some, None, refl, sym, ap, ◌∙◌, append_assoc}
 use Rattle.std.specs.Prelude.{◌||◌, option_map}
 use Rattle.std.proofs.lemmas.List.{append-nil}
 use Rattle.dgn_desk.specs.Content.{Content, spoken}
 use Rattle.dgn_desk.proofs.Telling.{spoken-append}
-use Rattle.dgn_drawing.specs.Element.{Element}
+use Rattle.dgn_drawing.specs.Rows.{row_of}
+use Rattle.dgn_drawing.specs.declared.row.Row.{Row}
+use Rattle.dgn_drawing.specs.declared.mask.Mask.{Mask}
 use Rattle.elem_index.specs.declared.design.Design.{Design}
 use Rattle.elem_index.specs.Design.{elements, IsWhole}
 use Rattle.edit_script.specs.declared.command.Command.{Command}
-use Rattle.dgn_tool.specs.Edits.{edit_in, answer_of, after, after_all, line_of, texts_of, is_refusal, is_any_refused}
-use Rattle.dgn_tool.specs.declared.answer.Answer.{Answer}
+use Rattle.dgn_tool.specs.Commands.{State, begun, text_of, is_refused, after_command, after_all, texts_of, is_any_refused}
+
+-- what a run has come to with this design and this mask
+abbrev pub state_of : Design → Mask → State
+state_of d mask = record { elements = elements d; mask = mask }
 
 -- the commands before these are done
-pub record Ran (all left : List Command) (refused : Bool) (from d : Design) (old now : Option Content) : Type 0 where
+pub record Ran (rows : List Row) (all left : List Command) (refused : Bool) (from d : Design) (mask : Mask) (old now : Option Content) : Type 0 where
   pub whole : IsWhole d
+  pub rows_are : rows ≡ map row_of (elements d)
+  pub axes : d.dim ≡ from.dim
   pub done : List ℕ
-  pub texts : texts_of all (elements from) ≡ done ++ texts_of left (elements d)
+  pub texts : texts_of from.dim all (begun (elements from)) ≡ done ++ texts_of from.dim left (state_of d mask)
   pub said : now ≡ option_map (spoken done) old
-  pub any : is_any_refused all (elements from) ≡ (refused || is_any_refused left (elements d))
-  pub drawing : after_all all (elements from) ≡ after_all left (elements d)
+  pub any : is_any_refused all (begun (elements from)) ≡ (refused || is_any_refused left (state_of d mask))
+  pub drawing : after_all all (begun (elements from)) ≡ after_all left (state_of d mask)
   pub tail : d.tail.items ≡ from.tail.items
 
 -- with nothing said, what is told is as it was
@@ -27,33 +34,36 @@ spoken-nil : (old : Option Content) → old ≡ option_map (spoken []) old
 spoken-nil None = refl
 spoken-nil (Some c) = rw (append-nil c.said) refl
 
-pub ran_none : (all : List Command) (d : Design) (old : Option Content) → IsWhole d → Ran all all false d d old old
-ran_none all d old whole =
-    record { whole = whole; done = []; texts = refl; said = spoken-nil old; any = refl; drawing = refl; tail = refl }
+pub ran_none : (rows : List Row) (all : List Command) (d : Design) (old : Option Content) → IsWhole d → rows ≡ map row_of (elements d) → Ran rows all all false d d (record { 0 = 18446744073709551615 }) old old
+ran_none rows all d old whole are =
+    record { whole = whole; rows_are = are; axes = refl; done = []; texts = refl; said = spoken-nil old; any = refl; drawing = refl; tail = refl }
 
 or_assoc_test : (a b c : Bool) → (a || (b || c)) ≡ ((a || b) || c)
 or_assoc_test true b c = refl
 or_assoc_test false b c = refl
 
 -- one more command
-pub ran_more : (all left : List Command) (c : Command) (refused was : Bool) (answer : Answer) (line : List ℕ) (from d new : Design) (old now then : Option Content) → Ran all (c ∷ left) refused from d old now
-    → answer ≡ answer_of (elements d) (edit_in c) → elements new ≡ after (elements d) (edit_in c) → IsWhole new → new.tail.items ≡ d.tail.items
-    → line ≡ line_of answer → then ≡ option_map (spoken line) now → was ≡ is_refusal answer
-    → Ran all left (refused || was) from new old then
-ran_more all left c refused was answer line from d new old now then ran is drawn whole tail_same line_is says was_is =
-    let a : Answer = answer_of (elements d) (edit_in c) in
-    let said_line : then ≡ option_map (spoken (line_of a)) now = says ∙ ap (λ (l : List ℕ). option_map (spoken l) now) (line_is ∙ ap line_of is) in
+pub ran_more : (rows : List Row) (all left : List Command) (c : Command) (refused was : Bool) (line : List ℕ) (from d new : Design) (mask new_mask : Mask) (old now then : Option Content) → Ran rows all (c ∷ left) refused from d mask old now
+    → state_of new new_mask ≡ after_command (state_of d mask) c → IsWhole new → map row_of (elements new) ≡ map row_of (elements d) → new.tail.items ≡ d.tail.items → new.dim ≡ d.dim
+    → line ≡ text_of d.dim (state_of d mask) c → then ≡ option_map (spoken line) now → was ≡ is_refused (state_of d mask) c
+    → Ran rows all left (refused || was) from new new_mask old then
+ran_more rows all left c refused was line from d new mask new_mask old now then ran drawn whole same_rows tail_same same_dim line_is says was_is =
+    let text : List ℕ = text_of from.dim (state_of d mask) c in
+    let line_text : line ≡ text = line_is ∙ ap (λ (n : ℕ). text_of n (state_of d mask) c) ran.axes in
+    let said_line : then ≡ option_map (spoken text) now = says ∙ ap (λ (l : List ℕ). option_map (spoken l) now) line_text in
     record {
       whole = whole;
-      done = ran.done ++ line_of a;
+      rows_are = ran.rows_are ∙ sym same_rows;
+      axes = same_dim ∙ ran.axes;
+      done = ran.done ++ text;
       texts = ran.texts
-          ∙ ap (λ (es : List Element). ran.done ++ (line_of a ++ texts_of left es)) (sym drawn)
-          ∙ sym (append_assoc ran.done (line_of a) (texts_of left (elements new)));
-      said = said_line ∙ ap (option_map (spoken (line_of a))) ran.said ∙ spoken-append ran.done (line_of a) old;
+          ∙ ap (λ (s : State). ran.done ++ (text ++ texts_of from.dim left s)) (sym drawn)
+          ∙ sym (append_assoc ran.done text (texts_of from.dim left (state_of new new_mask)));
+      said = said_line ∙ ap (option_map (spoken text)) ran.said ∙ spoken-append ran.done text old;
       any = ran.any
-          ∙ ap (λ (es : List Element). refused || (is_refusal a || is_any_refused left es)) (sym drawn)
-          ∙ or_assoc_test refused (is_refusal a) (is_any_refused left (elements new))
-          ∙ ap (λ (b : Bool). (refused || b) || is_any_refused left (elements new)) (sym (was_is ∙ ap is_refusal is));
+          ∙ ap (λ (s : State). refused || (is_refused (state_of d mask) c || is_any_refused left s)) (sym drawn)
+          ∙ or_assoc_test refused (is_refused (state_of d mask) c) (is_any_refused left (state_of new new_mask))
+          ∙ ap (λ (b : Bool). (refused || b) || is_any_refused left (state_of new new_mask)) (sym was_is);
       drawing = ran.drawing ∙ ap (after_all left) (sym drawn);
       tail = tail_same ∙ ran.tail;
     }
@@ -63,6 +73,6 @@ or_false : (b : Bool) → (b || false) ≡ b
 or_false true = refl
 or_false false = refl
 
-pub ran_all : (all left : List Command) (refused : Bool) (from d : Design) (old now : Option Content) → Ran all left refused from d old now → left ≡ [] → refused ≡ is_any_refused all (elements from)
-ran_all all left refused from d old now ran none =
-    sym (ran.any ∙ ap (λ (cs : List Command). refused || is_any_refused cs (elements d)) none ∙ or_false refused)
+pub ran_all : (rows : List Row) (all left : List Command) (refused : Bool) (from d : Design) (mask : Mask) (old now : Option Content) → Ran rows all left refused from d mask old now → left ≡ [] → refused ≡ is_any_refused all (begun (elements from))
+ran_all rows all left refused from d mask old now ran none =
+    sym (ran.any ∙ ap (λ (cs : List Command). refused || is_any_refused cs (state_of d mask)) none ∙ or_false refused)

@@ -6,24 +6,26 @@ use Rattle.std.proofs.lemmas.List.{append-nil, get_or_append_left}
 use Rattle.std.proofs.lemmas.Bool.{and_parts, eqb-true}
 use Rattle.dgn_words.specs.Numbers.{put}
 use Rattle.dgn_layout.specs.declared.types.Class.{Class}
-use Rattle.dgn_layout.specs.Classes.{class_of}
+use Rattle.dgn_layout.specs.Classes.{class_of, is_silent}
 use Rattle.elem_head.specs.Head.{size_of as size_said}
 use Rattle.dgn_drawing.specs.declared.symb_change.SymbChange.{SymbChange}
 use Rattle.dgn_drawing.specs.Element.{Display, Parts, Line, Points, Text, Node, Cell, Header, Plain, Body, Silent, Shown, Element, form_of_body, form_of_parts}
 use Rattle.dgn_drawing.specs.Forms.{form_of, form_in}
 use Rattle.dgn_drawing.specs.Spelling.{spell, spelling, size_of, body_bytes, display_bytes, parts_bytes}
 use Rattle.dgn_drawing.specs.WellFormed.{IsDimension, IsDisplay, HasBody, IsWellFormed}
-use Rattle.dgn_drawing.specs.Changes.{recolour, look_changed, look_bytes, HasByteColor}
+use Rattle.dgn_drawing.specs.Changes.{recoloured_body, recolour, look_changed, look_bytes, HasByteColor}
 use Rattle.dgn_drawing.specs.Opening.{dimension, IsTcb, BeginsWithTcb, Opens}
 use Rattle.dgn_drawing.proofs.Opening.{dimension_is}
 use Rattle.dgn_drawing.proofs.Looks.{recolour_good, looks_put}
 use Rattle.dgn_drawing.proofs.Displays.{length-display}
 use Rattle.dgn_drawing.proofs.Read.{size_said-spell}
+use Rattle.dgn_drawing.specs.Rows.{row_of, total_of}
+use Rattle.dgn_drawing.specs.declared.row.Row.{Row}
 use Rattle.elem_index.specs.Offsets.{offset_of}
-use Rattle.dgn_tool.specs.Edits.{changed, is_silent, answer_at}
+use Rattle.dgn_tool.specs.Edits.{changed, answer_at}
 use Rattle.dgn_tool.specs.declared.answer.Answer.{Answer}
 use Rattle.dgn_tool.specs.declared.answer.Answer.TheVariants.{Done}
-use Rattle.dgn_tool.proofs.Changed.{each_changed, each_found, sizes_changed, spelling_changed}
+use Rattle.dgn_tool.proofs.Changed.{each_changed, each_found, sizes_changed, rows_changed, spelling_changed}
 
 -- the display part is in the body
 header_within : (d : Display) (parts : Parts) (rest : List ℕ) → IsDisplay d → 32 ≤ length (body_bytes (Shown d parts rest))
@@ -136,12 +138,26 @@ shown_long dim e good shown = by_body e.body shown.body good.parts refl
         let header : 32 ≤ length (body_bytes (Shown shown.display shown.parts shown.rest)) = header_within shown.display shown.parts shown.rest display in
         omega (arith, size-body e, bytes, header)
 
+-- another look keeps what the nesting looks at
+total_same : (change : SymbChange) (b : Body) → total_of (recoloured_body change b) ≡ total_of b
+total_same change (Silent rest) = refl
+total_same change (Shown display parts rest) = refl
+
+row_same : (change : SymbChange) (e : Element) → size_of (recolour change e) ≡ size_of e → row_of (recolour change e) ≡ row_of e
+row_same change e same =
+    ap (λ (n : ℕ). row_with n e (total_of (recolour change e).body)) same
+    ∙ ap (λ (n : ℕ). row_with (size_of e) e n) (total_same change e.body)
+  where
+    row_with : ℕ → Element → ℕ → Row
+    row_with n x total = record { size = n; kind = x.kind; cbit = x.cbit; total = total }
+
 -- what is written, and that the drawing opens
 pub record IsReopened (dim n : ℕ) (change : SymbChange) (es : List Element) (t : List ℕ) (d : Display) : Type 0 where
   pub opens : Opens (spelling (changed n (recolour change) es) ++ t) dim (changed n (recolour change) es) t
   pub bytes : spelling (changed n (recolour change) es) ++ t ≡ put (spelling es ++ t) (offset_of es n + 34) (look_bytes (look_changed change d))
   pub body : spelling (changed n (recolour change) es) ≡ put (spelling es) (offset_of es n + 34) (look_bytes (look_changed change d))
   pub sizes : map size_of (changed n (recolour change) es) ≡ map size_of es
+  pub rows : map row_of (changed n (recolour change) es) ≡ map row_of es
 
 module _ (dim : ℕ) (change : SymbChange) (es : List Element) (t : List ℕ) (fits : HasByteColor change) (opens : Opens (spelling es ++ t) dim es t) (n : ℕ) (e : Element) (found : slice_get es n ≡ Some e) where
   axes_of : IsDimension dim
@@ -167,4 +183,5 @@ module _ (dim : ℕ) (change : SymbChange) (es : List Element) (t : List ℕ) (f
             ∙ spelling_changed n (recolour change) es e 34 (look_bytes (look_changed change d)) found look.spelled long []
             ∙ ap (λ (l : List ℕ). put l (offset_of es n + 34) (look_bytes (look_changed change d))) (append-nil (spelling es));
         sizes = sizes_changed n (recolour change) es e found look.size;
+        rows = rows_changed n (recolour change) es e found (row_same change e look.size);
       }

@@ -12,8 +12,10 @@ use Rattle.dgn_drawing.specs.declared.edit.Edit.TheVariants as edit
 use Rattle.dgn_drawing.specs.declared.symb_change.SymbChange.{SymbChange}
 use Rattle.elem_index.specs.Offsets.{offset_of}
 use Rattle.edit_script.specs.declared.command.Command.{Command}
-use Rattle.dgn_tool.specs.Edits.{answer_at, answer_of, after_answer, after, edit_in}
-use Rattle.dgn_tool.specs.Laws.{Made, with_made, remaining, IsEdited, HasByte, IsEditedFile, UntouchedBytesStay}
+use Rattle.edit_script.specs.declared.command.Command.TheVariants as command
+use Rattle.dgn_tool.specs.Edits.{answer_at, answer_of, after_answer}
+use Rattle.dgn_tool.specs.Commands.{State, begun, after_command}
+use Rattle.dgn_tool.specs.Laws.{Made, with_made, with_command, remaining, IsEdited, HasByte, HasByteIn, IsEditedFile, UntouchedBytesStay}
 use Rattle.dgn_tool.specs.declared.answer.Answer.{Answer}
 use Rattle.dgn_tool.specs.declared.answer.Answer.TheVariants.{Done, Unknown, Deleted, Opaque}
 use Rattle.dgn_tool.proofs.Puts.{length-put, put-keeps}
@@ -76,22 +78,42 @@ module _ (dim : ℕ) (t : List ℕ) where
   rest_kept (Deleted m) one more p all = all
   rest_kept (Opaque m) one more p all = all
 
-  edited_file : (cs : List Command) (es : List Element) → Opens (spelling es ++ t) dim es t → All (λ c. HasByte (edit_in c)) cs → IsEditedFile (spelling es ++ t) dim es t cs
-  edited_file [] es opens fits = record { long = refl; opens = opens; stays = λ p _. refl }
-  edited_file (c ∷ cs) es opens fits =
-      let e : Edit = edit_in c in
-      let one = step es opens e (All-head (λ c. HasByte (edit_in c)) c cs fits) in
-      let more = edited_file cs (after es e) one.opens (All-tail (λ c. HasByte (edit_in c)) c cs fits) in
+  -- one command: only an edit writes
+  record IsDone (s : State) (c : Command) : Type 0 where
+    opens : Opens (spelling (after_command s c).elements ++ t) dim (after_command s c).elements t
+    long : length (spelling (after_command s c).elements ++ t) ≡ length (spelling s.elements ++ t)
+    stays : (p : ℕ) (more : List Made) → All (λ m. ¬ IsEdited m.on m.edit p) (with_command s c more)
+        → get_or (spelling (after_command s c).elements ++ t) p 0 ≡ get_or (spelling s.elements ++ t) p 0
+    rest : (p : ℕ) (more : List Made) → All (λ m. ¬ IsEdited m.on m.edit p) (with_command s c more) → All (λ m. ¬ IsEdited m.on m.edit p) more
+
+  done : (s : State) (c : Command) → Opens (spelling s.elements ++ t) dim s.elements t → HasByteIn c → IsDone s c
+  done s (command.Edit e) opens fits =
+      let one = step s.elements opens e fits in
+      record {
+        opens = one.opens;
+        long = one.long;
+        stays = λ p more all. one.stays p (first_kept (answer_of s.elements e) (record { on = s.elements; edit = e }) more p all);
+        rest = λ p more all. rest_kept (answer_of s.elements e) (record { on = s.elements; edit = e }) more p all;
+      }
+  done s (command.Levels mask) opens fits = record { opens = opens; long = refl; stays = λ p more all. refl; rest = λ p more all. all }
+  done s command.Show opens fits = record { opens = opens; long = refl; stays = λ p more all. refl; rest = λ p more all. all }
+  done s (command.Tree n) opens fits = record { opens = opens; long = refl; stays = λ p more all. refl; rest = λ p more all. all }
+
+  edited_file : (cs : List Command) (s : State) → Opens (spelling s.elements ++ t) dim s.elements t → All HasByteIn cs → IsEditedFile (spelling s.elements ++ t) dim s t cs
+  edited_file [] s opens fits = record { long = refl; opens = opens; stays = λ p _. refl }
+  edited_file (c ∷ cs) s opens fits =
+      let one = done s c opens (All-head HasByteIn c cs fits) in
+      let more = edited_file cs (after_command s c) one.opens (All-tail HasByteIn c cs fits) in
       record {
         long = more.long ∙ one.long;
         opens = more.opens;
         stays = λ p all.
-            more.stays p (rest_kept (answer_of es e) (record { on = es; edit = e }) (remaining cs (after es e)) p all)
-            ∙ one.stays p (first_kept (answer_of es e) (record { on = es; edit = e }) (remaining cs (after es e)) p all);
+            more.stays p (one.rest p (remaining cs (after_command s c)) all)
+            ∙ one.stays p (remaining cs (after_command s c)) all;
       }
 
 pub untouched : UntouchedBytesStay
 untouched f dim es t cs opens fits =
     let whole : spelling es ++ t ≡ f = sym opens.whole in
-    subst (λ (g : List ℕ). IsEditedFile g dim es t cs) whole
-    (edited_file dim t cs es (subst (λ (g : List ℕ). Opens g dim es t) opens.whole opens) fits)
+    subst (λ (g : List ℕ). IsEditedFile g dim (begun es) t cs) whole
+    (edited_file dim t cs (begun es) (subst (λ (g : List ℕ). Opens g dim es t) opens.whole opens) fits)

@@ -1,22 +1,14 @@
 -- What edits do to the elements of a drawing, and what is said of them. Elements are numbered from 0.
 -- Each is a tree of its own.
-use Rattle.std.specs.Prelude.{ℕ, zero, suc, Bool, true, false, ◌||◌, if◌then◌else◌, List, [], ◌∷◌, ◌++◌, codes, slice_get, Option, Some, None}
+use Rattle.std.specs.Prelude.{ℕ, zero, suc, Bool, true, false, if◌then◌else◌, List, [], ◌∷◌, ◌++◌, codes, slice_get, Option, Some, None}
 use Rattle.std.specs.Fmt.{decimal}
-use Rattle.dgn_layout.specs.declared.types.Class.{Class}
-use Rattle.dgn_layout.specs.Classes.{class_of}
+use Rattle.dgn_layout.specs.Classes.{class_of, is_silent}
 use Rattle.dgn_drawing.specs.Element.{Element}
 use Rattle.dgn_drawing.specs.Changes.{recolour}
 use Rattle.dgn_drawing.specs.declared.edit.Edit.{Edit}
 use Rattle.dgn_drawing.specs.declared.edit.Edit.TheVariants as edit
-use Rattle.edit_script.specs.declared.command.Command.{Command}
-use Rattle.edit_script.specs.declared.command.Command.TheVariants as command
 use Rattle.dgn_tool.specs.declared.answer.Answer.{Answer}
 use Rattle.dgn_tool.specs.declared.answer.Answer.TheVariants.{Done, Unknown, Deleted, Opaque}
-
--- whether nothing is read of the bodies of this class
-abbrev pub is_silent : Class → Bool
-is_silent Class.Silent = true
-is_silent other = false
 
 -- what an edit of the look of element n comes to, by what stands there: the first of its causes, or none
 abbrev pub answer_at : ℕ → Option Element → Answer
@@ -63,23 +55,3 @@ line_of Done = codes "ok\n"
 line_of (Unknown n) = numbered (codes "refused unknown ") n
 line_of (Deleted n) = numbered (codes "refused deleted ") n
 line_of (Opaque n) = numbered (codes "refused opaque ") n
-
--- the edit that a command asks for
-abbrev pub edit_in : Command → Edit
-edit_in (command.Edit e) = e
-edit_in (command.Unbuilt none) = elim none [ ]
-
--- the elements after all commands, the first one first
-abbrev pub after_all : List Command → List Element → List Element
-after_all [] es = es
-after_all (c ∷ cs) es = after_all cs (after es (edit_in c))
-
--- what all commands say
-abbrev pub texts_of : List Command → List Element → List ℕ
-texts_of [] es = []
-texts_of (c ∷ cs) es = line_of (answer_of es (edit_in c)) ++ texts_of cs (after es (edit_in c))
-
--- whether a command is refused
-abbrev pub is_any_refused : List Command → List Element → Bool
-is_any_refused [] es = false
-is_any_refused (c ∷ cs) es = is_refusal (answer_of es (edit_in c)) || is_any_refused cs (after es (edit_in c))

@@ -9,7 +9,9 @@ use Rattle.dgn_drawing.specs.declared.edit.Edit.{Edit}
 use Rattle.dgn_drawing.specs.declared.edit.Edit.TheVariants as edit
 use Rattle.elem_index.specs.Offsets.{offset_of}
 use Rattle.edit_script.specs.declared.command.Command.{Command}
-use Rattle.dgn_tool.specs.Edits.{answer_of, after, after_all, edit_in}
+use Rattle.edit_script.specs.declared.command.Command.TheVariants as command
+use Rattle.dgn_tool.specs.Edits.{answer_of}
+use Rattle.dgn_tool.specs.Commands.{State, begun, after_command, after_all}
 use Rattle.dgn_tool.specs.declared.answer.Answer.{Answer}
 use Rattle.dgn_tool.specs.declared.answer.Answer.TheVariants.{Done}
 
@@ -23,11 +25,15 @@ abbrev pub with_made : Answer → Made → List Made → List Made
 with_made Done one more = one ∷ more
 with_made refused one more = more
 
+-- a command before those behind it, where it is an edit that is done
+abbrev pub with_command : State → Command → List Made → List Made
+with_command s (command.Edit e) more = with_made (answer_of s.elements e) (record { on = s.elements; edit = e }) more
+with_command s other more = more
+
 -- the edits that commands leave, the first one first
-abbrev pub remaining : List Command → List Element → List Made
-remaining [] es = []
-remaining (c ∷ cs) es =
-    with_made (answer_of es (edit_in c)) (record { on = es; edit = edit_in c }) (remaining cs (after es (edit_in c)))
+abbrev pub remaining : List Command → State → List Made
+remaining [] s = []
+remaining (c ∷ cs) s = with_command s c (remaining cs (after_command s c))
 
 -- the place is in a field that an edit writes: the two bytes of the look, at byte 34 of the element
 abbrev pub IsEdited : List Element → Edit → ℕ → Type 0
@@ -39,15 +45,20 @@ abbrev pub HasByte : Edit → Type 0
 HasByte (edit.Sym n change) = HasByteColor change
 HasByte (edit.Unbuilt none) = elim none [ ]
 
+-- the same of the edit that a command may be
+abbrev pub HasByteIn : Command → Type 0
+HasByteIn (command.Edit e) = HasByte e
+HasByteIn other = Unit {0}
+
 -- the file that the commands make of an opened one is as long, opens with the elements after them and the
 -- same tail, and has its bytes at each place that no edit that is left writes
-pub record IsEditedFile (f : List ℕ) (dim : ℕ) (es : List Element) (t : List ℕ) (cs : List Command) : Type 0 where
-  pub long : length (spelling (after_all cs es) ++ t) ≡ length f
-  pub opens : Opens (spelling (after_all cs es) ++ t) dim (after_all cs es) t
-  pub stays : (p : ℕ) → All (λ m. ¬ IsEdited m.on m.edit p) (remaining cs es)
-      → slice_index (spelling (after_all cs es) ++ t) p ≡ slice_index f p
+pub record IsEditedFile (f : List ℕ) (dim : ℕ) (s : State) (t : List ℕ) (cs : List Command) : Type 0 where
+  pub long : length (spelling (after_all cs s).elements ++ t) ≡ length f
+  pub opens : Opens (spelling (after_all cs s).elements ++ t) dim (after_all cs s).elements t
+  pub stays : (p : ℕ) → All (λ m. ¬ IsEdited m.on m.edit p) (remaining cs s)
+      → slice_index (spelling (after_all cs s).elements ++ t) p ≡ slice_index f p
 
 abbrev pub UntouchedBytesStay : Type 0
 UntouchedBytesStay =
     (f : List ℕ) (dim : ℕ) (es : List Element) (t : List ℕ) (cs : List Command)
-    → Opens f dim es t → All (λ c. HasByte (edit_in c)) cs → IsEditedFile f dim es t cs
+    → Opens f dim es t → All HasByteIn cs → IsEditedFile f dim (begun es) t cs

@@ -2,6 +2,7 @@ pub mod Status
 pub mod Request
 pub mod RequestView
 pub mod Edits
+pub mod Commands
 pub mod Unbuilt
 pub mod Outcome
 pub mod Told

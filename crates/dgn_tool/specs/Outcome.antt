@@ -1,7 +1,9 @@
 -- What a run comes to: a status, what is said, and the file that is written, computed from the words of
 -- the command line and the files that they name.
-use Rattle.std.specs.Prelude.{ℕ, ◌≡◌, ◌≤◌, nat_lt, nat_le, Bool, false, ◌&&◌, not, if◌then◌else◌, List, [], ◌++◌, length, codes, Option, Some, None, Result, Ok, Err, IsSome, IfSome, IsTrue, ⊤}
+use Rattle.std.specs.Prelude.{ℕ, ◌≡◌, ◌≤◌, nat_lt, nat_le, Bool, ◌&&◌, if◌then◌else◌, List, [], ◌++◌, length, codes, Option, Some, None, Result, Ok, Err, IsSome, IfSome, IsTrue, ⊤}
 use Rattle.std.specs.FinMap as maps
+use Rattle.std.specs.List.{list_any}
+use Rattle.std.specs.Result.{is_ok}
 use Rattle.dgn_desk.specs.Content.{Files, Content, bytes_of, with_file}
 use Rattle.dgn_drawing.specs.Spelling.{spelling}
 use Rattle.dgn_drawing.specs.Opening.{Fault, NotDesign, Cut, Short, Attr}
@@ -11,7 +13,8 @@ use Rattle.edit_script.specs.declared.command.Command.{Command}
 use Rattle.edit_script.specs.declared.fault.ScriptFault.{ScriptFault}
 use Rattle.edit_script.specs.declared.fault.ScriptFault.TheVariants as faults
 use Rattle.dgn_tool.specs.Request.{Request, Edit, Check, request_of}
-use Rattle.dgn_tool.specs.Edits.{numbered, after_all, texts_of, is_any_refused}
+use Rattle.dgn_tool.specs.Edits.{numbered}
+use Rattle.dgn_tool.specs.Commands.{begun, after_all, texts_of, is_any_refused, is_edit}
 use Rattle.dgn_tool.specs.Unbuilt.{has_unbuilt}
 use Rattle.dgn_tool.specs.declared.status.Status.{Status}
 use Rattle.dgn_tool.specs.declared.status.Status.TheVariants as statuses
@@ -29,28 +32,27 @@ ended status line = record { status = status; text = line; file = None }
 -- what the commands come to on a drawing: their texts, and the file of the drawing after them
 abbrev pub told : Opened → List Command → List ℕ → Outcome
 told d cs output = record {
-  status = if is_any_refused cs d.elements then statuses.SomeRefused else statuses.Done;
-  text = texts_of cs d.elements;
-  file = Some (output, spelling (after_all cs d.elements) ++ d.tail);
+  status = if is_any_refused cs (begun d.elements) then statuses.SomeRefused else statuses.Done;
+  text = texts_of d.dim cs (begun d.elements);
+  file = Some (output, spelling (after_all cs (begun d.elements)).elements ++ d.tail);
 }
+
+-- whether they can't be run on it yet: it has elements that belong together, and they edit
+abbrev pub asks_too_much : Opened → List Command → Bool
+asks_too_much d cs = has_unbuilt d.elements && list_any is_edit cs
 
 -- what a script comes to that reads so; its reading alone never wants memory
 abbrev pub script_outcome : Opened → Result (List Command) ScriptFault → List ℕ → Outcome
-script_outcome d (Ok cs) output = told d cs output
+script_outcome d (Ok cs) output = if asks_too_much d cs then ended statuses.Unbuilt (codes "unbuilt\n") else told d cs output
 script_outcome d (Err (faults.Line number)) output = ended statuses.BadScript (numbered (codes "bad script line ") number)
 script_outcome d (Err (faults.Unbuilt number)) output = ended statuses.Unbuilt (codes "unbuilt\n")
 script_outcome d (Err faults.Memory) output = ended statuses.Memory []
 
--- what `edit` comes to on a drawing that may be edited
+-- what `edit` comes to on a drawing
 abbrev pub scripted : Opened → List ℕ → List ℕ → Outcome
 scripted d script output =
     if nat_lt 1048576 (length script) then ended statuses.TooLong (codes "too long script\n")
     else script_outcome d (commands_of script) output
-
--- what `edit` comes to on a drawing
-abbrev pub design_outcome : Opened → List ℕ → List ℕ → Outcome
-design_outcome d script output =
-    if has_unbuilt d.elements then ended statuses.Unbuilt (codes "unbuilt\n") else scripted d script output
 
 -- what `check` comes to on a drawing
 abbrev pub checked : Opened → Outcome
@@ -77,7 +79,7 @@ input_outcome input go_on =
 -- what a run with this request comes to
 abbrev pub outcome_of : Option Request → Files → Outcome
 outcome_of None files = ended statuses.Usage (codes "usage: dgnedit edit IN SCRIPT OUT, check IN, gen SEED COUNT OUT\n")
-outcome_of (Some (Edit input script output)) files = input_outcome (bytes_of files input) (λ d. design_outcome d (bytes_of files script) output)
+outcome_of (Some (Edit input script output)) files = input_outcome (bytes_of files input) (λ d. scripted d (bytes_of files script) output)
 outcome_of (Some (Check input)) files = input_outcome (bytes_of files input) checked
 
 -- what a run with these words comes to
@@ -124,14 +126,9 @@ IsFaultless statuses.ReadFault = ⊥
 IsFaultless statuses.WriteFault = ⊥
 IsFaultless _ = ⊤
 
--- whether a drawing may be edited
-abbrev pub is_edited : Result Opened Fault → Bool
-is_edited (Ok d) = not (has_unbuilt d.elements)
-is_edited (Err fault) = false
-
--- whether SCRIPT is read after this IN: it is within its limit, opens, and may be edited
+-- whether SCRIPT is read after this IN: it is within its limit and opens
 abbrev pub comes_to_script : List ℕ → Bool
-comes_to_script input = nat_le (length input) 67108864 && is_edited (opening input)
+comes_to_script input = nat_le (length input) 67108864 && is_ok (opening input)
 
 -- IN is there, and SCRIPT is where it is read after IN
 abbrev pub HasBoth : List ℕ → List ℕ → Files → Type 0

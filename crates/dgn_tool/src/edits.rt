@@ -1,12 +1,12 @@
-ghost use Rattle.std.specs.Prelude.{◌≡◌, ◌<◌, ◌+◌, length, slice_get, unwrap_or};
+ghost use Rattle.std.specs.Prelude.{◌≡◌, ◌<◌, map, slice_get, unwrap_or};
 ghost use Rattle.dgn_drawing.specs.Changes.{recolour};
+ghost use Rattle.dgn_drawing.specs.Rows.{row_of};
 ghost use Rattle.elem_index.specs.Design.{elements, IsWhole};
-ghost use Rattle.dgn_tool.specs.Edits.{answer_at, answer_of, after, changed, is_silent};
+ghost use Rattle.dgn_tool.specs.Edits.{answer_at, answer_of, after, changed};
 
 use crate::answer::Answer;
 use dgn_drawing::{Edit, SymbChange};
-use dgn_layout::class;
-use dgn_layout::types::Class;
+use dgn_layout::is_silent;
 use elem_head::types::Symb;
 use elem_head::{head, symb};
 use elem_index::Design;
@@ -18,7 +18,9 @@ pub fn apply(design: &mut Design, edit: &Edit) -> Answer
     ensures answer { result ≡ answer_of (elements design.old) edit.now }
     ensures elements { elements design.new ≡ after (elements design.old) edit.now }
     ensures whole { IsWhole design.new }
+    ensures rows { map row_of (elements design.new) ≡ map row_of (elements design.old) }
     ensures tail { design.new.tail.items ≡ design.old.tail.items }
+    ensures dim { design.new.dim ≡ design.old.dim }
 {
     match edit {
         Edit::Sym { n, change } => recolour(design, *n, change),
@@ -32,7 +34,9 @@ fn recolour(design: &mut Design, n: u32, change: &SymbChange) -> Answer
     ensures answer { result ≡ answer_at n (slice_get (elements design.old) n) }
     ensures elements { elements design.new ≡ after (elements design.old) (Edit.Sym n change.now) }
     ensures whole { IsWhole design.new }
+    ensures rows { map row_of (elements design.new) ≡ map row_of (elements design.old) }
     ensures tail { design.new.tail.items ≡ design.old.tail.items }
+    ensures dim { design.new.dim ≡ design.old.dim }
 {
     let answer = judge(design, n);
     if answer == Answer::Done {
@@ -52,18 +56,11 @@ fn judge(design: &Design, n: u32) -> Answer
     let head = head(bytes);
     if head.deleted {
         Answer::Deleted { element: n }
-    } else if is_silent(class(head.kind)) {
+    } else if is_silent(head.kind) {
         Answer::Opaque { element: n }
     } else {
         Answer::Done
     }
-}
-
-// Whether nothing is read of the bodies of this class.
-fn is_silent(class: Class) -> bool
-    ensures { result ≡ is_silent class }
-{
-    matches!(class, Class::Silent)
 }
 
 // Writes the look of element n, which is there and has one: two bytes.
@@ -72,7 +69,9 @@ fn change_look(design: &mut Design, n: u32, change: &SymbChange)
     requires able { answer_at n (slice_get (elements design.old) n) ≡ Answer.Done }
     ensures elements { elements design.new ≡ changed n (recolour change.now) (elements design.old) }
     ensures whole { IsWhole design.new }
+    ensures rows { map row_of (elements design.new) ≡ map row_of (elements design.old) }
     ensures tail { design.new.tail.items ≡ design.old.tail.items }
+    ensures dim { design.new.dim ≡ design.old.dim }
 {
     if let Some(start) = design.offset(n) {
         let look = looked(symb(&design.body[start..]), change);

@@ -1,5 +1,5 @@
-ghost use Rattle.std.specs.Prelude.{◌≡◌, IfOk, IfErr, OnOk, IsErrOf, IsTrue};
-ghost use Rattle.dgn_desk.specs.Content.{OnlyLeftDiffers, HasFile};
+ghost use Rattle.std.specs.Prelude.{◌≡◌, ◌≤◌, vec_len, IfOk, IfErr, IfSome, OnOk, IsErrOf, IsTrue};
+ghost use Rattle.dgn_desk.specs.Content.{bytes_of, OnlyLeftDiffers, HasFile};
 ghost use Rattle.dgn_desk.specs.Desk.{Rose, StaysWilling};
 ghost use Rattle.elem_index.specs.Design.{IsWhole};
 ghost use Rattle.elem_index.specs.Answers.{opened_of};
@@ -14,6 +14,29 @@ use std::alloc::Global;
 
 // The most bytes that a design file may have.
 const MOST_DESIGN: usize = 67108864;
+
+/// Reads IN whole, or ends the run.
+pub fn read_input<D: Desk>(alloc: Global, desk: &mut D, input: &str) -> Result<Vec<u8>, Status>
+    ensures whole { IfOk result (λ v. IfSome (D.content desk.old) (λ c. v.items ≡ bytes_of c.files input.now)) }
+    ensures within { IfOk result (λ v. vec_len v ≤ 67108864) }
+    ensures told { OnOk result (OnlyLeftDiffers (D.content desk.old) (D.content desk.new)) }
+    ensures quiet { OnOk result (D.write_faults desk.new ≡ D.write_faults desk.old) }
+    ensures calm { OnOk result (D.read_faults desk.new ≡ D.read_faults desk.old) }
+    ensures stays { OnOk result (StaysWilling (D.willing desk.old) (D.willing desk.new)) }
+    ensures ended { IfErr result (EndsEarly input.now (D.content desk.old) (D.content desk.new)) }
+    ensures usage { IsErrOf result Status.Usage → ⊥ }
+    ensures read { IsErrOf result Status.ReadFault → Rose (D.read_faults desk.old) (D.read_faults desk.new) }
+    ensures unread { IsErrOf result Status.ReadFault → OnlyLeftDiffers (D.content desk.old) (D.content desk.new) }
+    ensures write { IsErrOf result Status.WriteFault → Rose (D.write_faults desk.old) (D.write_faults desk.new) }
+    ensures able { IsTrue (D.willing desk.old) → HasFile input.now (D.content desk.old) → IfErr result IsFaultless }
+{
+    match read_all(alloc, desk, input, MOST_DESIGN) {
+        Ok(bytes) => Ok(bytes),
+        Err(ReadEnd::TooLong) => Err(end(desk, b"too long design\n", Status::TooLong)),
+        Err(ReadEnd::Fault) => Err(Status::ReadFault),
+        Err(ReadEnd::Memory) => Err(Status::Memory),
+    }
+}
 
 /// Reads and opens IN, or ends the run.
 pub fn open_design<D: Desk>(alloc: Global, desk: &mut D, input: &str) -> Result<Design, Status>
@@ -30,11 +53,9 @@ pub fn open_design<D: Desk>(alloc: Global, desk: &mut D, input: &str) -> Result<
     ensures write { IsErrOf result Status.WriteFault → Rose (D.write_faults desk.old) (D.write_faults desk.new) }
     ensures able { IsTrue (D.willing desk.old) → HasFile input.now (D.content desk.old) → IfErr result IsFaultless }
 {
-    let bytes = match read_all(alloc, desk, input, MOST_DESIGN) {
+    let bytes = match read_input(alloc, desk, input) {
         Ok(bytes) => bytes,
-        Err(ReadEnd::TooLong) => return Err(end(desk, b"too long design\n", Status::TooLong)),
-        Err(ReadEnd::Fault) => return Err(Status::ReadFault),
-        Err(ReadEnd::Memory) => return Err(Status::Memory),
+        Err(status) => return Err(status),
     };
     match read_design(alloc, bytes) {
         Ok(design) => Ok(design),
@@ -42,8 +63,8 @@ pub fn open_design<D: Desk>(alloc: Global, desk: &mut D, input: &str) -> Result<
     }
 }
 
-// Ends the run with what is wrong with IN.
-fn end_bad_design<D: Desk>(alloc: Global, desk: &mut D, fault: OpenFault) -> Status
+/// Ends the run with what is wrong with IN.
+pub fn end_bad_design<D: Desk>(alloc: Global, desk: &mut D, fault: OpenFault) -> Status
     ensures outcome { EndsAs result (λ _. told_fault fault) (D.content desk.old) (D.content desk.new) }
     ensures memory { fault ≡ OpenFault.Memory → result ≡ Status.Memory }
     ensures usage { result ≡ Status.Usage → ⊥ }

@@ -1,23 +1,24 @@
-ghost use Rattle.std.specs.Prelude.{◌≡◌, map, string_bytes, IsNone, IsSome, IfSome, IsTrue, IsFalse};
+ghost use Rattle.std.specs.Prelude.{◌≡◌, map, string_bytes, Ok, IfOk, IsNone, IsSome, IfSome, IsTrue};
 ghost use Rattle.dgn_desk.specs.Content.{bytes_of, OnlyLeftDiffers, HasFile};
 ghost use Rattle.dgn_desk.specs.Desk.{Rose};
+ghost use Rattle.dgn_drawing.specs.Rows.{row_of};
 ghost use Rattle.elem_index.specs.Design.{elements, IsWhole};
 ghost use Rattle.elem_index.specs.Answers.{opened_of};
 ghost use Rattle.dgn_tool.specs.Request.{request_of};
-ghost use Rattle.dgn_tool.specs.Unbuilt.{has_unbuilt as is_unbuilt};
-ghost use Rattle.dgn_tool.specs.Outcome.{outcome, input_outcome, design_outcome, scripted, told, checked};
+ghost use Rattle.dgn_tool.specs.Outcome.{outcome, input_outcome, scripted, script_outcome, told, checked};
 ghost use Rattle.dgn_tool.specs.Outcome.{IsEnding, EndsAs, IsFaultless, HasBoth, HasFiles};
 
-use crate::commands::run_all;
+use crate::commands::{has_edit, run_all};
 use crate::ending::{end, end_numbered, stopped};
-use crate::opening::open_design;
+use crate::opening::{end_bad_design, open_design, read_input};
 use crate::request::{Request, read_words};
 use crate::status::Status;
 use crate::unbuilt::has_unbuilt;
 use dgn_desk::{Desk, ReadEnd, read_all, write_file};
 use edit_script::{Command, ScriptFault, read_script};
-use elem_index::Design;
-use std::alloc::Global;
+use elem_index::{Design, count_elements};
+use nest_tree::{Nest, nest};
+use std::alloc::{AllocError, Global};
 
 // The most bytes that a script may have.
 const MOST_SCRIPT: usize = 1048576;
@@ -65,7 +66,7 @@ pub fn run<D: Desk>(alloc: Global, words: &[String], desk: &mut D) -> Status
     }
 }
 
-// Reads and opens IN, and says how many elements it has.
+// Reads IN, and says how many elements it has, or what keeps it from being a design file.
 fn check<D: Desk>(alloc: Global, desk: &mut D, input: &str) -> Status
     ensures outcome { EndsAs result (λ files. input_outcome (bytes_of files input.now) checked)
         (D.content desk.old) (D.content desk.new) }
@@ -75,16 +76,20 @@ fn check<D: Desk>(alloc: Global, desk: &mut D, input: &str) -> Status
     ensures write { result ≡ Status.WriteFault → Rose (D.write_faults desk.old) (D.write_faults desk.new) }
     ensures able { IsTrue (D.willing desk.old) → HasFile input.now (D.content desk.old) → IsFaultless result }
 {
-    match open_design(alloc, desk, input) {
-        Ok(design) => end_numbered(alloc, desk, b"elements ", design.count(), Status::Done),
-        Err(status) => status,
+    let bytes = match read_input(alloc, desk, input) {
+        Ok(bytes) => bytes,
+        Err(status) => return status,
+    };
+    match count_elements(&bytes) {
+        Ok(count) => end_numbered(alloc, desk, b"elements ", count, Status::Done),
+        Err(fault) => end_bad_design(alloc, desk, fault),
     }
 }
 
 // Reads and opens IN, and goes on with it.
 fn edit<D: Desk>(alloc: Global, desk: &mut D, input: &str, script: &str, output: &str) -> Status
     ensures outcome { EndsAs result
-        (λ files. input_outcome (bytes_of files input.now) (λ d. design_outcome d (bytes_of files script.now) output.now))
+        (λ files. input_outcome (bytes_of files input.now) (λ d. scripted d (bytes_of files script.now) output.now))
         (D.content desk.old) (D.content desk.new) }
     ensures usage { result ≡ Status.Usage → ⊥ }
     ensures read { result ≡ Status.ReadFault → Rose (D.read_faults desk.old) (D.read_faults desk.new) }
@@ -97,9 +102,6 @@ fn edit<D: Desk>(alloc: Global, desk: &mut D, input: &str, script: &str, output:
         Ok(design) => design,
         Err(status) => return status,
     };
-    if has_unbuilt(&design) {
-        return end(desk, b"unbuilt\n", Status::Unbuilt);
-    }
     edit_design(alloc, desk, &mut design, script, output)
 }
 
@@ -128,7 +130,7 @@ fn edit_design<D: Desk>(
         Err(ReadEnd::Memory) => return Status::Memory,
     };
     match read_script(alloc, &text) {
-        Ok(commands) => finish(alloc, desk, design, &commands, output),
+        Ok(commands) => run_script(alloc, desk, design, &commands, output),
         Err(ScriptFault::Line { number }) => end_numbered(
             alloc,
             desk,
@@ -141,8 +143,8 @@ fn edit_design<D: Desk>(
     }
 }
 
-// Runs the commands and writes OUT.
-fn finish<D: Desk>(
+// Nests the elements, and goes on with the commands, unless they edit a design that isn't edited yet.
+fn run_script<D: Desk>(
     alloc: Global,
     desk: &mut D,
     design: &mut Design,
@@ -151,6 +153,43 @@ fn finish<D: Desk>(
 ) -> Status
     requires { IsWhole design.old }
     ensures outcome { EndsAs result
+        (λ _. script_outcome (opened_of design.old) (Ok commands.now) output.now)
+        (D.content desk.old) (D.content desk.new) }
+    ensures usage { result ≡ Status.Usage → ⊥ }
+    ensures read { result ≡ Status.ReadFault → ⊥ }
+    ensures write { result ≡ Status.WriteFault → Rose (D.write_faults desk.old) (D.write_faults desk.new) }
+    ensures able { IsTrue (D.willing desk.old) → IsFaultless result }
+{
+    if has_unbuilt(design) && has_edit(commands) {
+        return end(desk, b"unbuilt\n", Status::Unbuilt);
+    }
+    match nesting_of(alloc, design) {
+        Ok(nesting) => finish(alloc, desk, design, &nesting, commands, output),
+        Err(_) => Status::Memory,
+    }
+}
+
+// The nesting of a design.
+fn nesting_of(alloc: Global, design: &Design) -> Result<Nest, AllocError>
+    requires { IsWhole design.now }
+    ensures { IfOk result (λ t. t.rows ≡ map row_of (elements design.now)) }
+{
+    let rows = design.rows()?;
+    nest(alloc, &rows)
+}
+
+// Runs the commands and writes OUT.
+fn finish<D: Desk>(
+    alloc: Global,
+    desk: &mut D,
+    design: &mut Design,
+    nesting: &Nest,
+    commands: &[Command],
+    output: &str,
+) -> Status
+    requires whole { IsWhole design.old }
+    requires nesting { nesting.now.rows ≡ map row_of (elements design.old) }
+    ensures outcome { EndsAs result
         (λ _. told (opened_of design.old) commands.now output.now)
         (D.content desk.old) (D.content desk.new) }
     ensures usage { result ≡ Status.Usage → ⊥ }
@@ -158,7 +197,7 @@ fn finish<D: Desk>(
     ensures write { result ≡ Status.WriteFault → Rose (D.write_faults desk.old) (D.write_faults desk.new) }
     ensures able { IsTrue (D.willing desk.old) → IsFaultless result }
 {
-    let refused = match run_all(alloc, desk, design, commands) {
+    let refused = match run_all(alloc, desk, design, nesting, commands) {
         Ok(refused) => refused,
         Err(stop) => return stopped(stop),
     };

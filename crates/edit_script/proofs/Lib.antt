@@ -1,4 +1,5 @@
 mod FirstFault
 mod InOrder
+mod Masks
 mod Numerals
 mod Pieces

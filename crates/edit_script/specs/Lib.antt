@@ -1,6 +1,7 @@
 pub mod Lines
 pub mod Words
 pub mod Numbers
+pub mod Levels
 pub mod Grammar
 pub mod Script
 pub mod Laws

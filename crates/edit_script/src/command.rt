@@ -1,11 +1,14 @@
-use dgn_drawing::Edit;
-use std::convert::Infallible;
+use dgn_drawing::{Edit, Mask};
 
-/// What one line of a script asks for.
+/// What one line of a script asks for. Elements are numbered in file order, from 0.
 #[derive(Drop)]
 pub enum Command {
     /// A change of the drawing.
     Edit(Edit),
-    /// No other command is built yet, so this one has no value.
-    Unbuilt(Infallible),
+    /// Sets which levels are shown.
+    Levels(Mask),
+    /// Says the items that are shown.
+    Show,
+    /// Says the elements of the tree of this one, it and all below it.
+    Tree(u32),
 }

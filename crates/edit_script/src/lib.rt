@@ -9,6 +9,7 @@ mod command;
 mod fault;
 mod grammar;
 pub mod laws;
+mod levels;
 mod lines;
 mod numbers;
 mod reading;

@@ -38,8 +38,8 @@ fn scripts_that_are_read(rt: HostRuntime) -> Result<(), Fail> {
                         assert_eq!(rt; change.weight, None);
                         assert_eq!(rt; change.style, None);
                     }
-                    Command::Edit(Edit::Unbuilt(never)) | Command::Unbuilt(never) =>
-                        match *never {},
+                    Command::Edit(Edit::Unbuilt(never)) => match *never {},
+                    _ => panic!(rt; "another command"),
                 }
             }
         }
@@ -50,7 +50,7 @@ fn scripts_that_are_read(rt: HostRuntime) -> Result<(), Fail> {
 #[test]
 fn scripts_that_are_not_read(rt: HostRuntime) -> Result<(), Fail> {
     let alloc = rt.alloc();
-    let bad: [(&[u8], u32); 20] = [
+    let bad: [(&[u8], u32); 32] = [
         (b"color 1 1\n\ncolour 1 1\n", 3),
         (b"# a\r\n\r\n   \r\n  # b\r\ncolor 1\r\n", 5),
         (b"\n\n\nx", 4),
@@ -71,6 +71,18 @@ fn scripts_that_are_not_read(rt: HostRuntime) -> Result<(), Fail> {
         (b"Color 1 1", 1),
         (b"color 1 1\r\r\n", 1),
         (b"color 1 1\nshows\nshow\n", 2),
+        (b"show 1", 1),
+        (b"tree", 1),
+        (b"tree 1 2", 1),
+        (b"tree -1", 1),
+        (b"levels", 1),
+        (b"levels 64", 1),
+        (b"levels 5-3", 1),
+        (b"levels 1-", 1),
+        (b"levels -1", 1),
+        (b"levels 1-2-3", 1),
+        (b"levels 1 all", 1),
+        (b"levels All", 1),
     ];
     for (script, line) in bad {
         assert!(rt; script.len() <= 1048576);
@@ -78,8 +90,8 @@ fn scripts_that_are_not_read(rt: HostRuntime) -> Result<(), Fail> {
         assert_eq!(rt; fault, Some(ScriptFault::Line { number: line }));
     }
     let unbuilt: [(&[u8], u32); 6] = [
-        (b"show\nundo\n\n# x\nmove 1 +1 2\n", 1),
-        (b"show\r\nundo\r\n\r\n# x\r\nmove 1 +1 2\r\n", 1),
+        (b"show\nundo\n\n# x\nmove 1 +1 2\n", 2),
+        (b"show\r\nundo\r\n\r\n# x\r\nmove 1 +1 2\r\n", 2),
         (b"# x\n\nmove 1 +1 2\r\ncolour\n", 3),
         (b"color 1 1\n fsym inside 3 2 1\n", 2),
         (b"text", 1),
@@ -93,12 +105,44 @@ fn scripts_that_are_not_read(rt: HostRuntime) -> Result<(), Fail> {
     Ok(())
 }
 
-// The names of the whole language but `color`.
-const NAMES: [&str; 22] = [
-    "move", "copy", "sym", "delete", "line", "string", "shape", "text", "undo", "levels", "fence",
-    "nofence", "show", "elements", "refs", "tree", "links", "select", "fmove", "fcopy", "fsym",
-    "fdelete",
+// The names of the commands that aren't read yet.
+const NAMES: [&str; 19] = [
+    "move", "copy", "sym", "delete", "line", "string", "shape", "text", "undo", "fence", "nofence",
+    "elements", "refs", "links", "select", "fmove", "fcopy", "fsym", "fdelete",
 ];
+
+#[test]
+fn masks_and_listings(rt: HostRuntime) -> Result<(), Fail> {
+    let alloc = rt.alloc();
+    let masks: [(&[u8], u64); 7] = [
+        (b"levels all", 0xFFFF_FFFF_FFFF_FFFF),
+        (b"levels none", 0),
+        (b"levels 0", 1),
+        (b"levels 63", 0x8000_0000_0000_0000),
+        (b"levels 3-5 63", 0x8000_0000_0000_0038),
+        (b"levels 0-63", 0xFFFF_FFFF_FFFF_FFFF),
+        (b" levels  7-7   1-2 2 ", 0x86),
+    ];
+    for (script, wanted) in masks {
+        assert!(rt; script.len() <= 1048576);
+        let commands = read_script(alloc, script);
+        assert!(rt; commands.is_ok());
+        if let Ok(commands) = commands {
+            assert!(rt; matches!(commands.as_slice(), [Command::Levels(mask)] if mask.0 == wanted));
+        }
+    }
+    let commands = read_script(alloc, b"show\ntree 0\n tree 4294967295 \n");
+    assert!(rt; commands.is_ok());
+    if let Ok(commands) = commands {
+        assert!(rt;
+            matches!(
+                commands.as_slice(),
+                [Command::Show, Command::Tree(0), Command::Tree(4294967295)]
+            )
+        );
+    }
+    Ok(())
+}
 
 #[test]
 fn names_and_texts(rt: HostRuntime) -> Result<(), Fail> {

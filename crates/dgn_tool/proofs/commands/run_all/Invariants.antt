@@ -5,7 +5,7 @@ use Rattle.dgn_tool.proofs.commands.run_all.Given as goal
 
 abbrev pub invariant-commands : goal.invariant-commands
 invariant-commands g l = record {
-  ran : Ran l.commands (drop l.command-index l.commands) l.refused l.fn.design l.design (g.D.Desk.content l.fn.desk) (g.D.Desk.content l.desk);
+  ran : Ran l.nesting.rows l.commands (drop l.command-index l.commands) l.refused l.fn.design l.design l.mask (g.D.Desk.content l.fn.desk) (g.D.Desk.content l.desk);
   write : g.D.Desk.write_faults l.desk ≡ g.D.Desk.write_faults l.fn.desk;
   read : g.D.Desk.read_faults l.desk ≡ g.D.Desk.read_faults l.fn.desk;
   stays : StaysWilling (g.D.Desk.willing l.fn.desk) (g.D.Desk.willing l.desk);

@@ -4,7 +4,7 @@ use Rattle.dgn_drawing.specs.Changes.{HasByteColor}
 use Rattle.elem_head.specs.declared.types.Symb.{Symb}
 use Rattle.elem_index.specs.Design.{elements}
 use Rattle.dgn_tool.proofs.Reopened.{accepted}
-use Rattle.dgn_tool.proofs.Looked.{byte_color, room, piece_long, look_written, new_elements, new_whole}
+use Rattle.dgn_tool.proofs.Looked.{byte_color, room, piece_long, look_written, new_elements, new_rows, new_whole}
 use Rattle.dgn_tool.proofs.edits.change_look.Goals as goal
 
 pub slice_bounds-symb-count : goal.slice_bounds-symb-count
@@ -46,6 +46,13 @@ returns-in-Some-clause-elements c =
     let fits : HasByteColor c.args.change.now = byte_color c.args.change.now.color c.symb.result.color c.looked-look.result.color (ap (λ (s : Symb). s.color) c.looked-look.ensures.is) c.looked-look.ensures.color in
     let written = look_written c.args.design.now c.requires.whole c.args.n a c.deref.result.now c.in-Some.start c.deref.ensures.value c.in-Some.ensures.place c.args.change.now c.symb.result c.looked-look.result c.symb.ensures c.looked-look.ensures.is in
     new_elements c.args.design.now c.requires.whole c.args.n a c.args.change.now fits c.args.design.now.dim (set (set c.args.design.now.body.items (c.in-Some.start + 34) (c.looked-look.result.style + 8 * c.looked-look.result.weight)) (c.in-Some.start + 35) c.looked-look.result.color) c.args.design.now.tail.items refl refl (ap (λ (b : List ℕ). set (set b (c.in-Some.start + 34) (c.looked-look.result.style + 8 * c.looked-look.result.weight)) (c.in-Some.start + 35) c.looked-look.result.color) (sym c.deref.ensures.value) ∙ written)
+
+pub returns-in-Some-clause-rows : goal.returns-in-Some-clause-rows
+returns-in-Some-clause-rows c =
+    let a = accepted (elements c.args.design.now) c.args.n c.requires.able in
+    let fits : HasByteColor c.args.change.now = byte_color c.args.change.now.color c.symb.result.color c.looked-look.result.color (ap (λ (s : Symb). s.color) c.looked-look.ensures.is) c.looked-look.ensures.color in
+    let written = look_written c.args.design.now c.requires.whole c.args.n a c.deref.result.now c.in-Some.start c.deref.ensures.value c.in-Some.ensures.place c.args.change.now c.symb.result c.looked-look.result c.symb.ensures c.looked-look.ensures.is in
+    new_rows c.args.design.now c.requires.whole c.args.n a c.args.change.now fits c.args.design.now.dim (set (set c.args.design.now.body.items (c.in-Some.start + 34) (c.looked-look.result.style + 8 * c.looked-look.result.weight)) (c.in-Some.start + 35) c.looked-look.result.color) c.args.design.now.tail.items refl refl (ap (λ (b : List ℕ). set (set b (c.in-Some.start + 34) (c.looked-look.result.style + 8 * c.looked-look.result.weight)) (c.in-Some.start + 35) c.looked-look.result.color) (sym c.deref.ensures.value) ∙ written)
 
 pub returns-in-Some-clause-whole : goal.returns-in-Some-clause-whole
 returns-in-Some-clause-whole c =

@@ -9,7 +9,7 @@ pub returns-then-head : goal.returns-then-head
 returns-then-head c = deleted_is c.args.design.now c.requires c.args.n c.in-Some.bytes.now c.in-Some.ensures.bytes c.head-head.result c.head-head.ensures c.if-head.true
 
 pub returns-then-is_silent : goal.returns-then-is_silent
-returns-then-is_silent c = opaque_is c.args.design.now c.requires c.args.n c.in-Some.bytes.now c.in-Some.ensures.bytes c.head-head.result c.head-head.ensures c.class.result c.class.ensures c.if-head.false (sym c.is_silent.ensures ∙ c.if-is_silent.true)
+returns-then-is_silent c = opaque_is c.args.design.now c.requires c.args.n c.in-Some.bytes.now c.in-Some.ensures.bytes c.head-head.result c.head-head.ensures c.if-head.false (sym c.is_silent.ensures ∙ c.if-is_silent.true)
 
 pub returns-else-is_silent : goal.returns-else-is_silent
-returns-else-is_silent c = done_is c.args.design.now c.requires c.args.n c.in-Some.bytes.now c.in-Some.ensures.bytes c.head-head.result c.head-head.ensures c.class.result c.class.ensures c.if-head.false (sym c.is_silent.ensures ∙ c.if-is_silent.false)
+returns-else-is_silent c = done_is c.args.design.now c.requires c.args.n c.in-Some.bytes.now c.in-Some.ensures.bytes c.head-head.result c.head-head.ensures c.if-head.false (sym c.is_silent.ensures ∙ c.if-is_silent.false)

@@ -5,7 +5,7 @@ use Rattle.elem_index.specs.Answers.{opened_of}
 use Rattle.edit_script.specs.Script.{commands_of, Tells}
 use Rattle.edit_script.specs.declared.fault.ScriptFault.TheVariants as faults
 use Rattle.dgn_tool.specs.Edits.{numbered}
-use Rattle.dgn_tool.specs.Outcome.{ended, told, scripted}
+use Rattle.dgn_tool.specs.Outcome.{ended, scripted, script_outcome}
 use Rattle.dgn_tool.specs.declared.status.Status.TheVariants as statuses
 use Rattle.dgn_tool.proofs.Endings.{through, overruns_script, reads_script, items_within}
 use Rattle.dgn_tool.proofs.top.edit_design.Goals as goal
@@ -24,9 +24,9 @@ returns-in-Ok-read_script-clause-outcome g c =
     let found : commands_of c.in-Ok.text.items ≡ Ok c.deref-in-Ok-read_script.result.now =
     ap commands_of (sym c.deref.ensures.value) ∙ c.in-Ok-read_script.ensures.commands ∙ ap Ok (sym c.deref-in-Ok-read_script.ensures.value) in
     λ ending.
-    through (λ fs. scripted (opened_of c.args.design.now) (bytes_of fs c.args.script.now) c.args.output.now) (λ _. told (opened_of c.args.design.now) c.deref-in-Ok-read_script.result.now c.args.output.now) c.finish.result (g.D.Desk.content c.args.desk.now) (g.D.Desk.content c.read_all.new.desk) (g.D.Desk.content c.finish.new.desk) read.told
+    through (λ fs. scripted (opened_of c.args.design.now) (bytes_of fs c.args.script.now) c.args.output.now) (λ _. script_outcome (opened_of c.args.design.now) (Ok c.deref-in-Ok-read_script.result.now) c.args.output.now) c.run_script.result (g.D.Desk.content c.args.desk.now) (g.D.Desk.content c.read_all.new.desk) (g.D.Desk.content c.run_script.new.desk) read.told
     (reads_script (opened_of c.args.design.now) c.args.script.now c.in-Ok.text.items c.args.output.now (Ok c.deref-in-Ok-read_script.result.now) (g.D.Desk.content c.args.desk.now) read.whole (items_within c.in-Ok.text 1048576 read.within) found)
-    (c.finish.ensures.outcome ending)
+    (c.run_script.ensures.outcome ending)
 
 pub returns-in-Err-Line-clause-outcome : goal.returns-in-Err-Line-clause-outcome
 returns-in-Err-Line-clause-outcome g c =
