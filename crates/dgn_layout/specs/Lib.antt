@@ -1,1 +1,4 @@
 pub mod Classes
+pub mod Spots
+pub mod SpotsLeft
+pub mod Laws

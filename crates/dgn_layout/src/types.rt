@@ -1,4 +1,8 @@
-//! What is said of an element type.
+//! What is said of an element type, and the iterator over the coordinate fields of an element.
+
+mod spots;
+
+pub use spots::Spots;
 
 /// What the body of an element holds, by its type.
 #[derive(Clone, Copy, Debug, PartialEq, Eq)]
