@@ -33,7 +33,7 @@ corner_from {b} p q (x ∷ y ∷ z ∷ []) long on h =
     let e3 : range_long_at b (p + 8) ≡ z = range_long_is three.0 on.1.1.0 in
     cc
 
-length-corner : (v : List ℤ) → length (flat_map range_long_bytes v) ≡ 4 * length v
+pub length-corner : (v : List ℤ) → length (flat_map range_long_bytes v) ≡ 4 * length v
 length-corner [] = refl
 length-corner (x ∷ xs) = omega (arith, length-corner xs)
 

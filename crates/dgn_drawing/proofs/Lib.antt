@@ -17,3 +17,10 @@ pub mod Shown
 pub mod WorkedOpening
 pub mod WorkedShown
 pub mod Looks
+pub mod Pieces
+pub mod BodyPieces
+pub mod Moved
+pub mod Spotted
+pub mod Displaced
+pub mod Marks
+pub mod WorkedSpots

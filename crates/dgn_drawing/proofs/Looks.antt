@@ -1,34 +1,35 @@
 -- A change of the look is two bytes of the element, and leaves it well formed.
 use Rattle.std.proofs.Common.{◌≡◌, ℕ, ◌+◌, ◌-◌, ◌*◌, ◌/◌, ◌<◌, ◌≤◌, List, ◌∷◌, ◌++◌, length, take, drop, Option, Some, None, refl, sym, ap, subst, ◌∙◌, append_assoc, arith, length-append}
-use Rattle.std.specs.Prelude.{unwrap_or}
-use Rattle.std.specs.Option.{ForSome}
+use Rattle.std.specs.Prelude.{unwrap_or, IfSome}
 use Rattle.std.specs.List.{flat_map}
 use Rattle.std.proofs.lemmas.List.{take_at, drop_at}
 use Rattle.dgn_words.specs.Numbers.{word_bytes, range_long_bytes, put}
-use Rattle.dgn_drawing.specs.declared.symb_change.SymbChange.{SymbChange}
+use Rattle.dgn_drawing.specs.Values.{LookChange, IsLook}
 use Rattle.dgn_drawing.specs.Element.{Display, Parts, Body, Silent, Shown, Element}
 use Rattle.dgn_drawing.specs.Spelling.{first_byte, second_byte, display_bytes, parts_bytes, body_bytes, spell, size_of}
 use Rattle.dgn_drawing.specs.WellFormed.{IsDisplay, HasBody, IsWellFormed}
 use Rattle.dgn_drawing.specs.Laws.{IsLookPut, LooksAreTwoBytes, SilentRecordsStay}
-use Rattle.dgn_drawing.specs.Changes.{look_changed, recolour, look_bytes, HasByteColor}
+use Rattle.dgn_drawing.specs.declared.row.Row.{Row}
+use Rattle.dgn_drawing.specs.Rows.{total_of, row_of}
+use Rattle.dgn_drawing.specs.Changes.{look_changed, recoloured_body, recolour, look_bytes}
 use Rattle.dgn_drawing.proofs.Displays.{length-display}
 
 -- what is given or was there before is in its range
-chosen : (o : Option ℕ) (d n : ℕ) → ForSome o (λ x. x < n) → d < n → unwrap_or o d < n
+chosen : (o : Option ℕ) (d n : ℕ) → IfSome o (λ x. x < n) → d < n → unwrap_or o d < n
 chosen None d n fits small = small
-chosen (Some x) d n fits small = fits x refl
+chosen (Some x) d n fits small = fits
 
 -- the display part with another look holds its values
-look_good : (change : SymbChange) (d : Display) → HasByteColor change → IsDisplay d → IsDisplay (look_changed change d)
+look_good : (change : LookChange) (d : Display) → IsLook change → IsDisplay d → IsDisplay (look_changed change d)
 look_good change d fits good = record {
   low = good.low;
   high = good.high;
   group = good.group;
   index = good.index;
   properties = good.properties;
-  style = chosen change.style d.style 8 change.style_fits good.style;
-  weight = chosen change.weight d.weight 32 change.weight_fits good.weight;
-  color = chosen change.color d.color 256 fits good.color;
+  style = chosen change.style d.style 8 fits.style good.style;
+  weight = chosen change.weight d.weight 32 fits.weight good.weight;
+  color = chosen change.color d.color 256 fits.color good.color;
 }
 
 -- the bytes of the display part before its look
@@ -71,13 +72,13 @@ unfolding front
 length-front e words d good = omega (arith, length-append (word_bytes words) (before_look d), length-before_look d good)
 
 -- the body keeps its length
-same_body_length : (change : SymbChange) (d : Display) (parts : Parts) (rest : List ℕ) → HasByteColor change → IsDisplay d → length (body_bytes (Shown (look_changed change d) parts rest)) ≡ length (body_bytes (Shown d parts rest))
+same_body_length : (change : LookChange) (d : Display) (parts : Parts) (rest : List ℕ) → IsLook change → IsDisplay d → length (body_bytes (Shown (look_changed change d) parts rest)) ≡ length (body_bytes (Shown d parts rest))
 unfolding body_bytes
 same_body_length change d parts rest fits good =
     omega (arith, length-append {A = ℕ}, length-display d good, length-display (look_changed change d) (look_good change d fits good))
 
 -- another look is two bytes at 34
-pub spell-look : (change : SymbChange) (e : Element) (d : Display) (parts : Parts) (rest : List ℕ) → HasByteColor change → IsDisplay d → spell (recolour change (with_body e (Shown d parts rest))) ≡ put (spell (with_body e (Shown d parts rest))) 34 (look_bytes (look_changed change d))
+pub spell-look : (change : LookChange) (e : Element) (d : Display) (parts : Parts) (rest : List ℕ) → IsLook change → IsDisplay d → spell (recolour change (with_body e (Shown d parts rest))) ≡ put (spell (with_body e (Shown d parts rest))) 34 (look_bytes (look_changed change d))
 unfolding front spell before_look
 spell-look change e d parts rest fits good =
     let words : ℕ = length (body_bytes (Shown d parts rest)) / 2 in
@@ -88,11 +89,11 @@ spell-look change e d parts rest fits good =
     new ∙ sym over ∙ ap (λ b. put b 34 (look_bytes (look_changed change d))) (sym old)
 
 -- the size stays
-size-shown : (change : SymbChange) (e : Element) (d : Display) (parts : Parts) (rest : List ℕ) → HasByteColor change → IsDisplay d → size_of (recolour change (with_body e (Shown d parts rest))) ≡ size_of (with_body e (Shown d parts rest))
+size-shown : (change : LookChange) (e : Element) (d : Display) (parts : Parts) (rest : List ℕ) → IsLook change → IsDisplay d → size_of (recolour change (with_body e (Shown d parts rest))) ≡ size_of (with_body e (Shown d parts rest))
 unfolding spell
 size-shown change e d parts rest fits good = omega (arith, same_body_length change d parts rest fits good)
 
-good_shown : (dim : ℕ) (change : SymbChange) (e : Element) (d : Display) (parts : Parts) (rest : List ℕ) → HasByteColor change → IsWellFormed dim (with_body e (Shown d parts rest)) → IsWellFormed dim (recolour change (with_body e (Shown d parts rest)))
+good_shown : (dim : ℕ) (change : LookChange) (e : Element) (d : Display) (parts : Parts) (rest : List ℕ) → IsLook change → IsWellFormed dim (with_body e (Shown d parts rest)) → IsWellFormed dim (recolour change (with_body e (Shown d parts rest)))
 unfolding spell
 good_shown dim change e d parts rest fits good =
     let size = size-shown change e d parts rest fits good.parts.0 in
@@ -109,32 +110,47 @@ good_shown dim change e d parts rest fits good =
           (subst (λ n. n - length rest ≤ 32 + 2 * d.index) (sym size) held.0, subst (λ n. 32 + 2 * d.index ≤ n) (sym size) held.1);
     }
 
-by_body : (dim : ℕ) (change : SymbChange) (e : Element) (b : Body) → HasByteColor change → IsWellFormed dim (with_body e b) → IsWellFormed dim (recolour change (with_body e b)) × (size_of (recolour change (with_body e b)) ≡ size_of (with_body e b))
+by_body : (dim : ℕ) (change : LookChange) (e : Element) (b : Body) → IsLook change → IsWellFormed dim (with_body e b) → IsWellFormed dim (recolour change (with_body e b)) × (size_of (recolour change (with_body e b)) ≡ size_of (with_body e b))
 by_body dim change e (Silent rest) fits good = (good, refl)
 by_body dim change e (Shown d parts rest) fits good = (good_shown dim change e d parts rest fits good, size-shown change e d parts rest fits good.parts.0)
 
 -- a well formed element with another look is well formed, and as large
-pub recolour_good : (dim : ℕ) (change : SymbChange) (e : Element) → HasByteColor change → IsWellFormed dim e → IsWellFormed dim (recolour change e)
+pub recolour_good : (dim : ℕ) (change : LookChange) (e : Element) → IsLook change → IsWellFormed dim e → IsWellFormed dim (recolour change e)
 recolour_good dim change e fits good = (by_body dim change e e.body fits good).0
 
-pub size-recolour : (dim : ℕ) (change : SymbChange) (e : Element) → HasByteColor change → IsWellFormed dim e → size_of (recolour change e) ≡ size_of e
+pub size-recolour : (dim : ℕ) (change : LookChange) (e : Element) → IsLook change → IsWellFormed dim e → size_of (recolour change e) ≡ size_of e
 size-recolour dim change e fits good = (by_body dim change e e.body fits good).1
 
+-- another look keeps what the nesting looks at
+total_same : (change : LookChange) (b : Body) → total_of (recoloured_body change b) ≡ total_of b
+total_same change (Silent rest) = refl
+total_same change (Shown display parts rest) = refl
+
+row_with : ℕ → Element → ℕ → Row
+row_with n x total = record { size = n; kind = x.kind; cbit = x.cbit; total = total }
+
+pub row-recolour : (dim : ℕ) (change : LookChange) (e : Element) → IsLook change → IsWellFormed dim e → row_of (recolour change e) ≡ row_of e
+unfolding row_with
+row-recolour dim change e fits good =
+    ap (λ (n : ℕ). row_with n e (total_of (recolour change e).body)) (size-recolour dim change e fits good)
+    ∙ ap (λ (n : ℕ). row_with (size_of e) e n) (total_same change e.body)
+
 -- a record with a body of which so much is known
-look_of : (dim : ℕ) (change : SymbChange) (e : Element) (d : Display) (parts : Parts) (rest : List ℕ) (b : Body) → HasByteColor change → IsWellFormed dim (with_body e b) → b ≡ Shown d parts rest → IsLookPut dim change (with_body e b) d
+look_of : (dim : ℕ) (change : LookChange) (e : Element) (d : Display) (parts : Parts) (rest : List ℕ) (b : Body) → IsLook change → IsWellFormed dim (with_body e b) → b ≡ Shown d parts rest → IsLookPut dim change (with_body e b) d
 look_of dim change e d parts rest b fits good is =
     let held : HasBody dim (Shown d parts rest) = subst (HasBody dim) is good.parts in
     record {
       spelled = subst (λ (x : Body). spell (recolour change (with_body e x)) ≡ put (spell (with_body e x)) 34 (look_bytes (look_changed change d))) (sym is) (spell-look change e d parts rest fits held.0);
       good = recolour_good dim change (with_body e b) fits good;
       size = size-recolour dim change (with_body e b) fits good;
+      row = row-recolour dim change (with_body e b) fits good;
     }
 
 pub looks_put : LooksAreTwoBytes
 looks_put dim change e d parts rest fits good is = look_of dim change e d parts rest e.body fits good is
 
 -- a body that is silent stays
-silent_of : (change : SymbChange) (e : Element) (b : Body) (rest : List ℕ) → b ≡ Silent rest → recolour change (with_body e b) ≡ with_body e b
+silent_of : (change : LookChange) (e : Element) (b : Body) (rest : List ℕ) → b ≡ Silent rest → recolour change (with_body e b) ≡ with_body e b
 silent_of change e b rest is = subst (λ (x : Body). recolour change (with_body e x) ≡ with_body e x) (sym is) refl
 
 pub silent_stays : SilentRecordsStay

@@ -113,7 +113,7 @@ module _ (dim : ℕ) (e : Element) (axes : IsDimension dim) (good : IsWellFormed
   unfolding spell
   size-spell = omega arith
 
-  has_body : Has (spell e) 4 (body_bytes e.body) (length (spell e))
+  pub has_body : Has (spell e) 4 (body_bytes e.body) (length (spell e))
   unfolding spell
   has_body = has_rest (spell e) 4
 

@@ -43,7 +43,7 @@ abbrev element : ℕ → ℕ → Body → Element
 element level kind body = record { level = level; bit6 = false; cbit = false; kind = kind; deleted = false; body = body }
 
 -- a line from 0,0 to 100,50 on level 1
-abbrev line : Element
+abbrev pub line : Element
 line = element 1 3 (Shown (display (corner 0 0) (corner 100 50) 10 0 0 0) (Line (origin ∷ (pos 100 ∷ pos 50 ∷ []) ∷ [])) [])
 
 abbrev pub line_bytes : List ℕ

@@ -1,12 +1,14 @@
 -- Changes of one element. A change of the look gives the display part another colour, weight or style;
--- an element with a silent body has no look, and stays.
-use Rattle.std.specs.Prelude.{ℕ, ◌+◌, ◌*◌, ◌<◌, List, [], ◌∷◌, unwrap_or}
-use Rattle.std.specs.Option.{ForSome}
-use Rattle.dgn_drawing.specs.declared.symb_change.SymbChange.{SymbChange}
-use Rattle.dgn_drawing.specs.Element.{Display, Body, Silent, Shown, Element}
+-- an element with a silent body has no look, and stays. A mark sets the deleted bit. A displacement is
+-- added to each point, and to the low and the high corner on the file's axes.
+use Rattle.std.specs.Prelude.{ℕ, ◌+◌, ◌*◌, Bool, true, List, [], ◌∷◌, ◌++◌, map, take, unwrap_or, ℤ, ◌+ℤ◌}
+use Rattle.std.specs.List.{list_all, flat_map}
+use Rattle.range_code.specs.Plane.{is_on_plane}
+use Rattle.dgn_drawing.specs.Values.{Displacement, LookChange}
+use Rattle.dgn_drawing.specs.Element.{Display, Parts, Line, Points, Text, Node, Cell, Header, Plain, Body, Silent, Shown, Element}
 
 -- the display part with those of colour, weight and style that are given
-abbrev pub look_changed : SymbChange → Display → Display
+abbrev pub look_changed : LookChange → Display → Display
 look_changed change d = record {
   low = d.low;
   high = d.high;
@@ -19,12 +21,12 @@ look_changed change d = record {
 }
 
 -- the body with another look
-abbrev pub recoloured_body : SymbChange → Body → Body
+abbrev pub recoloured_body : LookChange → Body → Body
 recoloured_body change (Silent rest) = Silent rest
 recoloured_body change (Shown display parts rest) = Shown (look_changed change display) parts rest
 
 -- the element with another look
-abbrev pub recolour : SymbChange → Element → Element
+abbrev pub recolour : LookChange → Element → Element
 recolour change e = record {
   level = e.level;
   bit6 = e.bit6;
@@ -38,6 +40,78 @@ recolour change e = record {
 abbrev pub look_bytes : Display → List ℕ
 look_bytes d = (d.style + 8 * d.weight) ∷ d.color ∷ []
 
--- the colour of a change, where one is given, is a byte
-abbrev pub HasByteColor : SymbChange → Type 0
-HasByteColor change = ForSome change.color (λ c. c < 256)
+-- the element marked deleted
+abbrev pub mark : Element → Element
+mark e = record {
+  level = e.level;
+  bit6 = e.bit6;
+  cbit = e.cbit;
+  kind = e.kind;
+  deleted = true;
+  body = e.body;
+}
+
+-- numbers and how far each is displaced, one by one. A number for which nothing is given stays
+abbrev pub displaced : List ℤ → List ℤ → List ℤ
+displaced ds [] = []
+displaced [] (x ∷ xs) = x ∷ xs
+displaced (d ∷ ds) (x ∷ xs) = (x +ℤ d) ∷ displaced ds xs
+
+-- the display part with its corners displaced
+abbrev pub display_displaced : List ℤ → Display → Display
+display_displaced ds d = record {
+  low = displaced ds d.low;
+  high = displaced ds d.high;
+  group = d.group;
+  index = d.index;
+  properties = d.properties;
+  style = d.style;
+  weight = d.weight;
+  color = d.color;
+}
+
+-- the parts with their points displaced
+abbrev pub parts_displaced : List ℤ → Parts → Parts
+parts_displaced ds (Line points) = Line (map (displaced ds) points)
+parts_displaced ds (Points points) = Points (map (displaced ds) points)
+parts_displaced ds (Text run origin spare chars) = Text run (displaced ds origin) spare chars
+parts_displaced ds (Node total run origin) = Node total run (displaced ds origin)
+parts_displaced ds (Cell total name run origin) = Cell total name run (displaced ds origin)
+parts_displaced ds (Header total number) = Header total number
+parts_displaced ds Plain = Plain
+
+-- the body displaced
+abbrev pub body_displaced : List ℤ → Body → Body
+body_displaced ds (Silent rest) = Silent rest
+body_displaced ds (Shown display parts rest) = Shown (display_displaced ds display) (parts_displaced ds parts) rest
+
+-- the element displaced, in a file of that dimension
+abbrev pub shift : ℕ → Displacement → Element → Element
+shift dim by e = record {
+  level = e.level;
+  bit6 = e.bit6;
+  cbit = e.cbit;
+  kind = e.kind;
+  deleted = e.deleted;
+  body = body_displaced (take dim by.by) e.body;
+}
+
+-- the points of the parts
+abbrev pub points_in : Parts → List (List ℤ)
+points_in (Line points) = points
+points_in (Points points) = points
+points_in (Text run origin spare chars) = origin ∷ []
+points_in (Node total run origin) = origin ∷ []
+points_in (Cell total name run origin) = origin ∷ []
+points_in (Header total number) = []
+points_in Plain = []
+
+-- the numbers that a displacement is added to: those of the two corners on the file's axes, then those of
+-- the points
+abbrev pub numbers_in : ℕ → Body → List ℤ
+numbers_in dim (Silent rest) = []
+numbers_in dim (Shown display parts rest) = take dim display.low ++ (take dim display.high ++ flat_map (λ p. p) (points_in parts))
+
+-- whether the displaced element lies on the design plane: each sum is one of its coordinates
+abbrev pub stays_on_plane : ℕ → Displacement → Element → Bool
+stays_on_plane dim by e = list_all is_on_plane (numbers_in dim (shift dim by e).body)

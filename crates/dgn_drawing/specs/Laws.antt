@@ -1,18 +1,22 @@
 -- What holds of all well formed records and their spellings.
-use Rattle.std.specs.Prelude.{ℤ, ℕ, ◌≡◌, ◌-◌, ◌/◌, IsFalse, List, [], ◌++◌, drop, length}
+use Rattle.std.specs.Prelude.{ℤ, ℕ, ◌≡◌, ◌-◌, ◌/◌, IsTrue, IsFalse, List, [], ◌∷◌, ◌++◌, drop, length, map}
 use Rattle.elem_head.specs.Head.{head_of, symbology_of, properties_of}
 use Rattle.range_code.specs.Ranges.{range_of}
 use Rattle.body_vertex.specs.Points.{points_of}
 use Rattle.body_text.specs.Texts.{origin_of, chars_count, chars_of, node_origin_of}
 use Rattle.group_head.specs.Headers.{total_at, name_at, origin_at}
 use Rattle.dgn_drawing.specs.Element.{Display, Parts, Line, Points, Text, Node, Cell, Header, Plain, Body, Silent, Shown, Element}
-use Rattle.dgn_drawing.specs.Spelling.{spell, size_of, body_end}
+use Rattle.patch_bytes.specs.Puts.{write}
+use Rattle.dgn_layout.specs.Classes.{class_of}
+use Rattle.dgn_layout.specs.Spots.{spots_of, has_spots, HoldsPoints, Rise}
+use Rattle.dgn_drawing.specs.Spelling.{second_byte, spell, size_of, body_end}
+use Rattle.dgn_drawing.specs.SpotNumbers.{value_at, sum_at, displaced_put}
 use Rattle.dgn_drawing.specs.WellFormed.{IsDimension, IsWellFormed, begins_with_mark}
 use Rattle.dgn_drawing.specs.Reading.{has_bit_6, group_of, index_of, number_at, end_at, element_at}
 use Rattle.dgn_drawing.specs.Rows.{row_at, row_of}
 use Rattle.dgn_words.specs.Numbers.{put}
-use Rattle.dgn_drawing.specs.declared.symb_change.SymbChange.{SymbChange}
-use Rattle.dgn_drawing.specs.Changes.{look_changed, recolour, look_bytes, HasByteColor}
+use Rattle.dgn_drawing.specs.Values.{Displacement, LookChange, IsLook}
+use Rattle.dgn_drawing.specs.Changes.{look_changed, recolour, look_bytes, mark, shift, numbers_in, stays_on_plane}
 use Rattle.dgn_drawing.specs.Faults.{IsWhole, is_short, breaks_attribute_rule}
 
 -- well formed records of one dimension with one spelling are the same record
@@ -105,17 +109,52 @@ abbrev pub RecordsAreRead : Type 0
 RecordsAreRead = (dim : ℕ) (e : Element) → IsDimension dim → IsWellFormed dim e → IsRecordRead dim e
 
 -- a shown record with another look: its spelling is the record's with the two bytes of the look put at byte
--- 34, and it is well formed and as large
-pub record IsLookPut (dim : ℕ) (change : SymbChange) (e : Element) (d : Display) : Type 0 where
+-- 34, and it is well formed, as large, and nests as it did
+pub record IsLookPut (dim : ℕ) (change : LookChange) (e : Element) (d : Display) : Type 0 where
   pub spelled : spell (recolour change e) ≡ put (spell e) 34 (look_bytes (look_changed change d))
   pub good : IsWellFormed dim (recolour change e)
   pub size : size_of (recolour change e) ≡ size_of e
+  pub row : row_of (recolour change e) ≡ row_of e
 
 abbrev pub LooksAreTwoBytes : Type 0
 LooksAreTwoBytes =
-    (dim : ℕ) (change : SymbChange) (e : Element) (d : Display) (parts : Parts) (rest : List ℕ) → HasByteColor change
+    (dim : ℕ) (change : LookChange) (e : Element) (d : Display) (parts : Parts) (rest : List ℕ) → IsLook change
     → IsWellFormed dim e → e.body ≡ Shown d parts rest → IsLookPut dim change e d
 
 -- and a silent record stays
 abbrev pub SilentRecordsStay : Type 0
-SilentRecordsStay = (change : SymbChange) (e : Element) (rest : List ℕ) → e.body ≡ Silent rest → recolour change e ≡ e
+SilentRecordsStay = (change : LookChange) (e : Element) (rest : List ℕ) → e.body ≡ Silent rest → recolour change e ≡ e
+
+-- a record with spots: they hold its numbers, in their order, also where a displacement is added to each; they
+-- rise behind the first four bytes and lie in the element
+pub record SpotsSit (dim : ℕ) (e : Element) : Type 0 where
+  pub numbers : map (value_at (spell e)) (spots_of dim e.kind (spell e)) ≡ numbers_in dim e.body
+  pub sums : (by : Displacement) → map (sum_at by (spell e)) (spots_of dim e.kind (spell e)) ≡ numbers_in dim (shift dim by e).body
+  pub holds : HoldsPoints dim e.kind (spell e) (size_of e)
+  pub rise : Rise 4 (spots_of dim e.kind (spell e)) (size_of e)
+
+abbrev pub SpotsSitAtTheNumbers : Type 0
+SpotsSitAtTheNumbers =
+    (dim : ℕ) (e : Element) → IsDimension dim → IsWellFormed dim e → IsTrue (has_spots (class_of e.kind)) → SpotsSit dim e
+
+-- a displaced record: its spelling is the record's with the sums put at the spots, and it is well formed, as
+-- large, and nests as it did
+pub record IsShiftPut (dim : ℕ) (by : Displacement) (e : Element) : Type 0 where
+  pub spelled : spell (shift dim by e) ≡ write (spell e) (map (displaced_put by (spell e)) (spots_of dim e.kind (spell e)))
+  pub good : IsWellFormed dim (shift dim by e)
+  pub row : row_of (shift dim by e) ≡ row_of e
+
+abbrev pub DisplacementsAreSums : Type 0
+DisplacementsAreSums =
+    (dim : ℕ) (by : Displacement) (e : Element) → IsDimension dim → IsWellFormed dim e
+    → IsTrue (has_spots (class_of e.kind)) → IsTrue (stays_on_plane dim by e) → IsShiftPut dim by e
+
+-- a marked record: its spelling is the record's with byte 1 put anew, and it is well formed, as large, and nests
+-- as it did. A record of type 127 could spell the mark that ends a file's elements
+pub record IsMarkPut (dim : ℕ) (e : Element) : Type 0 where
+  pub spelled : spell (mark e) ≡ write (spell e) (record { at = 1; bytes = second_byte (mark e) ∷ [] } ∷ [])
+  pub good : IsWellFormed dim (mark e)
+  pub row : row_of (mark e) ≡ row_of e
+
+abbrev pub MarksAreOneByte : Type 0
+MarksAreOneByte = (dim : ℕ) (e : Element) → IsWellFormed dim e → ¬ (e.kind ≡ 127) → IsMarkPut dim e

@@ -8,7 +8,9 @@ pub mod Laws
 pub mod Rows
 pub mod Opening
 pub mod Items
+pub mod Values
 pub mod Changes
+pub mod SpotNumbers
 pub mod Nesting
 pub mod Numbering
 pub mod Shown

@@ -1,7 +1,7 @@
 -- The numbers of nested elements: their spans, depths, parents and knots, which are live, and which are broken.
 use Rattle.std.specs.Prelude.{ℕ, zero, suc, ◌≡◌, ◌+◌, ◌-◌, ◌==◌, ◌&&◌, ◌||◌, not, Bool, true, false, if◌then◌else◌, is_some, Option, Some, None, option_map, List, [], ◌∷◌, ◌++◌, length, slice_get}
 use Rattle.dgn_drawing.specs.declared.row.Row.{Row}
-use Rattle.dgn_drawing.specs.Nesting.{Knot, Leaf, Group, Run, Loose, Forest, NoTree, Tree, flat, forest}
+use Rattle.dgn_drawing.specs.Nesting.{Knot, Loose, Forest, NoTree, Tree, flat, forest}
 
 -- what is said of an element in its tree: what it is, how many headers lie above it, the number of the nearest
 -- of them, and the number behind the last element below it

@@ -1,6 +1,6 @@
 //! What holds of all elements. Each call does nothing; its contract is the law.
 
-ghost use Rattle.dgn_drawing.specs.Laws.{OneSpellingOneRecord, NoSpellingBeginsAnother, RecordsSitAtTheirPlaces, BytesAreRecords, RecordsAreRead, LooksAreTwoBytes, SilentRecordsStay};
+ghost use Rattle.dgn_drawing.specs.Laws.{OneSpellingOneRecord, NoSpellingBeginsAnother, RecordsSitAtTheirPlaces, BytesAreRecords, RecordsAreRead, LooksAreTwoBytes, SilentRecordsStay, SpotsSitAtTheNumbers, DisplacementsAreSums, MarksAreOneByte};
 
 /// One spelling, one record: in one dimension two well formed records with one spelling are equal,
 /// and no spelling is a proper prefix of another.
@@ -10,9 +10,12 @@ pub fn one_spelling_one_record()
 {}
 
 /// Records sit at their places: level, bits, type, numbers, words, points and characters of a well
-/// formed record are what the fields of the format's tables hold in its spelling.
+/// formed record are what the fields of the format's tables hold in its spelling. For the classes
+/// vertices, words and counted the spots are exactly the places of the record's points and of its range
+/// numbers on the file's axes.
 pub fn records_sit_at_their_places()
-    ensures { RecordsSitAtTheirPlaces }
+    ensures fields { RecordsSitAtTheirPlaces }
+    ensures spots { SpotsSitAtTheNumbers }
 {}
 
 /// Bytes and records are the same thing: bytes without a fault spell the record that is read from
@@ -27,4 +30,16 @@ pub fn bytes_are_records()
 pub fn looks_are_two_bytes()
     ensures shown { LooksAreTwoBytes }
     ensures silent { SilentRecordsStay }
+{}
+
+/// Displacements are sums: a record of the classes vertices, words and counted that stays on the design
+/// plane is displaced by the sums put at its spots. It stays well formed, as large, and nests as it did.
+pub fn displacements_are_sums()
+    ensures { DisplacementsAreSums }
+{}
+
+/// A mark is one byte: in a record of any type but 127 the deleted bit is written at byte 1 and leaves
+/// every other byte of the element. It stays well formed, as large, and nests as it did.
+pub fn marks_are_one_byte()
+    ensures { MarksAreOneByte }
 {}

@@ -9,6 +9,7 @@ mod items;
 pub mod laws;
 mod mask;
 mod row;
+mod shift;
 mod symb_change;
 pub mod types;
 
@@ -18,6 +19,7 @@ pub use edit::Edit;
 pub use items::item;
 pub use mask::Mask;
 pub use row::Row;
+pub use shift::Shift;
 pub use symb_change::SymbChange;
 
 #[cfg(test)]

@@ -1,8 +1,7 @@
-ghost use Rattle.std.specs.Prelude.{◌<◌};
-ghost use Rattle.std.specs.Option.{ForSome};
+use std::marker::Model;
 
 /// A change of an element's look. What isn't given is left as it is.
-#[derive(Clone, Copy, Debug, PartialEq, Eq)]
+#[derive(Debug, PartialEq, Eq, Drop)]
 pub struct SymbChange {
     /// The colour, an index of the colour table.
     pub color: Option<u8>,
@@ -10,6 +9,16 @@ pub struct SymbChange {
     pub weight: Option<u8>,
     /// The style, 0 to 7.
     pub style: Option<u8>,
-    ghost weight_fits: { ForSome weight (λ w. w < 32) },
-    ghost style_fits: { ForSome style (λ s. s < 8) },
+}
+
+impl Model for SymbChange {
+    ghost use Rattle.dgn_drawing.specs.Values.{LookChange, IsLook};
+
+    ghost Value = { LookChange };
+
+    ghost view = { λ s. record { color = s.color; weight = s.weight; style = s.style } };
+
+    ghost invariant = { λ s. IsLook (record { color = s.color; weight = s.weight; style = s.style }) };
+
+    ghost inverse = { λ c. record { color = c.color; weight = c.weight; style = c.style } };
 }

@@ -1,5 +1,9 @@
 use Rattle.dgn_drawing.proofs.Sits.{all-sits}
+use Rattle.dgn_drawing.proofs.Spotted.{spots_sit}
 use Rattle.dgn_drawing.proofs.laws.records_sit_at_their_places.Goals as goal
 
-pub returns : goal.returns
-returns c = all-sits
+pub returns-clause-fields : goal.returns-clause-fields
+returns-clause-fields c = all-sits
+
+pub returns-clause-spots : goal.returns-clause-spots
+returns-clause-spots c = spots_sit

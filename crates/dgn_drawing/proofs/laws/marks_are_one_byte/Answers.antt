@@ -1,0 +1,5 @@
+use Rattle.dgn_drawing.proofs.Marks.{mark_put}
+use Rattle.dgn_drawing.proofs.laws.marks_are_one_byte.Goals as goal
+
+pub returns : goal.returns
+returns c = mark_put

@@ -1,0 +1,23 @@
+-- The numbers at the spots of an element's bytes, and what a displacement puts there.
+use Rattle.std.specs.Prelude.{ℕ, if◌then◌else◌, List, ℤ, ◌+ℤ◌}
+use Rattle.dgn_words.specs.Numbers.{long_at, range_long_at, long_bytes, range_long_bytes}
+use Rattle.range_code.specs.Ranges.{on_axis}
+use Rattle.dgn_layout.specs.declared.spot.Spot.{Spot}
+use Rattle.patch_bytes.specs.Puts.{Put}
+use Rattle.dgn_drawing.specs.Values.{Displacement}
+
+-- the number at a spot of the bytes b: a range number, or a long
+abbrev pub value_at : List ℕ → Spot → ℤ
+value_at b s = if s.offset then range_long_at b s.at else long_at b s.at
+
+-- that number, displaced along the spot's axis
+abbrev pub sum_at : Displacement → List ℕ → Spot → ℤ
+sum_at by b s = value_at b s +ℤ on_axis by.by s.axis
+
+-- the four bytes of a number at a spot
+abbrev pub number_bytes : Spot → ℤ → List ℕ
+number_bytes s v = if s.offset then range_long_bytes v else long_bytes v
+
+-- what a displacement puts at a spot of the bytes b
+abbrev pub displaced_put : Displacement → List ℕ → Spot → Put
+displaced_put by b s = record { at = s.at; bytes = number_bytes s (sum_at by b s) }
