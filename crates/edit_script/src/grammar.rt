@@ -2,19 +2,19 @@ ghost use Rattle.std.specs.Prelude.{◌≡◌};
 ghost use Rattle.std.specs.List.{list_any};
 ghost use Rattle.std.specs.Str.{bytes_eq};
 ghost use Rattle.edit_script.specs.Words.{words_of};
-ghost use Rattle.edit_script.specs.Grammar.{command_of, reading_of, color_command, show_command, tree_command, is_unbuilt_name};
+ghost use Rattle.edit_script.specs.Grammar.{command_of, reading_of, show_command, tree_command, is_unbuilt_name};
 
 use crate::command::Command;
+use crate::edits::{read_color, read_delete, read_move, read_sym};
 use crate::levels::read_levels;
 use crate::numbers::number;
 use crate::reading::Reading;
 use crate::words::{first_piece, next_word, strip_blanks};
-use dgn_drawing::{Edit, SymbChange};
 
 // The names of the commands that aren't read yet.
-const UNBUILT_NAMES: [&str; 19] = [
-    "move", "copy", "sym", "delete", "line", "string", "shape", "text", "undo", "fence", "nofence",
-    "elements", "refs", "links", "select", "fmove", "fcopy", "fsym", "fdelete",
+const UNBUILT_NAMES: [&str; 16] = [
+    "copy", "line", "string", "shape", "text", "undo", "fence", "nofence", "elements", "refs",
+    "links", "select", "fmove", "fcopy", "fsym", "fdelete",
 ];
 
 // What a line says.
@@ -35,6 +35,12 @@ fn read_command(name: &[u8], rest: &[u8]) -> Reading
 {
     if name == b"color".as_slice() {
         Reading::asking(read_color(rest))
+    } else if name == b"move".as_slice() {
+        Reading::asking(read_move(rest))
+    } else if name == b"sym".as_slice() {
+        Reading::asking(read_sym(rest))
+    } else if name == b"delete".as_slice() {
+        Reading::asking(read_delete(rest))
     } else if name == b"levels".as_slice() {
         Reading::asking(read_levels(rest).map(Command::Levels))
     } else if name == b"show".as_slice() {
@@ -60,25 +66,6 @@ fn is_among(word: &[u8], names: &[&str]) -> bool
     ensures { result ≡ list_any (λ known. bytes_eq known.now word.now) names.now }
 {
     names.iter().any(|known| known.as_bytes() == word)
-}
-
-// The command of `color` with these bytes behind it: the number of an element, and a colour.
-fn read_color(rest: &[u8]) -> Option<Command>
-    ensures { result ≡ color_command (words_of rest.now) }
-{
-    let (element, rest) = next_word(rest)?;
-    let (color, rest) = next_word(rest)?;
-    if next_word(rest).is_some() {
-        return None;
-    }
-    let n = number(element, u32::MAX)?;
-    let color = number(color, 255)? as u8;
-    let change = SymbChange {
-        color: Some(color),
-        weight: None,
-        style: None,
-    };
-    Some(Command::Edit(Edit::Sym { n, change }))
 }
 
 // The command of `show` with these bytes behind it, of which none is part of a word.

@@ -6,6 +6,7 @@
 #![tactic(auto)]
 
 mod command;
+mod edits;
 mod fault;
 mod grammar;
 pub mod laws;

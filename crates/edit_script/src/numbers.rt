@@ -1,7 +1,7 @@
-ghost use Rattle.std.specs.Prelude.{◌≡◌};
+ghost use Rattle.std.specs.Prelude.{◌≡◌, ◌≤ℤ◌, pos, neg_ℤ, IfSome};
 ghost use Rattle.std.specs.List.{list_all};
 ghost use Rattle.std.specs.Char.{is_ascii_digit};
-ghost use Rattle.edit_script.specs.Numbers.{is_number_word, number_within};
+ghost use Rattle.edit_script.specs.Numbers.{is_number_word, number_within, signed_within};
 
 // The number that a word spells, where it is at most so much.
 pub fn number(word: &[u8], most: u32) -> Option<u32>
@@ -17,6 +17,24 @@ pub fn number(word: &[u8], most: u32) -> Option<u32>
         return None;
     };
     if value <= most { Some(value) } else { None }
+}
+
+// The number that a word spells, in which a dash may stand in front, where it is at least minus so much and
+// at most so much.
+pub fn signed_number(word: &[u8], most: u32) -> Option<i64>
+    ensures value { result ≡ signed_within most word.now }
+    ensures fits { IfSome result (λ n. (neg_ℤ (pos most) ≤ℤ n) × (n ≤ℤ pos most)) }
+{
+    let [b'-', digits @ ..] = word else {
+        let value = number(word, most)?;
+        return Some(i64::from(value));
+    };
+    let value = number(digits, most)?;
+    if value == 0 {
+        None
+    } else {
+        Some(-i64::from(value))
+    }
 }
 
 // Whether a word is a number: digits, with no 0 in front.

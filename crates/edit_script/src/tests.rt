@@ -38,7 +38,6 @@ fn scripts_that_are_read(rt: HostRuntime) -> Result<(), Fail> {
                         assert_eq!(rt; change.weight, None);
                         assert_eq!(rt; change.style, None);
                     }
-                    Command::Edit(Edit::Unbuilt(never)) => match *never {},
                     _ => panic!(rt; "another command"),
                 }
             }
@@ -92,7 +91,7 @@ fn scripts_that_are_not_read(rt: HostRuntime) -> Result<(), Fail> {
     let unbuilt: [(&[u8], u32); 6] = [
         (b"show\nundo\n\n# x\nmove 1 +1 2\n", 2),
         (b"show\r\nundo\r\n\r\n# x\r\nmove 1 +1 2\r\n", 2),
-        (b"# x\n\nmove 1 +1 2\r\ncolour\n", 3),
+        (b"# x\n\ncopy 1 +1 2\r\ncolour\n", 3),
         (b"color 1 1\n fsym inside 3 2 1\n", 2),
         (b"text", 1),
         (b"color 1 1\nundo", 2),
@@ -105,10 +104,115 @@ fn scripts_that_are_not_read(rt: HostRuntime) -> Result<(), Fail> {
     Ok(())
 }
 
+#[test]
+fn moves_and_deletes(rt: HostRuntime) -> Result<(), Fail> {
+    let alloc = rt.alloc();
+    let moves: [(&[u8], u8, [i64; 3]); 5] = [
+        (b"move 1 10 -5", 2, [10, -5, 0]),
+        (b"move 1 1 2 3\r\n", 3, [1, 2, 3]),
+        (
+            b"move 1 4294967295 -4294967295",
+            2,
+            [4294967295, -4294967295, 0],
+        ),
+        (b"  move  1  0  0  ", 2, [0, 0, 0]),
+        (b"move 1 0 0 0", 3, [0, 0, 0]),
+    ];
+    for (script, axes, wanted) in moves {
+        assert!(rt; script.len() <= 1048576);
+        let commands = read_script(alloc, script);
+        assert!(rt; commands.is_ok());
+        if let Ok(commands) = commands {
+            let [Command::Edit(Edit::Move { n, by })] = commands.as_slice() else {
+                panic!(rt; "another command");
+            };
+            assert_eq!(rt; *n, 1);
+            assert_eq!(rt; by.axes, axes);
+            assert_eq!(rt; by.by, wanted);
+        }
+    }
+    let commands = read_script(alloc, b"delete 1\ndelete 0\nmove 0 0 0\n");
+    assert!(rt; commands.is_ok());
+    if let Ok(commands) = commands {
+        assert!(rt;
+            matches!(
+                commands.as_slice(),
+                [
+                    Command::Edit(Edit::Delete { n: 1 }),
+                    Command::Edit(Edit::Delete { n: 0 }),
+                    Command::Edit(Edit::Move { n: 0, .. })
+                ]
+            )
+        );
+    }
+    Ok(())
+}
+
+#[test]
+fn looks(rt: HostRuntime) -> Result<(), Fail> {
+    let alloc = rt.alloc();
+    let rows: [(&[u8], u32, [Option<u8>; 3]); 5] = [
+        (b"sym 1 4 - -", 1, [Some(4), None, None]),
+        (b"sym 7 2 - -\r\n", 7, [Some(2), None, None]),
+        (b"sym 1 1 1 1", 1, [Some(1), Some(1), Some(1)]),
+        (b"sym 2 - 31 7", 2, [None, Some(31), Some(7)]),
+        (b"sym 3 - - -", 3, [None, None, None]),
+    ];
+    for (script, element, wanted) in rows {
+        assert!(rt; script.len() <= 1048576);
+        let commands = read_script(alloc, script);
+        assert!(rt; commands.is_ok());
+        if let Ok(commands) = commands {
+            let [Command::Edit(Edit::Sym { n, change })] = commands.as_slice() else {
+                panic!(rt; "another command");
+            };
+            assert_eq!(rt; *n, element);
+            assert_eq!(rt; [change.color, change.weight, change.style], wanted);
+        }
+    }
+    Ok(())
+}
+
+#[test]
+fn edits_that_are_bad(rt: HostRuntime) -> Result<(), Fail> {
+    let alloc = rt.alloc();
+    let rows: [&[u8]; 23] = [
+        b"move 1 +1 2",
+        b"move 1 1",
+        b"move 1 1 2 3 4",
+        b"move 1 -0 1",
+        b"move 1 01 1",
+        b"move 1 -01 1",
+        b"move 1 4294967296 0",
+        b"move 1 -4294967296 0",
+        b"move -1 1 1",
+        b"move 1 - 1",
+        b"move 1 --1 1",
+        b"move 1 1.5 2",
+        b"sym 1 256 - -",
+        b"sym 1 1 32 1",
+        b"sym 1 1 1 8",
+        b"sym 1 1 1",
+        b"sym 1 1 1 1 1",
+        b"sym - 1 1 1",
+        b"sym 1 -- 1 1",
+        b"sym 1 -1 1 1",
+        b"delete",
+        b"delete 1 2",
+        b"delete -1",
+    ];
+    for script in rows {
+        assert!(rt; script.len() <= 1048576);
+        let fault = read_script(alloc, script).err();
+        assert_eq!(rt; fault, Some(ScriptFault::Line { number: 1 }));
+    }
+    Ok(())
+}
+
 // The names of the commands that aren't read yet.
-const NAMES: [&str; 19] = [
-    "move", "copy", "sym", "delete", "line", "string", "shape", "text", "undo", "fence", "nofence",
-    "elements", "refs", "links", "select", "fmove", "fcopy", "fsym", "fdelete",
+const NAMES: [&str; 16] = [
+    "copy", "line", "string", "shape", "text", "undo", "fence", "nofence", "elements", "refs",
+    "links", "select", "fmove", "fcopy", "fsym", "fdelete",
 ];
 
 #[test]
