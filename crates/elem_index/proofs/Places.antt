@@ -126,7 +126,7 @@ pub offset_past : (es : List Element) (n : ℕ) → length es ≤ n → offset_o
 offset_past es n past = ap (λ (l : List Element). length (spelling l)) (take_all n es past)
 
 -- each element of a whole design is sound, and its row is read from its bytes
-each_at : (P : Element → Type 0) (es : List Element) (n : ℕ) (e : Element) → AllByRecursion P es → slice_get es n ≡ Some e → P e
+pub each_at : (P : Element → Type 0) (es : List Element) (n : ℕ) (e : Element) → AllByRecursion P es → slice_get es n ≡ Some e → P e
 each_at P [] n e each found = absurd (let f = found in cc)
 each_at P (x ∷ es) zero e each found = let same : x ≡ e = cc in subst P same each.0
 each_at P (x ∷ es) (suc n) e each found = each_at P es n e each.1 found

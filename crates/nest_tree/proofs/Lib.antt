@@ -17,3 +17,4 @@ pub mod Least
 pub mod Deep
 pub mod Told
 pub mod Elements
+pub mod Nestable
