@@ -1,0 +1,17 @@
+pub mod Seen
+pub mod Rooted
+pub mod Steps
+pub mod Placed
+pub mod Standing
+pub mod Kept
+pub mod Walked
+pub mod Found
+pub mod Turned
+pub mod Readable
+pub mod Putting
+pub mod Edited
+pub mod Accepted
+pub mod Reopened
+pub mod Apart
+pub mod Listed
+pub mod Told

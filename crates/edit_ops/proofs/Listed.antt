@@ -1,0 +1,85 @@
+-- The live elements of some numbers, one after the other.
+use Rattle.std.proofs.Common.{◌≡◌, ℕ, ◌+◌, ◌<◌, List, ◌++◌, length, drop, get_or, true, Option, Some, None, refl, sym, ap, ◌∙◌, subst, append_assoc}
+use Rattle.std.specs.Prelude.{slice_get, option_map}
+use Rattle.std.specs.List.{AllByRecursion}
+use Rattle.std.specs.Option.{option_or, option_to_list}
+use Rattle.std.proofs.lemmas.List.{drop_more}
+use Rattle.std.proofs.lemmas.List.Concat.{flat_map-append}
+use Rattle.dgn_layout.specs.declared.types.Class.{Class}
+use Rattle.dgn_layout.specs.Classes.{class_of}
+use Rattle.dgn_layout.specs.Spots.{has_spots}
+use Rattle.dgn_drawing.specs.declared.edit.Edit.{Edit}
+use Rattle.dgn_drawing.specs.Element.{Element}
+use Rattle.patch_bytes.specs.Puts.{Put}
+use Rattle.elem_index.specs.Offsets.{offset_of}
+use Rattle.edit_ops.specs.declared.cause.Cause.{Cause}
+use Rattle.edit_ops.specs.declared.test.Test.{Test}
+use Rattle.edit_ops.specs.declared.test.Test.TheVariants as tests
+use Rattle.edit_ops.specs.Trees.{Live}
+use Rattle.edit_ops.specs.Causes.{unmovable, first_cause}
+use Rattle.edit_ops.specs.Asking.{cause_in, MayBeAsked, MayBeAskedOf}
+use Rattle.edit_ops.specs.Written.{found_at, found, puts_at, live_puts}
+use Rattle.edit_ops.proofs.Standing.{each_first, each_last}
+
+-- the next of the numbers that are left
+pub found_next : (es : List Element) (live : List ℕ) (i : ℕ) → i < length live → found es (drop i live) ≡ option_to_list (found_at es (get_or live i 0)) ++ found es (drop (i + 1) live)
+found_next es live i within = ap (found es) (drop_more live i 0 within)
+
+-- what a test has against the next and those behind it
+first_of : (dim : ℕ) (test : Test) (es : List Element) (m : ℕ) (o : Option Element) (vs : List Live)
+    → first_cause dim test (option_to_list (option_map (λ (e : Element). record { number = m; place = offset_of es m; element = e }) o) ++ vs) ≡ option_or (cause_in dim test m o) (first_cause dim test vs)
+first_of dim test es m None vs = refl
+first_of dim test es m (Some e) vs = refl
+
+pub cause_next : (dim : ℕ) (test : Test) (es : List Element) (live : List ℕ) (i : ℕ) → i < length live
+    → first_cause dim test (found es (drop i live)) ≡ option_or (cause_in dim test (get_or live i 0) (slice_get es (get_or live i 0))) (first_cause dim test (found es (drop (i + 1) live)))
+cause_next dim test es live i within =
+    ap (first_cause dim test) (found_next es live i within)
+    ∙ first_of dim test es (get_or live i 0) (slice_get es (get_or live i 0)) (found es (drop (i + 1) live))
+
+-- an element that can be moved has spots
+movable : (m : ℕ) (c : Class) → unmovable m c ≡ None → has_spots c ≡ true
+movable m Class.Vertices is = refl
+movable m Class.Words is = refl
+movable m Class.Counted is = refl
+movable m Class.Run is = absurd (let x = is in cc)
+movable m Class.Floating is = absurd (let x = is in cc)
+movable m Class.Boxed is = absurd (let x = is in cc)
+movable m Class.Silent is = absurd (let x = is in cc)
+
+or_none : (a b : Option Cause) → option_or a b ≡ None → (a ≡ None) × (b ≡ None)
+or_none None b is = (refl, is)
+or_none (Some c) b is = absurd (let x = is in cc)
+
+asked_of : (dim : ℕ) (test : Test) (m : ℕ) (o : Option Element) → cause_in dim tests.Moves m o ≡ None → MayBeAskedOf test o
+asked_of dim tests.Moves m o is = tt
+asked_of dim tests.Looks m o is = tt
+asked_of dim tests.Marks m o is = tt
+asked_of dim (tests.Leaves by) m None is = tt
+asked_of dim (tests.Leaves by) m (Some e) is = movable m (class_of e.kind) is
+
+-- a test may be asked of the next and of those behind it
+pub asked_next : (dim : ℕ) (test : Test) (es : List Element) (live : List ℕ) (i : ℕ) → i < length live → MayBeAsked dim test (found es (drop i live))
+    → MayBeAskedOf test (slice_get es (get_or live i 0)) × MayBeAsked dim test (found es (drop (i + 1) live))
+asked_next dim tests.Moves es live i within asked = (tt, tt)
+asked_next dim tests.Looks es live i within asked = (tt, tt)
+asked_next dim tests.Marks es live i within asked = (tt, tt)
+asked_next dim (tests.Leaves by) es live i within asked =
+    let m : ℕ = get_or live i 0 in
+    let parts = or_none (cause_in dim tests.Moves m (slice_get es m)) (first_cause dim tests.Moves (found es (drop (i + 1) live))) (sym (cause_next dim tests.Moves es live i within) ∙ asked) in
+    (asked_of dim (tests.Leaves by) m (slice_get es m) parts.0, parts.1)
+
+-- what holds of each that is left holds of the next and of those behind it
+pub each_next : (P : Live → Type 0) (es : List Element) (live : List ℕ) (i : ℕ) → i < length live → AllByRecursion P (found es (drop i live))
+    → AllByRecursion P (option_to_list (found_at es (get_or live i 0))) × AllByRecursion P (found es (drop (i + 1) live))
+each_next P es live i within each =
+    let both = subst (AllByRecursion P) (found_next es live i within) each in
+    (each_first P (option_to_list (found_at es (get_or live i 0))) (found es (drop (i + 1) live)) both, each_last P (option_to_list (found_at es (get_or live i 0))) (found es (drop (i + 1) live)) both)
+
+-- what is put into the next and those behind it
+pub puts_next : (dim : ℕ) (e : Edit) (es : List Element) (live : List ℕ) (i : ℕ) (done : List Put) → i < length live
+    → (done ++ live_puts dim e (option_to_list (found_at es (get_or live i 0)))) ++ live_puts dim e (found es (drop (i + 1) live)) ≡ done ++ live_puts dim e (found es (drop i live))
+puts_next dim e es live i done within =
+    let next : List Live = option_to_list (found_at es (get_or live i 0)) in
+    append_assoc done (live_puts dim e next) (live_puts dim e (found es (drop (i + 1) live)))
+    ∙ ap (λ (ps : List Put). done ++ ps) (sym (flat_map-append (λ v. puts_at dim e v.place v.element) next (found es (drop (i + 1) live))) ∙ ap (live_puts dim e) (sym (found_next es live i within)))

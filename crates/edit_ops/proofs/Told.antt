@@ -1,0 +1,119 @@
+-- What is read of an element says what stands against an edit of it, and what the edit puts into it.
+use Rattle.std.proofs.Common.{◌≡◌, ℕ, ◌+◌, ◌≤◌, List, [], ◌∷◌, length, Bool, true, false, cond, Option, Some, None, Result, Ok, Err, refl, sym, ap, ◌∙◌, subst, arith}
+use Rattle.std.specs.Prelude.{slice_get, option_map, MatchOption}
+use Rattle.std.specs.List.{AllByRecursion, list_all}
+use Rattle.std.specs.Option.{option_to_list}
+use Rattle.std.proofs.lemmas.List.{append-nil}
+use Rattle.std.proofs.lemmas.List.Folds.{list_all-map}
+use Rattle.range_code.specs.Plane.{is_on_plane}
+use Rattle.elem_head.specs.declared.types.Symb.{Symb}
+use Rattle.elem_head.specs.Head.{symbology_of}
+use Rattle.dgn_layout.specs.Classes.{class_of, is_silent}
+use Rattle.dgn_layout.specs.Spots.{spots_of, has_spots, HoldsPoints}
+use Rattle.dgn_drawing.specs.declared.edit.Edit.{Edit}
+use Rattle.dgn_drawing.specs.declared.edit.Edit.TheVariants as edit
+use Rattle.dgn_drawing.specs.Values.{Displacement, LookChange}
+use Rattle.dgn_drawing.specs.Element.{Shown, Element}
+use Rattle.dgn_drawing.specs.Spelling.{spell}
+use Rattle.dgn_drawing.specs.WellFormed.{IsDimension}
+use Rattle.dgn_drawing.specs.Laws.{BodySits}
+use Rattle.dgn_drawing.specs.Changes.{stays_on_plane}
+use Rattle.dgn_drawing.specs.SpotNumbers.{sum_at}
+use Rattle.dgn_drawing.proofs.Sits.{all-sits}
+use Rattle.dgn_drawing.proofs.Spotted.{holds_points, sits}
+use Rattle.elem_index.specs.declared.design.Design.{Design}
+use Rattle.elem_index.specs.Design.{elements, IsWhole}
+use Rattle.elem_index.specs.Offsets.{offset_of}
+use Rattle.edit_ops.specs.declared.cause.Cause.{Cause}
+use Rattle.edit_ops.specs.declared.cause.Cause.TheVariants as causes
+use Rattle.edit_ops.specs.declared.edit_fault.EditFault.{EditFault}
+use Rattle.edit_ops.specs.declared.edit_fault.EditFault.TheVariants as faults
+use Rattle.edit_ops.specs.declared.finding.Found.{Found}
+use Rattle.edit_ops.specs.declared.test.Test.{Test}
+use Rattle.edit_ops.specs.declared.test.Test.TheVariants as tests
+use Rattle.edit_ops.specs.Trees.{Live}
+use Rattle.edit_ops.specs.Asking.{cause_in, MayBeAskedOf}
+use Rattle.edit_ops.specs.Written.{found_at, live_puts, look_put, new_look, IsReady}
+use Rattle.edit_ops.specs.Found.{IsFound}
+use Rattle.edit_ops.proofs.Readable.{IsShown, is_shown, shown_long}
+use Rattle.edit_ops.proofs.Seen.{axes_of, four_bytes}
+
+-- the test of the plane may be asked where the element has spots
+pub asked_of_spots : (test : Test) (by : Displacement) (o : Option Element) (e : Element) → test ≡ tests.Leaves by → o ≡ Some e → MayBeAskedOf test o → has_spots (class_of e.kind) ≡ true
+asked_of_spots test by o e is there asked =
+    let known : MayBeAskedOf (tests.Leaves by) o = subst (λ (x : Test). MayBeAskedOf x o) is asked in
+    subst (MayBeAskedOf (tests.Leaves by)) there known
+
+-- what the test of the plane has against an element
+pub plane_cause : (dim : ℕ) (test : Test) (by : Displacement) (m : ℕ) (o : Option Element) (e : Element) (b : Bool) → test ≡ tests.Leaves by → o ≡ Some e → stays_on_plane dim by e ≡ b
+    → cause_in dim test m o ≡ cond b None (Some (causes.OffPlane m))
+plane_cause dim test by m o e b is there stays =
+    ap (λ (x : Test). cause_in dim x m o) is ∙ ap (cause_in dim (tests.Leaves by) m) there ∙ ap (λ (x : Bool). cond x None (Some (causes.OffPlane m))) stays
+
+-- nothing stands against the edit of the one element
+pub ready_of : (dim : ℕ) (e : Edit) (es : List Element) (m : ℕ) (v : Element) → slice_get es m ≡ Some v
+    → AllByRecursion (λ (x : Live). IsReady dim e x.element) (option_to_list (found_at es m)) → IsReady dim e v
+ready_of dim e es m v there each =
+    let P : Option Element → Type 0 = λ o. AllByRecursion (λ (x : Live). IsReady dim e x.element) (option_to_list (option_map (λ (x : Element). record { number = m; place = offset_of es m; element = x }) o)) in
+    (subst P there each).0
+
+module _ (d : Design) (whole : IsWhole d) (m : ℕ) (f : Found) (found : IsFound d m f) where
+  axes : IsDimension d.dim
+  axes = axes_of d whole
+
+  -- it holds its points
+  pub holds_found : has_spots (class_of found.element.kind) ≡ true → HoldsPoints d.dim f.kind f.bytes.now (length f.bytes.now)
+  holds_found some =
+      let held : HoldsPoints d.dim found.element.kind (spell found.element) (length (spell found.element)) = holds_points d.dim found.element axes found.good some in
+      let by_kind : HoldsPoints d.dim f.kind (spell found.element) (length (spell found.element)) = subst (λ (k : ℕ). HoldsPoints d.dim k (spell found.element) (length (spell found.element))) (sym found.kind) held in
+      subst (λ (b : List ℕ). HoldsPoints d.dim f.kind b (length b)) (sym found.bytes) by_kind
+
+  -- it stays on the plane where each sum does
+  pub stays_found : (by : Displacement) → has_spots (class_of found.element.kind) ≡ true → list_all (λ s. is_on_plane (sum_at by f.bytes.now s)) (spots_of d.dim f.kind f.bytes.now) ≡ stays_on_plane d.dim by found.element
+  stays_found by some =
+      let e : Element = found.element in
+      ap (λ (k : ℕ). list_all (λ s. is_on_plane (sum_at by f.bytes.now s)) (spots_of d.dim k f.bytes.now)) found.kind
+      ∙ ap (λ (b : List ℕ). list_all (λ s. is_on_plane (sum_at by b s)) (spots_of d.dim e.kind b)) found.bytes
+      ∙ sym (list_all-map is_on_plane (sum_at by (spell e)) (spots_of d.dim e.kind (spell e)))
+      ∙ ap (list_all is_on_plane) ((sits d.dim e axes found.good some).sums by)
+
+  -- it has a display header where more is read of it than nothing
+  shown_found : is_silent (class_of found.element.kind) ≡ false → IsShown found.element
+  shown_found loud = is_shown d.dim found.element found.good loud
+
+  pub long_found : is_silent (class_of found.element.kind) ≡ false → 36 ≤ length f.bytes.now
+  long_found loud = omega (arith, shown_long d.dim found.element found.good (shown_found loud), ap (length {A = ℕ}) found.bytes)
+
+  pub four_found : 4 ≤ length f.bytes.now
+  four_found = omega (arith, four_bytes found.element, ap (length {A = ℕ}) found.bytes)
+
+  -- its look is the one that is read
+  look_read : (loud : is_silent (class_of found.element.kind) ≡ false) → symbology_of (spell found.element) ≡ record { color = (shown_found loud).display.color; weight = (shown_found loud).display.weight; style = (shown_found loud).display.style }
+  look_read loud =
+      let shown = shown_found loud in
+      let body : BodySits d.dim found.element (Shown shown.display shown.parts shown.rest) = subst (BodySits d.dim found.element) shown.body (all-sits d.dim found.element axes found.good).1 in
+      body.0.symbology
+
+  -- what another look puts into it
+  pub look_found : (change : LookChange) (n : ℕ) → is_silent (class_of found.element.kind) ≡ false
+      → live_puts d.dim (edit.Sym n change) (option_to_list (found_at (elements d) m)) ≡ record { at = f.place + 34; bytes = new_look change (symbology_of f.bytes.now) } ∷ []
+  look_found change n loud =
+      let shown = shown_found loud in
+      let e : Element = found.element in
+      ap (λ (o : Option Element). live_puts d.dim (edit.Sym n change) (option_to_list (option_map (λ (x : Element). record { number = m; place = offset_of (elements d) m; element = x }) o))) found.there
+      ∙ append-nil (look_put change (offset_of (elements d) m) e.body)
+      ∙ ap (look_put change (offset_of (elements d) m)) shown.body
+      ∙ ap (λ (s : Symb). record { at = offset_of (elements d) m + 34; bytes = new_look change s } ∷ []) (sym (look_read loud))
+      ∙ ap (λ (p : ℕ). record { at = p + 34; bytes = new_look change (symbology_of (spell e)) } ∷ []) (sym found.place)
+      ∙ ap (λ (b : List ℕ). record { at = f.place + 34; bytes = new_look change (symbology_of b) } ∷ []) (sym found.bytes)
+
+-- an edit that isn't refused has no cause
+abbrev pub fine : Result (Unit {0}) EditFault
+fine = Ok tt
+
+abbrev pub refused : Cause → Result (Unit {0}) EditFault
+refused cause = Err (faults.Refused cause)
+
+pub no_cause : (cause : Option Cause) → MatchOption cause (fine ≡ fine) (λ c. fine ≡ refused c) → cause ≡ None
+no_cause None is = refl
+no_cause (Some c) is = absurd (let y = is in cc)

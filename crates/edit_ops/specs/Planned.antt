@@ -1,0 +1,23 @@
+-- What the answer of a plan says.
+use Rattle.std.specs.Prelude.{ℕ, ◌≡◌, List, length, drop}
+use Rattle.dgn_drawing.specs.declared.edit.Edit.{Edit}
+use Rattle.dgn_drawing.specs.Element.{Element}
+use Rattle.dgn_drawing.specs.Spelling.{spelling}
+use Rattle.edit_ops.specs.declared.edit_fault.EditFault.{EditFault}
+use Rattle.edit_ops.specs.declared.edit_fault.EditFault.TheVariants as faults
+use Rattle.edit_ops.specs.declared.types.plan.Plan.{Plan}
+use Rattle.edit_ops.specs.Applying.{Applied, Done, Refused, apply}
+use Rattle.edit_ops.specs.Fields.{edited_fields, filled}
+
+-- the edit is done, and the plan is its fields with the bytes that the result has there, and the bytes of the
+-- result behind the old length
+pub record IsPlan (dim : ℕ) (es : List Element) (rest : ℕ) (e : Edit) (p : Plan) : Type 0 where
+  pub made : List Element
+  pub done : apply dim es rest e ≡ Done made
+  pub patches : p.patches ≡ filled (spelling made) (edited_fields dim es e)
+  pub append : p.append ≡ drop (length (spelling es)) (spelling made)
+
+-- the edit is refused with the cause that is told; want of memory says nothing of it
+abbrev pub IsRefused : Applied → EditFault → Type 0
+IsRefused applied (faults.Refused cause) = applied ≡ Refused cause
+IsRefused applied faults.Memory = Unit {0}

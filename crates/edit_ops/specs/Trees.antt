@@ -1,0 +1,50 @@
+-- The tree of one element among the trees of a drawing, its live elements, and what becomes of the trees where
+-- it is changed. Elements are numbered from 0, in the order of the trees.
+use Rattle.std.specs.Prelude.{ℕ, zero, suc, ◌+◌, ◌-◌, nat_lt, Bool, if◌then◌else◌, List, [], ◌∷◌, ◌++◌, length}
+use Rattle.elem_index.specs.Offsets.{offset_of}
+use Rattle.dgn_drawing.specs.Element.{Element}
+use Rattle.dgn_drawing.specs.Spelling.{spelling, size_of}
+use Rattle.dgn_drawing.specs.Rows.{row_of}
+use Rattle.dgn_drawing.specs.Nesting.{Forest, NoTree, Tree, flat, forest, joined}
+use Rattle.dgn_drawing.specs.Numbering.{end_of}
+
+-- how many elements trees have
+abbrev pub count_in : {A : Type 0} → Forest A → ℕ
+count_in f = length (flat f)
+
+-- the tree of element n: the element and all below it
+abbrev pub tree_at : {A : Type 0} → ℕ → Forest A → Forest A
+tree_at n NoTree = NoTree
+tree_at zero (Tree knot h below behind) = Tree knot h below NoTree
+tree_at (suc n) (Tree knot h below behind) = if nat_lt n (count_in below) then tree_at n below else tree_at (n - count_in below) behind
+
+-- the trees with another tree in place of that of element n, and each header above it changed
+abbrev pub exchange : {A : Type 0} → (A → A) → (Forest A → Forest A) → ℕ → Forest A → Forest A
+exchange above other n NoTree = NoTree
+exchange above other zero (Tree knot h below behind) = joined (other (Tree knot h below NoTree)) behind
+exchange above other (suc n) (Tree knot h below behind) =
+    if nat_lt n (count_in below) then Tree knot (above h) (exchange above other n below) behind
+    else Tree knot h below (exchange above other (n - count_in below) behind)
+
+-- the trees with each live element changed: one that neither is marked deleted nor lies below one that is
+abbrev pub live_map : {A : Type 0} → (A → Bool) → (A → A) → Forest A → Forest A
+live_map deleted change NoTree = NoTree
+live_map deleted change (Tree knot h below behind) =
+    Tree knot (if deleted h then h else change h) (if deleted h then below else live_map deleted change below) (live_map deleted change behind)
+
+-- a live element: its number, the byte of the body at which it begins, and the element
+pub record Live : Type 0 where
+  pub number : ℕ
+  pub place : ℕ
+  pub element : Element
+
+-- the live elements of trees whose first element has number n and begins at byte p
+abbrev pub live_from : ℕ → ℕ → Forest Element → List Live
+live_from n p NoTree = []
+live_from n p (Tree knot e below behind) =
+    (if e.deleted then [] else record { number = n; place = p; element = e } ∷ live_from (n + 1) (p + size_of e) below)
+    ++ live_from (end_of n below) (p + (size_of e + length (spelling (flat below)))) behind
+
+-- the live elements of the tree of element n
+abbrev pub live_tree : List Element → ℕ → List Live
+live_tree es n = live_from n (offset_of es n) (tree_at n (forest row_of es))

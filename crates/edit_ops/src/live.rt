@@ -1,0 +1,57 @@
+ghost use Rattle.std.specs.Prelude.{◌≡◌, ◌<◌, length, map, slice_get, option_map, Some, IfOk};
+ghost use Rattle.dgn_drawing.specs.Rows.{row_of};
+ghost use Rattle.dgn_drawing.specs.Nesting.{itself};
+ghost use Rattle.dgn_drawing.specs.Numbering.{mark_of};
+ghost use Rattle.elem_index.specs.Design.{elements, IsWhole};
+ghost use Rattle.edit_ops.specs.Trees.{live_tree};
+ghost use Rattle.edit_ops.specs.Written.{found};
+
+use crate::finding::find;
+use elem_index::Design;
+use nest_tree::Nest;
+use std::alloc::{AllocError, Global};
+
+// The number behind the last element below element n, which there is.
+fn end_of(t: &Nest, n: u32) -> u32
+    requires { n < length t.now.rows }
+    ensures { Some result ≡ option_map (λ m. m.end) (mark_of itself t.now.rows n) }
+{
+    let Some((_, end)) = t.span(n) else {
+        unreachable!()
+    };
+    end
+}
+
+// Whether element n, which there is, is marked deleted.
+fn is_deleted(d: &Design, n: u32) -> bool
+    requires whole { IsWhole d.now }
+    requires known { n < length (elements d.now) }
+    ensures { Some result ≡ option_map (λ e. e.deleted) (slice_get (elements d.now) n) }
+{
+    let Some(found) = find(d, n) else {
+        unreachable!()
+    };
+    found.deleted
+}
+
+// The numbers of the live elements of the tree of element n, in their order.
+pub fn live_numbers(alloc: Global, d: &Design, t: &Nest, n: u32) -> Result<Vec<u32>, AllocError>
+    requires whole { IsWhole d.now }
+    requires nesting { t.now.rows ≡ map row_of (elements d.now) }
+    requires known { n < length (elements d.now) }
+    ensures numbers { IfOk result (λ live. live.items ≡ map (λ v. v.number) (live_tree (elements d.now) n)) }
+    ensures found { IfOk result (λ live. found (elements d.now) live.items ≡ live_tree (elements d.now) n) }
+{
+    let mut live = Vec::new(alloc);
+    let end = end_of(t, n);
+    let mut i = n;
+    'elements: while i < end {
+        if is_deleted(d, i) {
+            i = end_of(t, i);
+        } else {
+            live.push(i)?;
+            i += 1;
+        }
+    }
+    Ok(live)
+}
