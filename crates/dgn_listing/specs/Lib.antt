@@ -1,3 +1,4 @@
 pub mod ItemTexts
 pub mod Lines
 pub mod TreeTexts
+pub mod CauseTexts

@@ -1,14 +1,16 @@
-//! Prints what a drawing holds: the lines of its listings.
+//! Prints what a drawing holds, the lines of its listings, and why an edit is refused.
 //!
 //! Each call appends its lines to the bytes that it is given. A line's words stand one blank apart, and
 //! a line ends with a line feed.
 #![tactic(auto)]
 
+mod causes;
 mod items;
 mod pieces;
 mod tree;
 mod tree_line;
 
+pub use causes::write_cause;
 pub use items::write_items;
 pub use tree::write_tree;
 
