@@ -11,7 +11,7 @@ use Rattle.elem_index.specs.Answers.{HasCount, TellsFault}
 use Rattle.edit_script.specs.Script.{commands_of}
 use Rattle.edit_script.specs.declared.command.Command.{Command}
 use Rattle.edit_script.specs.declared.fault.ScriptFault.{ScriptFault}
-use Rattle.dgn_tool.specs.Edits.{numbered}
+use Rattle.dgn_tool.specs.Lines.{numbered}
 use Rattle.dgn_tool.specs.Outcome.{Outcome, ended, script_outcome, scripted, opened_outcome, input_outcome, checked, Leaves, EndsAs, EndsEarly, OpensAs, IsEnding, comes_to_script, HasBoth}
 use Rattle.dgn_tool.specs.Told.{told_fault}
 use Rattle.dgn_tool.specs.declared.status.Status.{Status}

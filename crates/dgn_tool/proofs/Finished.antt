@@ -15,21 +15,21 @@ use Rattle.dgn_tool.specs.declared.status.Status.{Status}
 use Rattle.dgn_tool.specs.declared.status.Status.TheVariants as statuses
 
 -- the commands were said and the file was written
-filed_so : (d : Opened) (cs : List Command) (output bytes : List ℕ) (status : Status) (old mid now : Option Content) → mid ≡ option_map (spoken (texts_of d.dim cs (begun d.elements))) old → now ≡ option_map (filed output bytes) mid → bytes ≡ spelling (after_all cs (begun d.elements)).elements ++ d.tail → status ≡ (told d cs output).status → IfSome old (λ c. Leaves (told d cs output) status c now)
+filed_so : (d : Opened) (cs : List Command) (output bytes : List ℕ) (status : Status) (old mid now : Option Content) → mid ≡ option_map (spoken (texts_of cs (begun d))) old → now ≡ option_map (filed output bytes) mid → bytes ≡ spelling (after_all cs (begun d)).elements ++ d.tail → status ≡ (told d cs output).status → IfSome old (λ c. Leaves (told d cs output) status c now)
 filed_so d cs output bytes status None mid now said filed_is is e = tt
 filed_so d cs output bytes status (Some c) mid now said filed_is is e =
     record {
       status_is = e;
-      content = filed output (spelling (after_all cs (begun d.elements)).elements ++ d.tail) (spoken (texts_of d.dim cs (begun d.elements)) c);
+      content = filed output (spelling (after_all cs (begun d)).elements ++ d.tail) (spoken (texts_of cs (begun d)) c);
       told_is = rw (filed_is, said, is) refl;
       said_is = refl;
       files_are = refl;
     }
 
 -- the same, by what the calls that ran the commands and wrote the file ensure
-pub finished : (d new : Design) (cs : List Command) (output body tail : List ℕ) (refused : Bool) (status : Status) (old mid now : Option Content) → IsWhole new → elements new ≡ (after_all cs (begun (elements d))).elements → new.tail.items ≡ d.tail.items → mid ≡ option_map (spoken (texts_of d.dim cs (begun (elements d)))) old → now ≡ option_map (filed output (body ++ tail)) mid → body ≡ new.body.items → tail ≡ new.tail.items → refused ≡ is_any_refused cs (begun (elements d)) → status ≡ cond refused statuses.SomeRefused statuses.Done → IfSome old (λ c. Leaves (told (opened_of d) cs output) status c now)
+pub finished : (d new : Design) (cs : List Command) (output body tail : List ℕ) (refused : Bool) (status : Status) (old mid now : Option Content) → IsWhole new → elements new ≡ (after_all cs (begun (opened_of d))).elements → new.tail.items ≡ d.tail.items → mid ≡ option_map (spoken (texts_of cs (begun (opened_of d)))) old → now ≡ option_map (filed output (body ++ tail)) mid → body ≡ new.body.items → tail ≡ new.tail.items → refused ≡ is_any_refused cs (begun (opened_of d)) → status ≡ cond refused statuses.SomeRefused statuses.Done → IfSome old (λ c. Leaves (told (opened_of d) cs output) status c now)
 finished d new cs output body tail refused status old mid now whole drawn same said filed_is front back any is =
-    let bytes : body ++ tail ≡ spelling (after_all cs (begun (elements d))).elements ++ d.tail.items =
+    let bytes : body ++ tail ≡ spelling (after_all cs (begun (opened_of d))).elements ++ d.tail.items =
     ap (λ (b : List ℕ). b ++ tail) (front ∙ sym (body_is new whole) ∙ ap spelling drawn)
-    ∙ ap (λ (t : List ℕ). spelling (after_all cs (begun (elements d))).elements ++ t) (back ∙ same) in
+    ∙ ap (λ (t : List ℕ). spelling (after_all cs (begun (opened_of d))).elements ++ t) (back ∙ same) in
     filed_so (opened_of d) cs output (body ++ tail) status old mid now said filed_is bytes (is ∙ ap (λ (b : Bool). cond b statuses.SomeRefused statuses.Done) any)

@@ -1,9 +1,5 @@
-mod Puts
-mod Changed
-mod Reopened
+mod Written
 mod Untouched
-mod Looked
 mod Endings
-mod Heads
 mod Ran
 mod Finished

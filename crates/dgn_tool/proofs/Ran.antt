@@ -11,22 +11,22 @@ use Rattle.dgn_drawing.specs.declared.mask.Mask.{Mask}
 use Rattle.elem_index.specs.declared.design.Design.{Design}
 use Rattle.elem_index.specs.Design.{elements, IsWhole}
 use Rattle.edit_script.specs.declared.command.Command.{Command}
-use Rattle.dgn_tool.specs.Commands.{State, begun, text_of, is_refused, after_command, after_all, texts_of, is_any_refused}
+use Rattle.elem_index.specs.Answers.{opened_of}
+use Rattle.dgn_tool.specs.Commands.{State, state_of, begun, text_of, is_refused, after_command, after_all, texts_of, is_any_refused}
 
 -- what a run has come to with this design and this mask
-abbrev pub state_of : Design → Mask → State
-state_of d mask = record { elements = elements d; mask = mask }
+abbrev pub come_to : Design → Mask → State
+come_to d mask = state_of (opened_of d) mask
 
 -- the commands before these are done
 pub record Ran (rows : List Row) (all left : List Command) (refused : Bool) (from d : Design) (mask : Mask) (old now : Option Content) : Type 0 where
   pub whole : IsWhole d
   pub rows_are : rows ≡ map row_of (elements d)
-  pub axes : d.dim ≡ from.dim
   pub done : List ℕ
-  pub texts : texts_of from.dim all (begun (elements from)) ≡ done ++ texts_of from.dim left (state_of d mask)
+  pub texts : texts_of all (begun (opened_of from)) ≡ done ++ texts_of left (come_to d mask)
   pub said : now ≡ option_map (spoken done) old
-  pub any : is_any_refused all (begun (elements from)) ≡ (refused || is_any_refused left (state_of d mask))
-  pub drawing : after_all all (begun (elements from)) ≡ after_all left (state_of d mask)
+  pub any : is_any_refused all (begun (opened_of from)) ≡ (refused || is_any_refused left (come_to d mask))
+  pub drawing : after_all all (begun (opened_of from)) ≡ after_all left (come_to d mask)
   pub tail : d.tail.items ≡ from.tail.items
 
 -- with nothing said, what is told is as it was
@@ -36,7 +36,7 @@ spoken-nil (Some c) = rw (append-nil c.said) refl
 
 pub ran_none : (rows : List Row) (all : List Command) (d : Design) (old : Option Content) → IsWhole d → rows ≡ map row_of (elements d) → Ran rows all all false d d (record { 0 = 18446744073709551615 }) old old
 ran_none rows all d old whole are =
-    record { whole = whole; rows_are = are; axes = refl; done = []; texts = refl; said = spoken-nil old; any = refl; drawing = refl; tail = refl }
+    record { whole = whole; rows_are = are; done = []; texts = refl; said = spoken-nil old; any = refl; drawing = refl; tail = refl }
 
 or_assoc_test : (a b c : Bool) → (a || (b || c)) ≡ ((a || b) || c)
 or_assoc_test true b c = refl
@@ -44,26 +44,24 @@ or_assoc_test false b c = refl
 
 -- one more command
 pub ran_more : (rows : List Row) (all left : List Command) (c : Command) (refused was : Bool) (line : List ℕ) (from d new : Design) (mask new_mask : Mask) (old now then : Option Content) → Ran rows all (c ∷ left) refused from d mask old now
-    → state_of new new_mask ≡ after_command (state_of d mask) c → IsWhole new → map row_of (elements new) ≡ map row_of (elements d) → new.tail.items ≡ d.tail.items → new.dim ≡ d.dim
-    → line ≡ text_of d.dim (state_of d mask) c → then ≡ option_map (spoken line) now → was ≡ is_refused (state_of d mask) c
+    → come_to new new_mask ≡ after_command (come_to d mask) c → IsWhole new → map row_of (elements new) ≡ map row_of (elements d) → new.tail.items ≡ d.tail.items
+    → line ≡ text_of (come_to d mask) c → then ≡ option_map (spoken line) now → was ≡ is_refused (come_to d mask) c
     → Ran rows all left (refused || was) from new new_mask old then
-ran_more rows all left c refused was line from d new mask new_mask old now then ran drawn whole same_rows tail_same same_dim line_is says was_is =
-    let text : List ℕ = text_of from.dim (state_of d mask) c in
-    let line_text : line ≡ text = line_is ∙ ap (λ (n : ℕ). text_of n (state_of d mask) c) ran.axes in
-    let said_line : then ≡ option_map (spoken text) now = says ∙ ap (λ (l : List ℕ). option_map (spoken l) now) line_text in
+ran_more rows all left c refused was line from d new mask new_mask old now then ran drawn whole same_rows tail_same line_is says was_is =
+    let text : List ℕ = text_of (come_to d mask) c in
+    let said_line : then ≡ option_map (spoken text) now = says ∙ ap (λ (l : List ℕ). option_map (spoken l) now) line_is in
     record {
       whole = whole;
       rows_are = ran.rows_are ∙ sym same_rows;
-      axes = same_dim ∙ ran.axes;
       done = ran.done ++ text;
       texts = ran.texts
-          ∙ ap (λ (s : State). ran.done ++ (text ++ texts_of from.dim left s)) (sym drawn)
-          ∙ sym (append_assoc ran.done text (texts_of from.dim left (state_of new new_mask)));
+          ∙ ap (λ (s : State). ran.done ++ (text ++ texts_of left s)) (sym drawn)
+          ∙ sym (append_assoc ran.done text (texts_of left (come_to new new_mask)));
       said = said_line ∙ ap (option_map (spoken text)) ran.said ∙ spoken-append ran.done text old;
       any = ran.any
-          ∙ ap (λ (s : State). refused || (is_refused (state_of d mask) c || is_any_refused left s)) (sym drawn)
-          ∙ or_assoc_test refused (is_refused (state_of d mask) c) (is_any_refused left (state_of new new_mask))
-          ∙ ap (λ (b : Bool). (refused || b) || is_any_refused left (state_of new new_mask)) (sym was_is);
+          ∙ ap (λ (s : State). refused || (is_refused (come_to d mask) c || is_any_refused left s)) (sym drawn)
+          ∙ or_assoc_test refused (is_refused (come_to d mask) c) (is_any_refused left (come_to new new_mask))
+          ∙ ap (λ (b : Bool). (refused || b) || is_any_refused left (come_to new new_mask)) (sym was_is);
       drawing = ran.drawing ∙ ap (after_all left) (sym drawn);
       tail = tail_same ∙ ran.tail;
     }
@@ -73,6 +71,6 @@ or_false : (b : Bool) → (b || false) ≡ b
 or_false true = refl
 or_false false = refl
 
-pub ran_all : (rows : List Row) (all left : List Command) (refused : Bool) (from d : Design) (mask : Mask) (old now : Option Content) → Ran rows all left refused from d mask old now → left ≡ [] → refused ≡ is_any_refused all (begun (elements from))
+pub ran_all : (rows : List Row) (all left : List Command) (refused : Bool) (from d : Design) (mask : Mask) (old now : Option Content) → Ran rows all left refused from d mask old now → left ≡ [] → refused ≡ is_any_refused all (begun (opened_of from))
 ran_all rows all left refused from d mask old now ran none =
-    sym (ran.any ∙ ap (λ (cs : List Command). refused || is_any_refused cs (state_of d mask)) none ∙ or_false refused)
+    sym (ran.any ∙ ap (λ (cs : List Command). refused || is_any_refused cs (come_to d mask)) none ∙ or_false refused)

@@ -1,119 +1,83 @@
--- The file that commands make: it opens, and its bytes are those of the file before at each place that no
--- accepted edit writes.
-use Rattle.std.proofs.Common.{◌≡◌, ℕ, ◌+◌, ◌≤◌, List, [], ◌∷◌, ◌++◌, length, get_or, refl, sym, ap, ◌∙◌, subst, arith, length-append}
-use Rattle.std.specs.Prelude.{slice_get, All}
+-- The file that commands make: it opens, and its bytes are those of the file before at each place in no field of an
+-- accepted edit.
+use Rattle.std.proofs.Common.{◌≡◌, ℕ, ◌+◌, ◌<◌, List, [], ◌∷◌, ◌++◌, inl, inr, length, get_or, refl, sym, ap, ◌∙◌, subst, arith, length-append}
+use Rattle.std.specs.Prelude.{All}
+use Rattle.std.proofs.lemmas.List.{get_or_append_left, get_or-append_right}
+use Rattle.std.proofs.lemmas.Bool.{cases_lt}
 use Rattle.std.proofs.lemmas.List.Elements.{All-head, All-tail}
 use Rattle.dgn_drawing.specs.Element.{Element}
 use Rattle.dgn_drawing.specs.Spelling.{spelling}
-use Rattle.dgn_drawing.specs.Changes.{look_changed, look_bytes, HasByteColor}
 use Rattle.dgn_drawing.specs.Opening.{Opens}
 use Rattle.dgn_drawing.specs.declared.edit.Edit.{Edit}
-use Rattle.dgn_drawing.specs.declared.edit.Edit.TheVariants as edit
-use Rattle.dgn_drawing.specs.declared.symb_change.SymbChange.{SymbChange}
-use Rattle.elem_index.specs.Offsets.{offset_of}
+use Rattle.edit_ops.specs.Applying.{Applied, Done, Refused, apply, IsEdit}
+use Rattle.edit_ops.proofs.Reopened.{changes_fields}
 use Rattle.edit_script.specs.declared.command.Command.{Command}
 use Rattle.edit_script.specs.declared.command.Command.TheVariants as command
-use Rattle.dgn_tool.specs.Edits.{answer_at, answer_of, after_answer}
-use Rattle.dgn_tool.specs.Commands.{State, begun, after_command}
-use Rattle.dgn_tool.specs.Laws.{Made, with_made, with_command, remaining, IsEdited, HasByte, HasByteIn, IsEditedFile, UntouchedBytesStay}
-use Rattle.dgn_tool.specs.declared.answer.Answer.{Answer}
-use Rattle.dgn_tool.specs.declared.answer.Answer.TheVariants.{Done, Unknown, Deleted, Opaque}
-use Rattle.dgn_tool.proofs.Puts.{length-put, put-keeps}
-use Rattle.dgn_tool.proofs.Changed.{look_within}
-use Rattle.dgn_tool.proofs.Reopened.{accepted, is_shown, reopened, shown_long, good_at}
+use Rattle.dgn_tool.specs.Commands.{State, begun, applied, left_of, after_command, after_all}
+use Rattle.dgn_tool.specs.Laws.{Made, with_made, with_command, remaining, IsOutside, IsEditIn, IsEditedFile, UntouchedBytesStay}
+use Rattle.dgn_tool.proofs.Written.{is_made}
+
+-- two bodies that are as long and have the same byte there have it before the same tail too
+same_byte : (a b t : List ℕ) (p : ℕ) → length a ≡ length b → (p < length b → get_or a p 0 ≡ get_or b p 0) → get_or (a ++ t) p 0 ≡ get_or (b ++ t) p 0
+same_byte a b t p long same = elim (cases_lt p (length b)) [
+  | inl within ↦ get_or_append_left a t 0 p (omega arith) ∙ same within ∙ sym (get_or_append_left b t 0 p within)
+  | inr past ↦ get_or-append_right a t (length b) p 0 long past ∙ sym (get_or-append_right b t (length b) p 0 refl past)
+]
 
 -- one edit: the file opens with the elements after it, and stays where it writes nothing
-record IsStep (dim : ℕ) (es : List Element) (t : List ℕ) (e : Edit) (answer : Answer) : Type 0 where
-  opens : Opens (spelling (after_answer answer es e) ++ t) dim (after_answer answer es e) t
-  long : length (spelling (after_answer answer es e) ++ t) ≡ length (spelling es ++ t)
-  stays : (p : ℕ) → (answer ≡ Done → ¬ IsEdited es e p) → get_or (spelling (after_answer answer es e) ++ t) p 0 ≡ get_or (spelling es ++ t) p 0
+record IsStep (dim : ℕ) (es : List Element) (t : List ℕ) (e : Edit) (came : Applied) : Type 0 where
+  opens : Opens (spelling (left_of es came) ++ t) dim (left_of es came) t
+  long : length (spelling (left_of es came) ++ t) ≡ length (spelling es ++ t)
+  stays : (p : ℕ) (more : List Made) → All (IsOutside dim p) (with_made came (record { on = es; edit = e }) more)
+      → (get_or (spelling (left_of es came) ++ t) p 0 ≡ get_or (spelling es ++ t) p 0) × All (IsOutside dim p) more
 
-module _ (dim : ℕ) (t : List ℕ) where
-  module _ (es : List Element) (opens : Opens (spelling es ++ t) dim es t) where
-    refused : (e : Edit) (answer : Answer) → after_answer answer es e ≡ es → IsStep dim es t e answer
-    refused e answer same = record {
-      opens = subst (λ (xs : List Element). Opens (spelling xs ++ t) dim xs t) (sym same) opens;
-      long = ap (λ (xs : List Element). length (spelling xs ++ t)) same;
-      stays = λ p _. ap (λ (xs : List Element). get_or (spelling xs ++ t) p 0) same;
+edit_step : (dim : ℕ) (es : List Element) (t : List ℕ) (rest : ℕ) (e : Edit) (came : Applied) → IsEdit e → Opens (spelling es ++ t) dim es t → apply dim es rest e ≡ came → IsStep dim es t e came
+edit_step dim es t rest e (Refused cause) fits opens is = record { opens = opens; long = refl; stays = λ p more all. (refl, all) }
+edit_step dim es t rest e (Done made) fits opens is =
+    let one = is_made (spelling es ++ t) dim es t rest e made fits opens is in
+    let changed = changes_fields (spelling es ++ t) dim es t rest e made fits opens is in
+    record {
+      opens = one.opens;
+      long = length-append (spelling made) t ∙ ap (λ (n : ℕ). n + length t) one.long ∙ sym (length-append (spelling es) t);
+      stays = λ p more all. (
+        same_byte (spelling made) (spelling es) t p one.long (λ below. changed.stays p below (All-head (IsOutside dim p) (record { on = es; edit = e }) more all)),
+        All-tail (IsOutside dim p) (record { on = es; edit = e }) more all,
+      );
     }
 
-    looked : (n : ℕ) (change : SymbChange) → HasByteColor change → answer_at n (slice_get es n) ≡ Done → IsStep dim es t (edit.Sym n change) Done
-    looked n change fits done =
-        let a = accepted es n done in
-        let good = good_at dim change es t fits opens n a.element a.found in
-        let shown = is_shown dim a.element good a.loud in
-        let size = shown_long dim a.element good shown in
-        let new = reopened dim change es t fits opens n a.element a.found shown.display shown.parts shown.rest shown.body size in
-        let within = look_within n es a.element a.found size in
-        let inside : (offset_of es n + 34) + 2 ≤ length (spelling es ++ t) = omega (arith, within, length-append (spelling es) t) in
-        let look : List ℕ = look_bytes (look_changed change shown.display) in
-        record {
-          opens = new.opens;
-          long = ap (length {A = ℕ}) new.bytes ∙ length-put (spelling es ++ t) look (offset_of es n + 34) inside;
-          stays = λ p outside.
-              ap (λ (l : List ℕ). get_or l p 0) new.bytes
-              ∙ put-keeps (spelling es ++ t) look (offset_of es n + 34) p inside (λ from to. outside refl (from, omega arith));
-        }
+-- one command: only an edit writes
+record IsDone (s : State) (t : List ℕ) (c : Command) : Type 0 where
+  opens : Opens (spelling (after_command s c).elements ++ t) s.dim (after_command s c).elements t
+  long : length (spelling (after_command s c).elements ++ t) ≡ length (spelling s.elements ++ t)
+  axes : (after_command s c).dim ≡ s.dim
+  stays : (p : ℕ) (more : List Made) → All (IsOutside s.dim p) (with_command s c more)
+      → (get_or (spelling (after_command s c).elements ++ t) p 0 ≡ get_or (spelling s.elements ++ t) p 0) × All (IsOutside s.dim p) more
 
-    by_answer : (n : ℕ) (change : SymbChange) → HasByteColor change → (answer : Answer) → answer_at n (slice_get es n) ≡ answer → IsStep dim es t (edit.Sym n change) answer
-    by_answer n change fits Done is = looked n change fits is
-    by_answer n change fits (Unknown m) is = refused (edit.Sym n change) (Unknown m) refl
-    by_answer n change fits (Deleted m) is = refused (edit.Sym n change) (Deleted m) refl
-    by_answer n change fits (Opaque m) is = refused (edit.Sym n change) (Opaque m) refl
+command_step : (s : State) (t : List ℕ) (c : Command) → IsEditIn c → Opens (spelling s.elements ++ t) s.dim s.elements t → IsDone s t c
+command_step s t (command.Edit e) fits opens =
+    let one = edit_step s.dim s.elements t s.rest e (applied s e) fits opens refl in
+    record { opens = one.opens; long = one.long; axes = refl; stays = one.stays }
+command_step s t (command.Levels mask) fits opens = record { opens = opens; long = refl; axes = refl; stays = λ p more all. (refl, all) }
+command_step s t command.Show fits opens = record { opens = opens; long = refl; axes = refl; stays = λ p more all. (refl, all) }
+command_step s t (command.Tree n) fits opens = record { opens = opens; long = refl; axes = refl; stays = λ p more all. (refl, all) }
 
-    step : (e : Edit) → HasByte e → IsStep dim es t e (answer_of es e)
-    step (edit.Sym n change) fits = by_answer n change fits (answer_at n (slice_get es n)) refl
-    step (edit.Unbuilt none) fits = elim none [ ]
+-- all commands, in a file of the same dimension
+edited_file : (t : List ℕ) (cs : List Command) (s : State) → All IsEditIn cs → Opens (spelling s.elements ++ t) s.dim s.elements t → IsEditedFile (spelling s.elements ++ t) s t cs
+edited_file t [] s fits opens = record { long = refl; opens = opens; stays = λ p _. refl }
+edited_file t (c ∷ cs) s fits opens =
+    let one = command_step s t c (All-head IsEditIn c cs fits) opens in
+    let next : State = after_command s c in
+    let more = edited_file t cs next (All-tail IsEditIn c cs fits) (subst (λ (k : ℕ). Opens (spelling next.elements ++ t) k next.elements t) (sym one.axes) one.opens) in
+    record {
+      long = more.long ∙ one.long;
+      opens = subst (λ (k : ℕ). Opens (spelling (after_all cs next).elements ++ t) k (after_all cs next).elements t) one.axes more.opens;
+      stays = λ p all.
+          let first = one.stays p (remaining cs next) all in
+          more.stays p (subst (λ (k : ℕ). All (IsOutside k p) (remaining cs next)) (sym one.axes) first.1) ∙ first.0;
+    }
 
-  -- an edit that isn't among those that are left writes nothing there
-  first_kept : (answer : Answer) (one : Made) (more : List Made) (p : ℕ) → All (λ m. ¬ IsEdited m.on m.edit p) (with_made answer one more) → answer ≡ Done → ¬ IsEdited one.on one.edit p
-  first_kept Done one more p all is = All-head (λ m. ¬ IsEdited m.on m.edit p) one more all
-  first_kept (Unknown m) one more p all is = absurd (let x = is in cc)
-  first_kept (Deleted m) one more p all is = absurd (let x = is in cc)
-  first_kept (Opaque m) one more p all is = absurd (let x = is in cc)
-
-  rest_kept : (answer : Answer) (one : Made) (more : List Made) (p : ℕ) → All (λ m. ¬ IsEdited m.on m.edit p) (with_made answer one more) → All (λ m. ¬ IsEdited m.on m.edit p) more
-  rest_kept Done one more p all = All-tail (λ m. ¬ IsEdited m.on m.edit p) one more all
-  rest_kept (Unknown m) one more p all = all
-  rest_kept (Deleted m) one more p all = all
-  rest_kept (Opaque m) one more p all = all
-
-  -- one command: only an edit writes
-  record IsDone (s : State) (c : Command) : Type 0 where
-    opens : Opens (spelling (after_command s c).elements ++ t) dim (after_command s c).elements t
-    long : length (spelling (after_command s c).elements ++ t) ≡ length (spelling s.elements ++ t)
-    stays : (p : ℕ) (more : List Made) → All (λ m. ¬ IsEdited m.on m.edit p) (with_command s c more)
-        → get_or (spelling (after_command s c).elements ++ t) p 0 ≡ get_or (spelling s.elements ++ t) p 0
-    rest : (p : ℕ) (more : List Made) → All (λ m. ¬ IsEdited m.on m.edit p) (with_command s c more) → All (λ m. ¬ IsEdited m.on m.edit p) more
-
-  done : (s : State) (c : Command) → Opens (spelling s.elements ++ t) dim s.elements t → HasByteIn c → IsDone s c
-  done s (command.Edit e) opens fits =
-      let one = step s.elements opens e fits in
-      record {
-        opens = one.opens;
-        long = one.long;
-        stays = λ p more all. one.stays p (first_kept (answer_of s.elements e) (record { on = s.elements; edit = e }) more p all);
-        rest = λ p more all. rest_kept (answer_of s.elements e) (record { on = s.elements; edit = e }) more p all;
-      }
-  done s (command.Levels mask) opens fits = record { opens = opens; long = refl; stays = λ p more all. refl; rest = λ p more all. all }
-  done s command.Show opens fits = record { opens = opens; long = refl; stays = λ p more all. refl; rest = λ p more all. all }
-  done s (command.Tree n) opens fits = record { opens = opens; long = refl; stays = λ p more all. refl; rest = λ p more all. all }
-
-  edited_file : (cs : List Command) (s : State) → Opens (spelling s.elements ++ t) dim s.elements t → All HasByteIn cs → IsEditedFile (spelling s.elements ++ t) dim s t cs
-  edited_file [] s opens fits = record { long = refl; opens = opens; stays = λ p _. refl }
-  edited_file (c ∷ cs) s opens fits =
-      let one = done s c opens (All-head HasByteIn c cs fits) in
-      let more = edited_file cs (after_command s c) one.opens (All-tail HasByteIn c cs fits) in
-      record {
-        long = more.long ∙ one.long;
-        opens = more.opens;
-        stays = λ p all.
-            more.stays p (one.rest p (remaining cs (after_command s c)) all)
-            ∙ one.stays p (remaining cs (after_command s c)) all;
-      }
-
+-- what the commands of a script make of a file that opens
 pub untouched : UntouchedBytesStay
-untouched f dim es t cs opens fits =
-    let whole : spelling es ++ t ≡ f = sym opens.whole in
-    subst (λ (g : List ℕ). IsEditedFile g dim (begun es) t cs) whole
-    (edited_file dim t cs (begun es) (subst (λ (g : List ℕ). Opens g dim es t) opens.whole opens) fits)
+untouched f d cs opens fits =
+    subst (λ (g : List ℕ). IsEditedFile g (begun d) d.tail cs) (sym opens.whole)
+    (edited_file d.tail cs (begun d) fits (subst (λ (g : List ℕ). Opens g d.dim d.elements d.tail) opens.whole opens))

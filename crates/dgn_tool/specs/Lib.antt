@@ -1,9 +1,8 @@
 pub mod Status
 pub mod Request
 pub mod RequestView
-pub mod Edits
+pub mod Lines
 pub mod Commands
-pub mod Unbuilt
 pub mod Outcome
 pub mod Told
 pub mod Laws

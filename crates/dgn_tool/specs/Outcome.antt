@@ -2,7 +2,6 @@
 -- the command line and the files that they name.
 use Rattle.std.specs.Prelude.{ℕ, ◌≡◌, ◌≤◌, nat_lt, nat_le, Bool, ◌&&◌, if◌then◌else◌, List, [], ◌++◌, length, codes, Option, Some, None, Result, Ok, Err, IsSome, IfSome, IsTrue, ⊤}
 use Rattle.std.specs.FinMap as maps
-use Rattle.std.specs.List.{list_any}
 use Rattle.std.specs.Result.{is_ok}
 use Rattle.dgn_desk.specs.Content.{Files, Content, bytes_of, with_file}
 use Rattle.dgn_drawing.specs.Spelling.{spelling}
@@ -13,9 +12,8 @@ use Rattle.edit_script.specs.declared.command.Command.{Command}
 use Rattle.edit_script.specs.declared.fault.ScriptFault.{ScriptFault}
 use Rattle.edit_script.specs.declared.fault.ScriptFault.TheVariants as faults
 use Rattle.dgn_tool.specs.Request.{Request, Edit, Check, request_of}
-use Rattle.dgn_tool.specs.Edits.{numbered}
-use Rattle.dgn_tool.specs.Commands.{begun, after_all, texts_of, is_any_refused, is_edit}
-use Rattle.dgn_tool.specs.Unbuilt.{has_unbuilt}
+use Rattle.dgn_tool.specs.Lines.{numbered}
+use Rattle.dgn_tool.specs.Commands.{begun, after_all, texts_of, is_any_refused}
 use Rattle.dgn_tool.specs.declared.status.Status.{Status}
 use Rattle.dgn_tool.specs.declared.status.Status.TheVariants as statuses
 
@@ -32,18 +30,14 @@ ended status line = record { status = status; text = line; file = None }
 -- what the commands come to on a drawing: their texts, and the file of the drawing after them
 abbrev pub told : Opened → List Command → List ℕ → Outcome
 told d cs output = record {
-  status = if is_any_refused cs (begun d.elements) then statuses.SomeRefused else statuses.Done;
-  text = texts_of d.dim cs (begun d.elements);
-  file = Some (output, spelling (after_all cs (begun d.elements)).elements ++ d.tail);
+  status = if is_any_refused cs (begun d) then statuses.SomeRefused else statuses.Done;
+  text = texts_of cs (begun d);
+  file = Some (output, spelling (after_all cs (begun d)).elements ++ d.tail);
 }
-
--- whether they can't be run on it yet: it has elements that belong together, and they edit
-abbrev pub asks_too_much : Opened → List Command → Bool
-asks_too_much d cs = has_unbuilt d.elements && list_any is_edit cs
 
 -- what a script comes to that reads so; its reading alone never wants memory
 abbrev pub script_outcome : Opened → Result (List Command) ScriptFault → List ℕ → Outcome
-script_outcome d (Ok cs) output = if asks_too_much d cs then ended statuses.Unbuilt (codes "unbuilt\n") else told d cs output
+script_outcome d (Ok cs) output = told d cs output
 script_outcome d (Err (faults.Line number)) output = ended statuses.BadScript (numbered (codes "bad script line ") number)
 script_outcome d (Err (faults.Unbuilt number)) output = ended statuses.Unbuilt (codes "unbuilt\n")
 script_outcome d (Err faults.Memory) output = ended statuses.Memory []

@@ -1,16 +1,16 @@
 ghost use Rattle.std.specs.Prelude.{◌≡◌, ◌++◌, map, length, nat_lt, not, option_map, IfOk, OnOk, IsTrue};
-ghost use Rattle.std.specs.List.{list_any};
 ghost use Rattle.dgn_desk.specs.Content.{spoken};
 ghost use Rattle.dgn_desk.specs.Desk.{Counts, StaysWilling, DoesNotFail};
 ghost use Rattle.dgn_drawing.specs.Rows.{row_of};
 ghost use Rattle.elem_index.specs.Design.{elements, IsWhole};
-ghost use Rattle.dgn_tool.specs.Commands.{begun, tree_said, text_of, is_refused, is_edit, after_command, after_all, texts_of, is_any_refused};
+ghost use Rattle.elem_index.specs.Answers.{opened_of};
+ghost use Rattle.dgn_tool.specs.Commands.{state_of, begun, applied, edit_said, is_refusal, left_of, tree_said, text_of, is_refused, after_command, after_all, texts_of, is_any_refused};
 
 use crate::edits::apply;
-use crate::lines::{push_answer, push_numbered};
 use dgn_desk::{Desk, Stop, say_all};
-use dgn_drawing::Mask;
-use dgn_listing::{write_items, write_tree};
+use dgn_drawing::{Edit, Mask};
+use dgn_listing::{write_cause, write_items, write_tree};
+use edit_ops::{Cause, EditFault};
 use edit_script::Command;
 use elem_index::Design;
 use level_view::show;
@@ -31,11 +31,11 @@ pub fn run_all<D: Desk>(
     ensures cause { Counts (D.write_faults desk.old) (D.write_faults desk.new) result }
     ensures other { D.read_faults desk.new ≡ D.read_faults desk.old }
     ensures refused { IfOk result
-        (λ refused. refused ≡ is_any_refused commands.now (begun (elements design.old))) }
+        (λ refused. refused ≡ is_any_refused commands.now (begun (opened_of design.old))) }
     ensures said { OnOk result (D.content desk.new
-        ≡ option_map (spoken (texts_of design.old.dim commands.now (begun (elements design.old)))) (D.content desk.old)) }
+        ≡ option_map (spoken (texts_of commands.now (begun (opened_of design.old)))) (D.content desk.old)) }
     ensures elements { OnOk result
-        (elements design.new ≡ (after_all commands.now (begun (elements design.old))).elements) }
+        (elements design.new ≡ (after_all commands.now (begun (opened_of design.old))).elements) }
     ensures whole { OnOk result (IsWhole design.new) }
     ensures tail { OnOk result (design.new.tail.items ≡ design.old.tail.items) }
     ensures stays { StaysWilling (D.willing desk.old) (D.willing desk.new) }
@@ -68,22 +68,17 @@ fn run_command(
     requires whole { IsWhole design.old }
     requires nesting { nesting.now.rows ≡ map row_of (elements design.old) }
     ensures text { OnOk result (out.new.items ≡ out.old.items
-        ++ text_of design.old.dim (record { elements = elements design.old; mask = mask.old }) command.now) }
+        ++ text_of (state_of (opened_of design.old) mask.old) command.now) }
     ensures refused { IfOk result
-        (λ refused. refused ≡ is_refused (record { elements = elements design.old; mask = mask.old }) command.now) }
-    ensures state { OnOk result (record { elements = elements design.new; mask = mask.new }
-        ≡ after_command (record { elements = elements design.old; mask = mask.old }) command.now) }
+        (λ refused. refused ≡ is_refused (state_of (opened_of design.old) mask.old) command.now) }
+    ensures state { OnOk result (state_of (opened_of design.new) mask.new
+        ≡ after_command (state_of (opened_of design.old) mask.old) command.now) }
     ensures whole { OnOk result (IsWhole design.new) }
     ensures rows { OnOk result (map row_of (elements design.new) ≡ map row_of (elements design.old)) }
     ensures tail { OnOk result (design.new.tail.items ≡ design.old.tail.items) }
-    ensures dim { OnOk result (design.new.dim ≡ design.old.dim) }
 {
     match command {
-        Command::Edit(edit) => {
-            let answer = apply(design, edit);
-            push_answer(alloc, out, answer)?;
-            Ok(answer.is_refusal())
-        }
+        Command::Edit(edit) => run_edit(alloc, out, design, nesting, edit),
         Command::Levels(levels) => {
             out.extend_from_slice(b"ok\n")?;
             *mask = *levels;
@@ -95,6 +90,40 @@ fn run_command(
             Ok(false)
         }
         Command::Tree(n) => say_tree(alloc, out, design, nesting, *n),
+    }
+}
+
+// Makes an edit, appends what is said of it, and answers whether it was refused.
+fn run_edit(
+    alloc: Global,
+    out: &mut Vec<u8>,
+    design: &mut Design,
+    nesting: &Nest,
+    edit: &Edit,
+) -> Result<bool, AllocError>
+    requires whole { IsWhole design.old }
+    requires nesting { nesting.now.rows ≡ map row_of (elements design.old) }
+    ensures text { OnOk result (out.new.items ≡ out.old.items
+        ++ edit_said (applied (begun (opened_of design.old)) edit.now)) }
+    ensures refused { IfOk result
+        (λ refused. refused ≡ is_refusal (applied (begun (opened_of design.old)) edit.now)) }
+    ensures elements { OnOk result (elements design.new
+        ≡ left_of (elements design.old) (applied (begun (opened_of design.old)) edit.now)) }
+    ensures whole { OnOk result (IsWhole design.new) }
+    ensures rows { OnOk result (map row_of (elements design.new) ≡ map row_of (elements design.old)) }
+    ensures tail { OnOk result (design.new.tail.items ≡ design.old.tail.items) }
+    ensures dim { OnOk result (design.new.dim ≡ design.old.dim) }
+{
+    match apply(alloc, design, nesting, edit) {
+        Ok(()) => {
+            out.extend_from_slice(b"ok\n")?;
+            Ok(false)
+        }
+        Err(EditFault::Refused(cause)) => {
+            write_cause(alloc, out, &cause)?;
+            Ok(true)
+        }
+        Err(EditFault::Memory) => Err(AllocError),
     }
 }
 
@@ -115,16 +144,7 @@ fn say_tree(
         write_tree(alloc, out, design, nesting, n)?;
         Ok(false)
     } else {
-        push_numbered(alloc, out, b"refused unknown ", n)?;
+        write_cause(alloc, out, &Cause::Unknown(n))?;
         Ok(true)
     }
-}
-
-/// Whether one of the commands is an edit.
-pub fn has_edit(commands: &[Command]) -> bool
-    ensures { result ≡ list_any is_edit commands.now }
-{
-    commands
-        .iter()
-        .any(|command| matches!(command, Command::Edit(_)))
 }

@@ -1,6 +1,6 @@
 ghost use Rattle.std.specs.Prelude.{◌≡◌, IsTrue};
 ghost use Rattle.dgn_desk.specs.Desk.{Rose};
-ghost use Rattle.dgn_tool.specs.Edits.{numbered};
+ghost use Rattle.dgn_tool.specs.Lines.{numbered};
 ghost use Rattle.dgn_tool.specs.Outcome.{ended, IsEnding, EndsAs, IsFaultless};
 
 use crate::lines::push_numbered;

@@ -2,9 +2,9 @@
 
 ghost use Rattle.dgn_tool.specs.Laws.{UntouchedBytesStay};
 
-/// The file that an edit writes is as long as the file that was read, it opens as the elements that the
-/// accepted commands make and the same tail, and it has that file's byte at each place but the two of
-/// the look of an element that an accepted command names.
+/// The file that a run writes is as long as the file that was read, it opens as the elements that the
+/// accepted commands make and the same tail, and it has that file's byte at each place in no field of an
+/// accepted edit.
 pub fn untouched_bytes_stay()
     ensures { UntouchedBytesStay }
 {}

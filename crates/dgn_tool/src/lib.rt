@@ -1,7 +1,6 @@
 //! The editor's top call: it reads a design file and a script, runs the commands and writes the file.
 #![tactic(auto)]
 
-mod answer;
 mod commands;
 mod edits;
 mod ending;
@@ -11,7 +10,6 @@ mod opening;
 mod request;
 mod status;
 mod top;
-mod unbuilt;
 
 pub use status::Status;
 pub use top::run;

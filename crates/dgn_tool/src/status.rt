@@ -22,8 +22,7 @@ pub enum Status {
     Memory,
     /// IN has more than 67108864 bytes, or SCRIPT more than 1048576.
     TooLong,
-    /// IN has elements that belong together, or the first line of SCRIPT that isn't read has a command
-    /// that isn't built yet.
+    /// The first line of SCRIPT that isn't read has a command that isn't built yet.
     Unbuilt,
 }
 

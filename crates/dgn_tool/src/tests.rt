@@ -116,6 +116,16 @@ const CELL_OF_52: [u8; 92] = [
     0xAA, 0xAA, 0xAA, 0xAA, 0x00, 0x00, 0x00, 0x00, 0x00, 0x00, 0x00, 0x00,
 ];
 
+// The same with the total of a line and an arc.
+const CELL_OF_81: [u8; 92] = [
+    0x01, 0x02, 0x2C, 0x00, 0x00, 0x80, 0x00, 0x00, 0x00, 0x80, 0x00, 0x00, 0x00, 0x80, 0x00, 0x00,
+    0x00, 0x80, 0x64, 0x00, 0x00, 0x80, 0x32, 0x00, 0x00, 0x80, 0x00, 0x00, 0x00, 0x00, 0x1E, 0x00,
+    0x00, 0x00, 0x00, 0x00, 0x51, 0x00, 0x93, 0x06, 0x00, 0x00, 0x00, 0x00, 0x00, 0x00, 0x00, 0x00,
+    0x00, 0x00, 0x00, 0x00, 0xAA, 0xAA, 0xAA, 0xAA, 0xAA, 0xAA, 0xAA, 0xAA, 0xAA, 0xAA, 0xAA, 0xAA,
+    0xAA, 0xAA, 0xAA, 0xAA, 0xAA, 0xAA, 0xAA, 0xAA, 0xAA, 0xAA, 0xAA, 0xAA, 0xAA, 0xAA, 0xAA, 0xAA,
+    0xAA, 0xAA, 0xAA, 0xAA, 0x00, 0x00, 0x00, 0x00, 0x00, 0x00, 0x00, 0x00,
+];
+
 // The line with bit C on level 2.
 const MEMBER_ON_2: [u8; 52] = [
     0x82, 0x03, 0x18, 0x00, 0x00, 0x80, 0x00, 0x00, 0x00, 0x80, 0x00, 0x00, 0x00, 0x80, 0x00, 0x00,
@@ -153,6 +163,48 @@ const SHARED_PART: [u8; 52] = [
     0x00, 0x00, 0x01, 0x00,
 ];
 
+// A line from 2147483647,0 to 2147483647,10, at the plane's end.
+const LAST_LINE: [u8; 52] = [
+    0x01, 0x03, 0x18, 0x00, 0xFF, 0xFF, 0xFF, 0xFF, 0x00, 0x80, 0x00, 0x00, 0x00, 0x80, 0x00, 0x00,
+    0xFF, 0xFF, 0xFF, 0xFF, 0x00, 0x80, 0x0A, 0x00, 0x00, 0x80, 0x00, 0x00, 0x00, 0x00, 0x0A, 0x00,
+    0x00, 0x00, 0x00, 0x00, 0xFF, 0x7F, 0xFF, 0xFF, 0x00, 0x00, 0x00, 0x00, 0xFF, 0x7F, 0xFF, 0xFF,
+    0x00, 0x00, 0x0A, 0x00,
+];
+
+// A line from -2147483648,0 to -2147483648,10, where the plane begins.
+const FIRST_LINE: [u8; 52] = [
+    0x01, 0x03, 0x18, 0x00, 0x00, 0x00, 0x00, 0x00, 0x00, 0x80, 0x00, 0x00, 0x00, 0x80, 0x00, 0x00,
+    0x00, 0x00, 0x00, 0x00, 0x00, 0x80, 0x0A, 0x00, 0x00, 0x80, 0x00, 0x00, 0x00, 0x00, 0x0A, 0x00,
+    0x00, 0x00, 0x00, 0x00, 0x00, 0x80, 0x00, 0x00, 0x00, 0x00, 0x00, 0x00, 0x00, 0x80, 0x00, 0x00,
+    0x00, 0x00, 0x0A, 0x00,
+];
+
+// A line from 0,0,0 to 10,10,10.
+const SPACE_LINE: [u8; 60] = [
+    0x01, 0x03, 0x1C, 0x00, 0x00, 0x80, 0x00, 0x00, 0x00, 0x80, 0x00, 0x00, 0x00, 0x80, 0x00, 0x00,
+    0x00, 0x80, 0x0A, 0x00, 0x00, 0x80, 0x0A, 0x00, 0x00, 0x80, 0x0A, 0x00, 0x00, 0x00, 0x0E, 0x00,
+    0x00, 0x00, 0x00, 0x00, 0x00, 0x00, 0x00, 0x00, 0x00, 0x00, 0x00, 0x00, 0x00, 0x00, 0x00, 0x00,
+    0x00, 0x00, 0x0A, 0x00, 0x00, 0x00, 0x0A, 0x00, 0x00, 0x00, 0x0A, 0x00,
+];
+
+// An arc with bit C and the range 5,5 to 9,9. Its coordinates are floating numbers.
+const ARC: [u8; 56] = [
+    0x81, 0x10, 0x1A, 0x00, 0x00, 0x80, 0x05, 0x00, 0x00, 0x80, 0x05, 0x00, 0x00, 0x80, 0x00, 0x00,
+    0x00, 0x80, 0x09, 0x00, 0x00, 0x80, 0x09, 0x00, 0x00, 0x80, 0x00, 0x00, 0x00, 0x00, 0x0C, 0x00,
+    0x00, 0x00, 0x00, 0x00, 0x00, 0x00, 0x00, 0x00, 0x00, 0x00, 0x00, 0x00, 0x00, 0x00, 0x00, 0x00,
+    0x00, 0x00, 0x00, 0x00, 0x00, 0x00, 0x00, 0x00,
+];
+
+// The header of a chain whose total one element of four bytes has.
+const SMALL_HEADER: [u8; 40] = [
+    0x01, 0x0C, 0x12, 0x00, 0x00, 0x80, 0x00, 0x00, 0x00, 0x80, 0x00, 0x00, 0x00, 0x80, 0x00, 0x00,
+    0x00, 0x80, 0x00, 0x00, 0x00, 0x80, 0x00, 0x00, 0x00, 0x80, 0x00, 0x00, 0x00, 0x00, 0x04, 0x00,
+    0x00, 0x00, 0x00, 0x00, 0x03, 0x00, 0x01, 0x00,
+];
+
+// An element of four bytes with bit C. Marked deleted it would be a mark that ends a file.
+const NEARLY_END: [u8; 4] = [0xFF, 0x7F, 0x00, 0x00];
+
 // Attribute data.
 const DATA: [u8; 4] = [0x00, 0x80, 0x01, 0x00];
 
@@ -163,12 +215,13 @@ fn zeros(alloc: Global, count: usize) -> Result<Vec<u8>, AllocError> {
     vec![in alloc; 0; count]
 }
 
-// A TCB whose byte 1214 is given, and pieces behind it.
+// A TCB whose byte 1214 is given, of a file in space where that isn't 0, and pieces behind it.
 fn design(alloc: Global, mark: u8, behind: &[&[u8]]) -> Result<Vec<u8>, AllocError> {
     let mut bytes = Vec::new(alloc);
     for place in 0..1536 {
         bytes.push(match place {
-            0 => 0x08,
+            0 if mark == 0 => 0x08,
+            0 => 0xC8,
             1 => 0x09,
             2 => 0xFE,
             3 => 0x02,
@@ -180,6 +233,17 @@ fn design(alloc: Global, mark: u8, behind: &[&[u8]]) -> Result<Vec<u8>, AllocErr
         bytes.extend_from_slice(piece)?;
     }
     Ok(bytes)
+}
+
+// The design with these words of four bytes at their places.
+fn with_words(mut design: Vec<u8>, words: &[(usize, [u8; 4])]) -> Vec<u8> {
+    for (place, word) in words {
+        let from = *place;
+        if from < design.len() && 4 <= design.len() - from {
+            design[from..from + 4].copy_from_slice(word);
+        }
+    }
+    design
 }
 
 // The design with this byte at this place.
@@ -365,47 +429,159 @@ fn damaged_designs(rt: HostRuntime) -> Result<(), Fail> {
 }
 
 #[test]
-fn unbuilt_designs_and_their_elements(rt: HostRuntime) -> Result<(), Fail> {
+fn edits(rt: HostRuntime) -> Result<(), Fail> {
     let alloc = rt.alloc();
-    // What stands behind the TCB, the script, the status, what is said, and what `check` says.
-    let rows: [(&[&[u8]], &[u8], Status, &[u8], &[u8]); 5] = [
-        (&[&END], b"", Status::Done, b"", b"elements 1\n"),
+    let none = Status::SomeRefused;
+    // Byte 1214, what stands behind the TCB, the script, the status, what is said, and words of OUT by
+    // their places; every other byte is IN's.
+    let rows: [(u8, &[&[u8]], &[u8], Status, &[u8], &[(usize, [u8; 4])]); 10] = [
         (
-            &[&SILENT, &MEMBER, &END],
-            b"color 2 1",
-            Status::Unbuilt,
-            b"unbuilt\n",
-            b"elements 3\n",
-        ),
-        (
-            &[&CHAIN_HEADER, &LINE],
-            b"show\ncolor 2 1",
-            Status::Unbuilt,
-            b"unbuilt\n",
-            b"elements 3\n",
-        ),
-        (
-            &[&CHAIN_HEADER, &LINE],
-            b"levels none\nshow",
+            0,
+            &[&LINE, &END],
+            b"show\nmove 1 10 -5\nshow\n",
             Status::Done,
-            b"ok\nshown 0\n",
-            b"elements 3\n",
+            b"1 0 3 1 0 0 0 path 0,0 100,50\nshown 1\nok\n1 0 3 1 0 0 0 path 10,-5 110,45\nshown 1\n",
+            &[
+                (1540, [0x00, 0x80, 0x0A, 0x00]),
+                (1544, [0xFF, 0x7F, 0xFB, 0xFF]),
+                (1552, [0x00, 0x80, 0x6E, 0x00]),
+                (1556, [0x00, 0x80, 0x2D, 0x00]),
+                (1572, [0x00, 0x00, 0x0A, 0x00]),
+                (1576, [0xFF, 0xFF, 0xFB, 0xFF]),
+                (1580, [0x00, 0x00, 0x6E, 0x00]),
+                (1584, [0x00, 0x00, 0x2D, 0x00]),
+            ],
         ),
         (
-            &[&LINE, &END, &CHAIN_HEADER],
-            b"color 1 0",
+            0,
+            &[&LAST_LINE, &END],
+            b"move 1 1 0\n",
+            none,
+            b"refused off-plane 1\n",
+            &[],
+        ),
+        (
+            0,
+            &[&FIRST_LINE, &END],
+            b"move 1 4294967295 0\nshow\n",
             Status::Done,
-            b"ok\n",
-            b"elements 2\n",
+            b"ok\n1 0 3 1 0 0 0 path 2147483647,0 2147483647,10\nshown 1\n",
+            &[
+                (1540, [0xFF, 0xFF, 0xFF, 0xFF]),
+                (1552, [0xFF, 0xFF, 0xFF, 0xFF]),
+                (1572, [0xFF, 0x7F, 0xFF, 0xFF]),
+                (1580, [0xFF, 0x7F, 0xFF, 0xFF]),
+            ],
+        ),
+        (
+            0,
+            &[&CELL, &MEMBER, &END],
+            b"tree 1\nshow\nmove 1 5 7\n",
+            Status::Done,
+            b"1 0 2 1 group live\n2 1 3 1 leaf live\ntree 2\n1 0 2 1 0 0 0 cell [ABC       ] 0,0\n2 1 3 1 0 0 0 path 0,0 100,50\nshown 2\nok\n",
+            &[
+                (1540, [0x00, 0x80, 0x05, 0x00]),
+                (1544, [0x00, 0x80, 0x07, 0x00]),
+                (1552, [0x00, 0x80, 0x69, 0x00]),
+                (1556, [0x00, 0x80, 0x39, 0x00]),
+                (1620, [0x00, 0x00, 0x05, 0x00]),
+                (1624, [0x00, 0x00, 0x07, 0x00]),
+                (1632, [0x00, 0x80, 0x05, 0x00]),
+                (1636, [0x00, 0x80, 0x07, 0x00]),
+                (1644, [0x00, 0x80, 0x69, 0x00]),
+                (1648, [0x00, 0x80, 0x39, 0x00]),
+                (1664, [0x00, 0x00, 0x05, 0x00]),
+                (1668, [0x00, 0x00, 0x07, 0x00]),
+                (1672, [0x00, 0x00, 0x69, 0x00]),
+                (1676, [0x00, 0x00, 0x39, 0x00]),
+            ],
+        ),
+        (
+            0,
+            &[&CELL, &MEMBER, &END],
+            b"move 2 1 1\nmove 9 1 1\nmove 0 1 1\n",
+            none,
+            b"refused member 2\nrefused unknown 9\nrefused opaque 0\n",
+            &[],
+        ),
+        (
+            0,
+            &[&SMALL_HEADER, &NEARLY_END],
+            b"delete 1\nsym 1 1 1 1\n",
+            none,
+            b"refused opaque 2\nrefused opaque 2\n",
+            &[],
+        ),
+        (
+            0x40,
+            &[&SPACE_LINE, &END],
+            b"move 1 1 2\nmove 1 1 2 3\nshow\n",
+            none,
+            b"refused dimension\nok\n1 0 3 1 0 0 0 path 1,2,3 11,12,13\nshown 1\n",
+            &[
+                (1540, [0x00, 0x80, 0x01, 0x00]),
+                (1544, [0x00, 0x80, 0x02, 0x00]),
+                (1548, [0x00, 0x80, 0x03, 0x00]),
+                (1552, [0x00, 0x80, 0x0B, 0x00]),
+                (1556, [0x00, 0x80, 0x0C, 0x00]),
+                (1560, [0x00, 0x80, 0x0D, 0x00]),
+                (1572, [0x00, 0x00, 0x01, 0x00]),
+                (1576, [0x00, 0x00, 0x02, 0x00]),
+                (1580, [0x00, 0x00, 0x03, 0x00]),
+                (1584, [0x00, 0x00, 0x0B, 0x00]),
+                (1588, [0x00, 0x00, 0x0C, 0x00]),
+                (1592, [0x00, 0x00, 0x0D, 0x00]),
+            ],
+        ),
+        (
+            0,
+            &[&CELL_OF_81, &MEMBER, &ARC, &END],
+            b"move 1 1 1\nsym 1 4 - -\n",
+            none,
+            b"refused floating 3\nok\n",
+            &[
+                (1568, [0x00, 0x00, 0x00, 0x04]),
+                (1660, [0x00, 0x00, 0x00, 0x04]),
+                (1712, [0x00, 0x00, 0x00, 0x04]),
+            ],
+        ),
+        (
+            0,
+            &[&CELL_OF_52, &MEMBER, &END],
+            b"move 1 1 1\nmove 2 1 1\n",
+            none,
+            b"refused broken 1\nrefused broken 2\n",
+            &[],
+        ),
+        (
+            0,
+            &[&LINE, &END],
+            b"delete 1\nshow\ndelete 1\n",
+            none,
+            b"ok\nshown 0\nrefused deleted 1\n",
+            &[(1536, [0x01, 0x83, 0x18, 0x00])],
         ),
     ];
-    for (behind, script, status, said, count) in rows {
-        let bytes = design(alloc, 0, behind)?;
-        let made = status == Status::Done;
-        let out = if made { Some(bytes.as_slice()) } else { None };
-        let files = (design(alloc, 0, behind)?, script);
-        shows(&rt, 512, &EDIT, files, (status, said, out))?;
-        let files = (design(alloc, 0, behind)?, script);
+    for (mark, behind, script, status, said, changes) in rows {
+        let out = with_words(design(alloc, mark, behind)?, changes);
+        let files = (design(alloc, mark, behind)?, script);
+        shows(&rt, 512, &EDIT, files, (status, said, Some(out.as_slice())))?;
+    }
+    Ok(())
+}
+
+#[test]
+fn checked_designs(rt: HostRuntime) -> Result<(), Fail> {
+    let alloc = rt.alloc();
+    // What stands behind the TCB, and what is said.
+    let rows: [(&[&[u8]], &[u8]); 4] = [
+        (&[&END], b"elements 1\n"),
+        (&[&SILENT, &MEMBER, &END], b"elements 3\n"),
+        (&[&CHAIN_HEADER, &LINE], b"elements 3\n"),
+        (&[&LINE, &END, &CHAIN_HEADER], b"elements 2\n"),
+    ];
+    for (behind, count) in rows {
+        let files = (design(alloc, 0, behind)?, b"".as_slice());
         shows(&rt, 512, &CHECK, files, (Status::Done, count, None))?;
     }
     Ok(())

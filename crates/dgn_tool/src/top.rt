@@ -8,12 +8,11 @@ ghost use Rattle.dgn_tool.specs.Request.{request_of};
 ghost use Rattle.dgn_tool.specs.Outcome.{outcome, input_outcome, scripted, script_outcome, told, checked};
 ghost use Rattle.dgn_tool.specs.Outcome.{IsEnding, EndsAs, IsFaultless, HasBoth, HasFiles};
 
-use crate::commands::{has_edit, run_all};
+use crate::commands::run_all;
 use crate::ending::{end, end_numbered, stopped};
 use crate::opening::{end_bad_design, open_design, read_input};
 use crate::request::{Request, read_words};
 use crate::status::Status;
-use crate::unbuilt::has_unbuilt;
 use dgn_desk::{Desk, ReadEnd, read_all, write_file};
 use edit_script::{Command, ScriptFault, read_script};
 use elem_index::{Design, count_elements};
@@ -143,7 +142,7 @@ fn edit_design<D: Desk>(
     }
 }
 
-// Nests the elements, and goes on with the commands, unless they edit a design that isn't edited yet.
+// Nests the elements, and goes on with the commands.
 fn run_script<D: Desk>(
     alloc: Global,
     desk: &mut D,
@@ -160,9 +159,6 @@ fn run_script<D: Desk>(
     ensures write { result ≡ Status.WriteFault → Rose (D.write_faults desk.old) (D.write_faults desk.new) }
     ensures able { IsTrue (D.willing desk.old) → IsFaultless result }
 {
-    if has_unbuilt(design) && has_edit(commands) {
-        return end(desk, b"unbuilt\n", Status::Unbuilt);
-    }
     match nesting_of(alloc, design) {
         Ok(nesting) => finish(alloc, desk, design, &nesting, commands, output),
         Err(_) => Status::Memory,

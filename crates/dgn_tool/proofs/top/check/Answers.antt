@@ -3,7 +3,7 @@ use Rattle.std.specs.Prelude.{codes}
 use Rattle.dgn_desk.specs.Content.{bytes_of}
 use Rattle.elem_index.specs.Answers.{HasCount, TellsFault}
 use Rattle.elem_index.specs.Opened.{opening}
-use Rattle.dgn_tool.specs.Edits.{numbered}
+use Rattle.dgn_tool.specs.Lines.{numbered}
 use Rattle.dgn_tool.specs.Outcome.{ended, input_outcome, checked}
 use Rattle.dgn_tool.specs.declared.status.Status.TheVariants as statuses
 use Rattle.dgn_tool.proofs.Endings.{through, counts, ends_at_fault, items_within}

@@ -4,7 +4,7 @@ use Rattle.dgn_desk.specs.Content.{bytes_of}
 use Rattle.elem_index.specs.Answers.{opened_of}
 use Rattle.edit_script.specs.Script.{commands_of, Tells}
 use Rattle.edit_script.specs.declared.fault.ScriptFault.TheVariants as faults
-use Rattle.dgn_tool.specs.Edits.{numbered}
+use Rattle.dgn_tool.specs.Lines.{numbered}
 use Rattle.dgn_tool.specs.Outcome.{ended, scripted, script_outcome}
 use Rattle.dgn_tool.specs.declared.status.Status.TheVariants as statuses
 use Rattle.dgn_tool.proofs.Endings.{through, overruns_script, reads_script, items_within}
