@@ -11,6 +11,7 @@ SIZE = 67108864
 ROUNDS = 5
 TCB = bytes([8, 9, 0xFE, 2]) + bytes(1532)
 END = b'\xff\xff'
+DATA = bytes([0, 0x80, 1, 0, 0, 0, 0, 0, 0, 0, 0, 0])  # attribute data: a linkage and a rest
 
 
 def long(value):
