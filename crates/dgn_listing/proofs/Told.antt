@@ -1,7 +1,6 @@
 -- What a line says of an element is what its bytes and its mark say.
-use Rattle.std.proofs.Common.{ℕ, ◌≡◌, ◌<◌, ◌+◌, ◌-◌, codes, List, [], ◌∷◌, ◌++◌, zero, suc, map, length, refl, sym, ap, ◌∙◌, subst, arith}
+use Rattle.std.proofs.Common.{ℕ, ◌≡◌, ◌<◌, ◌+◌, ◌-◌, codes, List, ◌++◌, map, length, refl, sym, ap, ◌∙◌, subst, arith}
 use Rattle.std.specs.Prelude.{Option, Some, None, option_map, slice_get, Bool, is_some, not, ◌&&◌, ◌==◌, ◌≤◌}
-use Rattle.std.specs.List.{AllByRecursion}
 use Rattle.elem_head.specs.declared.types.Head.{Head}
 use Rattle.elem_head.specs.Head.{head_of}
 use Rattle.dgn_drawing.specs.declared.row.Row.{Row}
@@ -19,6 +18,7 @@ use Rattle.nest_tree.specs.Shapes.{knot_told}
 use Rattle.nest_tree.proofs.ByRows.{forest_rows, marks-map}
 use Rattle.elem_index.specs.declared.design.Design.{Design}
 use Rattle.elem_index.specs.Design.{elements, IsWhole}
+use Rattle.elem_index.proofs.Places.{each_at}
 use Rattle.dgn_listing.specs.declared.tree_line.TreeLine.{TreeLine}
 use Rattle.dgn_listing.specs.TreeTexts.{line_at, element_text, tree_text_by, tree_text}
 use Rattle.dgn_listing.specs.Lines.{texts_from, ending_text}
@@ -30,11 +30,6 @@ marked es rows n same =
     ap (λ (rs : List Row). mark_of itself rs n) same
     ∙ sym (ap (λ (f : Forest Row). slice_get (marks_of f) n) (forest_rows row_of es))
     ∙ ap (λ (ms : List Mark). slice_get ms n) (marks-map row_of (forest row_of es) 0 0 None)
-
-each_at : (P : Element → Type 0) (es : List Element) (n : ℕ) (e : Element) → AllByRecursion P es → slice_get es n ≡ Some e → P e
-each_at P [] n e each found = absurd (let f = found in cc)
-each_at P (x ∷ es) zero e each found = let same : x ≡ e = cc in subst P same each.0
-each_at P (x ∷ es) (suc n) e each found = each_at P es n e each.1 found
 
 -- the element whose spelling is given is the one there
 taken : (o : Option Element) (b : List ℕ) → Some b ≡ option_map spell o → (e : Element) × (o ≡ Some e) × (b ≡ spell e)

@@ -1,7 +1,6 @@
 -- Where an element stands, by what is asked of the drawing and of its nesting.
-use Rattle.std.proofs.Common.{◌≡◌, ℕ, zero, suc, ◌+◌, ◌-◌, ◌≤◌, List, [], ◌∷◌, ◌++◌, map, refl, sym, ap, ◌∙◌, subst, arith}
+use Rattle.std.proofs.Common.{◌≡◌, ℕ, suc, ◌+◌, ◌-◌, ◌≤◌, List, [], ◌++◌, map, refl, sym, ap, ◌∙◌, subst, arith}
 use Rattle.std.specs.Prelude.{Option, Some, None, slice_get, option_map}
-use Rattle.std.specs.List.{AllByRecursion}
 use Rattle.std.proofs.lemmas.List.{append-nil}
 use Rattle.elem_head.specs.Head.{size_of as size_said}
 use Rattle.dgn_drawing.specs.declared.row.Row.{Row}
@@ -17,6 +16,7 @@ use Rattle.dgn_drawing.proofs.Opening.{dimension_is}
 use Rattle.dgn_drawing.proofs.Read.{size_said-spell, element_fault-spell, element_at-spell}
 use Rattle.elem_index.specs.declared.design.Design.{Design}
 use Rattle.elem_index.specs.Design.{elements, IsWhole}
+use Rattle.elem_index.proofs.Places.{each_at}
 use Rattle.nest_tree.specs.declared.knot.Knot as told
 use Rattle.level_view.specs.declared.place.Place.{Place}
 use Rattle.level_view.specs.Back.{with_element, with_marked, read_back, IsPlace}
@@ -43,11 +43,6 @@ some_mark f (Some m) x is = (m, refl)
 -- a whole design has a dimension
 pub axes_of : (d : Design) → IsWhole d → IsDimension d.dim
 axes_of d whole = subst IsDimension (sym whole.is_open.opens.axes) (dimension_is (d.body.items ++ d.tail.items))
-
-each_at : (P : Element → Type 0) (es : List Element) (n : ℕ) (e : Element) → AllByRecursion P es → slice_get es n ≡ Some e → P e
-each_at P [] n e each found = absurd (let f = found in cc)
-each_at P (x ∷ es) zero e each found = let same : x ≡ e = cc in subst P same each.0
-each_at P (x ∷ es) (suc n) e each found = each_at P es n e each.1 found
 
 taken : (r : Option Element) (b : List ℕ) → Some b ≡ option_map spell r → (e : Element) × (r ≡ Some e) × (b ≡ spell e)
 taken None b is = absurd (let f = is in cc)
