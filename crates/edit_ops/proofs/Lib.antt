@@ -15,3 +15,4 @@ pub mod Reopened
 pub mod Apart
 pub mod Listed
 pub mod Told
+pub mod Worked
