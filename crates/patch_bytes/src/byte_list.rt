@@ -29,6 +29,13 @@ impl ByteList {
         }
     }
 
+    /// The list of these bytes. It takes no memory, and copies nothing.
+    pub fn from_vec(bytes: Vec<u8>) -> Self
+        ensures { result ≡ bytes.items }
+    {
+        ByteList { kept: bytes }
+    }
+
     /// Adds `v` at the end. Where there is no memory for it, the list stays as it was.
     pub fn push(&mut self, v: u8) -> Result<(), AllocError>
         ensures ok { OnOk result (self.new ≡ self.old ++ v ∷ []) }
