@@ -33,8 +33,13 @@ rise_points (suc n) dim p end h =
     (rise_fields false dim 0 p (p + 4 * dim) (omega arith))
     (rise_points n dim (p + 4 * dim) end (omega arith))
 
+-- points stand behind the first four bytes, and where there is a range behind it
+abbrev first_place : Bool → ℕ
+first_place true = 36
+first_place false = 4
+
 -- the range, and then points that stand behind it
-rise_with : (spotted : Bool) (dim : ℕ) (points : Points) (end : ℕ) → dim ≤ 3 → 36 ≤ points.start → points_end dim points ≤ end → Rise 4 (spots_with spotted dim points) end
+rise_with : (spotted : Bool) (dim : ℕ) (points : Points) (end : ℕ) → dim ≤ 3 → first_place spotted ≤ points.start → points_end dim points ≤ end → Rise 4 (spots_with spotted dim points) end
 rise_with false dim points end few behind h = omega arith
 rise_with true dim points end few behind h =
     rise_on 4 points.start end (range_spots dim) (points_spots points.count dim points.start)
@@ -52,7 +57,7 @@ either_place : (t : Bool) (p q : ℕ) → 36 ≤ p → 36 ≤ q → 36 ≤ (if t
 either_place true p q h k = h
 either_place false p q h k = k
 
-points_behind : (class : Class) (dim kind : ℕ) (b : List ℕ) → 36 ≤ (points_in class dim kind b).start
+points_behind : (class : Class) (dim kind : ℕ) (b : List ℕ) → first_place (has_spots class) ≤ (points_in class dim kind b).start
 points_behind Class.Vertices dim kind b = either_behind (kind == 3) _ _ (omega arith) (omega arith)
 points_behind Class.Words dim kind b = either_place (dim == 2) _ _ (omega arith) (omega arith)
 points_behind Class.Counted dim kind b =

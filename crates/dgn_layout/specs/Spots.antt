@@ -47,6 +47,7 @@ points_in Class.Counted dim kind b =
     if kind == 2 then record { count = 1; start = cell_origin dim }
     else if kind == 7 then record { count = 1; start = node_origin dim }
     else record { count = 0; start = 40 }
+points_in Class.Silent dim kind b = record { count = 0; start = 4 }
 points_in other dim kind b = record { count = 0; start = 36 }
 
 -- whether elements of a class have spots: those of the classes vertices, words and counted

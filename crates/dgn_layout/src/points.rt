@@ -40,7 +40,8 @@ pub fn points_of<const DIM: usize>(class: Class, kind: u8, b: &[u8]) -> Points
         Class::Counted if kind == CELL => (1, if flat { 84 } else { 112 }),
         Class::Counted if kind == TEXT_NODE => (1, if flat { 62 } else { 74 }),
         Class::Counted => (0, 40),
-        _ => (0, 36),
+        Class::Run | Class::Floating | Class::Boxed => (0, 36),
+        Class::Silent => (0, 4),
     };
     Points { count, start }
 }
