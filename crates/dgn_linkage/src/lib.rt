@@ -17,6 +17,8 @@ pub mod laws;
 mod tests;
 pub mod types;
 
+pub use types::{Form, Link};
+
 /// The linkages of the attribute data `b`, in the order of its bytes. Nothing is copied and nothing
 /// allocated. Together they are exactly the bytes of `b`.
 ///
