@@ -118,7 +118,7 @@ values_side offset axis [] = refl
 values_side offset axis (x ∷ xs) = ap (λ l. x ∷ l) (values_side offset (axis + 1) xs)
 
 -- a corner's numbers are those on the file's axes
-values_corner : (dim : ℕ) (v : List ℤ) → values_in (corner_pieces dim v) ≡ take dim v
+pub values_corner : (dim : ℕ) (v : List ℤ) → values_in (corner_pieces dim v) ≡ take dim v
 values_corner dim v =
     values_in-append (side_by_side true 0 (take dim v)) (Kept (flat_map range_long_bytes (drop dim v)) ∷ [])
     ∙ append-nil (values_in (side_by_side true 0 (take dim v))) ∙ values_side true 0 (take dim v)
@@ -193,7 +193,7 @@ table_as Form.Node dim b = record { count = 1; start = node_origin dim }
 table_as Form.Cell dim b = record { count = 1; start = cell_origin dim }
 table_as Form.Header dim b = record { count = 0; start = 40 }
 table_as Form.Plain dim b = record { count = 0; start = 36 }
-table_as Form.Silent dim b = record { count = 0; start = 36 }
+table_as Form.Silent dim b = record { count = 0; start = 4 }
 
 -- the table of a class is that of the form within it
 table_in : (c : Class) (dim kind : ℕ) (b : List ℕ) → table_of c dim kind b ≡ table_as (form_in c kind) dim b

@@ -23,4 +23,8 @@ pub mod Moved
 pub mod Spotted
 pub mod Displaced
 pub mod Marks
+pub mod Widened
+pub mod Freed
 pub mod WorkedSpots
+pub mod Making
+pub mod WorkedMade

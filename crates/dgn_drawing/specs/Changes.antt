@@ -1,9 +1,12 @@
 -- Changes of one element. A change of the look gives the display part another colour, weight or style;
 -- an element with a silent body has no look, and stays. A mark sets the deleted bit. A displacement is
--- added to each point, and to the low and the high corner on the file's axes.
-use Rattle.std.specs.Prelude.{ℕ, ◌+◌, ◌*◌, Bool, true, List, [], ◌∷◌, ◌++◌, map, take, unwrap_or, ℤ, ◌+ℤ◌}
+-- added to each point, and to the low and the high corner on the file's axes. A wider range holds another
+-- range too, on the file's axes. A freed element has no bit C, so it belongs to no header before it.
+use Rattle.std.specs.Prelude.{ℕ, ◌+◌, ◌*◌, Bool, true, false, List, [], ◌∷◌, ◌++◌, map, take, drop, unwrap_or, ℤ, ◌+ℤ◌}
 use Rattle.std.specs.List.{list_all, flat_map}
+use Rattle.range_code.specs.declared.Box3.{Box3}
 use Rattle.range_code.specs.Plane.{is_on_plane}
+use Rattle.range_code.specs.Ranges.{least_corner, greatest_corner}
 use Rattle.dgn_drawing.specs.Values.{Displacement, LookChange}
 use Rattle.dgn_drawing.specs.Element.{Display, Parts, Line, Points, Text, Node, Cell, Header, Plain, Body, Silent, Shown, Element}
 
@@ -115,3 +118,47 @@ numbers_in dim (Shown display parts rest) = take dim display.low ++ (take dim di
 -- whether the displaced element lies on the design plane: each sum is one of its coordinates
 abbrev pub stays_on_plane : ℕ → Displacement → Element → Bool
 stays_on_plane dim by e = list_all is_on_plane (numbers_in dim (shift dim by e).body)
+
+-- the range of a display part
+abbrev pub range_in : Display → Box3
+range_in d = record { lo = d.low; hi = d.high }
+
+-- the display part with a range that holds this one too, on the file's axes: the lesser lows, the greater highs
+abbrev pub display_widened : ℕ → Box3 → Display → Display
+display_widened dim r d = record {
+  low = take dim (least_corner d.low r.lo) ++ drop dim d.low;
+  high = take dim (greatest_corner d.high r.hi) ++ drop dim d.high;
+  group = d.group;
+  index = d.index;
+  properties = d.properties;
+  style = d.style;
+  weight = d.weight;
+  color = d.color;
+}
+
+-- the body with the wider range
+abbrev pub body_widened : ℕ → Box3 → Body → Body
+body_widened dim r (Silent rest) = Silent rest
+body_widened dim r (Shown display parts rest) = Shown (display_widened dim r display) parts rest
+
+-- the element with the wider range, in a file of that dimension
+abbrev pub widen : ℕ → Box3 → Element → Element
+widen dim r e = record {
+  level = e.level;
+  bit6 = e.bit6;
+  cbit = e.cbit;
+  kind = e.kind;
+  deleted = e.deleted;
+  body = body_widened dim r e.body;
+}
+
+-- the element without bit C
+abbrev pub freed : Element → Element
+freed e = record {
+  level = e.level;
+  bit6 = e.bit6;
+  cbit = false;
+  kind = e.kind;
+  deleted = e.deleted;
+  body = e.body;
+}

@@ -1,5 +1,5 @@
 -- What holds of all well formed records and their spellings.
-use Rattle.std.specs.Prelude.{ℤ, ℕ, ◌≡◌, ◌-◌, ◌/◌, IsTrue, IsFalse, List, [], ◌∷◌, ◌++◌, drop, length, map}
+use Rattle.std.specs.Prelude.{ℤ, ℕ, ◌≡◌, ◌-◌, ◌/◌, IsTrue, IsFalse, false, List, [], ◌∷◌, ◌++◌, drop, length, map}
 use Rattle.elem_head.specs.Head.{head_of, symbology_of, properties_of}
 use Rattle.range_code.specs.Ranges.{range_of}
 use Rattle.body_vertex.specs.Points.{points_of}
@@ -8,15 +8,17 @@ use Rattle.group_head.specs.Headers.{total_at, name_at, origin_at}
 use Rattle.dgn_drawing.specs.Element.{Display, Parts, Line, Points, Text, Node, Cell, Header, Plain, Body, Silent, Shown, Element}
 use Rattle.patch_bytes.specs.Puts.{write}
 use Rattle.dgn_layout.specs.Classes.{class_of}
-use Rattle.dgn_layout.specs.Spots.{spots_of, has_spots, HoldsPoints, Rise}
-use Rattle.dgn_drawing.specs.Spelling.{second_byte, spell, size_of, body_end}
-use Rattle.dgn_drawing.specs.SpotNumbers.{value_at, sum_at, displaced_put}
-use Rattle.dgn_drawing.specs.WellFormed.{IsDimension, IsWellFormed, begins_with_mark}
+use Rattle.dgn_layout.specs.Spots.{spots_of, range_spots, has_spots, HoldsPoints, Rise}
+use Rattle.range_code.specs.declared.Box3.{Box3}
+use Rattle.dgn_drawing.specs.Spelling.{first_byte, second_byte, spell, size_of, body_end}
+use Rattle.dgn_drawing.specs.SpotNumbers.{value_at, sum_at, displaced_put, widened_put}
+use Rattle.dgn_drawing.specs.WellFormed.{IsDimension, IsPoint, IsWellFormed, begins_with_mark}
 use Rattle.dgn_drawing.specs.Reading.{has_bit_6, group_of, index_of, number_at, end_at, element_at}
-use Rattle.dgn_drawing.specs.Rows.{row_at, row_of}
+use Rattle.dgn_drawing.specs.Rows.{row_at, row_of, total_of}
 use Rattle.dgn_words.specs.Numbers.{put}
 use Rattle.dgn_drawing.specs.Values.{Displacement, LookChange, IsLook}
-use Rattle.dgn_drawing.specs.Changes.{look_changed, recolour, look_bytes, mark, shift, numbers_in, stays_on_plane}
+use Rattle.dgn_drawing.specs.Changes.{look_changed, recolour, look_bytes, mark, shift, numbers_in, stays_on_plane, widen, freed}
+use Rattle.dgn_drawing.specs.NewElements.{NewElement, IsNew, size_made, made}
 use Rattle.dgn_drawing.specs.Faults.{IsWhole, is_short, breaks_attribute_rule}
 
 -- well formed records of one dimension with one spelling are the same record
@@ -158,3 +160,33 @@ pub record IsMarkPut (dim : ℕ) (e : Element) : Type 0 where
 
 abbrev pub MarksAreOneByte : Type 0
 MarksAreOneByte = (dim : ℕ) (e : Element) → IsWellFormed dim e → ¬ (e.kind ≡ 127) → IsMarkPut dim e
+
+-- a shown record with a wider range: its spelling is the record's with the wider numbers put at the range spots,
+-- and it is well formed, as large, and nests as it did
+pub record IsWidenPut (dim : ℕ) (r : Box3) (e : Element) : Type 0 where
+  pub spelled : spell (widen dim r e) ≡ write (spell e) (map (widened_put r (spell e)) (range_spots dim))
+  pub good : IsWellFormed dim (widen dim r e)
+  pub row : row_of (widen dim r e) ≡ row_of e
+
+abbrev pub WideningsAreWider : Type 0
+WideningsAreWider =
+    (dim : ℕ) (r : Box3) (e : Element) (d : Display) (parts : Parts) (rest : List ℕ) → IsDimension dim
+    → IsPoint 3 r.lo → IsPoint 3 r.hi → IsWellFormed dim e → e.body ≡ Shown d parts rest → IsWidenPut dim r e
+
+-- a freed record: its spelling is the record's with byte 0 put anew, it is well formed and as large, and it nests
+-- as one without bit C
+pub record IsFreedPut (dim : ℕ) (e : Element) : Type 0 where
+  pub spelled : spell (freed e) ≡ write (spell e) (record { at = 0; bytes = first_byte (freed e) ∷ [] } ∷ [])
+  pub good : IsWellFormed dim (freed e)
+  pub row : row_of (freed e) ≡ record { size = size_of e; kind = e.kind; cbit = false; total = total_of e.body }
+
+abbrev pub FreedIsOneByte : Type 0
+FreedIsOneByte = (dim : ℕ) (e : Element) → IsWellFormed dim e → IsFreedPut dim e
+
+-- an element that is made of what its type keeps is well formed, and as large as the tables say
+pub record IsMade (new : NewElement) : Type 0 where
+  pub good : IsWellFormed new.axes (made new)
+  pub size : size_of (made new) ≡ size_made new.axes new.shape
+
+abbrev pub MadeElementsAreWellFormed : Type 0
+MadeElementsAreWellFormed = (new : NewElement) → IsNew new → IsMade new

@@ -9,6 +9,7 @@ pub mod Rows
 pub mod Opening
 pub mod Items
 pub mod Values
+pub mod NewElements
 pub mod Changes
 pub mod SpotNumbers
 pub mod Nesting

@@ -1,5 +1,5 @@
--- The numbers of nested elements: their spans, depths, parents and knots, which are live, and which are broken.
-use Rattle.std.specs.Prelude.{ℕ, zero, suc, ◌≡◌, ◌+◌, ◌-◌, ◌==◌, ◌&&◌, ◌||◌, not, Bool, true, false, if◌then◌else◌, is_some, Option, Some, None, option_map, List, [], ◌∷◌, ◌++◌, length, slice_get}
+-- The numbers of nested elements: their spans, depths, parents, headers, roots and knots, and which are broken.
+use Rattle.std.specs.Prelude.{ℕ, zero, suc, ◌+◌, ◌-◌, ◌==◌, ◌&&◌, ◌||◌, nat_lt, not, Bool, true, false, if◌then◌else◌, is_some, Option, Some, None, option_map, List, [], ◌∷◌, ◌++◌, length, slice_get}
 use Rattle.dgn_drawing.specs.declared.row.Row.{Row}
 use Rattle.dgn_drawing.specs.Nesting.{Knot, Loose, Forest, NoTree, Tree, flat, forest}
 
@@ -67,15 +67,23 @@ first_from test n (suc count) = if test n then Some n else first_from test (n + 
 abbrev pub first_broken_of : {A : Type 0} → (A → Row) → List A → ℕ → Option (Option ℕ)
 first_broken_of row es n = option_map (λ (m : Mark). first_from (is_broken row es) n (m.end - n)) (mark_of row es n)
 
--- the tree of root n is sound where it holds no broken number
-abbrev pub IsSound : {A : Type 0} → (A → Row) → List A → ℕ → Type 0
-IsSound row es n = first_broken_of row es n ≡ Some None
+-- the numbers of the headers above element n of trees that are numbered from `first` on, the root's first
+abbrev pub headers_in : {A : Type 0} → ℕ → ℕ → Forest A → List ℕ
+headers_in n first NoTree = []
+headers_in zero first (Tree knot h below behind) = []
+headers_in (suc n) first (Tree knot h below behind) =
+    if nat_lt n (length (flat below)) then first ∷ headers_in n (first + 1) below
+    else headers_in (n - length (flat below)) (end_of first below) behind
 
--- which elements are live: neither they nor a header above them is marked deleted
-abbrev pub live : {A : Type 0} → (A → Bool) → Bool → Forest A → List Bool
-live deleted above NoTree = []
-live deleted above (Tree knot h below behind) =
-    (above && not (deleted h)) ∷ (live deleted (above && not (deleted h)) below ++ live deleted above behind)
+-- the numbers of the headers above element n
+abbrev pub headers_of : {A : Type 0} → (A → Row) → List A → ℕ → List ℕ
+headers_of row es n = headers_in n 0 (forest row es)
 
-abbrev pub live_of : {A : Type 0} → (A → Bool) → Forest A → List Bool
-live_of deleted f = live deleted true f
+-- the first of some numbers, or another one where there is none
+abbrev pub first_or : ℕ → List ℕ → ℕ
+first_or n [] = n
+first_or n (m ∷ ms) = m
+
+-- the root of the tree that holds element n
+abbrev pub root_of : {A : Type 0} → (A → Row) → List A → ℕ → Option ℕ
+root_of row es n = if nat_lt n (length es) then Some (first_or n (headers_of row es n)) else None

@@ -1,6 +1,8 @@
--- The numbers at the spots of an element's bytes, and what a displacement puts there.
-use Rattle.std.specs.Prelude.{ℕ, if◌then◌else◌, List, ℤ, ◌+ℤ◌}
+-- The numbers at the spots of an element's bytes, and what a displacement and a wider range put there.
+use Rattle.std.specs.Prelude.{ℕ, nat_lt, if◌then◌else◌, List, ℤ, ◌+ℤ◌}
+use Rattle.std.specs.Int.{int_min, int_max}
 use Rattle.dgn_words.specs.Numbers.{long_at, range_long_at, long_bytes, range_long_bytes}
+use Rattle.range_code.specs.declared.Box3.{Box3}
 use Rattle.range_code.specs.Ranges.{on_axis}
 use Rattle.dgn_layout.specs.declared.spot.Spot.{Spot}
 use Rattle.patch_bytes.specs.Puts.{Put}
@@ -21,3 +23,12 @@ number_bytes s v = if s.offset then range_long_bytes v else long_bytes v
 -- what a displacement puts at a spot of the bytes b
 abbrev pub displaced_put : Displacement → List ℕ → Spot → Put
 displaced_put by b s = record { at = s.at; bytes = number_bytes s (sum_at by b s) }
+
+-- the number of a range spot, made wider by a range: the lesser of the two in the low corner, which stands before
+-- byte 16, and else the greater
+abbrev pub wider : Box3 → Spot → ℤ → ℤ
+wider r s v = if nat_lt s.at 16 then int_min v (on_axis r.lo s.axis) else int_max v (on_axis r.hi s.axis)
+
+-- what a wider range puts at a range spot of the bytes b
+abbrev pub widened_put : Box3 → List ℕ → Spot → Put
+widened_put r b s = record { at = s.at; bytes = number_bytes s (wider r s (value_at b s)) }

@@ -1,6 +1,6 @@
 //! What holds of all elements. Each call does nothing; its contract is the law.
 
-ghost use Rattle.dgn_drawing.specs.Laws.{OneSpellingOneRecord, NoSpellingBeginsAnother, RecordsSitAtTheirPlaces, BytesAreRecords, RecordsAreRead, LooksAreTwoBytes, SilentRecordsStay, SpotsSitAtTheNumbers, DisplacementsAreSums, MarksAreOneByte};
+ghost use Rattle.dgn_drawing.specs.Laws.{OneSpellingOneRecord, NoSpellingBeginsAnother, RecordsSitAtTheirPlaces, BytesAreRecords, RecordsAreRead, LooksAreTwoBytes, SilentRecordsStay, SpotsSitAtTheNumbers, DisplacementsAreSums, MarksAreOneByte, WideningsAreWider, FreedIsOneByte, MadeElementsAreWellFormed};
 
 /// One spelling, one record: in one dimension two well formed records with one spelling are equal,
 /// and no spelling is a proper prefix of another.
@@ -42,4 +42,23 @@ pub fn displacements_are_sums()
 /// every other byte of the element. It stays well formed, as large, and nests as it did.
 pub fn marks_are_one_byte()
     ensures { MarksAreOneByte }
+{}
+
+/// Widenings are wider: the range of a shown record that is widened by another range is the wider numbers
+/// put at the range spots, and every other byte of the element stays. It stays well formed, as large, and
+/// nests as it did.
+pub fn widenings_are_wider()
+    ensures { WideningsAreWider }
+{}
+
+/// Freed is one byte: an element without bit C is the element with byte 0 written anew. It stays well
+/// formed and as large, and nests as one that belongs to no header before it.
+pub fn freed_is_one_byte()
+    ensures { FreedIsOneByte }
+{}
+
+/// Made elements are well formed: an element that is made of what the type of an appended one keeps is well
+/// formed in its own dimension, and as large as the format's tables say.
+pub fn made_elements_are_well_formed()
+    ensures { MadeElementsAreWellFormed }
 {}

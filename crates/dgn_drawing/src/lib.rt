@@ -8,6 +8,8 @@ mod form;
 mod items;
 pub mod laws;
 mod mask;
+mod new_element;
+mod new_shape;
 mod row;
 mod shift;
 mod symb_change;
@@ -18,9 +20,12 @@ pub use check::{check_elem, row_of};
 pub use edit::Edit;
 pub use items::item;
 pub use mask::Mask;
+pub use new_element::New;
+pub use new_shape::NewShape;
 pub use row::Row;
 pub use shift::Shift;
 pub use symb_change::SymbChange;
+pub use types::ItemBody;
 
 #[cfg(test)]
 mod tests;

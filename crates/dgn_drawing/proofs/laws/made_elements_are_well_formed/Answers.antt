@@ -1,0 +1,5 @@
+use Rattle.dgn_drawing.proofs.Making.{made_good}
+use Rattle.dgn_drawing.proofs.laws.made_elements_are_well_formed.Goals as goal
+
+pub returns : goal.returns
+returns c = made_good

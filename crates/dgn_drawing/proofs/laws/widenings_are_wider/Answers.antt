@@ -1,0 +1,5 @@
+use Rattle.dgn_drawing.proofs.Widened.{widen_put}
+use Rattle.dgn_drawing.proofs.laws.widenings_are_wider.Goals as goal
+
+pub returns : goal.returns
+returns c = widen_put
