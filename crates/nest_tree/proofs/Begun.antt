@@ -60,15 +60,20 @@ apart_begun rows ends ends_new some none is =
     let e = one_of ends ends_new 1 none is in
     subst (λ (x : List ℕ). drop (length x) (marks_in rows) ≡ marks (nest itself All (drop (length x) rows)) (length x) 0 None) (sym e) (first_apart rows some)
 
--- what is kept of all elements
-module _ (rows : List Row) (sums ends : List ℕ) (links : List Link) (kept : IsNest rows sums ends links) where
-  all_marks : take (length rows) (marks_in rows) ≡ marks_in rows
-  all_marks = take_all (length rows) (marks_in rows) (omega (arith, length-marks_in rows))
+-- the marks of as many elements as there are are the marks of all
+all_marks : (rows : List Row) → take (length rows) (marks_in rows) ≡ marks_in rows
+all_marks rows = take_all (length rows) (marks_in rows) (omega (arith, length-marks_in rows))
 
+-- the links of all elements
+pub all_links : (rows : List Row) (ends : List ℕ) (links : List Link) → ArePlaces rows (length rows) ends links → links ≡ map link_of (marks_in rows)
+all_links rows ends links places = places.links_are ∙ ap (map link_of) (all_marks rows)
+
+-- what is kept of all elements
+module _ (rows : List Row) (sums ends : List ℕ) (links : List Link) (broken : List ℕ) (kept : IsNest rows sums ends links broken) where
   pub ends_kept : (n : ℕ) → slice_get ends n ≡ option_map (λ (m : Mark). m.end) (slice_get (marks_in rows) n)
   ends_kept n =
-      ap (λ (l : List ℕ). slice_get l n) (kept.places.ends_are ∙ ap (map (λ (m : Mark). m.end)) all_marks) ∙ slice_get-map (λ (m : Mark). m.end) (marks_in rows) n
+      ap (λ (l : List ℕ). slice_get l n) (kept.places.ends_are ∙ ap (map (λ (m : Mark). m.end)) (all_marks rows)) ∙ slice_get-map (λ (m : Mark). m.end) (marks_in rows) n
 
   pub links_kept : (n : ℕ) → slice_get links n ≡ option_map link_of (slice_get (marks_in rows) n)
   links_kept n =
-      ap (λ (l : List Link). slice_get l n) (kept.places.links_are ∙ ap (map link_of) all_marks) ∙ slice_get-map link_of (marks_in rows) n
+      ap (λ (l : List Link). slice_get l n) (all_links rows ends links kept.places) ∙ slice_get-map link_of (marks_in rows) n

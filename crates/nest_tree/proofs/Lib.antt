@@ -9,6 +9,7 @@ pub mod Summed
 pub mod Shaped
 pub mod Enters
 pub mod Stacks
+pub mod Climbing
 pub mod Placed
 mod Worked
 pub mod Begun
@@ -16,5 +17,6 @@ pub mod Numbered
 pub mod Least
 pub mod Deep
 pub mod Told
+pub mod Passed
 pub mod Elements
 pub mod Nestable

@@ -1,5 +1,5 @@
 -- What a look-up tells, from what is kept of an element.
-use Rattle.std.proofs.Common.{◌≡◌, ℕ, zero, suc, ◌≤◌, ◌<◌, List, [], ◌∷◌, length, refl, sym, ap, ◌∙◌, subst, arith, true, false}
+use Rattle.std.proofs.Common.{◌≡◌, ℕ, zero, suc, ◌≤◌, ◌<◌, List, [], ◌∷◌, length, refl, sym, ap, ◌∙◌, subst, arith, true}
 use Rattle.std.specs.Prelude.{Option, Some, None, slice_get, option_map, IsNone, ◌↔◌, Bool, ◌||◌, ◌&&◌, ◌==◌, not, is_some}
 use Rattle.std.proofs.lemmas.Option.{slice_get_within, slice_get-get_or}
 use Rattle.std.proofs.lemmas.Bool.{cases_lt, both_ways}
@@ -17,7 +17,7 @@ use Rattle.nest_tree.proofs.Placed.{no_mark}
 use Rattle.nest_tree.proofs.Deep.{depths_low}
 use Rattle.std.specs.List.{AllByRecursion}
 
-found_of : {B : Type 0} (f : Mark → B) (o : Option Mark) (b : B) → Some b ≡ option_map f o → (m : Mark) × (o ≡ Some m) × (b ≡ f m)
+pub found_of : {B : Type 0} (f : Mark → B) (o : Option Mark) (b : B) → Some b ≡ option_map f o → (m : Mark) × (o ≡ Some m) × (b ≡ f m)
 found_of f None b is = absurd (let e = is in cc)
 found_of f (Some m) b is = (m, refl, cc)
 
@@ -63,10 +63,6 @@ same_loose nesting.Group = refl
 same_loose nesting.Run = refl
 same_loose nesting.Loose = refl
 
-rowless : (n : ℕ) (o : Option Mark) → is_broken_as itself n o None ≡ false
-rowless n None = refl
-rowless n (Some m) = refl
-
 -- whether an element is broken
 module _ (rows : List Row) (n : ℕ) where
   pub broken_is : (link : Link) (row : Row) → Some link ≡ option_map link_of (slice_get (marks_in rows) n) → Some row ≡ slice_get rows n → broken_told n link row ≡ is_broken itself rows n
@@ -78,13 +74,6 @@ module _ (rows : List Row) (n : ℕ) where
       ∙ ap (λ (b : Bool). b || (not (n == 0) && not (is_some m.0.parent) && row.cbit)) (same_loose m.0.knot)
       ∙ ap (λ (o : Option Mark). is_broken_as itself n o (Some row)) (sym place)
       ∙ ap (is_broken_as itself n (mark_of itself rows n)) here
-
-  pub unmarked_is : None ≡ option_map link_of (slice_get (marks_in rows) n) → false ≡ is_broken itself rows n
-  unfolding marks_in
-  unmarked_is is = let none : mark_of itself rows n ≡ None = gone_of link_of (slice_get (marks_in rows) n) is in ap (λ (o : Option Mark). is_broken_as itself n o (slice_get rows n)) (sym none)
-
-  pub rowless_is : None ≡ slice_get rows n → false ≡ is_broken itself rows n
-  rowless_is none = sym (rowless n (mark_of itself rows n)) ∙ ap (is_broken_as itself n (mark_of itself rows n)) none
 
 -- an element doesn't lie deep
 low_at : (l : List Mark) (n : ℕ) (m : Mark) → AllByRecursion (λ (x : Mark). x.depth ≤ 3278) l → slice_get l n ≡ Some m → m.depth ≤ 3278

@@ -7,18 +7,19 @@ use Rattle.nest_tree.specs.Sums.{weights, sums_from}
 use Rattle.nest_tree.specs.Shapes.{IsRow}
 use Rattle.nest_tree.specs.Depths.{IsWordTotal}
 use Rattle.nest_tree.specs.Places.{ArePlaces}
+use Rattle.nest_tree.specs.Passing.{broken_in}
 
 -- a nesting: the rows of its elements, and how many more it has room for
 pub record Nested : Type 0 where
   pub rows : List Row
   pub spare : ℕ
 
--- what it is with rows, and that room in each of its four lists
+-- what it is with rows, and that room in the four lists that have a place for each element
 abbrev pub nested_of : List Row → ℕ → ℕ → ℕ → ℕ → Nested
 nested_of rows a b c d = record { rows = rows; spare = min (min a b) (min c d) }
 
--- what it keeps: rows of elements, their sums and their places
-pub record IsNest (rows : List Row) (sums ends : List ℕ) (links : List Link) : Type 0 where
+-- what it keeps: rows of elements, their sums and their places, and the broken numbers
+pub record IsNest (rows : List Row) (sums ends : List ℕ) (links : List Link) (broken : List ℕ) : Type 0 where
   pub some : 0 < length rows
   pub few : length rows < 4294967295
   pub each : AllByRecursion IsRow rows
@@ -26,3 +27,4 @@ pub record IsNest (rows : List Row) (sums ends : List ℕ) (links : List Link) :
   pub light : weights rows ≤ 4294967295 * length rows
   pub are_sums : sums ≡ sums_from 0 rows
   pub places : ArePlaces rows (length rows) ends links
+  pub are_broken : broken ≡ broken_in rows

@@ -1,6 +1,7 @@
 //! Nests the elements of a drawing as trees, by their rows alone.
 #![tactic(auto)]
 
+mod broken;
 mod knot;
 pub mod laws;
 mod link;
@@ -10,9 +11,9 @@ mod open_list;
 mod passes;
 mod shape;
 mod sums;
+pub mod types;
 
 pub use knot::Knot;
-pub use nested::Nest;
 pub use nesting::nest;
 
 #[cfg(test)]

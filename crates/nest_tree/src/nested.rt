@@ -1,10 +1,11 @@
-ghost use Rattle.std.specs.Prelude.{◌≡◌, ◌≤◌, ◌-◌, ◌↔◌, length, slice_get, option_map, vec_len, vec_capacity, IsNone, IfSome};
+ghost use Rattle.std.specs.Prelude.{◌≡◌, ◌≤◌, ◌-◌, ◌↔◌, nat_lt, length, slice_get, option_map, vec_len, vec_capacity, IsNone, IfSome};
 ghost use Rattle.std.specs.List.{AllByRecursion};
 ghost use Rattle.nest_tree.specs.Depths.{IsSized, IsWordTotal};
 ghost use Rattle.dgn_drawing.specs.Nesting.{itself};
-ghost use Rattle.dgn_drawing.specs.Numbering.{span_of, depth_of, parent_of, knot_of, is_broken, first_broken_of};
+ghost use Rattle.dgn_drawing.specs.Numbering.{span_of, depth_of, parent_of, knot_of, root_of, first_broken_of};
 ghost use Rattle.nest_tree.specs.Shapes.{knot_told};
-ghost use Rattle.nest_tree.specs.Places.{marks_in, link_of, end_told, broken_told};
+ghost use Rattle.nest_tree.specs.Places.{marks_in, link_of, end_told};
+ghost use Rattle.nest_tree.specs.Passing.{broken_in, first_at, if_below};
 ghost use Rattle.nest_tree.specs.Nested.{Nested, nested_of, IsNest};
 
 use crate::knot::Knot;
@@ -23,6 +24,8 @@ pub struct Nest {
     pub(crate) ends: Vec<u32>,
     // What else is kept of each element.
     pub(crate) links: Vec<Link>,
+    // The numbers of all broken elements.
+    pub(crate) broken: Vec<u32>,
 }
 
 impl Model for Nest {
@@ -30,22 +33,24 @@ impl Model for Nest {
 
     ghost view = { λ s. nested_of s.rows.items (vec_capacity s.rows - vec_len s.rows) (vec_capacity s.sums - vec_len s.sums) (vec_capacity s.ends - vec_len s.ends) (vec_capacity s.links - vec_len s.links) };
 
-    ghost invariant = { λ s. IsNest s.rows.items s.sums.items s.ends.items s.links.items };
+    ghost invariant = { λ s. IsNest s.rows.items s.sums.items s.ends.items s.links.items s.broken.items };
 }
 
-// What stands at number `n` of a list.
-fn entry<T: Copy>(list: &[T], n: u32) -> Option<T>
+// What stands at place `n` of a list.
+fn entry<T: Copy>(list: &[T], n: usize) -> Option<T>
     ensures { result ≡ slice_get list.now n }
 {
-    list.get(n as usize).copied()
+    list.get(n).copied()
 }
 
-// Whether element `n` is broken, by what is kept of it.
-fn is_broken_as(n: u32, link: Link, row: Row) -> bool
-    ensures { result ≡ broken_told n link row }
+// That number, where it is below `end`.
+fn if_below(number: Option<u32>, end: u32) -> Option<u32>
+    ensures { result ≡ if_below end number }
 {
-    let orphan = n != 0 && link.parent.is_none() && row.cbit;
-    matches!(link.knot, Knot::Loose) || orphan
+    match number {
+        Some(m) if m < end => Some(m),
+        _ => None,
+    }
 }
 
 impl Nest {
@@ -54,14 +59,14 @@ impl Nest {
         ensures link { result ≡ option_map link_of (slice_get (marks_in self.now.rows) n) }
         ensures words { AllByRecursion IsWordTotal self.now.rows }
     {
-        entry(&self.links, n)
+        entry(&self.links, n as usize)
     }
 
     // The number behind the last element below element `n`, where there is one.
     fn end(&self, n: u32) -> Option<u32>
         ensures { result ≡ option_map end_told (slice_get (marks_in self.now.rows) n) }
     {
-        entry(&self.ends, n)
+        entry(&self.ends, n as usize)
     }
 
     /// The span of element `n`: its number, and the number behind the last element below it. None
@@ -94,6 +99,20 @@ impl Nest {
         Some(link.parent)
     }
 
+    /// The root of the tree that holds element `n`. None exactly for an unknown number.
+    pub fn root(&self, n: u32) -> Option<u32>
+        ensures none { IsNone result ↔ (length self.now.rows ≤ n) }
+        ensures root { result ≡ root_of itself self.now.rows n }
+    {
+        let mut header = self.parent(n)?;
+        let mut root = n;
+        'up: while let Some(above) = header {
+            root = above;
+            header = self.parent(above)?;
+        }
+        Some(root)
+    }
+
     /// What element `n` is in its tree. None exactly for an unknown number.
     pub fn knot(&self, n: u32) -> Option<Knot>
         ensures none { IsNone result ↔ (length self.now.rows ≤ n) }
@@ -103,17 +122,16 @@ impl Nest {
         Some(link.knot)
     }
 
-    // Whether element `n` is a loose header or an orphan.
-    fn is_broken(&self, n: u32) -> bool
-        ensures { result ≡ is_broken itself self.now.rows n }
+    // The least broken number that isn't below `n`, where there is one.
+    fn broken_from(&self, n: u32) -> Option<u32>
+        ensures { result ≡ first_at n (broken_in self.now.rows) }
     {
-        let Some(link) = self.link(n) else {
-            return false;
-        };
-        match entry(&self.rows, n) {
-            Some(row) => is_broken_as(n, link, row),
-            None => false,
-        }
+        let below = self.broken.partition_point(
+            |m: &u32| -> bool
+                ensures { result ≡ nat_lt m.now n }
+            { *m < n },
+        );
+        entry(&self.broken, below)
     }
 
     /// The least broken number in the span of element `n`, where there is one. Broken are the loose
@@ -123,12 +141,7 @@ impl Nest {
         ensures none { IsNone result ↔ (length self.now.rows ≤ n) }
         ensures first { result ≡ first_broken_of itself self.now.rows n }
     {
-        let (first, end) = self.span(n)?;
-        for m in first..end {
-            if self.is_broken(m) {
-                return Some(Some(m));
-            }
-        }
-        Some(None)
+        let end = self.end(n)?;
+        Some(if_below(self.broken_from(n), end))
     }
 }

@@ -4,6 +4,7 @@ ghost use Rattle.std.specs.Prelude.{◌≡◌, ◌<◌, length, IfOk};
 ghost use Rattle.std.specs.List.{AllByRecursion};
 ghost use Rattle.nest_tree.specs.Shapes.{IsRow};
 
+use crate::broken::broken_numbers;
 use crate::knot::Knot;
 use crate::link::Link;
 use crate::nested::Nest;
@@ -33,10 +34,12 @@ pub fn nest(alloc: Global, rows: &[Row]) -> Result<Nest, AllocError>
         knot: Knot::Leaf,
     })?;
     read_on(rows, &sums, &mut ends, &mut links);
+    let broken = broken_numbers(alloc, rows, &links)?;
     Ok(Nest {
         rows: kept,
         sums,
         ends,
         links,
+        broken,
     })
 }

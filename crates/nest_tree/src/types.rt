@@ -1,0 +1,3 @@
+//! The nesting of a drawing.
+
+pub use crate::nested::Nest;
