@@ -1,3 +1,4 @@
+mod Built
 mod FirstFault
 mod InOrder
 mod Masks

@@ -4,4 +4,5 @@ pub mod Numbers
 pub mod Levels
 pub mod Grammar
 pub mod Script
+pub mod Built
 pub mod Laws

@@ -1,5 +1,7 @@
 ghost use Rattle.std.specs.Prelude.{◌≡◌, ◌≤◌, length, Ok, IfOk, IfErr};
+ghost use Rattle.std.specs.List.{AllByRecursion};
 ghost use Rattle.edit_script.specs.Script.{commands_of, Tells};
+ghost use Rattle.edit_script.specs.Built.{IsBuilt};
 
 use crate::command::Command;
 use crate::fault::ScriptFault;
@@ -15,6 +17,7 @@ use std::alloc::Global;
 pub fn read_script(alloc: Global, bytes: &[u8]) -> Result<Vec<Command>, ScriptFault>
     requires { length bytes.now ≤ 1048576 }
     ensures commands { IfOk result (λ v. commands_of bytes.now ≡ Ok v.items) }
+    ensures built { IfOk result (λ v. AllByRecursion IsBuilt v.items) }
     ensures fault { IfErr result (Tells bytes.now) }
 {
     let mut commands = Vec::new(alloc);

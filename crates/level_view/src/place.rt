@@ -6,7 +6,8 @@ ghost use Rattle.elem_index.specs.Design.{elements, IsWhole};
 ghost use Rattle.level_view.specs.Back.{IsPlace};
 
 use elem_index::Design;
-use nest_tree::{Knot, Nest};
+use nest_tree::Knot;
+use nest_tree::types::Nest;
 
 // An element at its place in the drawing.
 #[derive(Clone, Copy, Drop)]

@@ -12,7 +12,7 @@ use crate::place::place_of;
 use dgn_drawing::Mask;
 use dgn_drawing::types::Item;
 use elem_index::Design;
-use nest_tree::Nest;
+use nest_tree::types::Nest;
 use std::alloc::{AllocError, Global};
 
 /// The items that the display shows of the drawing `d` under `mask`: those of all roots, in file order.

@@ -1,5 +1,8 @@
-use Rattle.std.proofs.Common.{◌≡◌, ◌∷◌, [], ◌++◌, arith}
+use Rattle.std.proofs.Common.{◌≡◌, ◌∷◌, [], ◌++◌, Ok, arith, rules}
 use Rattle.std.proofs.lemmas.Grind.{common_steps}
+use Rattle.edit_script.specs.Lines.{lines_of}
+use Rattle.edit_script.specs.Script.{commands_of}
+use Rattle.edit_script.proofs.Built.{are_built}
 use Rattle.edit_script.proofs.InOrder.{passes, keeps}
 use Rattle.edit_script.proofs.script.read_script.Goals as goal
 use Rattle.edit_script.proofs.script.read_script.Goals.{in-Nothing, in-Asks+in_ok-map_err-in-Asks}
@@ -18,3 +21,8 @@ lines-preserved c =
             fits = omega (arith, c.in-Some.ensures.shorter, c.lines.invariant.fits);
           }
     ]
+
+pub returns-clause-built : goal.returns-clause-built
+returns-clause-built c =
+    let found : commands_of c.args.bytes.now ≡ Ok c.lines.commands.items = search rules in
+    are_built 1 (lines_of c.args.bytes.now) c.lines.commands.items found
