@@ -1,37 +1,38 @@
--- What an edit puts into its tree makes the bytes of the edited drawing.
-use Rattle.std.proofs.Common.{◌≡◌, ℕ, ◌+◌, ◌<◌, List, [], ◌∷◌, ◌++◌, length, map, take, refl, sym, ap, ◌∙◌, subst, arith}
+-- What an edit puts into its part and into the headers above it makes the bytes of the edited drawing.
+use Rattle.std.proofs.Common.{◌≡◌, ℕ, ◌+◌, ◌<◌, List, [], ◌∷◌, ◌++◌, length, map, take, false, refl, sym, ap, ◌∙◌, subst, arith}
+use Rattle.std.specs.Prelude.{Option, Some, slice_get}
 use Rattle.std.specs.List.{AllByRecursion}
-use Rattle.std.proofs.lemmas.Grind.{flat_map-append}
-use Rattle.std.proofs.lemmas.List.{append-nil, take_at}
+use Rattle.std.proofs.lemmas.List.{map-append}
 use Rattle.patch_bytes.specs.Puts.{Put, old_of}
+use Rattle.dgn_layout.specs.Classes.{class_of, is_silent}
 use Rattle.elem_index.specs.Offsets.{offset_of}
+use Rattle.elem_index.proofs.Places.{each_at}
+use Rattle.nest_tree.proofs.Unfolded.{flat-forest}
 use Rattle.dgn_drawing.specs.declared.edit.Edit.{Edit}
 use Rattle.dgn_drawing.specs.Element.{Element}
 use Rattle.dgn_drawing.specs.Spelling.{spell, spelling}
 use Rattle.dgn_drawing.specs.WellFormed.{IsDimension, IsWellFormed}
 use Rattle.dgn_drawing.specs.Rows.{row_of}
-use Rattle.dgn_drawing.specs.Nesting.{Forest, flat, forest}
+use Rattle.dgn_drawing.specs.Nesting.{flat, forest}
 use Rattle.dgn_drawing.specs.Opening.{Opens}
 use Rattle.dgn_drawing.proofs.Opening.{dimension_is}
-use Rattle.edit_ops.specs.Trees.{tree_at, live_map, live_tree}
-use Rattle.edit_ops.specs.Causes.{target_of}
-use Rattle.edit_ops.specs.Applying.{change_of, changed_forest, IsEdit}
-use Rattle.edit_ops.specs.Fields.{edited_fields, filled}
-use Rattle.edit_ops.specs.Written.{live_puts, IsReady}
-use Rattle.edit_ops.proofs.Placed.{placed}
-use Rattle.edit_ops.proofs.Standing.{live_each}
-use Rattle.edit_ops.proofs.Turned.{Turns, turns_none, turns_then, turned_reads, whole_turned, whole_span}
-use Rattle.edit_ops.proofs.Putting.{field_of, IsPut, element_put, all_parts, turns_as, forest_turned, fields_put}
+use Rattle.edit_ops.specs.Trees.{tree_at, live_map, live_tree, above_tree}
+use Rattle.edit_ops.specs.Applying.{change_of, above_change, altered, IsEdit}
+use Rattle.edit_ops.specs.Fields.{Field, above_fields, part_fields, filled}
+use Rattle.edit_ops.specs.Written.{above_puts_at, above_puts, live_puts, part_puts, IsReady}
+use Rattle.edit_ops.proofs.Readable.{is_shown}
+use Rattle.edit_ops.proofs.Headed.{headers_read}
+use Rattle.edit_ops.proofs.Standing.{tree_each, live_tree_each, above_tree_each}
+use Rattle.edit_ops.proofs.Turned.{Turns, turned_reads, whole_turned, whole_span}
+use Rattle.edit_ops.proofs.Putting.{field_of, IsPut, element_put, turns_as, forest_turned, fields_put}
+use Rattle.edit_ops.proofs.Holding.{IsAbovePut, above_put, above_fields_put}
+use Rattle.edit_ops.proofs.Exchanged.{above_turned}
 
 -- what a text has where puts were laid fills their fields
 filled_reads : (text : List ℕ) (ps : List Put) → map (old_of text) ps ≡ filled text (map field_of ps)
 unfolding old_of
 filled_reads text [] = refl
 filled_reads text (p ∷ ps) = ap (λ (qs : List Put). old_of text p ∷ qs) (filled_reads text ps)
-
--- elements in three parts
-spelled_three : (a b c : List Element) → spelling a ++ (spelling b ++ spelling c) ≡ spelling (a ++ (b ++ c))
-spelled_three a b c = ap (λ (z : List ℕ). spelling a ++ z) (sym (flat_map-append spell b c)) ∙ sym (flat_map-append spell a (b ++ c))
 
 -- what holds of each where it follows from what does
 pub all_so : {X : Type 0} (P Q : X → Type 0) → ((x : X) → P x → Q x) → (xs : List X) → AllByRecursion P xs → AllByRecursion Q xs
@@ -43,113 +44,79 @@ pub all_both : {X : Type 0} (P Q R : X → Type 0) → ((x : X) → P x → Q x 
 all_both P Q R step [] p q = tt
 all_both P Q R step (x ∷ xs) p q = (step x p.0 q.0, all_both P Q R step xs p.1 q.1)
 
--- the puts of an edit of a drawing: they turn its bytes into those of the edited one, are what these have in the
--- edited fields, and are right for each live element
-pub record IsWritten (dim : ℕ) (es : List Element) (e : Edit) : Type 0 where
-  pub turned : Turns 0 (spelling es) (live_puts dim e (live_tree es (target_of e))) (spelling (flat (changed_forest dim es e)))
-  pub fields : map field_of (live_puts dim e (live_tree es (target_of e))) ≡ edited_fields dim es e
-  pub puts : live_puts dim e (live_tree es (target_of e)) ≡ filled (spelling (flat (changed_forest dim es e))) (edited_fields dim es e)
-  pub each : AllByRecursion (λ v. IsPut dim e v.element) (live_tree es (target_of e))
+-- the puts of an edit of the part of element n: they turn the bytes of the drawing into those of the altered one,
+-- are what these have in the fields of the edit, and are right for each header and each live element
+pub record IsWritten (dim : ℕ) (es : List Element) (e : Edit) (n : ℕ) : Type 0 where
+  pub turned : Turns 0 (spelling es) (part_puts dim es e n) (spelling (flat (altered dim es e n)))
+  pub fields : map field_of (part_puts dim es e n) ≡ part_fields dim es e n
+  pub puts : part_puts dim es e n ≡ filled (spelling (flat (altered dim es e n))) (part_fields dim es e n)
+  pub each : AllByRecursion (λ v. IsPut dim e v.element) (live_tree es n)
+  pub each_above : AllByRecursion (λ v. IsAbovePut dim e (slice_get es n) v.element) (above_tree es n)
 
 module _ (dim : ℕ) (axes : IsDimension dim) (es : List Element) (e : Edit) (fits : IsEdit e) (each : AllByRecursion (IsWellFormed dim) es) where
-  module _ (known : target_of e < length es) (ready : AllByRecursion (λ v. IsReady dim e v.element) (live_tree es (target_of e))) where
-    -- the tree that is edited, its place, and what it becomes
-    tree : Forest Element
-    tree = tree_at (target_of e) (forest row_of es)
+  -- the live elements of a part are well formed
+  good_live : (n : ℕ) → AllByRecursion (λ v. IsWellFormed dim v.element) (live_tree es n)
+  good_live n = live_tree_each (IsWellFormed dim) es n each
 
-    place : ℕ
-    place = offset_of es (target_of e)
+  -- and so are all elements of trees
+  good_trees : AllByRecursion (IsWellFormed dim) (flat (forest row_of es))
+  good_trees = subst (AllByRecursion (IsWellFormed dim)) (sym (flat-forest row_of es)) each
 
-    changed : Forest Element
-    changed = live_map (λ member. member.deleted) (change_of dim e) (tree_at (target_of e) (forest row_of es))
+  -- what is put into the live elements of a part against which nothing stands
+  pub live_put : (n : ℕ) → AllByRecursion (λ v. IsReady dim e v.element) (live_tree es n) → AllByRecursion (λ v. IsPut dim e v.element) (live_tree es n)
+  live_put n ready =
+      all_both (λ v. IsWellFormed dim v.element) (λ v. IsReady dim e v.element) (λ v. IsPut dim e v.element)
+      (λ v good able. element_put dim axes e fits v.element good able) (live_tree es n) (good_live n) ready
 
-    -- the elements before it and behind it
-    front : List Element
-    front = (placed es (target_of e) known).front
+  -- the part as a text of its own is turned into the changed part
+  pub part_turned : (n : ℕ) → AllByRecursion (λ v. IsReady dim e v.element) (live_tree es n)
+      → Turns (offset_of es n) (spelling (flat (tree_at n (forest row_of es)))) (live_puts dim e (live_tree es n))
+      (spelling (flat (live_map (λ member. member.deleted) (change_of dim e) (tree_at n (forest row_of es)))))
+  part_turned n ready = forest_turned dim axes e fits (tree_at n (forest row_of es)) n (offset_of es n) (tree_each (IsWellFormed dim) n (forest row_of es) good_trees) ready
 
-    behind : List Element
-    behind = (placed es (target_of e) known).behind
+  module _ (n : ℕ) (known : n < length es) (x : Element) (there : slice_get es n ≡ Some x) (able : IsReady dim e x)
+      (ready : AllByRecursion (λ v. IsReady dim e v.element) (live_tree es n)) where
+    -- what is put into each header is right
+    above_all : AllByRecursion (λ v. IsAbovePut dim e (slice_get es n) v.element) (above_tree es n)
+    above_all =
+        let good : IsWellFormed dim x = each_at (IsWellFormed dim) es n x each there in
+        let puts : AllByRecursion (λ v. IsAbovePut dim e (Some x) v.element) (above_tree es n) =
+        all_both (λ v. IsWellFormed dim v.element) (λ v. is_silent (class_of v.element.kind) ≡ false) (λ v. IsAbovePut dim e (Some x) v.element)
+        (λ v well loud. above_put dim axes e fits x v.element good able well (is_shown dim v.element well loud))
+        (above_tree es n) (above_tree_each (IsWellFormed dim) es n each) (headers_read es n) in
+        subst (λ (o : Option Element). AllByRecursion (λ v. IsAbovePut dim e o v.element) (above_tree es n)) (sym there) puts
 
-    -- the elements are the tree, what is before it and what is behind
-    in_parts : es ≡ front ++ (flat tree ++ behind)
-    unfolding tree front behind
-    in_parts =
-        let at = placed es (target_of e) known in
-        let list : flat (tree_at (target_of e) (forest row_of es)) ≡ at.head ∷ flat at.below = ap flat at.tree ∙ ap (λ (l : List Element). at.head ∷ l) (append-nil (flat at.below)) in
-        at.parts ∙ ap (λ (l : List Element). at.front ++ (l ++ at.behind)) (sym list)
-
-    -- its place is the length of what is before it
-    place_is : place ≡ length (spelling front)
-    unfolding place front
-    place_is =
-        let at = placed es (target_of e) known in
-        let before : take (target_of e) es ≡ at.front = ap (take (target_of e)) at.parts ∙ take_at at.front _ (target_of e) at.count in
-        ap (λ (l : List Element). length (spelling l)) before
-
-    -- its elements are well formed
-    good_tree : AllByRecursion (IsWellFormed dim) (flat tree)
-    good_tree =
-        let joined : AllByRecursion (IsWellFormed dim) (front ++ (flat tree ++ behind)) = subst (AllByRecursion (IsWellFormed dim)) in_parts each in
-        (all_parts (IsWellFormed dim) (flat tree) behind (all_parts (IsWellFormed dim) front (flat tree ++ behind) joined).1).0
-
-    -- and so are the live ones
-    good_live : AllByRecursion (λ v. IsWellFormed dim v.element) (live_tree es (target_of e))
-    unfolding tree
-    good_live = live_each (IsWellFormed dim) (target_of e) (offset_of es (target_of e)) (tree_at (target_of e) (forest row_of es)) good_tree
-
-    -- the changed trees are what is before, the changed tree and what is behind
-    made_is : spelling front ++ (spelling (flat changed) ++ spelling behind) ≡ spelling (flat (changed_forest dim es e))
-    unfolding changed front behind
-    made_is =
-        let at = placed es (target_of e) known in
-        spelled_three at.front (flat (live_map (λ member. member.deleted) (change_of dim e) (tree_at (target_of e) (forest row_of es)))) at.behind
-        ∙ ap spelling (sym (at.exchanged (live_map (λ member. member.deleted) (change_of dim e))))
-
-    -- the puts turn the bytes of the drawing into those of the changed trees
-    pub drawing_turned : Turns 0 (spelling es) (live_puts dim e (live_tree es (target_of e))) (spelling (flat (changed_forest dim es e)))
-    unfolding tree changed place
+    -- the puts turn the bytes of the drawing into those of the altered trees
+    pub drawing_turned : Turns 0 (spelling es) (part_puts dim es e n) (spelling (flat (altered dim es e n)))
     drawing_turned =
-        let inner = forest_turned dim axes e fits (tree_at (target_of e) (forest row_of es)) (target_of e) (offset_of es (target_of e)) good_tree ready in
-        let last = turns_none (offset_of es (target_of e) + length (spelling (flat (tree_at (target_of e) (forest row_of es))))) (spelling behind) in
-        let more = turns_then (offset_of es (target_of e)) _ _ _ _ _ _ _ refl inner last in
-        let start : offset_of es (target_of e) ≡ 0 + length (spelling front) = omega (arith, place_is) in
-        let all = turns_then 0 (offset_of es (target_of e)) _ _ _ _ _ _ start (turns_none 0 (spelling front)) more in
-        turns_as 0 _ _ _ _ _ _ (spelled_three front _ behind ∙ ap spelling (sym in_parts)) (append-nil (live_puts dim e (live_tree es (target_of e)))) made_is all
+        let count : length (flat (forest row_of es)) ≡ length es = ap (length {A = Element}) (flat-forest row_of es) in
+        let at : offset_of es n ≡ 0 + length (spelling (take n (flat (forest row_of es)))) =
+        ap (λ (l : List Element). length (spelling (take n l))) (sym (flat-forest row_of es)) ∙ omega arith in
+        let heads = all_so (λ v. IsAbovePut dim e (slice_get es n) v.element) (λ v. Turns v.place (spell v.element) (above_puts_at dim e (slice_get es n) v.place v.element) (spell (above_change dim e (slice_get es n) v.element)))
+        (λ v is. is.turned v.place) (above_tree es n) above_all in
+        let all = above_turned (above_change dim e (slice_get es n)) (live_map (λ member. member.deleted) (change_of dim e)) (above_puts_at dim e (slice_get es n)) (live_puts dim e (live_tree es n))
+        n 0 0 (offset_of es n) (forest row_of es) (omega arith) at heads (part_turned n ready) in
+        turns_as 0 _ _ _ _ _ _ (ap spelling (flat-forest row_of es)) refl refl all
 
     -- and all that is said of them
-    pub written : IsWritten dim es e
+    pub written : IsWritten dim es e n
     written =
-        let puts : List Put = live_puts dim e (live_tree es (target_of e)) in
-        let made : List ℕ = spelling (flat (changed_forest dim es e)) in
-        let fields : map field_of (live_puts dim e (live_tree es (target_of e))) ≡ edited_fields dim es e = fields_put dim axes e fits (live_tree es (target_of e)) good_live ready in
-        let reads : map (old_of made) puts ≡ puts = turned_reads (spelling es) made puts (whole_span (spelling es) made puts drawing_turned) (whole_turned (spelling es) made puts drawing_turned) in
+        let puts : List Put = part_puts dim es e n in
+        let made : List ℕ = spelling (flat (altered dim es e n)) in
+        let turned = drawing_turned in
+        let fields : map field_of (part_puts dim es e n) ≡ part_fields dim es e n =
+        map-append field_of (above_puts dim e (slice_get es n) (above_tree es n)) (live_puts dim e (live_tree es n))
+        ∙ ap (λ (fs : List Field). fs ++ map field_of (live_puts dim e (live_tree es n))) (above_fields_put dim e (slice_get es n) (above_tree es n) above_all)
+        ∙ ap (λ (fs : List Field). above_fields dim e (above_tree es n) ++ fs) (fields_put dim axes e fits (live_tree es n) (good_live n) ready) in
+        let reads : map (old_of made) puts ≡ puts = turned_reads (spelling es) made puts (whole_span (spelling es) made puts turned) (whole_turned (spelling es) made puts turned) in
         record {
-          turned = drawing_turned;
+          turned = turned;
           fields = fields;
           puts = sym reads ∙ filled_reads made puts ∙ ap (filled made) fields;
-          each = all_both (λ v. IsWellFormed dim v.element) (λ v. IsReady dim e v.element) (λ v. IsPut dim e v.element)
-              (λ v good able. element_put dim axes e fits v.element good able) (live_tree es (target_of e)) good_live ready;
+          each = live_put n ready;
+          each_above = above_all;
         }
 
 -- the dimension of a file that opens
 pub axes_of : (f : List ℕ) (dim : ℕ) (es : List Element) (t : List ℕ) → Opens f dim es t → IsDimension dim
 axes_of f dim es t opens = subst IsDimension (sym opens.axes) (dimension_is f)
-
--- an edit whose element there is, and against which nothing stands: what it puts into its tree turns the bytes of
--- the drawing into those of the edited one
-pub edited : (f : List ℕ) (dim : ℕ) (es : List Element) (t : List ℕ) (e : Edit) → IsEdit e → Opens f dim es t → target_of e < length es
-    → AllByRecursion (λ v. IsReady dim e v.element) (live_tree es (target_of e))
-    → Turns 0 (spelling es) (live_puts dim e (live_tree es (target_of e))) (spelling (flat (changed_forest dim es e)))
-edited f dim es t e fits opens known ready = drawing_turned dim (axes_of f dim es t opens) es e fits opens.each known ready
-
--- and is what these have in the edited fields
-pub planned : (f : List ℕ) (dim : ℕ) (es : List Element) (t : List ℕ) (e : Edit) → IsEdit e → Opens f dim es t → target_of e < length es
-    → AllByRecursion (λ v. IsReady dim e v.element) (live_tree es (target_of e))
-    → live_puts dim e (live_tree es (target_of e)) ≡ filled (spelling (flat (changed_forest dim es e))) (edited_fields dim es e)
-planned f dim es t e fits opens known ready = (written dim (axes_of f dim es t opens) es e fits opens.each known ready).puts
-
--- the edited drawing is as long
-pub same_length : (f : List ℕ) (dim : ℕ) (es : List Element) (t : List ℕ) (e : Edit) → IsEdit e → Opens f dim es t → target_of e < length es
-    → AllByRecursion (λ v. IsReady dim e v.element) (live_tree es (target_of e))
-    → length (spelling (flat (changed_forest dim es e))) ≡ length (spelling es)
-same_length f dim es t e fits opens known ready = sym (edited f dim es t e fits opens known ready).same

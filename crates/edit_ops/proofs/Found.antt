@@ -12,21 +12,21 @@ use Rattle.dgn_drawing.specs.Nesting.{Forest, NoTree, Tree, flat}
 use Rattle.dgn_drawing.specs.Numbering.{end_of}
 use Rattle.elem_index.specs.Offsets.{offset_of}
 use Rattle.elem_index.proofs.Places.{stands_at}
-use Rattle.edit_ops.specs.Trees.{Live, live_from, live_tree}
-use Rattle.edit_ops.specs.Written.{found_at, found}
+use Rattle.edit_ops.specs.Trees.{Live, live_from, live_tree, found_at}
+use Rattle.edit_ops.specs.Written.{found}
 use Rattle.edit_ops.proofs.Placed.{IsPlaced, placed, first_left, others_left}
 use Rattle.edit_ops.proofs.Standing.{live_first, live_behind, live_dead, live_alive}
 use Rattle.edit_ops.proofs.Walked.{drop_front}
 
 -- the element behind the first n begins where these end
-offset_next : (es : List Element) (n : ℕ) (e : Element) → slice_get es n ≡ Some e → offset_of es (n + 1) ≡ offset_of es n + size_of e
+pub offset_next : (es : List Element) (n : ℕ) (e : Element) → slice_get es n ≡ Some e → offset_of es (n + 1) ≡ offset_of es n + size_of e
 offset_next es n e there =
     let stands = stands_at es n (slice_get_within es n e there) in
     let same : stands.0 ≡ e = let x = stands.1.found in cc in
     stands.1.next ∙ ap (λ (x : Element). offset_of es n + size_of x) same
 
 -- and so does the element behind more of them
-offset_behind : (es front rest : List Element) (n at : ℕ) → at ≡ n + length front → drop n es ≡ front ++ rest → offset_of es at ≡ offset_of es n + length (spelling front)
+pub offset_behind : (es front rest : List Element) (n at : ℕ) → at ≡ n + length front → drop n es ≡ front ++ rest → offset_of es at ≡ offset_of es n + length (spelling front)
 offset_behind es [] rest n at is left = let e : at ≡ n = omega arith in ap (offset_of es) e ∙ omega arith
 offset_behind es (e ∷ front) rest n at is left =
     let next = offset_next es n e (first_left es n e (front ++ rest) left) in
@@ -38,7 +38,7 @@ found-both : (es : List Element) (ns ms : List ℕ) → found es (ns ++ ms) ≡ 
 found-both es ns ms = flat_map-append (λ m. option_to_list (found_at es m)) ns ms
 
 -- the elements of numbers of which the first is known
-found_first : (es : List Element) (n p : ℕ) (e : Element) (ns : List ℕ) → slice_get es n ≡ Some e → p ≡ offset_of es n → found es (n ∷ ns) ≡ record { number = n; place = p; element = e } ∷ found es ns
+pub found_first : (es : List Element) (n p : ℕ) (e : Element) (ns : List ℕ) → slice_get es n ≡ Some e → p ≡ offset_of es n → found es (n ∷ ns) ≡ record { number = n; place = p; element = e } ∷ found es ns
 found_first es n p e ns there at =
     ap (λ (o : Option Element). option_to_list (option_map (λ (e : Element). record { number = n; place = offset_of es n; element = e }) o) ++ found es ns) there
     ∙ ap (λ (k : ℕ). record { number = n; place = k; element = e } ∷ found es ns) (sym at)

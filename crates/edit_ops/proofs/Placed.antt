@@ -10,7 +10,7 @@ use Rattle.dgn_drawing.specs.Rows.{row_of}
 use Rattle.dgn_drawing.specs.Nesting.{Knot, Forest, NoTree, Tree, flat, forest, joined}
 use Rattle.dgn_drawing.specs.Numbering.{Mark, end_of, marks, marks_of, mark_of}
 use Rattle.nest_tree.proofs.Unfolded.{flat-forest}
-use Rattle.edit_ops.specs.Trees.{count_in, tree_at, exchange}
+use Rattle.edit_ops.specs.Trees.{count_in, tree_at}
 
 -- for each element of trees that are numbered from n on, the number behind the last element below it
 abbrev pub ends : {A : Type 0} → Forest A → ℕ → List ℕ
@@ -48,7 +48,7 @@ regroup : {A : Type 0} (a b c d : List A) → (a ++ (b ++ c)) ++ d ≡ a ++ (b +
 regroup a b c d = simp append_assoc
 
 -- the n-th element of trees, which are numbered from `first` on: its tree, which has the number `at`, what
--- stands before it and what behind it, also where another tree stands in its place
+-- stands before it and what behind it
 pub record PlacedIn {A : Type 0} (f : Forest A) (n first at : ℕ) : Type 0 where
   pub knot : Knot
   pub head : A
@@ -59,7 +59,6 @@ pub record PlacedIn {A : Type 0} (f : Forest A) (n first at : ℕ) : Type 0 wher
   pub tree : tree_at n f ≡ Tree knot head below NoTree
   pub count : length front ≡ n
   pub parts : flat f ≡ front ++ ((head ∷ flat below) ++ behind)
-  pub exchanged : (other : Forest A → Forest A) → flat (exchange (λ header. header) other n f) ≡ front ++ (flat (other (Tree knot head below NoTree)) ++ behind)
   pub ended : drop n (ends f first) ≡ end_of at below ∷ (ends below (at + 1) ++ ends_behind)
 
 module _ {A : Type 0} (knot : Knot) (h : A) (below behind : Forest A) (n first at : ℕ) where
@@ -77,10 +76,6 @@ module _ {A : Type 0} (knot : Knot) (h : A) (below behind : Forest A) (n first a
         tree = cond-true (nat_lt n (count_in below)) (tree_at n below) (tree_at (n - count_in below) behind) is ∙ p.tree;
         count = ap suc p.count;
         parts = ap (λ (l : List A). h ∷ (l ++ flat behind)) p.parts ∙ ap (λ (l : List A). h ∷ l) (regroup p.front (p.head ∷ flat p.below) p.behind (flat behind));
-        exchanged = λ other.
-            ap flat (cond-true (nat_lt n (count_in below)) (Tree knot h (exchange (λ header. header) other n below) behind) (Tree knot h below (exchange (λ header. header) other (n - count_in below) behind)) is)
-            ∙ ap (λ (l : List A). h ∷ (l ++ flat behind)) (p.exchanged other)
-            ∙ ap (λ (l : List A). h ∷ l) (regroup p.front (flat (other (Tree p.knot p.head p.below NoTree))) p.behind (flat behind));
         ended = drop-append-le n (ends below (first + 1)) (ends behind (end_of first below)) (omega (arith, length-ends below (first + 1)))
             ∙ ap (λ (l : List ℕ). l ++ ends behind (end_of first below)) p.ended
             ∙ ap (λ (l : List ℕ). end_of at p.below ∷ l) (append_assoc (ends p.below (at + 1)) p.ends_behind (ends behind (end_of first below)));
@@ -102,10 +97,6 @@ module _ {A : Type 0} (knot : Knot) (h : A) (below behind : Forest A) (n first a
         tree = cond-false (nat_lt n (count_in below)) (tree_at n below) (tree_at (n - count_in below) behind) is ∙ p.tree;
         count = omega (arith, length-append (flat below) p.front);
         parts = ap (λ (l : List A). h ∷ (flat below ++ l)) p.parts ∙ ap (λ (l : List A). h ∷ l) (sym (append_assoc (flat below) p.front ((p.head ∷ flat p.below) ++ p.behind)));
-        exchanged = λ other.
-            ap flat (cond-false (nat_lt n (count_in below)) (Tree knot h (exchange (λ header. header) other n below) behind) (Tree knot h below (exchange (λ header. header) other (n - count_in below) behind)) is)
-            ∙ ap (λ (l : List A). h ∷ (flat below ++ l)) (p.exchanged other)
-            ∙ ap (λ (l : List A). h ∷ l) (sym (append_assoc (flat below) p.front (flat (other (Tree p.knot p.head p.below NoTree)) ++ p.behind)));
         ended = ap (λ (k : ℕ). drop k (ends below (first + 1) ++ ends behind (end_of first below))) long
             ∙ drop-append-add (ends below (first + 1)) (ends behind (end_of first below)) (n - length (flat below))
             ∙ p.ended;
@@ -124,7 +115,6 @@ placed_in {A} (Tree knot h below behind) zero first at is inside = record {
   tree = refl;
   count = refl;
   parts = refl;
-  exchanged = λ other. flat-joined (other (Tree knot h below NoTree)) behind;
   ended =
       let here : first ≡ at = omega arith in
       ap (λ (k : ℕ). end_of k below ∷ (ends below (k + 1) ++ ends behind (end_of first below))) here;
@@ -140,7 +130,7 @@ placed_in (Tree knot h below behind) (suc n) first at is inside = elim (cases_Bo
 ]
 
 -- the tree of element n of a drawing: its head and what is below it, the elements before it and those behind
--- it, also where another tree stands in its place, and the mark of its head
+-- it, and the mark of its head
 pub record IsPlaced (es : List Element) (n : ℕ) : Type 0 where
   pub knot : Knot
   pub head : Element
@@ -151,7 +141,6 @@ pub record IsPlaced (es : List Element) (n : ℕ) : Type 0 where
   pub tree : tree_at n (forest row_of es) ≡ Tree knot head below NoTree
   pub count : length front ≡ n
   pub parts : es ≡ front ++ ((head ∷ flat below) ++ behind)
-  pub exchanged : (other : Forest Element → Forest Element) → flat (exchange (λ header. header) other n (forest row_of es)) ≡ front ++ (flat (other (tree_at n (forest row_of es))) ++ behind)
   pub ended : drop n (ends (forest row_of es) 0) ≡ end_of n below ∷ (ends below (n + 1) ++ ends_behind)
   pub mark : Mark
   pub marked : mark_of row_of es n ≡ Some mark
@@ -197,7 +186,6 @@ placed_as es n p =
       tree = p.tree;
       count = p.count;
       parts = sym (flat-forest row_of es) ∙ p.parts;
-      exchanged = λ other. p.exchanged other ∙ ap (λ (f : Forest Element). p.front ++ (flat (other f) ++ p.behind)) (sym p.tree);
       ended = p.ended;
       mark = m.0;
       marked = m.1;

@@ -5,7 +5,8 @@ use Rattle.std.specs.List.{AllByRecursion}
 use Rattle.std.proofs.lemmas.Grind.{flat_map-append}
 use Rattle.std.proofs.lemmas.List.{map-append}
 use Rattle.dgn_words.specs.Numbers.{put, long_bytes, range_long_bytes}
-use Rattle.dgn_layout.specs.Spots.{spots_of, Rise as SpotsRise}
+use Rattle.dgn_layout.specs.Classes.{class_of}
+use Rattle.dgn_layout.specs.Spots.{spots_of, has_spots, Rise as SpotsRise}
 use Rattle.dgn_layout.specs.declared.spot.Spot.{Spot}
 use Rattle.patch_bytes.specs.Puts.{Put, lay, write, Span}
 use Rattle.dgn_drawing.specs.declared.edit.Edit.{Edit}
@@ -15,13 +16,13 @@ use Rattle.dgn_drawing.specs.Element.{Body, Element}
 use Rattle.dgn_drawing.specs.Spelling.{second_byte, spell, spelling, size_of}
 use Rattle.dgn_drawing.specs.SpotNumbers.{sum_at, number_bytes, displaced_put}
 use Rattle.dgn_drawing.specs.WellFormed.{IsDimension, IsWellFormed}
-use Rattle.dgn_drawing.specs.Changes.{look_changed, look_bytes, recolour, mark, shift}
+use Rattle.dgn_drawing.specs.Changes.{look_changed, look_bytes, recolour, mark, shift, stays_on_plane}
 use Rattle.dgn_drawing.specs.Rows.{row_of}
 use Rattle.dgn_drawing.specs.Nesting.{Forest, NoTree, Tree, flat}
 use Rattle.dgn_drawing.proofs.Looks.{looks_put}
 use Rattle.edit_ops.specs.Trees.{Live, live_map, live_from}
 use Rattle.edit_ops.specs.Applying.{change_of, IsEdit}
-use Rattle.edit_ops.specs.Fields.{Field, fields_at, live_fields}
+use Rattle.edit_ops.specs.Fields.{Field, spot_fields, fields_at, live_fields}
 use Rattle.edit_ops.specs.Written.{sum_put, look_put, puts_at, live_puts, IsReady}
 use Rattle.dgn_drawing.proofs.Spotted.{spots_sit}
 use Rattle.dgn_drawing.proofs.Displaced.{shift_put}
@@ -42,27 +43,36 @@ four_bytes false v = refl
 spot_bytes : (s : Spot) (v : ℤ) → length (number_bytes s v) ≡ 4
 spot_bytes s v = four_bytes s.offset v
 
-module _ (by : Displacement) (b : List ℕ) where
-  -- the sums of an element are those of its own text, further on
-  moved_sums : (p : ℕ) (ss : List Spot) → map (moved p) (map (displaced_put by b) ss) ≡ map (sum_put by p b) ss
-  moved_sums p [] = refl
-  moved_sums p (s ∷ ss) = ap (λ (qs : List Put). sum_put by p b s ∷ qs) (moved_sums p ss)
+-- the number that is put at each spot
+module _ (number : Spot → ℤ) where
+  -- it is put at its spot
+  abbrev pub spot_put : Spot → Put
+  spot_put s = record { at = s.at; bytes = number_bytes s (number s) }
+
+  -- and there in an element that begins at byte p
+  abbrev pub spot_put_at : ℕ → Spot → Put
+  spot_put_at p s = record { at = p + s.at; bytes = number_bytes s (number s) }
+
+  -- the puts of an element are those of its own text, further on
+  pub moved_numbers : (p : ℕ) (ss : List Spot) → map (moved p) (map spot_put ss) ≡ map (spot_put_at p) ss
+  moved_numbers p [] = refl
+  moved_numbers p (s ∷ ss) = ap (λ (qs : List Put). spot_put_at p s ∷ qs) (moved_numbers p ss)
 
   -- they rise as the spots do
-  sums_rise : (m : ℕ) (ss : List Spot) (n : ℕ) → SpotsRise n ss m → Span n (map (displaced_put by b) ss) m
-  sums_rise m [] n rise = rise
-  sums_rise m (s ∷ ss) n rise =
-      (rise.0, subst (λ (k : ℕ). Span (s.at + k) (map (displaced_put by b) ss) m) (sym (spot_bytes s (sum_at by b s))) (sums_rise m ss (s.at + 4) rise.1))
+  pub numbers_rise : (m : ℕ) (ss : List Spot) (n : ℕ) → SpotsRise n ss m → Span n (map spot_put ss) m
+  numbers_rise m [] n rise = rise
+  numbers_rise m (s ∷ ss) n rise =
+      (rise.0, subst (λ (k : ℕ). Span (s.at + k) (map spot_put ss) m) (sym (spot_bytes s (number s))) (numbers_rise m ss (s.at + 4) rise.1))
 
   -- and are laid at the spots
-  sum_fields : (p : ℕ) (ss : List Spot) → map field_of (map (sum_put by p b) ss) ≡ map (λ (s : Spot). record { at = p + s.at; len = 4 }) ss
-  sum_fields p [] = refl
-  sum_fields p (s ∷ ss) =
-      ap (λ (k : ℕ). record { at = p + s.at; len = k } ∷ map field_of (map (sum_put by p b) ss)) (spot_bytes s (sum_at by b s))
-      ∙ ap (λ (fs : List Field). record { at = p + s.at; len = 4 } ∷ fs) (sum_fields p ss)
+  pub number_fields : (p : ℕ) (ss : List Spot) → map field_of (map (spot_put_at p) ss) ≡ spot_fields p ss
+  number_fields p [] = refl
+  number_fields p (s ∷ ss) =
+      ap (λ (k : ℕ). record { at = p + s.at; len = k } ∷ map field_of (map (spot_put_at p) ss)) (spot_bytes s (number s))
+      ∙ ap (λ (fs : List Field). record { at = p + s.at; len = 4 } ∷ fs) (number_fields p ss)
 
 -- what rises from a place on rises from any place before it
-span_from : (n p m : ℕ) (ps : List Put) → n ≤ p → Span p ps m → Span n ps m
+pub span_from : (n p m : ℕ) (ps : List Put) → n ≤ p → Span p ps m → Span n ps m
 span_from n p m [] le s = omega (arith, s)
 span_from n p m (q ∷ qs) le s = (let f = s.0 in omega arith, s.1)
 
@@ -93,20 +103,42 @@ looked dim n change v fits good shown =
       fields = λ p. ap (λ (b : Body). map field_of (look_put change p b)) shown.body;
     }
 
--- an edit against which nothing stands
-pub element_put : (dim : ℕ) → IsDimension dim → (e : Edit) → IsEdit e → (v : Element) → IsWellFormed dim v → IsReady dim e v → IsPut dim e v
-element_put dim axes (edit.Move n by) fits v good ready =
+-- what a displacement puts into an element, and what it makes of it
+record IsShifted (dim : ℕ) (by : Displacement) (v : Element) : Type 0 where
+  turned : (p : ℕ) → Turns p (spell v) (map (sum_put by p (spell v)) (spots_of dim v.kind (spell v))) (spell (shift dim by v))
+  good : IsWellFormed dim (shift dim by v)
+  row : row_of (shift dim by v) ≡ row_of v
+  fields : (p : ℕ) → map field_of (map (sum_put by p (spell v)) (spots_of dim v.kind (spell v))) ≡ spot_fields p (spots_of dim v.kind (spell v))
+
+-- of an element that can be moved, and stays on the plane
+shifted : (dim : ℕ) (by : Displacement) (v : Element) → IsDimension dim → IsWellFormed dim v → has_spots (class_of v.kind) ≡ true → stays_on_plane dim by v ≡ true → IsShifted dim by v
+shifted dim by v axes good spots stays =
     let ss : List Spot = spots_of dim v.kind (spell v) in
-    let sums = shift_put dim by v axes good ready.0 ready.1 in
-    let rise = sums_rise by (spell v) (size_of v) ss 4 (spots_sit dim v axes good ready.0).rise in
+    let sums = shift_put dim by v axes good spots stays in
+    let rise = numbers_rise (sum_at by (spell v)) (size_of v) ss 4 (spots_sit dim v axes good spots).rise in
     let span : Span 0 (map (displaced_put by (spell v)) ss) (size_of v) = span_from 0 4 (size_of v) _ (omega arith) rise in
     let one = λ (p : ℕ). turns_inside p (spell v) (spell (shift dim by v)) (map (displaced_put by (spell v)) ss) span sums.spelled in
     record {
-      turned = λ p. subst (λ (ps : List Put). Turns p (spell v) ps (spell (shift dim by v))) (moved_sums by (spell v) p ss) (one p);
+      turned = λ p. subst (λ (ps : List Put). Turns p (spell v) ps (spell (shift dim by v))) (moved_numbers (sum_at by (spell v)) p ss) (one p);
       good = sums.good;
       row = sums.row;
-      fields = λ p. sum_fields by (spell v) p ss;
+      fields = λ p. number_fields (sum_at by (spell v)) p ss;
     }
+
+-- an edit against which nothing stands
+pub element_put : (dim : ℕ) → IsDimension dim → (e : Edit) → IsEdit e → (v : Element) → IsWellFormed dim v → IsReady dim e v → IsPut dim e v
+element_put dim axes (edit.Move n by) fits v good ready =
+    let s = shifted dim by v axes good ready.0 ready.1 in
+    record { turned = s.turned; good = s.good; row = s.row; fields = s.fields }
+element_put dim axes (edit.Copy n by) fits v good ready =
+    let s = shifted dim by v axes good ready.0 ready.1 in
+    record { turned = s.turned; good = s.good; row = s.row; fields = s.fields }
+element_put dim axes (edit.Append new) fits v good ready = record {
+  turned = λ p. turns_none p (spell v);
+  good = good;
+  row = refl;
+  fields = λ p. refl;
+}
 element_put dim axes (edit.Sym n change) fits v good ready = looked dim n change v fits good (is_shown dim v good ready)
 element_put dim axes (edit.Delete n) fits v good ready =
     let marked = mark_put dim v good ready in
@@ -124,7 +156,7 @@ all_parts P [] ys all = (tt, all)
 all_parts P (x ∷ xs) ys all = let more = all_parts P xs ys all.1 in ((all.0, more.0), more.1)
 
 -- a head with what is below it, and what is behind
-spelled_tree : (h : Element) (below behind : List Element) → (spell h ++ spelling below) ++ spelling behind ≡ spelling (h ∷ (below ++ behind))
+pub spelled_tree : (h : Element) (below behind : List Element) → (spell h ++ spelling below) ++ spelling behind ≡ spelling (h ∷ (below ++ behind))
 spelled_tree h below behind = append_assoc (spell h) (spelling below) (spelling behind) ∙ ap (λ (b : List ℕ). spell h ++ b) (sym (flat_map-append spell below behind))
 
 -- the same, said otherwise

@@ -1,15 +1,21 @@
 -- What keeps a tree from any edit, by the rows of its elements.
-use Rattle.std.proofs.Common.{◌≡◌, ℕ, zero, suc, ◌+◌, ◌-◌, List, [], ◌∷◌, map, cond, refl, sym, ap, ◌∙◌}
-use Rattle.std.specs.Prelude.{Option, Some, None, option_map, slice_get, Bool}
-use Rattle.std.specs.Option.{option_or}
+use Rattle.std.proofs.Common.{◌≡◌, ℕ, zero, suc, ◌+◌, ◌-◌, List, [], ◌∷◌, length, map, cond, refl, sym, ap, ◌∙◌}
+use Rattle.std.specs.Prelude.{Option, Some, None, option_map, slice_get, Bool, nat_lt}
+use Rattle.std.specs.Option.{option_or, option_to_list}
+use Rattle.std.proofs.lemmas.List.{length-map}
 use Rattle.dgn_drawing.specs.declared.row.Row.{Row}
 use Rattle.dgn_drawing.specs.Element.{Element}
 use Rattle.dgn_drawing.specs.Rows.{row_of}
 use Rattle.dgn_drawing.specs.Nesting.{Forest, forest, itself}
-use Rattle.dgn_drawing.specs.Numbering.{Mark, marks_of, mark_of, parent_of, is_broken_as, is_broken, first_from, first_broken_of}
+use Rattle.dgn_drawing.specs.Numbering.{Mark, marks_of, mark_of, is_broken_as, is_broken, first_from, first_broken_of, headers_of, first_or, root_of}
+use Rattle.nest_tree.proofs.Climbing.{headers_by_rows}
 use Rattle.nest_tree.proofs.ByRows.{forest_rows, marks-map}
 use Rattle.edit_ops.specs.declared.cause.Cause.{Cause}
-use Rattle.edit_ops.specs.Causes.{unknown, member, broken, deleted, root_cause}
+use Rattle.edit_ops.specs.declared.test.Test.TheVariants as tests
+use Rattle.edit_ops.specs.Trees.{Live, above_tree, found_at}
+use Rattle.edit_ops.specs.Causes.{broken, broken_in, first_cause, part_cause}
+use Rattle.edit_ops.specs.Asking.{broken_by, cause_in}
+use Rattle.edit_ops.proofs.Listed.{or_assoc, cause_both, cause_alone}
 
 -- elements are numbered as their rows are
 pub marks_by_rows : (es : List Element) → marks_of (forest row_of es) ≡ marks_of (forest itself (map row_of es))
@@ -18,24 +24,21 @@ marks_by_rows es = sym (marks-map row_of (forest row_of es) 0 0 None) ∙ ap (λ
 mark_by_rows : (es : List Element) (n : ℕ) → mark_of row_of es n ≡ mark_of itself (map row_of es) n
 mark_by_rows es n = ap (λ (ms : List Mark). slice_get ms n) (marks_by_rows es)
 
-pub parent_by_rows : (es : List Element) (n : ℕ) → parent_of row_of es n ≡ parent_of itself (map row_of es) n
-parent_by_rows es n = ap (λ (m : Option Mark). option_map (λ (x : Mark). x.parent) m) (mark_by_rows es n)
-
 -- so the same of them are broken
 row_at : (es : List Element) (n : ℕ) → slice_get (map row_of es) n ≡ option_map row_of (slice_get es n)
 row_at [] n = refl
 row_at (e ∷ es) zero = refl
 row_at (e ∷ es) (suc n) = row_at es n
 
-broken_by : (n : ℕ) (m : Option Mark) (o : Option Element) → is_broken_as row_of n m o ≡ is_broken_as itself n m (option_map row_of o)
-broken_by n None None = refl
-broken_by n None (Some e) = refl
-broken_by n (Some m) None = refl
-broken_by n (Some m) (Some e) = refl
+broken_as : (n : ℕ) (m : Option Mark) (o : Option Element) → is_broken_as row_of n m o ≡ is_broken_as itself n m (option_map row_of o)
+broken_as n None None = refl
+broken_as n None (Some e) = refl
+broken_as n (Some m) None = refl
+broken_as n (Some m) (Some e) = refl
 
 is_broken_by_rows : (es : List Element) (n : ℕ) → is_broken row_of es n ≡ is_broken itself (map row_of es) n
 is_broken_by_rows es n =
-    broken_by n (mark_of row_of es n) (slice_get es n)
+    broken_as n (mark_of row_of es n) (slice_get es n)
     ∙ ap (λ (m : Option Mark). is_broken_as itself n m (option_map row_of (slice_get es n))) (mark_by_rows es n)
     ∙ ap (λ (o : Option Row). is_broken_as itself n (mark_of itself (map row_of es) n) o) (sym (row_at es n))
 
@@ -55,17 +58,30 @@ first_broken_by_rows es n =
     first_broken_in es n (mark_of row_of es n)
     ∙ ap (λ (m : Option Mark). option_map (λ (x : Mark). first_from (is_broken itself (map row_of es)) n (x.end - n)) m) (mark_by_rows es n)
 
--- the first of three that is there, however they are taken together
-or_assoc : (a b c : Option Cause) → option_or (option_or a b) c ≡ option_or a (option_or b c)
-or_assoc None b c = refl
-or_assoc (Some x) b c = refl
+-- the root of the tree that holds an element is that of its row
+pub root_by_rows : (es : List Element) (n : ℕ) → root_of row_of es n ≡ root_of itself (map row_of es) n
+root_by_rows es n =
+    ap (λ (hs : List ℕ). cond (nat_lt n (length es)) (Some (first_or n hs)) None) (sym (headers_by_rows row_of es n))
+    ∙ ap (λ (k : ℕ). cond (nat_lt n k) (Some (first_or n (headers_of itself (map row_of es) n))) None) (sym (length-map es row_of))
 
--- the causes, as they are asked for
-pub root_cause_is : (es : List Element) (rows : List Row) (n : ℕ) (a b c d : Option Cause) → rows ≡ map row_of es
-    → a ≡ unknown n es → b ≡ member n (parent_of itself rows n) → c ≡ broken (first_broken_of itself rows n) → d ≡ deleted n (slice_get es n)
-    → option_or (option_or (option_or a b) c) d ≡ root_cause es n
-root_cause_is es rows n a b c d by is_a is_b is_c is_d =
-    let e_b : b ≡ member n (parent_of row_of es n) = is_b ∙ ap (λ (r : List Row). member n (parent_of itself r n)) by ∙ ap (member n) (sym (parent_by_rows es n)) in
-    let e_c : c ≡ broken (first_broken_of row_of es n) = is_c ∙ ap (λ (r : List Row). broken (first_broken_of itself r n)) by ∙ ap broken (sym (first_broken_by_rows es n)) in
-    let taken : option_or (option_or (option_or a b) c) d ≡ option_or a (option_or b (option_or c d)) = or_assoc (option_or a b) c d ∙ or_assoc a b (option_or c d) in
-    cc
+-- the least broken number of the tree that holds an element
+broken_by_root : (es : List Element) (o : Option ℕ) → broken_in es o ≡ broken_by (map row_of es) o
+broken_by_root es None = refl
+broken_by_root es (Some root) = first_broken_by_rows es root
+
+pub broken_by_rows : (es : List Element) (n : ℕ) → broken_in es (root_of row_of es n) ≡ broken_by (map row_of es) (root_of itself (map row_of es) n)
+broken_by_rows es n = broken_by_root es (root_of row_of es n) ∙ ap (broken_by (map row_of es)) (root_by_rows es n)
+
+-- what keeps a part from any edit, as it is asked for
+pub part_cause_is : (dim : ℕ) (es : List Element) (rows : List Row) (n : ℕ) (above : List Live) (a b c : Option Cause) → rows ≡ map row_of es → above ≡ above_tree es n
+    → a ≡ broken (broken_by rows (root_of itself rows n)) → b ≡ first_cause dim tests.Lives above → c ≡ cause_in dim tests.Lives n (slice_get es n)
+    → option_or (option_or a b) c ≡ part_cause dim es n
+part_cause_is dim es rows n above a b c by over is_a is_b is_c =
+    let first : a ≡ broken (broken_in es (root_of row_of es n)) = is_a ∙ ap (λ (r : List Row). broken (broken_by r (root_of itself r n))) by ∙ ap broken (sym (broken_by_rows es n)) in
+    let second : b ≡ first_cause dim tests.Lives (above_tree es n) = is_b ∙ ap (first_cause dim tests.Lives) over in
+    let third : c ≡ first_cause dim tests.Lives (option_to_list (found_at es n)) = is_c ∙ sym (cause_alone dim tests.Lives es n) in
+    or_assoc a b c
+    ∙ ap (λ (x : Option Cause). option_or x (option_or b c)) first
+    ∙ ap (λ (x : Option Cause). option_or (broken (broken_in es (root_of row_of es n))) (option_or x c)) second
+    ∙ ap (λ (x : Option Cause). option_or (broken (broken_in es (root_of row_of es n))) (option_or (first_cause dim tests.Lives (above_tree es n)) x)) third
+    ∙ ap (λ (x : Option Cause). option_or (broken (broken_in es (root_of row_of es n))) x) (sym (cause_both dim tests.Lives (above_tree es n) (option_to_list (found_at es n))))

@@ -10,7 +10,7 @@ use Rattle.dgn_drawing.specs.Nesting.{Knot, Forest, NoTree, Tree, flat, forest}
 use Rattle.dgn_drawing.specs.Numbering.{end_of}
 use Rattle.nest_tree.proofs.Unfolded.{flat-forest}
 use Rattle.elem_index.specs.Offsets.{offset_of}
-use Rattle.edit_ops.specs.Trees.{count_in, tree_at, Live, live_from, live_tree}
+use Rattle.edit_ops.specs.Trees.{count_in, tree_at, Live, live_from, live_tree, above_from, above_tree}
 
 module _ {A : Type 0} (P : A → Type 0) where
   -- what holds of each of two lists holds of each of both
@@ -71,6 +71,19 @@ pub live_tree_each : (P : Element → Type 0) (es : List Element) (n : ℕ) → 
 live_tree_each P es n each =
     live_each P n (offset_of es n) (tree_at n (forest row_of es))
     (tree_each P n (forest row_of es) (subst (AllByRecursion P) (sym (flat-forest row_of es)) each))
+
+-- what holds of each element of trees holds of each header above one
+pub above_each : (P : Element → Type 0) (n first p : ℕ) (f : Forest Element) → AllByRecursion P (flat f) → AllByRecursion (λ (v : Live). P v.element) (above_from n first p f)
+above_each P n first p NoTree each = tt
+above_each P zero first p (Tree knot e below behind) each = tt
+above_each P (suc n) first p (Tree knot e below behind) each =
+    cond_both (nat_lt n (count_in below)) _ _ (λ (vs : List Live). AllByRecursion (λ (v : Live). P v.element) vs)
+    (λ _. (each.0, above_each P n (first + 1) (p + size_of e) below (each_first P (flat below) (flat behind) each.1)))
+    (λ _. above_each P (n - count_in below) (end_of first below) (p + (size_of e + length (spelling (flat below)))) behind (each_last P (flat below) (flat behind) each.1))
+
+-- what holds of each element of a drawing holds of each header above one
+pub above_tree_each : (P : Element → Type 0) (es : List Element) (n : ℕ) → AllByRecursion P es → AllByRecursion (λ (v : Live). P v.element) (above_tree es n)
+above_tree_each P es n each = above_each P n 0 0 (forest row_of es) (subst (AllByRecursion P) (sym (flat-forest row_of es)) each)
 
 -- what holds of the live elements of trees holds of the first head, if that is live, and of the live elements
 -- below and behind it

@@ -12,7 +12,7 @@ abbrev pub moved : ℕ → Put → Put
 moved p q = record { at = p + q.at; bytes = q.bytes }
 
 -- a put behind some text is laid in what follows it
-lay_behind : (p : ℕ) (a b : List ℕ) (q : Put) → length a ≡ p → lay (a ++ b) (moved p q) ≡ a ++ lay b q
+pub lay_behind : (p : ℕ) (a b : List ℕ) (q : Put) → length a ≡ p → lay (a ++ b) (moved p q) ≡ a ++ lay b q
 unfolding lay
 lay_behind p a b q is =
     let front : take (p + q.at) (a ++ b) ≡ a ++ take q.at b = subst (λ (n : ℕ). take (n + q.at) (a ++ b) ≡ a ++ take q.at b) is (take-append-add a b q.at) in

@@ -1,16 +1,16 @@
--- Worked edits: of a cell with a line, on the drawing whose first element is a silent one of four bytes.
-use Rattle.std.proofs.Common.{◌≡◌, ℕ, List, [], ◌∷◌, map, refl, Bool, true, false, Some, None}
+-- Worked edits: of a cell with a line, and of the line alone, on the drawing whose first element is a silent one of four bytes.
+use Rattle.std.proofs.Common.{◌≡◌, ℕ, List, [], ◌∷◌, map, take, refl, Bool, true, false, Some, None}
 use Rattle.std.specs.Prelude.{ℤ, pos, replicate, Option}
 use Rattle.dgn_drawing.specs.declared.edit.Edit.{Edit}
 use Rattle.dgn_drawing.specs.declared.edit.Edit.TheVariants as edit
 use Rattle.dgn_drawing.specs.Values.{Displacement}
-use Rattle.dgn_drawing.specs.Element.{Display, Body, Silent, Shown, Cell, Line, Header, Element}
-use Rattle.dgn_drawing.specs.Spelling.{display_bytes, parts_bytes, body_bytes, spell}
-use Rattle.dgn_drawing.specs.Nesting.{nest_within}
+use Rattle.dgn_drawing.specs.Element.{Display, Body, Silent, Shown, Cell, Line, Header, Plain, Element}
+use Rattle.dgn_drawing.specs.Spelling.{display_bytes, parts_bytes, body_bytes, spell, spelling}
+use Rattle.dgn_drawing.specs.Nesting.{nest_within, flat}
 use Rattle.edit_ops.specs.declared.cause.Cause.{Cause}
 use Rattle.edit_ops.specs.declared.cause.Cause.TheVariants as causes
 use Rattle.edit_ops.specs.Causes.{cause_of}
-use Rattle.edit_ops.specs.Applying.{Done, apply}
+use Rattle.edit_ops.specs.Applying.{Done, apply, copied}
 use Rattle.edit_ops.specs.Fields.{edited_fields}
 
 -- a display part with these corners and this attribute index
@@ -58,9 +58,9 @@ fields-cell = refl
 abbrev refusal : ℕ → Edit → Option Cause
 refusal total e = cause_of 2 (drawing total) 2 e
 
-refused-edits : (refusal 53 (edit.Delete 9) ∷ refusal 53 (edit.Delete 2) ∷ refusal 52 (edit.Delete 1) ∷ refusal 52 (edit.Delete 2) ∷ refusal 53 (edit.Delete 0)
+refused-edits : (refusal 53 (edit.Delete 9) ∷ refusal 52 (edit.Delete 1) ∷ refusal 52 (edit.Delete 2) ∷ refusal 53 (edit.Delete 0)
     ∷ refusal 53 (edit.Move 1 (by (pos 1 ∷ pos 1 ∷ pos 1 ∷ []) 3)) ∷ refusal 53 (edit.Move 1 (by (pos 2147483600 ∷ pos 0 ∷ pos 0 ∷ []) 2)) ∷ refusal 53 (edit.Delete 1) ∷ [])
-    ≡ Some (causes.Unknown 9) ∷ Some (causes.Member 2) ∷ Some (causes.Broken 1) ∷ Some (causes.Broken 2) ∷ Some (causes.Opaque 0)
+    ≡ Some (causes.Unknown 9) ∷ Some (causes.Broken 1) ∷ Some (causes.Broken 2) ∷ Some (causes.Opaque 0)
     ∷ Some causes.Dimension ∷ Some (causes.OffPlane 1) ∷ None ∷ []
 unfolding nest_within spell body_bytes display_bytes parts_bytes
 refused-edits = refl
@@ -75,3 +75,63 @@ no_mark-made : (cause_of 2 chain 2 (edit.Delete 1) ∷ cause_of 2 chain 2 (edit.
     ≡ Some (causes.Opaque 2) ∷ Some (causes.Opaque 2) ∷ []
 unfolding nest_within spell body_bytes display_bytes parts_bytes
 no_mark-made = refl
+
+-- a member moved alone: the range of the cell above it holds it afterwards, and the cell's origin stays
+abbrev one_one : Displacement
+one_one = by (pos 1 ∷ pos 1 ∷ pos 0 ∷ []) 2
+
+move-member : apply 2 (drawing 53) 2 (edit.Move 2 one_one)
+    ≡ Done (first ∷ cell 53 (pos 0) (pos 0) (pos 101) (pos 51) ∷ member (pos 1) (pos 1) (pos 101) (pos 51) ∷ [])
+unfolding nest_within spell body_bytes display_bytes parts_bytes
+move-member = refl
+
+-- twelve fields are written: the range of the header, and all eight of the line
+fields-member : map (λ f. f.at) (edited_fields 2 (drawing 53) (edit.Move 2 one_one)) ≡ 8 ∷ 12 ∷ 20 ∷ 24 ∷ 100 ∷ 104 ∷ 112 ∷ 116 ∷ 132 ∷ 136 ∷ 140 ∷ 144 ∷ []
+unfolding nest_within spell body_bytes display_bytes parts_bytes
+fields-member = refl
+
+-- a member marked deleted: one byte of it, and nothing of the cell above it
+abbrev dead : Element → Element
+dead e = record { level = e.level; bit6 = e.bit6; cbit = e.cbit; kind = e.kind; deleted = true; body = e.body }
+
+delete-member : apply 2 (drawing 53) 2 (edit.Delete 2)
+    ≡ Done (first ∷ cell 53 (pos 0) (pos 0) (pos 100) (pos 50) ∷ dead (member (pos 0) (pos 0) (pos 100) (pos 50)) ∷ [])
+unfolding nest_within spell body_bytes display_bytes parts_bytes
+delete-member = refl
+
+fields-deleted : map (λ f. f.at) (edited_fields 2 (drawing 53) (edit.Delete 2)) ≡ 97 ∷ []
+unfolding nest_within spell body_bytes display_bytes parts_bytes
+fields-deleted = refl
+
+-- the member is locked: a move, another look and a deletion of its cell or of it itself are refused, and a copy isn't
+abbrev locked_drawing : List Element
+locked_drawing =
+    first ∷ cell 53 (pos 0) (pos 0) (pos 100) (pos 50)
+    ∷ element true 3 (Shown (record { low = corner (pos 0) (pos 0); high = corner (pos 100) (pos 50); group = 0; index = 10; properties = 256; style = 0; weight = 0; color = 0 }) (Line (point (pos 0) (pos 0) ∷ point (pos 100) (pos 50) ∷ [])) [])
+    ∷ []
+
+locked-member : (cause_of 2 locked_drawing 2 (edit.Move 1 one_one) ∷ cause_of 2 locked_drawing 2 (edit.Sym 2 (record { color = Some 1; weight = None; style = None }))
+    ∷ cause_of 2 locked_drawing 2 (edit.Delete 1) ∷ cause_of 2 locked_drawing 2 (edit.Copy 1 one_one) ∷ [])
+    ≡ Some (causes.Locked 2) ∷ Some (causes.Locked 2) ∷ Some (causes.Locked 2) ∷ None ∷ []
+unfolding nest_within spell body_bytes display_bytes parts_bytes
+locked-member = refl
+
+-- a member copied alone stands behind the others without bit C
+copy-member : apply 2 (drawing 53) 2 (edit.Copy 2 one_one)
+    ≡ Done (first ∷ cell 53 (pos 0) (pos 0) (pos 100) (pos 50) ∷ member (pos 0) (pos 0) (pos 100) (pos 50)
+    ∷ element false 3 (Shown (display (corner (pos 1) (pos 1)) (corner (pos 101) (pos 51)) 10) (Line (point (pos 1) (pos 1) ∷ point (pos 101) (pos 51) ∷ [])) []) ∷ [])
+unfolding nest_within spell body_bytes display_bytes parts_bytes
+copy-member = refl
+
+-- so its first byte is 01, where that of the member is 81
+first_byte-copied : (take 1 (spelling (flat (copied 2 (drawing 53) (edit.Copy 2 one_one) 2))) ≡ 1 ∷ []) × (take 1 (spell (member (pos 0) (pos 0) (pos 100) (pos 50))) ≡ 129 ∷ [])
+unfolding nest_within spell body_bytes display_bytes parts_bytes
+first_byte-copied = (refl, refl)
+
+-- the range of a shared cell definition isn't read, so none of its parts is moved alone; one may be deleted or copied
+abbrev shared : List Element
+shared = first ∷ element false 34 (Shown (display (corner (pos 0) (pos 0)) (corner (pos 100) (pos 50)) 4) Plain []) ∷ member (pos 0) (pos 0) (pos 100) (pos 50) ∷ []
+
+shared-member : (cause_of 2 shared 2 (edit.Move 2 one_one) ∷ cause_of 2 shared 2 (edit.Delete 2) ∷ cause_of 2 shared 2 (edit.Copy 2 one_one) ∷ []) ≡ Some (causes.Opaque 1) ∷ None ∷ None ∷ []
+unfolding nest_within spell body_bytes display_bytes parts_bytes
+shared-member = refl

@@ -1,32 +1,26 @@
-ghost use Rattle.std.specs.Prelude.{◌≡◌, length, map, slice_get};
+ghost use Rattle.std.specs.Prelude.{◌≡◌, ◌<◌, length, map, slice_get};
 ghost use Rattle.dgn_drawing.specs.Rows.{row_of};
-ghost use Rattle.dgn_drawing.specs.Numbering.{parent_of, first_broken_of};
 ghost use Rattle.dgn_drawing.specs.Nesting.{itself};
-ghost use Rattle.dgn_layout.specs.Classes.{class_of};
+ghost use Rattle.dgn_drawing.specs.Numbering.{root_of};
 ghost use Rattle.elem_index.specs.Design.{elements, IsWhole};
-ghost use Rattle.edit_ops.specs.Causes.{unknown, member, broken, deleted, silent, other_axes, root_cause, head_cause};
+ghost use Rattle.edit_ops.specs.Trees.{above_tree};
+ghost use Rattle.edit_ops.specs.Causes.{unknown, broken, silent, other_axes, too_long, part_cause};
+ghost use Rattle.edit_ops.specs.Asking.{broken_by};
+ghost use Rattle.edit_ops.specs.Written.{found};
 
+use crate::asking::{cause_against, first_cause};
 use crate::cause::Cause;
 use crate::finding::find;
-use dgn_drawing::Edit;
+use crate::test::Test;
 use dgn_layout::is_silent;
 use elem_index::Design;
-use nest_tree::Nest;
+use nest_tree::types::Nest;
 
-// What keeps the tree of element n from any edit, the first of it.
-pub fn root_cause(d: &Design, t: &Nest, n: u32) -> Option<Cause>
-    requires whole { IsWhole d.now }
-    requires nesting { t.now.rows ≡ map row_of (elements d.now) }
-    ensures { result ≡ root_cause (elements d.now) n }
-{
-    unknown(d, n)
-        .or(member(t, n))
-        .or(broken(t, n))
-        .or(deleted(d, n))
-}
+// The most bytes that a design file may have.
+const MOST: usize = 67108864;
 
 // There is no element n.
-fn unknown(d: &Design, n: u32) -> Option<Cause>
+pub fn unknown(d: &Design, n: u32) -> Option<Cause>
     requires { IsWhole d.now }
     ensures { result ≡ unknown n (elements d.now) }
 {
@@ -37,56 +31,58 @@ fn unknown(d: &Design, n: u32) -> Option<Cause>
     }
 }
 
-// Element n stands below a header.
-fn member(t: &Nest, n: u32) -> Option<Cause>
-    ensures { result ≡ member n (parent_of itself t.now.rows n) }
+// What keeps the part of element n, which there is, from any edit. `above` has the numbers of the headers above it.
+pub fn part_cause(d: &Design, t: &Nest, n: u32, above: &[u32]) -> Option<Cause>
+    requires whole { IsWhole d.now }
+    requires nesting { t.now.rows ≡ map row_of (elements d.now) }
+    requires above { found (elements d.now) above.now ≡ above_tree (elements d.now) n }
+    ensures { result ≡ part_cause d.now.dim (elements d.now) n }
 {
-    match t.parent(n) {
-        Some(Some(_)) => Some(Cause::Member(n)),
-        _ => None,
-    }
+    broken(t, n)
+        .or(first_cause(d, above, &Test::Lives))
+        .or(cause_against(d, &Test::Lives, n))
 }
 
-// The tree of element n holds a broken number.
+// The tree that holds element n has a broken number.
 fn broken(t: &Nest, n: u32) -> Option<Cause>
-    ensures { result ≡ broken (first_broken_of itself t.now.rows n) }
+    ensures { result ≡ broken (broken_by t.now.rows (root_of itself t.now.rows n)) }
 {
-    match t.first_broken(n) {
+    let root = t.root(n)?;
+    match t.first_broken(root) {
         Some(Some(least)) => Some(Cause::Broken(least)),
         _ => None,
     }
 }
 
-// Element n is marked deleted.
-fn deleted(d: &Design, n: u32) -> Option<Cause>
-    requires { IsWhole d.now }
-    ensures { result ≡ deleted n (slice_get (elements d.now) n) }
+// An edit that is given for so many axes isn't for those of the file.
+pub fn other_axes(dim: u8, axes: u8) -> Option<Cause>
+    ensures { result ≡ other_axes dim axes }
 {
-    match find(d, n) {
-        Some(found) if found.deleted => Some(Cause::Deleted(n)),
-        _ => None,
-    }
-}
-
-// What of the edit itself, or of the head of its tree, refuses it.
-pub fn head_cause(d: &Design, edit: &Edit) -> Option<Cause>
-    requires { IsWhole d.now }
-    ensures { result ≡ head_cause d.now.dim (elements d.now) edit.now }
-{
-    match edit {
-        Edit::Move { by, .. } if by.axes != d.dim => Some(Cause::Dimension),
-        Edit::Delete { n } => silent(d, *n),
-        _ => None,
+    if axes == dim {
+        None
+    } else {
+        Some(Cause::Dimension)
     }
 }
 
 // Nothing is read of element n.
-fn silent(d: &Design, n: u32) -> Option<Cause>
+pub fn silent(d: &Design, n: u32) -> Option<Cause>
     requires { IsWhole d.now }
     ensures { result ≡ silent n (slice_get (elements d.now) n) }
 {
     match find(d, n) {
         Some(found) if is_silent(found.kind) => Some(Cause::Opaque(n)),
         _ => None,
+    }
+}
+
+// A file of so many bytes would be too long.
+pub fn too_long(bytes: usize) -> Option<Cause>
+    ensures { result ≡ too_long bytes }
+{
+    if bytes <= MOST {
+        None
+    } else {
+        Some(Cause::TooLong)
     }
 }

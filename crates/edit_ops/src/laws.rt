@@ -1,11 +1,13 @@
 //! What holds of every edit. Each call does nothing; its contract is the law.
 
-ghost use Rattle.edit_ops.specs.Laws.{EditedDrawingsOpen, EditsChangeTheirFields, EditedFieldsAreApart};
+ghost use Rattle.edit_ops.specs.Laws.{EditedDrawingsOpen, EditedDrawingsFit, EditsChangeTheirFields, EditedFieldsAreApart, LiveNumbersRise, PathNumbersRise, FirstCauseIsLeast};
 
 /// An edited drawing opens: what an edit that is done leaves opens in the same dimension, with the elements
-/// that it makes and the same tail.
+/// that it makes and the same tail. Where its elements and the rest keep the limit of a design file before, they
+/// do so after it.
 pub fn an_edited_drawing_opens()
-    ensures { EditedDrawingsOpen }
+    ensures opens { EditedDrawingsOpen }
+    ensures fits { EditedDrawingsFit }
 {}
 
 /// An edit changes its fields alone: each byte in no edited field stays, what is longer is whole trees
@@ -14,7 +16,16 @@ pub fn an_edit_changes_its_fields_alone()
     ensures { EditsChangeTheirFields }
 {}
 
-/// Edited fields are apart: each lies in its element, and no two share a byte.
+/// Edited fields are apart: each lies in its element, no two share a byte, and they rise from the first byte of the
+/// tree that holds the edit's element to that tree's end.
 pub fn edited_fields_are_apart()
     ensures { EditedFieldsAreApart }
+{}
+
+/// Causes name the least element: the elements that are asked have rising numbers, and the first cause that a test
+/// has against some of them is the one against the least of those against which it has one.
+pub fn causes_name_the_least()
+    ensures live { LiveNumbersRise }
+    ensures path { PathNumbersRise }
+    ensures first { FirstCauseIsLeast }
 {}

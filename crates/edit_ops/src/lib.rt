@@ -1,16 +1,20 @@
 //! What an edit of a drawing comes to: the first cause of its refusal, or the fields that it writes.
 //!
-//! An edit changes the tree of one element, which is the element and all below it. Of that tree it changes
-//! the live elements: those that neither are marked deleted nor stand below one that is.
+//! An edit changes or copies the part of one element, which is the element and all below it, or appends an
+//! element. Of a part it changes the live elements: those that neither are marked deleted nor stand below one that
+//! is. A move also widens the ranges of the headers above the part.
 #![tactic(auto)]
 
+mod above;
 mod asking;
 mod cause;
 mod causes;
+mod copying;
 mod edit_fault;
 mod finding;
 pub mod laws;
 mod live;
+mod making;
 mod patches;
 mod planning;
 mod sums;

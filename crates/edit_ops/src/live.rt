@@ -8,11 +8,11 @@ ghost use Rattle.edit_ops.specs.Written.{found};
 
 use crate::finding::find;
 use elem_index::Design;
-use nest_tree::Nest;
+use nest_tree::types::Nest;
 use std::alloc::{AllocError, Global};
 
 // The number behind the last element below element n, which there is.
-fn end_of(t: &Nest, n: u32) -> u32
+pub fn end_of(t: &Nest, n: u32) -> u32
     requires { n < length t.now.rows }
     ensures { Some result ≡ option_map (λ m. m.end) (mark_of itself t.now.rows n) }
 {
@@ -34,7 +34,7 @@ fn is_deleted(d: &Design, n: u32) -> bool
     found.deleted
 }
 
-// The numbers of the live elements of the tree of element n, in their order.
+// The numbers of the live elements of the part of element n, in their order.
 pub fn live_numbers(alloc: Global, d: &Design, t: &Nest, n: u32) -> Result<Vec<u32>, AllocError>
     requires whole { IsWhole d.now }
     requires nesting { t.now.rows ≡ map row_of (elements d.now) }

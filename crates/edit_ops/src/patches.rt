@@ -1,43 +1,213 @@
-ghost use Rattle.std.specs.Prelude.{◌≡◌, ◌+◌, ◌<◌, ◌≤◌, [], ◌∷◌, ◌++◌, length, map, IfOk, OnOk, IsTrue};
-ghost use Rattle.std.specs.List.{AllByRecursion, list_all};
+ghost use Rattle.std.specs.Prelude.{◌≡◌, ◌+◌, ◌<◌, ◌≤◌, ◌+ℤ◌, [], ◌∷◌, ◌++◌, length, map, take, slice_get, Some, IfOk, IfSome, OnOk, IsTrue, IsFalse};
+ghost use Rattle.std.specs.List.{AllByRecursion, list_all, flat_map};
 ghost use Rattle.std.specs.Option.{option_to_list};
 ghost use Rattle.elem_head.specs.Head.{symbology_of};
+ghost use Rattle.dgn_words.specs.Numbers.{range_long_at, range_long_bytes};
+ghost use Rattle.range_code.specs.Ranges.{on_axis, corner_at};
+ghost use Rattle.dgn_layout.specs.Classes.{class_of, is_silent};
 ghost use Rattle.dgn_layout.specs.Spots.{HoldsPoints, spots_of};
+ghost use Rattle.dgn_drawing.specs.Spelling.{spell};
+ghost use Rattle.dgn_drawing.specs.Changes.{displaced};
 ghost use Rattle.dgn_drawing.specs.WellFormed.{IsDimension};
 ghost use Rattle.elem_index.specs.Design.{elements, IsWhole};
 ghost use Rattle.patch_bytes.specs.PatchView.{put_of};
 ghost use Rattle.range_code.specs.Plane.{is_on_plane};
 ghost use Rattle.dgn_drawing.specs.SpotNumbers.{sum_at};
-ghost use Rattle.edit_ops.specs.Written.{found_at, found, live_puts, sum_put, new_look, IsReady};
+ghost use Rattle.edit_ops.specs.Trees.{found_at, above_tree, live_tree};
+ghost use Rattle.edit_ops.specs.Causes.{target_of};
+ghost use Rattle.edit_ops.specs.Written.{found, live_puts, above_puts, part_puts, corner_puts, wider_puts, sum_put, new_look, IsReady};
 
 use crate::finding::{Found, find};
 use crate::sums::{bytes_at, spots_in, sum};
 use dgn_drawing::{Edit, Shift, SymbChange};
 use dgn_layout::Spot;
+use dgn_words::{put_range_long, range_long};
 use elem_head::symb;
 use elem_index::Design;
 use patch_bytes::{Patch, PatchList};
+use range_code::{Box3, join, range};
 use std::alloc::{AllocError, Global};
 
 // The bit of an element's second byte that marks it deleted.
 const DELETED: u8 = 0x80;
 
-// What an edit puts into the live elements of its tree, of which `live` has the numbers.
+// What an edit of the part of element n puts into the headers above it and into its live elements, of which
+// `above` and `live` have the numbers.
 pub fn patches_of(
     alloc: Global,
     d: &Design,
+    n: u32,
+    above: &[u32],
     live: &[u32],
     edit: &Edit,
 ) -> Result<PatchList, AllocError>
     requires whole { IsWhole d.now }
-    requires ready { AllByRecursion (λ v. IsReady d.now.dim edit.now v.element) (found (elements d.now) live.now) }
-    ensures { IfOk result (λ patches. patches ≡ live_puts d.now.dim edit.now (found (elements d.now) live.now)) }
+    requires target { target_of edit.now ≡ Some n }
+    requires above { found (elements d.now) above.now ≡ above_tree (elements d.now) n }
+    requires live { found (elements d.now) live.now ≡ live_tree (elements d.now) n }
+    requires head { IfSome (slice_get (elements d.now) n) (IsReady d.now.dim edit.now) }
+    requires shown { AllByRecursion (λ v. IsFalse (is_silent (class_of v.element.kind))) (above_tree (elements d.now) n) }
+    requires ready { AllByRecursion (λ v. IsReady d.now.dim edit.now v.element) (live_tree (elements d.now) n) }
+    ensures { IfOk result (λ patches. patches ≡ part_puts d.now.dim (elements d.now) edit.now n) }
 {
     let mut patches = PatchList::new(alloc);
-    'live: for m in live {
-        push_patches(&mut patches, d, *m, edit)?;
-    }
+    push_above(&mut patches, d, n, above, edit)?;
+    push_live(&mut patches, d, live, edit)?;
     Ok(patches)
+}
+
+// Appends what an edit of the part of element n puts into the headers above it, of which `above` has the numbers.
+fn push_above(
+    patches: &mut PatchList,
+    d: &Design,
+    n: u32,
+    above: &[u32],
+    edit: &Edit,
+) -> Result<(), AllocError>
+    requires whole { IsWhole d.now }
+    requires head { IfSome (slice_get (elements d.now) n) (IsReady d.now.dim edit.now) }
+    requires shown { AllByRecursion (λ v. IsFalse (is_silent (class_of v.element.kind))) (found (elements d.now) above.now) }
+    ensures { OnOk result (patches.new ≡ patches.old
+        ++ above_puts d.now.dim edit.now (slice_get (elements d.now) n) (found (elements d.now) above.now)) }
+{
+    let Edit::Move { by, .. } = edit else {
+        return Ok(());
+    };
+    let Some(head) = find(d, n) else {
+        return Ok(());
+    };
+    push_all_wider(patches, d, above, moved_range(d.dim, head.bytes, by))
+}
+
+// Appends the range numbers of each of the headers of these numbers made to hold a range too.
+fn push_all_wider(
+    patches: &mut PatchList,
+    d: &Design,
+    above: &[u32],
+    r: Box3,
+) -> Result<(), AllocError>
+    requires whole { IsWhole d.now }
+    requires shown { AllByRecursion (λ v. IsFalse (is_silent (class_of v.element.kind))) (found (elements d.now) above.now) }
+    ensures { OnOk result (patches.new ≡ patches.old
+        ++ flat_map (λ v. wider_puts d.now.dim r v.place (spell v.element)) (found (elements d.now) above.now)) }
+{
+    'above: for m in above {
+        push_wider(patches, d, *m, r)?;
+    }
+    Ok(())
+}
+
+// The range of an element with the bytes b, moved by a displacement along the file's axes.
+fn moved_range(dim: u8, b: &[u8], by: &Shift) -> Box3
+    requires dimension { IsDimension dim }
+    requires long { 36 ≤ length b.now }
+    requires low { IsTrue (list_all is_on_plane (take dim (displaced (take dim by.now.by) (corner_at b.now 4)))) }
+    requires high { IsTrue (list_all is_on_plane (take dim (displaced (take dim by.now.by) (corner_at b.now 16)))) }
+    ensures { result ≡ record {
+      lo = displaced (take dim by.now.by) (corner_at b.now 4);
+      hi = displaced (take dim by.now.by) (corner_at b.now 16);
+    } }
+{
+    Box3 {
+        lo: moved_corner(dim, b, 4, by),
+        hi: moved_corner(dim, b, 16, by),
+    }
+}
+
+// The corner at byte `at`, moved along the file's axes, along which it stays on the design plane.
+fn moved_corner(dim: u8, b: &[u8], at: u32, by: &Shift) -> [i32; 3]
+    requires dimension { IsDimension dim }
+    requires low { at ≤ 16 }
+    requires long { at + 12 ≤ length b.now }
+    requires plane { IsTrue (list_all is_on_plane (take dim (displaced (take dim by.now.by) (corner_at b.now at)))) }
+    ensures { result ≡ displaced (take dim by.now.by) (corner_at b.now at) }
+{
+    let x = moved_number(b, at, 0, by);
+    let y = moved_number(b, at + 4, 1, by);
+    if dim == 3 {
+        [x, y, moved_number(b, at + 8, 2, by)]
+    } else {
+        [x, y, range_long(b, at as usize + 8)]
+    }
+}
+
+// The range number at byte `at`, moved along an axis, along which it stays on the design plane.
+fn moved_number(b: &[u8], at: u32, axis: u8, by: &Shift) -> i32
+    requires long { at + 4 ≤ length b.now }
+    requires plane { IsTrue (is_on_plane (range_long_at b.now at +ℤ on_axis by.now.by axis)) }
+    ensures { result ≡ range_long_at b.now at +ℤ on_axis by.now.by axis }
+{
+    let spot = Spot {
+        at,
+        axis,
+        offset: true,
+    };
+    match sum(b, spot, by) {
+        Some(number) => number,
+        None => unreachable!(),
+    }
+}
+
+// Appends the range numbers of header m, where there is one, made to hold a range too.
+fn push_wider(patches: &mut PatchList, d: &Design, m: u32, r: Box3) -> Result<(), AllocError>
+    requires whole { IsWhole d.now }
+    requires shown { AllByRecursion (λ v. IsFalse (is_silent (class_of v.element.kind)))
+        (option_to_list (found_at (elements d.now) m)) }
+    ensures { OnOk result (patches.new ≡ patches.old
+        ++ flat_map (λ v. wider_puts d.now.dim r v.place (spell v.element)) (option_to_list (found_at (elements d.now) m))) }
+{
+    let Some(found) = find(d, m) else {
+        return Ok(());
+    };
+    let wider = join(range(found.bytes), r);
+    push_corner(patches, d.dim, found.place as u32 + 4, wider.lo)?;
+    push_corner(patches, d.dim, found.place as u32 + 16, wider.hi)
+}
+
+// Appends the range numbers of a corner that begins at byte `at`, on the file's axes.
+fn push_corner(
+    patches: &mut PatchList,
+    dim: u8,
+    at: u32,
+    corner: [i32; 3],
+) -> Result<(), AllocError>
+    requires dimension { IsDimension dim }
+    requires few { at ≤ 67108864 }
+    ensures { OnOk result (patches.new ≡ patches.old ++ corner_puts dim at corner) }
+{
+    patches.push(range_patch(at, corner[0]))?;
+    patches.push(range_patch(at + 4, corner[1]))?;
+    if dim == 3 {
+        patches.push(range_patch(at + 8, corner[2]))?;
+    }
+    Ok(())
+}
+
+// A range number at a place.
+fn range_patch(at: u32, number: i32) -> Patch
+    ensures { put_of result ≡ record { at = at; bytes = range_long_bytes number } }
+{
+    let mut bytes = [0; 4];
+    put_range_long(&mut bytes, 0, number);
+    Patch { at, len: 4, bytes }
+}
+
+// Appends what an edit puts into live elements, or into the copies of them, of which `live` has the numbers.
+pub fn push_live(
+    patches: &mut PatchList,
+    d: &Design,
+    live: &[u32],
+    edit: &Edit,
+) -> Result<(), AllocError>
+    requires whole { IsWhole d.now }
+    requires ready { AllByRecursion (λ v. IsReady d.now.dim edit.now v.element) (found (elements d.now) live.now) }
+    ensures { OnOk result (patches.new ≡ patches.old
+        ++ live_puts d.now.dim edit.now (found (elements d.now) live.now)) }
+{
+    'live: for m in live {
+        push_patches(patches, d, *m, edit)?;
+    }
+    Ok(())
 }
 
 // Appends what an edit puts into element m, where there is one.
@@ -53,8 +223,10 @@ fn push_patches(patches: &mut PatchList, d: &Design, m: u32, edit: &Edit) -> Res
     };
     match edit {
         Edit::Move { by, .. } => push_sums(patches, d.dim, found, by),
+        Edit::Copy { by, .. } => push_sums(patches, d.dim, found, by),
         Edit::Sym { change, .. } => patches.push(look_patch(found, change)),
         Edit::Delete { .. } => patches.push(mark_patch(found)),
+        Edit::Append(_) => Ok(()),
     }
 }
 

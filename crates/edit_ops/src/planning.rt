@@ -1,34 +1,54 @@
-ghost use Rattle.std.specs.Prelude.{◌≡◌, ◌+◌, ◌≤◌, length, map, Ok, Err, IfOk, IfErr, MatchOption};
+ghost use Rattle.std.specs.Prelude.{◌≡◌, ◌+◌, ◌<◌, ◌≤◌, [], length, map, slice_get, Some, None, IfOk, IfErr, IfSome, IsFalse};
+ghost use Rattle.std.specs.List.{AllByRecursion};
+ghost use Rattle.std.specs.Option.{option_or};
+ghost use Rattle.dgn_layout.specs.Classes.{class_of, is_silent};
+ghost use Rattle.dgn_drawing.specs.Spelling.{spelling};
 ghost use Rattle.dgn_drawing.specs.Rows.{row_of};
+ghost use Rattle.dgn_drawing.specs.Nesting.{flat};
 ghost use Rattle.elem_index.specs.Design.{elements, IsWhole};
-ghost use Rattle.edit_ops.specs.Applying.{apply, IsEdit};
-ghost use Rattle.edit_ops.specs.Causes.{target_of};
+ghost use Rattle.edit_ops.specs.Trees.{above_tree, live_tree};
+ghost use Rattle.edit_ops.specs.Applying.{apply, copied, IsEdit};
+ghost use Rattle.edit_ops.specs.Causes.{target_of, part_cause, causes_of, first_of, bytes_appended};
 ghost use Rattle.edit_ops.specs.Planned.{IsPlan, IsRefused};
+ghost use Rattle.edit_ops.specs.Written.{found, part_puts, IsReady};
 
-use crate::asking::live_cause;
+use crate::above::numbers_above;
+use crate::asking::edit_cause;
 use crate::cause::Cause;
-use crate::causes::{head_cause, root_cause};
+use crate::causes::{part_cause, unknown};
+use crate::copying::{copy_of, part_len};
 use crate::edit_fault::EditFault;
 use crate::live::live_numbers;
+use crate::making::{size_made, spelled};
 use crate::patches::patches_of;
 use crate::types::Plan;
 use dgn_drawing::Edit;
 use elem_index::Design;
-use nest_tree::Nest;
-use patch_bytes::ByteList;
-use std::alloc::Global;
+use nest_tree::types::Nest;
+use patch_bytes::{ByteList, PatchList};
+use std::alloc::{AllocError, Global};
 
 /// What an edit comes to on the design `d`, of which `t` is the nesting. `pending` is the number of bytes
 /// that are to be appended already.
 ///
-/// Refused comes exactly with the first cause that stands: Unknown, Member, Broken, Deleted; then, for a
-/// move, Dimension, the least live element of the tree that is Floating or Opaque, the least that is
-/// OffPlane; for a change of the look, the least that is Opaque; for a deletion, the element itself where it
-/// is silent, and the least of type 127, both Opaque. Otherwise the plan has the edited fields of the live
-/// elements, with the bytes that the result has there, and the bytes to append.
+/// Refused comes exactly with the first cause that stands. The part of an element is the element and all below it.
 ///
-/// It takes the time of the element's tree, not of the drawing. Memory may come from any edit of an element
-/// that is there.
+/// - Of every edit but an appended element: Unknown; Broken, where the tree that holds the element is; Deleted, where
+///   the element or a header above it is marked.
+/// - Of a move, a change of the look and a deletion: Locked, where a header above or a live element of the part is.
+/// - Of a move, a copy and an appended element: Dimension.
+/// - Opaque or Floating: of a move, where a header above has the class run; of a move and a copy, where not all
+///   coordinates of a live element of the part are read; of a change of the look, where a live element has no look
+///   that is read; of a deletion, where the element is silent, or a live one has type 127.
+/// - Of a move and a copy: OffPlane.
+/// - Of a copy and an appended element: TooLong, where body, tail, `pending` and the new bytes are together more
+///   than 67108864 bytes.
+///
+/// Of each the least element of which it can be said is named. Otherwise the plan has the edited fields of the
+/// headers above and of the live elements, with the bytes that the result has there, and the bytes to append.
+///
+/// It takes the time of the part and of the headers above it, not of the drawing. Memory may come from any edit
+/// but that of an unknown element.
 pub fn plan(
     alloc: Global,
     d: &Design,
@@ -45,42 +65,201 @@ pub fn plan(
     ensures refused { IfErr result
         (IsRefused (apply d.now.dim (elements d.now) (length d.now.tail.items + pending) edit.now)) }
 {
-    let n = target(edit);
-    refuse(root_cause(d, t, n))?;
-    refuse(head_cause(d, edit))?;
+    match target(edit) {
+        Some(n) => plan_part(alloc, d, t, n, edit, pending),
+        None => plan_append(alloc, d, edit, pending),
+    }
+}
+
+// The same of an edit of the part of element n.
+fn plan_part(
+    alloc: Global,
+    d: &Design,
+    t: &Nest,
+    n: u32,
+    edit: &Edit,
+    pending: usize,
+) -> Result<Plan, EditFault>
+    requires whole { IsWhole d.now }
+    requires nesting { t.now.rows ≡ map row_of (elements d.now) }
+    requires room { length d.now.body.items + (length d.now.tail.items + pending) ≤ 67108864 }
+    requires target { target_of edit.now ≡ Some n }
+    requires fits { IsEdit edit.now }
+    ensures planned { IfOk result
+        (IsPlan d.now.dim (elements d.now) (length d.now.tail.items + pending) edit.now) }
+    ensures refused { IfErr result
+        (IsRefused (apply d.now.dim (elements d.now) (length d.now.tail.items + pending) edit.now)) }
+{
+    match unknown(d, n) {
+        Some(cause) => Err(EditFault::Refused(cause)),
+        None => plan_known(alloc, d, t, n, edit, pending),
+    }
+}
+
+// The same where there is an element n.
+fn plan_known(
+    alloc: Global,
+    d: &Design,
+    t: &Nest,
+    n: u32,
+    edit: &Edit,
+    pending: usize,
+) -> Result<Plan, EditFault>
+    requires whole { IsWhole d.now }
+    requires nesting { t.now.rows ≡ map row_of (elements d.now) }
+    requires room { length d.now.body.items + (length d.now.tail.items + pending) ≤ 67108864 }
+    requires known { n < length (elements d.now) }
+    requires target { target_of edit.now ≡ Some n }
+    requires fits { IsEdit edit.now }
+    ensures planned { IfOk result
+        (IsPlan d.now.dim (elements d.now) (length d.now.tail.items + pending) edit.now) }
+    ensures refused { IfErr result
+        (IsRefused (apply d.now.dim (elements d.now) (length d.now.tail.items + pending) edit.now)) }
+{
+    let above = numbers_above(alloc, d, t, n)?;
     let live = live_numbers(alloc, d, t, n)?;
-    refuse(live_cause(d, &live, edit))?;
-    let patches = patches_of(alloc, d, &live, edit)?;
+    if let Some(cause) = later_cause(d, t, n, edit, &above, &live, pending) {
+        return Err(EditFault::Refused(cause));
+    }
+    if let Edit::Copy { .. } = edit {
+        Ok(plan_copy(alloc, d, t, n, &live, edit)?)
+    } else {
+        Ok(plan_change(alloc, d, n, &above, &live, edit)?)
+    }
+}
+
+// The plan of a copy of the part of element n, which nothing refuses.
+fn plan_copy(
+    alloc: Global,
+    d: &Design,
+    t: &Nest,
+    n: u32,
+    live: &[u32],
+    edit: &Edit,
+) -> Result<Plan, AllocError>
+    requires whole { IsWhole d.now }
+    requires nesting { t.now.rows ≡ map row_of (elements d.now) }
+    requires known { n < length (elements d.now) }
+    requires fits { IsEdit edit.now }
+    requires live { found (elements d.now) live.now ≡ live_tree (elements d.now) n }
+    requires ready { AllByRecursion (λ v. IsReady d.now.dim edit.now v.element) (live_tree (elements d.now) n) }
+    ensures patches { IfOk result (λ plan. plan.patches ≡ []) }
+    ensures append { IfOk result (λ plan. plan.append ≡ spelling (flat (copied d.now.dim (elements d.now) edit.now n))) }
+{
+    let append = copy_of(alloc, d, t, n, live, edit)?;
+    Ok(Plan {
+        patches: PatchList::new(alloc),
+        append,
+    })
+}
+
+// The plan of another edit of the part of element n, which nothing refuses.
+fn plan_change(
+    alloc: Global,
+    d: &Design,
+    n: u32,
+    above: &[u32],
+    live: &[u32],
+    edit: &Edit,
+) -> Result<Plan, AllocError>
+    requires whole { IsWhole d.now }
+    requires target { target_of edit.now ≡ Some n }
+    requires above { found (elements d.now) above.now ≡ above_tree (elements d.now) n }
+    requires live { found (elements d.now) live.now ≡ live_tree (elements d.now) n }
+    requires head { IfSome (slice_get (elements d.now) n) (IsReady d.now.dim edit.now) }
+    requires shown { AllByRecursion (λ v. IsFalse (is_silent (class_of v.element.kind))) (above_tree (elements d.now) n) }
+    requires ready { AllByRecursion (λ v. IsReady d.now.dim edit.now v.element) (live_tree (elements d.now) n) }
+    ensures patches { IfOk result (λ plan. plan.patches ≡ part_puts d.now.dim (elements d.now) edit.now n) }
+    ensures append { IfOk result (λ plan. plan.append ≡ []) }
+{
+    let patches = patches_of(alloc, d, n, above, live, edit)?;
     Ok(Plan {
         patches,
         append: ByteList::new(alloc),
     })
 }
 
-// The element whose tree an edit changes.
-fn target(edit: &Edit) -> u32
+// What refuses an edit of the part of element n, which there is.
+fn later_cause(
+    d: &Design,
+    t: &Nest,
+    n: u32,
+    edit: &Edit,
+    above: &[u32],
+    live: &[u32],
+    pending: usize,
+) -> Option<Cause>
+    requires whole { IsWhole d.now }
+    requires nesting { t.now.rows ≡ map row_of (elements d.now) }
+    requires room { length d.now.body.items + (length d.now.tail.items + pending) ≤ 67108864 }
+    requires known { n < length (elements d.now) }
+    requires target { target_of edit.now ≡ Some n }
+    requires above { found (elements d.now) above.now ≡ above_tree (elements d.now) n }
+    requires live { found (elements d.now) live.now ≡ live_tree (elements d.now) n }
+    ensures { result ≡ option_or (part_cause d.now.dim (elements d.now) n)
+        (first_of (causes_of d.now.dim (elements d.now) (length d.now.tail.items + pending) edit.now)) }
+{
+    let appended = appended_by(d, t, n, edit);
+    part_cause(d, t, n, above).or(edit_cause(d, edit, above, live, appended, pending))
+}
+
+// How many bytes an edit of the part of element n, which there is, appends.
+fn appended_by(d: &Design, t: &Nest, n: u32, edit: &Edit) -> usize
+    requires whole { IsWhole d.now }
+    requires nesting { t.now.rows ≡ map row_of (elements d.now) }
+    requires known { n < length (elements d.now) }
+    requires target { target_of edit.now ≡ Some n }
+    ensures exact { result ≡ bytes_appended (elements d.now) edit.now }
+    ensures few { result ≤ 67108864 }
+{
+    match edit {
+        Edit::Copy { .. } => part_len(d, t, n),
+        _ => 0,
+    }
+}
+
+// What an appended element comes to.
+fn plan_append(alloc: Global, d: &Design, edit: &Edit, pending: usize) -> Result<Plan, EditFault>
+    requires whole { IsWhole d.now }
+    requires room { length d.now.body.items + (length d.now.tail.items + pending) ≤ 67108864 }
+    requires target { target_of edit.now ≡ None }
+    requires fits { IsEdit edit.now }
+    ensures planned { IfOk result
+        (IsPlan d.now.dim (elements d.now) (length d.now.tail.items + pending) edit.now) }
+    ensures refused { IfErr result
+        (IsRefused (apply d.now.dim (elements d.now) (length d.now.tail.items + pending) edit.now)) }
+{
+    let Edit::Append(new) = edit else {
+        unreachable!()
+    };
+    if let Some(cause) = edit_cause(d, edit, &[], &[], size_made(new), pending) {
+        return Err(EditFault::Refused(cause));
+    }
+    let append = spelled(alloc, new)?;
+    Ok(Plan {
+        patches: PatchList::new(alloc),
+        append,
+    })
+}
+
+// The element whose part an edit changes or copies, where it names one.
+fn target(edit: &Edit) -> Option<u32>
     ensures target { result ≡ target_of edit.now }
     ensures kept { IsEdit edit.now }
 {
     match edit {
-        Edit::Move { n, by } => {
+        Edit::Move { n, by } | Edit::Copy { n, by } => {
             let _axes = by.axes;
-            *n
+            Some(*n)
         }
         Edit::Sym { n, change } => {
             let _color = change.color;
-            *n
+            Some(*n)
         }
-        Edit::Delete { n } => *n,
-    }
-}
-
-// Refused with the cause, if there is one.
-fn refuse(cause: Option<Cause>) -> Result<(), EditFault>
-    ensures { MatchOption cause (result ≡ Ok tt) (λ c. result ≡ Err (EditFault.Refused c)) }
-{
-    match cause {
-        Some(cause) => Err(EditFault::Refused(cause)),
-        None => Ok(()),
+        Edit::Delete { n } => Some(*n),
+        Edit::Append(new) => {
+            let _level = new.level;
+            None
+        }
     }
 }

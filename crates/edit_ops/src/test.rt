@@ -1,8 +1,14 @@
 use dgn_drawing::Shift;
 
-// What is asked of each live element of a tree before it is changed.
+// What is asked of elements before an edit is made.
 #[derive(Drop)]
 pub(crate) enum Test {
+    // Whether it isn't marked deleted.
+    Lives,
+    // Whether it isn't locked.
+    Unlocked,
+    // Whether its range, that of a header, can be made wider.
+    Widens,
     // Whether all its coordinates are read.
     Moves,
     // Whether it has a look that can be changed.

@@ -1,15 +1,18 @@
 // Plans of edits on worked drawings.
 
-ghost use Rattle.std.specs.Prelude.{◌≡◌, map, IfOk};
+ghost use Rattle.std.specs.Prelude.{◌≡◌, [], ◌∷◌, map, IfOk};
 ghost use Rattle.dgn_drawing.specs.Rows.{row_of};
 ghost use Rattle.elem_index.specs.Design.{elements, IsWhole};
 
 use super::*;
 use crate::types::Plan;
-use dgn_drawing::{Edit, Shift, SymbChange};
+use dgn_drawing::{Edit, New, NewShape, Shift, SymbChange};
+use elem_head::types::Symb;
 use elem_index::{Design, read_design};
-use nest_tree::{Nest, nest};
-use patch_bytes::Patch;
+use nest_tree::nest;
+use nest_tree::types::Nest;
+use patch_bytes::{ByteList, Patch};
+use plane_geom::PointList;
 use std::alloc::{AllocError, Global};
 use std::process::Abort;
 use std::test::Fail;
@@ -41,40 +44,92 @@ const MEMBER: [u8; 52] = [
     0x00, 0x00, 0x32, 0x00,
 ];
 
-// A TCB, the cell and its member.
-fn file(alloc: Global) -> Result<Vec<u8>, AllocError> {
+// A shared cell definition on level 1, of 36 bytes.
+const SHARED: [u8; 36] = [
+    0x01, 0x22, 0x10, 0x00, 0x00, 0x80, 0x00, 0x00, 0x00, 0x80, 0x00, 0x00, 0x00, 0x80, 0x00, 0x00,
+    0x00, 0x80, 0x00, 0x00, 0x00, 0x80, 0x00, 0x00, 0x00, 0x80, 0x00, 0x00, 0x00, 0x00, 0x02, 0x00,
+    0x00, 0x00, 0x00, 0x00,
+];
+
+// A drawing: a TCB of two or three axes, an element and its member, or none, and no tail.
+fn file(alloc: Global, axes: u8, top: &[u8], member: &[u8]) -> Result<Vec<u8>, AllocError> {
     let mut bytes = Vec::new(alloc);
     bytes.extend_from_slice(&[0x08, 0x09, 0xFE, 0x02])?;
-    for _ in 4..1536 {
-        bytes.push(0)?;
+    for at in 4..1536 {
+        bytes.push(if at == 1214 && axes == 3 { 0x40 } else { 0 })?;
     }
-    bytes.extend_from_slice(&CELL)?;
-    bytes.extend_from_slice(&MEMBER)?;
+    bytes.extend_from_slice(top)?;
+    bytes.extend_from_slice(member)?;
     Ok(bytes)
 }
 
-// What an edit of the drawing comes to.
-fn planned(rt: &(impl AllocGlobal + Abort), edit: &Edit) -> Result<Result<Plan, EditFault>, Fail> {
+// What an edit of a drawing of these elements comes to, where so many bytes are pending.
+fn planned(
+    rt: &(impl AllocGlobal + Abort),
+    axes: u8,
+    top: &[u8],
+    member: &[u8],
+    edit: &Edit,
+    pending: usize,
+) -> Result<Result<Plan, EditFault>, Fail> {
     let alloc = rt.alloc();
-    let bytes = file(alloc)?;
+    let bytes = file(alloc, axes, top, member)?;
     assert!(rt; bytes.len() <= 67108864);
     let Ok(design) = read_design(alloc, bytes) else {
         panic!(rt; "it doesn't open");
     };
     let nesting = nested(alloc, &design)?;
     assert!(rt; design.body.len() <= 2000);
-    assert!(rt; design.tail.len() <= 2000);
-    Ok(plan(alloc, &design, &nesting, edit, 0))
+    assert!(rt; design.tail.is_empty());
+    assert!(rt; pending <= 67108864 - design.body.len());
+    Ok(plan(alloc, &design, &nesting, edit, pending))
 }
 
-// An edit of the drawing is planned as these patches, with nothing to append.
+// An edit of the cell and its member is planned as these patches, with nothing to append.
 fn is_planned(rt: &(impl AllocGlobal + Abort), edit: &Edit, wanted: &[Patch]) -> Result<(), Fail> {
-    let Ok(plan) = planned(rt, edit)? else {
+    let Ok(plan) = planned(rt, 2, &CELL, &MEMBER, edit, 0)? else {
         panic!(rt; "it is refused");
     };
     assert!(rt; plan.append.is_empty());
     assert_eq!(rt; plan.patches.as_slice(), wanted);
     Ok(())
+}
+
+// Edits of these elements are refused, each with its cause.
+fn are_refused(
+    rt: &(impl AllocGlobal + Abort),
+    top: &[u8],
+    member: &[u8],
+    rows: &[(Edit, Cause)],
+) -> Result<(), Fail> {
+    for (edit, cause) in rows {
+        let fault = planned(rt, 2, top, member, edit, 0)?.err();
+        assert_eq!(rt; fault, Some(EditFault::Refused(*cause)));
+    }
+    Ok(())
+}
+
+// What an edit of these elements appends, where it is planned.
+fn appended(
+    rt: &(impl AllocGlobal + Abort),
+    axes: u8,
+    top: &[u8],
+    member: &[u8],
+    edit: &Edit,
+) -> Result<ByteList, Fail> {
+    let Ok(plan) = planned(rt, axes, top, member, edit, 0)? else {
+        panic!(rt; "it is refused");
+    };
+    assert!(rt; plan.patches.is_empty());
+    Ok(plan.append)
+}
+
+// A displacement in two axes.
+fn along(x: i32, y: i32) -> Shift {
+    Shift {
+        axes: 2,
+        by: [i64::from(x), i64::from(y), 0],
+    }
 }
 
 // A coordinate field.
@@ -84,10 +139,7 @@ fn field(at: u32, bytes: [u8; 4]) -> Patch {
 
 #[test]
 fn plans_of_a_cell(rt: HostRuntime) -> Result<(), Fail> {
-    let by = Shift {
-        axes: 2,
-        by: [5, 7, 0],
-    };
+    let by = along(5, 7);
     let moved = [
         field(1540, [0x00, 0x80, 0x05, 0x00]),
         field(1544, [0x00, 0x80, 0x07, 0x00]),
@@ -125,15 +177,204 @@ fn plans_of_a_cell(rt: HostRuntime) -> Result<(), Fail> {
 }
 
 #[test]
+fn plans_of_a_member(rt: HostRuntime) -> Result<(), Fail> {
+    let moved = [
+        field(1540, [0x00, 0x80, 0x00, 0x00]),
+        field(1544, [0x00, 0x80, 0x00, 0x00]),
+        field(1552, [0x00, 0x80, 0x65, 0x00]),
+        field(1556, [0x00, 0x80, 0x33, 0x00]),
+        field(1632, [0x00, 0x80, 0x01, 0x00]),
+        field(1636, [0x00, 0x80, 0x01, 0x00]),
+        field(1644, [0x00, 0x80, 0x65, 0x00]),
+        field(1648, [0x00, 0x80, 0x33, 0x00]),
+        field(1664, [0x00, 0x00, 0x01, 0x00]),
+        field(1668, [0x00, 0x00, 0x01, 0x00]),
+        field(1672, [0x00, 0x00, 0x65, 0x00]),
+        field(1676, [0x00, 0x00, 0x33, 0x00]),
+    ];
+    let by = along(1, 1);
+    is_planned(&rt, &Edit::Move { n: 2, by }, &moved)
+}
+
+// A locked member, a header whose total no members have, a shared cell definition, and a mark of the look.
+#[test]
 fn refused_edits(rt: HostRuntime) -> Result<(), Fail> {
+    let by = Shift {
+        axes: 3,
+        by: [1, 1, 1],
+    };
     let rows = [
         (Edit::Delete { n: 9 }, Cause::Unknown(9)),
-        (Edit::Delete { n: 2 }, Cause::Member(2)),
         (Edit::Delete { n: 0 }, Cause::Opaque(0)),
+        (Edit::Copy { n: 1, by }, Cause::Dimension),
     ];
-    for (edit, wanted) in rows {
-        let cause = planned(&rt, &edit)?.err();
-        assert_eq!(rt; cause, Some(EditFault::Refused(wanted)));
-    }
+    are_refused(&rt, &CELL, &MEMBER, &rows)?;
+    let mut loose = CELL;
+    loose[36] = 0x34;
+    let rows = [
+        (Edit::Delete { n: 1 }, Cause::Broken(1)),
+        (Edit::Delete { n: 2 }, Cause::Broken(2)),
+    ];
+    are_refused(&rt, &loose, &MEMBER, &rows)?;
+    let mut locked = MEMBER;
+    locked[33] = 0x01;
+    let change = SymbChange {
+        color: Some(1),
+        weight: None,
+        style: None,
+    };
+    let by = along(1, 1);
+    let rows = [
+        (Edit::Delete { n: 1 }, Cause::Locked(2)),
+        (Edit::Sym { n: 2, change }, Cause::Locked(2)),
+        (Edit::Move { n: 1, by }, Cause::Locked(2)),
+    ];
+    are_refused(&rt, &CELL, &locked, &rows)?;
+    let by = along(1, 1);
+    let rows = [(Edit::Move { n: 2, by }, Cause::Opaque(1))];
+    are_refused(&rt, &SHARED, &MEMBER, &rows)
+}
+
+// A copied member has no bit C, and stands where it was moved to; a copied cell is locked where it was.
+#[test]
+fn copies(rt: HostRuntime) -> Result<(), Fail> {
+    let by = along(10, 10);
+    let copy = appended(&rt, 2, &CELL, &MEMBER, &Edit::Copy { n: 2, by })?;
+    assert_eq!(rt; copy.len(), 52);
+    assert_eq!(rt; copy.get(0), Some(0x01));
+    assert_eq!(rt;
+        copy.as_slice().get(36..52),
+        Some([
+            0x00, 0x00, 0x0A, 0x00, 0x00, 0x00, 0x0A, 0x00, 0x00, 0x00, 0x6E, 0x00, 0x00, 0x00,
+            0x3C, 0x00
+        ]
+        .as_slice())
+    );
+    let mut locked = MEMBER;
+    locked[33] = 0x01;
+    let by = along(0, 0);
+    let copy = appended(&rt, 2, &CELL, &locked, &Edit::Copy { n: 1, by })?;
+    let mut wanted = Vec::from_slice(rt.alloc(), &CELL)?;
+    wanted.extend_from_slice(&locked)?;
+    assert_eq!(rt; copy.as_slice(), wanted.as_slice());
+    let by = along(1, 1);
+    let copy = appended(&rt, 2, &SHARED, &MEMBER, &Edit::Copy { n: 2, by })?;
+    assert_eq!(rt; copy.get(0), Some(0x01));
+    Ok(())
+}
+
+// A copy of 52 bytes just fits behind so many pending ones, and not behind one more.
+#[test]
+fn length_limits(rt: HostRuntime) -> Result<(), Fail> {
+    let free = 67108864 - 1680;
+    let edit = Edit::Copy {
+        n: 2,
+        by: along(0, 0),
+    };
+    let fits = planned(&rt, 2, &CELL, &MEMBER, &edit, free - 52)?;
+    assert!(rt; fits.is_ok());
+    let long = planned(&rt, 2, &CELL, &MEMBER, &edit, free - 51)?;
+    assert_eq!(rt; long.err(), Some(EditFault::Refused(Cause::TooLong)));
+    Ok(())
+}
+
+// A list of two points.
+fn points(alloc: Global, first: [i32; 3], last: [i32; 3]) -> Result<PointList, AllocError>
+    ensures { IfOk result (λ list. list ≡ first ∷ last ∷ []) }
+{
+    let mut list = PointList::new(alloc);
+    list.push(first)?;
+    list.push(last)?;
+    Ok(list)
+}
+
+// The line of level 2, colour 3 and weight 1 from 0,0 to 10,10.
+fn new_line(alloc: Global) -> Result<New, AllocError> {
+    let shape = NewShape::Line(points(alloc, [0, 0, 0], [10, 10, 0])?);
+    let symb = Symb {
+        color: 3,
+        weight: 1,
+        style: 0,
+    };
+    Ok(New {
+        level: 2,
+        symb,
+        axes: 2,
+        shape,
+    })
+}
+
+// The line string of level 1, colour 2, weight 3 and style 4 from 0,0,0 to 5,5,5.
+fn new_chain(alloc: Global) -> Result<New, AllocError> {
+    let shape = NewShape::Chain(points(alloc, [0, 0, 0], [5, 5, 5])?);
+    let symb = Symb {
+        color: 2,
+        weight: 3,
+        style: 4,
+    };
+    Ok(New {
+        level: 1,
+        symb,
+        axes: 3,
+        shape,
+    })
+}
+
+// The text `Hi there` of level 1 and font 3 at 5,6.
+fn new_text(alloc: Global) -> Result<New, AllocError> {
+    let chars = ByteList::from_vec(Vec::from_slice(alloc, b"Hi there")?);
+    let shape = NewShape::Text {
+        font: 3,
+        just: 0,
+        length: 1000,
+        height: 1000,
+        origin: [5, 6, 0],
+        chars,
+    };
+    let symb = Symb {
+        color: 0,
+        weight: 0,
+        style: 0,
+    };
+    Ok(New {
+        level: 1,
+        symb,
+        axes: 2,
+        shape,
+    })
+}
+
+// The bytes of the new line.
+const LINE: [u8; 52] = [
+    0x02, 0x03, 0x18, 0x00, 0x00, 0x80, 0x00, 0x00, 0x00, 0x80, 0x00, 0x00, 0x00, 0x80, 0x00, 0x00,
+    0x00, 0x80, 0x0A, 0x00, 0x00, 0x80, 0x0A, 0x00, 0x00, 0x80, 0x00, 0x00, 0x00, 0x00, 0x0A, 0x00,
+    0x00, 0x00, 0x08, 0x03, 0x00, 0x00, 0x00, 0x00, 0x00, 0x00, 0x00, 0x00, 0x00, 0x00, 0x0A, 0x00,
+    0x00, 0x00, 0x0A, 0x00,
+];
+
+// From the properties of the new text to its end.
+const TEXT: [u8; 36] = [
+    0x00, 0x00, 0x00, 0x00, 0x03, 0x00, 0x00, 0x00, 0xE8, 0x03, 0x00, 0x00, 0xE8, 0x03, 0x00, 0x00,
+    0x00, 0x00, 0x00, 0x00, 0x05, 0x00, 0x00, 0x00, 0x06, 0x00, 0x08, 0x00, 0x48, 0x69, 0x20, 0x74,
+    0x68, 0x65, 0x72, 0x65,
+];
+
+#[test]
+fn appended_elements(rt: HostRuntime) -> Result<(), Fail> {
+    let alloc = rt.alloc();
+    let line = appended(&rt, 2, &[], &[], &Edit::Append(new_line(alloc)?))?;
+    assert_eq!(rt; line.as_slice(), LINE.as_slice());
+    let text = appended(&rt, 2, &[], &[], &Edit::Append(new_text(alloc)?))?;
+    assert_eq!(rt;
+        text.as_slice().get(..4),
+        Some([0x01, 0x11, 0x20, 0x00].as_slice())
+    );
+    assert_eq!(rt; text.as_slice().get(30..32), Some([0x12, 0x00].as_slice()));
+    assert_eq!(rt; text.as_slice().get(32..), Some(TEXT.as_slice()));
+    let chain = appended(&rt, 3, &[], &[], &Edit::Append(new_chain(alloc)?))?;
+    assert_eq!(rt; chain.len(), 62);
+    assert_eq!(rt; chain.get(34), Some(0x1C));
+    let refused = planned(&rt, 3, &[], &[], &Edit::Append(new_line(alloc)?), 0)?;
+    assert_eq!(rt; refused.err(), Some(EditFault::Refused(Cause::Dimension)));
     Ok(())
 }

@@ -1,5 +1,7 @@
-use Rattle.std.proofs.Common.{true, false, sym, ◌∙◌}
-use Rattle.edit_ops.proofs.Told.{asked_of_spots, plane_cause, holds_found, stays_found}
+use Rattle.std.proofs.Common.{ℕ, true, false, sym, ap, ◌∙◌}
+use Rattle.dgn_layout.specs.Classes.{class_of, is_silent}
+use Rattle.edit_ops.specs.Asking.{locked_in}
+use Rattle.edit_ops.proofs.Told.{lock_cause, lock_found, long_found, asked_of_spots, plane_cause, holds_found, stays_found}
 use Rattle.edit_ops.proofs.asking.cause_against.Goals as goal
 
 pub stays_on_plane-requires-clause-holds : goal.stays_on_plane-requires-clause-holds
@@ -23,3 +25,15 @@ returns-else-stays_on_plane c =
     let same = stays_found c.args.d.now c.requires.whole c.args.m c.in_ok-found.found found c.in-Leaves.by some in
     sym (plane_cause c.args.d.now.dim c.args.test.now c.in-Leaves.by c.args.m _ found.element false c.in-Leaves.is found.there
     (sym same ∙ sym c.stays_on_plane.ensures ∙ c.if-stays_on_plane.false))
+
+pub locked_at-requires-clause-long : goal.locked_at-requires-clause-long
+locked_at-requires-clause-long c =
+    let found = c.in_ok-found.ensures.found in
+    λ loud. long_found c.args.d.now c.requires.whole c.args.m c.in_ok-found.found found (sym (ap (λ (k : ℕ). is_silent (class_of k)) found.kind) ∙ loud)
+
+pub returns-in-Unlocked : goal.returns-in-Unlocked
+returns-in-Unlocked c =
+    let found = c.in_ok-found.ensures.found in
+    c.locked_at.ensures
+    ∙ lock_cause c.args.d.now.dim c.args.test.now c.args.m _ found.element (locked_in c.in_ok-found.found.kind c.in_ok-found.found.bytes.now) c.in-Unlocked.is found.there
+    (lock_found c.args.d.now c.requires.whole c.args.m c.in_ok-found.found found)

@@ -5,7 +5,8 @@ use Rattle.patch_bytes.specs.Puts.{Put}
 use Rattle.dgn_drawing.specs.declared.edit.Edit.{Edit}
 use Rattle.std.specs.Option.{option_to_list}
 use Rattle.patch_bytes.specs.PatchView.{put_of}
-use Rattle.edit_ops.specs.Written.{IsReady, live_puts, found_at}
+use Rattle.edit_ops.specs.Written.{IsReady, live_puts}
+use Rattle.edit_ops.specs.Trees.{found_at}
 use Rattle.edit_ops.proofs.Told.{ready_of, holds_found, stays_found, long_found, four_found, look_found}
 use Rattle.edit_ops.proofs.patches.push_patches.Goals as goal
 
@@ -20,6 +21,18 @@ push_sums-requires-clause-plane c =
     let found = c.in-Some.ensures.found in
     let ready = subst (λ (e : Edit). IsReady c.args.d.now.dim e found.element) c.in-Move.is (ready_of c.args.d.now.dim c.args.edit.now (elements c.args.d.now) c.args.m found.element found.there c.requires.ready) in
     stays_found c.args.d.now c.requires.whole c.args.m c.in-Some.found found c.in-Move.by ready.0 ∙ ready.1
+
+pub push_sums-requires-in-Copy-clause-holds : goal.push_sums-requires-in-Copy-clause-holds
+push_sums-requires-in-Copy-clause-holds c =
+    let found = c.in-Some.ensures.found in
+    let ready = subst (λ (e : Edit). IsReady c.args.d.now.dim e found.element) c.in-Copy.is (ready_of c.args.d.now.dim c.args.edit.now (elements c.args.d.now) c.args.m found.element found.there c.requires.ready) in
+    holds_found c.args.d.now c.requires.whole c.args.m c.in-Some.found found ready.0
+
+pub push_sums-requires-in-Copy-clause-plane : goal.push_sums-requires-in-Copy-clause-plane
+push_sums-requires-in-Copy-clause-plane c =
+    let found = c.in-Some.ensures.found in
+    let ready = subst (λ (e : Edit). IsReady c.args.d.now.dim e found.element) c.in-Copy.is (ready_of c.args.d.now.dim c.args.edit.now (elements c.args.d.now) c.args.m found.element found.there c.requires.ready) in
+    stays_found c.args.d.now c.requires.whole c.args.m c.in-Some.found found c.in-Copy.by ready.0 ∙ ready.1
 
 pub look_patch-requires-clause-long : goal.look_patch-requires-clause-long
 look_patch-requires-clause-long c =

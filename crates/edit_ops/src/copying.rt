@@ -1,0 +1,105 @@
+ghost use Rattle.std.specs.Prelude.{ℕ, ◌≡◌, ◌+◌, ◌%◌, ◌<◌, ◌≤◌, List, ◌++◌, length, map, slice_index, slice_set, IfOk};
+ghost use Rattle.std.specs.List.{AllByRecursion};
+ghost use Rattle.dgn_drawing.specs.Rows.{row_of};
+ghost use Rattle.dgn_drawing.specs.Nesting.{flat, forest};
+ghost use Rattle.dgn_drawing.specs.Spelling.{spelling};
+ghost use Rattle.elem_index.specs.Design.{elements, IsWhole};
+ghost use Rattle.elem_index.specs.Offsets.{offset_of};
+ghost use Rattle.edit_ops.specs.Trees.{tree_at, live_tree};
+ghost use Rattle.patch_bytes.specs.Puts.{write, Span};
+ghost use Rattle.edit_ops.specs.Applying.{IsEdit, copied};
+ghost use Rattle.edit_ops.specs.Written.{found, IsReady};
+
+use crate::live::end_of;
+use crate::patches::push_live;
+use dgn_drawing::Edit;
+use elem_index::Design;
+use nest_tree::types::Nest;
+use patch_bytes::{ByteList, Patch, PatchList, swap_in};
+use std::alloc::{AllocError, Global};
+
+// Bit C of an element's first byte.
+const BIT_C: u8 = 0x80;
+
+// The byte at which element n begins, or behind the last one.
+fn place_of(d: &Design, n: u32) -> usize
+    requires whole { IsWhole d.now }
+    requires known { n ≤ length (elements d.now) }
+    ensures { result ≡ offset_of (elements d.now) n }
+{
+    d.offset(n).unwrap_or(d.body.len())
+}
+
+// How many bytes the part of element n, which there is, has.
+pub fn part_len(d: &Design, t: &Nest, n: u32) -> usize
+    requires whole { IsWhole d.now }
+    requires nesting { t.now.rows ≡ map row_of (elements d.now) }
+    requires known { n < length (elements d.now) }
+    ensures exact { result ≡ length (spelling (flat (tree_at n (forest row_of (elements d.now))))) }
+    ensures few { result ≤ 67108864 }
+{
+    place_of(d, end_of(t, n)) - place_of(d, n)
+}
+
+// The bytes of the copy of the part of element n: those of the part with what the edit puts into its live elements,
+// of which `live` has the numbers, and the head without bit C.
+pub fn copy_of(
+    alloc: Global,
+    d: &Design,
+    t: &Nest,
+    n: u32,
+    live: &[u32],
+    edit: &Edit,
+) -> Result<ByteList, AllocError>
+    requires whole { IsWhole d.now }
+    requires nesting { t.now.rows ≡ map row_of (elements d.now) }
+    requires known { n < length (elements d.now) }
+    requires fits { IsEdit edit.now }
+    requires live { found (elements d.now) live.now ≡ live_tree (elements d.now) n }
+    requires ready { AllByRecursion (λ v. IsReady d.now.dim edit.now v.element) (live_tree (elements d.now) n) }
+    ensures { IfOk result (λ bytes. bytes ≡ spelling (flat (copied d.now.dim (elements d.now) edit.now n))) }
+{
+    let mut patches = PatchList::new(alloc);
+    push_live(&mut patches, d, live, edit)?;
+    let mut bytes = part_bytes(alloc, d, t, n)?;
+    lay_all(&mut bytes, place_of(d, n) as u32, &patches);
+    free_first(&mut bytes);
+    Ok(ByteList::from_vec(bytes))
+}
+
+// The bytes of the part of element n, which there is.
+fn part_bytes(alloc: Global, d: &Design, t: &Nest, n: u32) -> Result<Vec<u8>, AllocError>
+    requires whole { IsWhole d.now }
+    requires nesting { t.now.rows ≡ map row_of (elements d.now) }
+    requires known { n < length (elements d.now) }
+    ensures { IfOk result (λ bytes. bytes.items ≡ spelling (flat (tree_at n (forest row_of (elements d.now))))) }
+{
+    let start = place_of(d, n);
+    let end = place_of(d, end_of(t, n));
+    Vec::from_slice(alloc, &d.body[start..end])
+}
+
+// Takes bit C, which is its highest, from the first of some bytes.
+fn free_first(bytes: &mut [u8])
+    ensures { bytes.new ≡ slice_set bytes.old 0 (slice_index bytes.old 0 % 128) }
+{
+    if let Some(first) = bytes.first_mut() {
+        *first %= BIT_C;
+    }
+}
+
+// Lays patches that rise within `bytes`, with places counted from `start` bytes before the first of them.
+fn lay_all(bytes: &mut [u8], start: u32, patches: &PatchList)
+    requires { Span start patches.now (start + length bytes.old) }
+    ensures { (a : List ℕ) → length a ≡ start → write (a ++ bytes.old) patches.now ≡ a ++ bytes.new }
+{
+    let list = patches.as_slice();
+    'patches: for patch in list {
+        let lower = Patch {
+            at: patch.at - start,
+            len: patch.len,
+            bytes: patch.bytes,
+        };
+        let _ = swap_in(bytes, lower);
+    }
+}
