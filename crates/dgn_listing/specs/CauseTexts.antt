@@ -11,9 +11,9 @@ refused_text words n = words ++ (decimal n ++ line_feed)
 -- the line of a cause
 abbrev pub cause_text : Cause → List ℕ
 cause_text (causes.Unknown n) = refused_text (codes "refused unknown ") n
-cause_text (causes.Member n) = refused_text (codes "refused member ") n
 cause_text (causes.Broken m) = refused_text (codes "refused broken ") m
-cause_text (causes.Deleted n) = refused_text (codes "refused deleted ") n
+cause_text (causes.Deleted m) = refused_text (codes "refused deleted ") m
+cause_text (causes.Locked m) = refused_text (codes "refused locked ") m
 cause_text causes.Dimension = codes "refused dimension\n"
 cause_text (causes.Floating m) = refused_text (codes "refused floating ") m
 cause_text (causes.Opaque m) = refused_text (codes "refused opaque ") m

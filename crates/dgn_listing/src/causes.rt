@@ -18,9 +18,9 @@ pub fn write_cause(alloc: Global, out: &mut Vec<u8>, c: &Cause) -> Result<(), Al
 {
     match c {
         Cause::Unknown(n) => put_refused(out, b"refused unknown ", *n),
-        Cause::Member(n) => put_refused(out, b"refused member ", *n),
         Cause::Broken(n) => put_refused(out, b"refused broken ", *n),
         Cause::Deleted(n) => put_refused(out, b"refused deleted ", *n),
+        Cause::Locked(n) => put_refused(out, b"refused locked ", *n),
         Cause::Dimension => put(out, b"refused dimension\n"),
         Cause::Floating(n) => put_refused(out, b"refused floating ", *n),
         Cause::Opaque(n) => put_refused(out, b"refused opaque ", *n),

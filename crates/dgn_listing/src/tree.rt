@@ -9,7 +9,8 @@ ghost use Rattle.dgn_listing.specs.TreeTexts.{knot_text, state_text, orphan_text
 use crate::pieces::{put, put_ending, put_fields};
 use crate::tree_line::{TreeLine, tree_line};
 use elem_index::Design;
-use nest_tree::{Knot, Nest};
+use nest_tree::Knot;
+use nest_tree::types::Nest;
 use std::alloc::{AllocError, Global};
 
 /// Appends what `tree N` says of element `n` of the design `d`, of which `t` is the nesting: a line for

@@ -8,7 +8,8 @@ ghost use Rattle.dgn_listing.specs.TreeTexts.{line_at};
 
 use elem_head::head;
 use elem_index::Design;
-use nest_tree::{Knot, Nest};
+use nest_tree::Knot;
+use nest_tree::types::Nest;
 
 // What is said of an element: its number, how many headers lie above it, its type and level, what it is
 // in its tree, whether it is marked deleted itself, and whether it is an orphan.

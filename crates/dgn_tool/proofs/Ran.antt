@@ -11,6 +11,8 @@ use Rattle.dgn_drawing.specs.declared.mask.Mask.{Mask}
 use Rattle.elem_index.specs.declared.design.Design.{Design}
 use Rattle.elem_index.specs.Design.{elements, IsWhole}
 use Rattle.edit_script.specs.declared.command.Command.{Command}
+use Rattle.edit_script.specs.Built.{IsBuilt}
+use Rattle.std.specs.List.{AllByRecursion}
 use Rattle.elem_index.specs.Answers.{opened_of}
 use Rattle.dgn_tool.specs.Commands.{State, state_of, begun, text_of, is_refused, after_command, after_all, texts_of, is_any_refused}
 
@@ -20,6 +22,7 @@ come_to d mask = state_of (opened_of d) mask
 
 -- the commands before these are done
 pub record Ran (rows : List Row) (all left : List Command) (refused : Bool) (from d : Design) (mask : Mask) (old now : Option Content) : Type 0 where
+  pub built : AllByRecursion IsBuilt left
   pub whole : IsWhole d
   pub rows_are : rows ≡ map row_of (elements d)
   pub done : List ℕ
@@ -34,9 +37,9 @@ spoken-nil : (old : Option Content) → old ≡ option_map (spoken []) old
 spoken-nil None = refl
 spoken-nil (Some c) = rw (append-nil c.said) refl
 
-pub ran_none : (rows : List Row) (all : List Command) (d : Design) (old : Option Content) → IsWhole d → rows ≡ map row_of (elements d) → Ran rows all all false d d (record { 0 = 18446744073709551615 }) old old
-ran_none rows all d old whole are =
-    record { whole = whole; rows_are = are; done = []; texts = refl; said = spoken-nil old; any = refl; drawing = refl; tail = refl }
+pub ran_none : (rows : List Row) (all : List Command) (d : Design) (old : Option Content) → AllByRecursion IsBuilt all → IsWhole d → rows ≡ map row_of (elements d) → Ran rows all all false d d (record { 0 = 18446744073709551615 }) old old
+ran_none rows all d old built whole are =
+    record { built = built; whole = whole; rows_are = are; done = []; texts = refl; said = spoken-nil old; any = refl; drawing = refl; tail = refl }
 
 or_assoc_test : (a b c : Bool) → (a || (b || c)) ≡ ((a || b) || c)
 or_assoc_test true b c = refl
@@ -51,6 +54,7 @@ ran_more rows all left c refused was line from d new mask new_mask old now then 
     let text : List ℕ = text_of (come_to d mask) c in
     let said_line : then ≡ option_map (spoken text) now = says ∙ ap (λ (l : List ℕ). option_map (spoken l) now) line_is in
     record {
+      built = ran.built.1;
       whole = whole;
       rows_are = ran.rows_are ∙ sym same_rows;
       done = ran.done ++ text;

@@ -1,11 +1,11 @@
 -- A design into whose body the patches of an edit are written is whole, with the elements that the edit makes.
-use Rattle.std.proofs.Common.{◌≡◌, ℕ, ◌+◌, ◌≤◌, List, [], ◌∷◌, ◌++◌, length, map, take, drop, refl, sym, ap, ◌∙◌, subst, arith}
-use Rattle.std.specs.List.{AllByRecursion}
+use Rattle.std.proofs.Common.{◌≡◌, ℕ, ◌+◌, ◌≤◌, List, [], ◌∷◌, ◌++◌, length, map, take, drop, refl, sym, ap, ◌∙◌, subst, arith, length-append}
 use Rattle.std.specs.Vec.{with_items}
-use Rattle.std.proofs.lemmas.List.{append-nil, drop_all, length-take, with_items_is}
+use Rattle.std.proofs.lemmas.Grind.{flat_map-append}
+use Rattle.std.proofs.lemmas.List.{append-nil, drop_all, length-take, take-append-drop, with_items_is}
 use Rattle.patch_bytes.specs.Puts.{Put, AreWithin, write}
 use Rattle.dgn_drawing.specs.Element.{Element}
-use Rattle.dgn_drawing.specs.Spelling.{spelling, size_of}
+use Rattle.dgn_drawing.specs.Spelling.{spell, spelling, size_of}
 use Rattle.dgn_drawing.specs.Rows.{row_of}
 use Rattle.dgn_drawing.specs.declared.row.Row.{Row}
 use Rattle.dgn_drawing.specs.declared.edit.Edit.{Edit}
@@ -14,15 +14,15 @@ use Rattle.dgn_drawing.proofs.Fronts.{opens_elements, opens_of}
 use Rattle.elem_index.specs.declared.design.Design.{Design}
 use Rattle.elem_index.specs.Design.{elements, IsWhole}
 use Rattle.elem_index.proofs.Places.{body_is}
-use Rattle.edit_ops.specs.Applying.{Done, apply, change_of, IsEdit}
-use Rattle.edit_ops.specs.Causes.{target_of}
+use Rattle.dgn_drawing.specs.declared.edit.Edit.TheVariants as edit
+use Rattle.edit_ops.specs.Applying.{Done, apply, IsEdit}
+use Rattle.edit_ops.specs.Causes.{bytes_appended}
 use Rattle.edit_ops.specs.Fields.{Field, Rise, edited_fields, filled}
-use Rattle.edit_ops.specs.Trees.{live_tree}
 use Rattle.edit_ops.proofs.Apart.{fields_apart}
-use Rattle.edit_ops.proofs.Edited.{all_so}
-use Rattle.edit_ops.proofs.Kept.{rows_kept}
-use Rattle.edit_ops.proofs.Putting.{IsPut}
-use Rattle.edit_ops.proofs.Reopened.{edited_opens, changes_fields, done_written}
+use Rattle.edit_ops.proofs.Reopened.{edited_opens, changes_fields}
+use Rattle.edit_ops.proofs.Seen.{four_bytes}
+use Rattle.edit_script.specs.declared.command.Command.TheVariants as command
+use Rattle.edit_script.specs.Built.{IsBuilt}
 
 -- fields that rise begin before they end
 rise_long : (m : ℕ) (fs : List Field) (n : ℕ) → Rise n fs m → n ≤ m
@@ -45,7 +45,43 @@ sizes_in_rows : (es : List Element) → map (λ (r : Row). r.size) (map row_of e
 sizes_in_rows [] = refl
 sizes_in_rows (e ∷ es) = ap (λ (l : List ℕ). size_of e ∷ l) (sizes_in_rows es)
 
--- what an edit that is done makes of a file that opens: it keeps the rows, and its bytes are the old ones with its fields written
+-- and so do they of a front of elements and of what is behind it
+sizes_of : List Row → ℕ
+sizes_of [] = 0
+sizes_of (r ∷ rs) = r.size + sizes_of rs
+
+spelling_long : (es : List Element) → length (spelling es) ≡ sizes_of (map row_of es)
+unfolding sizes_of
+spelling_long [] = refl
+spelling_long (e ∷ es) = omega (arith, length-append (spell e) (spelling es), spelling_long es)
+
+-- elements without bytes are none
+none_without_bytes : (es : List Element) → length (spelling es) ≡ 0 → es ≡ []
+none_without_bytes [] is = refl
+none_without_bytes (e ∷ es) is = absurd (omega (arith, length-append (spell e) (spelling es), four_bytes e))
+
+-- elements that have as many bytes as others, and begin with the rows of these, have their rows
+rows_same : (made es : List Element) → map row_of (take (length es) made) ≡ map row_of es → length (spelling made) ≡ length (spelling es) → map row_of made ≡ map row_of es
+rows_same made es front long =
+    let parts : made ≡ take (length es) made ++ drop (length es) made = sym (take-append-drop (length es) made) in
+    let bytes : length (spelling made) ≡ length (spelling (take (length es) made)) + length (spelling (drop (length es) made)) =
+    ap (λ (l : List Element). length (spelling l)) parts
+    ∙ ap (length {A = ℕ}) (flat_map-append spell (take (length es) made) (drop (length es) made))
+    ∙ length-append (spelling (take (length es) made)) (spelling (drop (length es) made)) in
+    let first : length (spelling (take (length es) made)) ≡ length (spelling es) = spelling_long (take (length es) made) ∙ ap sizes_of front ∙ sym (spelling_long es) in
+    let none : drop (length es) made ≡ [] = none_without_bytes (drop (length es) made) (omega arith) in
+    let all : made ≡ take (length es) made = parts ∙ ap (λ (l : List Element). take (length es) made ++ l) none ∙ append-nil (take (length es) made) in
+    ap (map row_of) all ∙ front
+
+-- a built edit appends nothing
+none_appended : (es : List Element) (e : Edit) → IsBuilt (command.Edit e) → bytes_appended es e ≡ 0
+none_appended es (edit.Move n by) built = refl
+none_appended es (edit.Copy n by) built = absurd built
+none_appended es (edit.Sym n change) built = refl
+none_appended es (edit.Delete n) built = refl
+none_appended es (edit.Append new) built = absurd built
+
+-- what a built edit that is done makes of a file that opens: it keeps the rows, and its bytes are the old ones with its fields written
 pub record IsMade (dim : ℕ) (es : List Element) (t : List ℕ) (e : Edit) (made : List Element) : Type 0 where
   pub opens : Opens (spelling made ++ t) dim made t
   pub long : length (spelling made) ≡ length (spelling es)
@@ -53,20 +89,19 @@ pub record IsMade (dim : ℕ) (es : List Element) (t : List ℕ) (e : Edit) (mad
   pub within : AreWithin (length (spelling es)) (filled (spelling made) (edited_fields dim es e))
   pub written : spelling made ≡ write (spelling es) (filled (spelling made) (edited_fields dim es e))
 
-pub is_made : (f : List ℕ) (dim : ℕ) (es : List Element) (t : List ℕ) (rest : ℕ) (e : Edit) (made : List Element) → IsEdit e → Opens f dim es t → apply dim es rest e ≡ Done made → IsMade dim es t e made
-is_made f dim es t rest e made fits opens done =
-    let both = done_written f dim es t rest e made fits opens done in
-    let long : length (spelling made) ≡ length (spelling es) = ap (λ (l : List Element). length (spelling l)) both.0.made_is ∙ sym both.1.turned.same in
+pub is_made : (f : List ℕ) (dim : ℕ) (es : List Element) (t : List ℕ) (rest : ℕ) (e : Edit) (made : List Element) → IsBuilt (command.Edit e) → IsEdit e → Opens f dim es t → apply dim es rest e ≡ Done made → IsMade dim es t e made
+is_made f dim es t rest e made built fits opens done =
+    let changed = changes_fields f dim es t rest e made fits opens done in
+    let grown = changed.long in
+    let long : length (spelling made) ≡ length (spelling es) = omega (arith, none_appended es e built) in
     let none : drop (length (spelling es)) (spelling made) ≡ [] = drop_all (length (spelling es)) (spelling made) (omega arith) in
-    let keeps : AllByRecursion (λ v. row_of (change_of dim e v.element) ≡ row_of v.element) (live_tree es (target_of e)) =
-    all_so (λ v. IsPut dim e v.element) (λ v. row_of (change_of dim e v.element) ≡ row_of v.element) (λ v is. is.row) (live_tree es (target_of e)) both.1.each in
     let puts : List Put = filled (spelling made) (edited_fields dim es e) in
     record {
       opens = edited_opens f dim es t rest e made fits opens done;
       long = long;
-      rows = ap (map row_of) both.0.made_is ∙ rows_kept es (target_of e) (change_of dim e) keeps;
+      rows = rows_same made es changed.rows long;
       within = rise_within (spelling made) (length (spelling es)) (edited_fields dim es e) 0 (fields_apart f dim es t rest e made fits opens done).rise;
-      written = (changes_fields f dim es t rest e made fits opens done).written ∙ ap (λ (l : List ℕ). write (spelling es) puts ++ l) none ∙ append-nil (write (spelling es) puts);
+      written = changed.written ∙ ap (λ (l : List ℕ). write (spelling es) puts ++ l) none ∙ append-nil (write (spelling es) puts);
     }
 
 -- a design with another body
@@ -74,10 +109,10 @@ abbrev pub with_body : Design → List ℕ → Design
 with_body d b = record { dim = d.dim; body = with_items d.body b; tail = d.tail; kept = d.kept }
 
 -- the same on a design, of which `puts` are written into the body
-module _ (d : Design) (whole : IsWhole d) (rest : ℕ) (e : Edit) (made : List Element) (puts : List Put) (fits : IsEdit e)
+module _ (d : Design) (whole : IsWhole d) (rest : ℕ) (e : Edit) (built : IsBuilt (command.Edit e)) (made : List Element) (puts : List Put) (fits : IsEdit e)
     (done : apply d.dim (elements d) rest e ≡ Done made) (are : puts ≡ filled (spelling made) (edited_fields d.dim (elements d) e)) where
   step : IsMade d.dim (elements d) d.tail.items e made
-  step = is_made (d.body.items ++ d.tail.items) d.dim (elements d) d.tail.items rest e made fits whole.is_open.opens done
+  step = is_made (d.body.items ++ d.tail.items) d.dim (elements d) d.tail.items rest e made built fits whole.is_open.opens done
 
   -- the puts lie in the body
   pub within_body : (b : List ℕ) → b ≡ d.body.items → AreWithin (length b) puts

@@ -1,6 +1,6 @@
 -- What holds of every drawing that opens and every list of commands, each the contract of a function in
 -- `laws`.
-use Rattle.std.specs.Prelude.{ℕ, ◌≡◌, List, [], ◌∷◌, ◌++◌, length, slice_index, All}
+use Rattle.std.specs.Prelude.{ℕ, ◌≡◌, ◌<◌, ◌≤◌, List, [], ◌∷◌, ◌++◌, length, slice_index, All}
 use Rattle.dgn_drawing.specs.Element.{Element}
 use Rattle.dgn_drawing.specs.Spelling.{spelling}
 use Rattle.dgn_drawing.specs.Opening.{Opens}
@@ -41,12 +41,13 @@ abbrev pub IsEditIn : Command → Type 0
 IsEditIn (command.Edit e) = IsEdit e
 IsEditIn other = Unit {0}
 
--- the file that the commands make of an opened one is as long, opens with the elements after them and the
--- same tail, and has its bytes at each place that no edit that is left writes
+-- the file that the commands make of an opened one opens with the elements after them and the same tail; its elements
+-- have no fewer bytes; and it has the file's byte at each place in the elements of the file that no edit that is left
+-- writes
 pub record IsEditedFile (f : List ℕ) (s : State) (t : List ℕ) (cs : List Command) : Type 0 where
-  pub long : length (spelling (after_all cs s).elements ++ t) ≡ length f
   pub opens : Opens (spelling (after_all cs s).elements ++ t) s.dim (after_all cs s).elements t
-  pub stays : (p : ℕ) → All (IsOutside s.dim p) (remaining cs s)
+  pub long : length (spelling s.elements) ≤ length (spelling (after_all cs s).elements)
+  pub stays : (p : ℕ) → p < length (spelling s.elements) → All (IsOutside s.dim p) (remaining cs s)
       → slice_index (spelling (after_all cs s).elements ++ t) p ≡ slice_index f p
 
 abbrev pub UntouchedBytesStay : Type 0

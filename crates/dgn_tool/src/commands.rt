@@ -4,6 +4,9 @@ ghost use Rattle.dgn_desk.specs.Desk.{Counts, StaysWilling, DoesNotFail};
 ghost use Rattle.dgn_drawing.specs.Rows.{row_of};
 ghost use Rattle.elem_index.specs.Design.{elements, IsWhole};
 ghost use Rattle.elem_index.specs.Answers.{opened_of};
+ghost use Rattle.std.specs.List.{AllByRecursion};
+ghost use Rattle.edit_script.specs.declared.command.Command.TheVariants as command;
+ghost use Rattle.edit_script.specs.Built.{IsBuilt};
 ghost use Rattle.dgn_tool.specs.Commands.{state_of, begun, applied, edit_said, is_refusal, left_of, tree_said, text_of, is_refused, after_command, after_all, texts_of, is_any_refused};
 
 use crate::edits::apply;
@@ -14,7 +17,7 @@ use edit_ops::{Cause, EditFault};
 use edit_script::Command;
 use elem_index::Design;
 use level_view::show;
-use nest_tree::Nest;
+use nest_tree::types::Nest;
 use std::alloc::{AllocError, Global};
 
 /// Runs the commands in order on a design, whose nesting is `nesting`, says what each of them says before
@@ -28,6 +31,7 @@ pub fn run_all<D: Desk>(
 ) -> Result<bool, Stop>
     requires whole { IsWhole design.old }
     requires nesting { nesting.now.rows ≡ map row_of (elements design.old) }
+    requires built { AllByRecursion IsBuilt commands.now }
     ensures cause { Counts (D.write_faults desk.old) (D.write_faults desk.new) result }
     ensures other { D.read_faults desk.new ≡ D.read_faults desk.old }
     ensures refused { IfOk result
@@ -67,6 +71,7 @@ fn run_command(
 ) -> Result<bool, AllocError>
     requires whole { IsWhole design.old }
     requires nesting { nesting.now.rows ≡ map row_of (elements design.old) }
+    requires built { IsBuilt command.now }
     ensures text { OnOk result (out.new.items ≡ out.old.items
         ++ text_of (state_of (opened_of design.old) mask.old) command.now) }
     ensures refused { IfOk result
@@ -103,6 +108,7 @@ fn run_edit(
 ) -> Result<bool, AllocError>
     requires whole { IsWhole design.old }
     requires nesting { nesting.now.rows ≡ map row_of (elements design.old) }
+    requires built { IsBuilt (command.Edit edit.now) }
     ensures text { OnOk result (out.new.items ≡ out.old.items
         ++ edit_said (applied (begun (opened_of design.old)) edit.now)) }
     ensures refused { IfOk result

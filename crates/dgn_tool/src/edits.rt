@@ -4,15 +4,17 @@ ghost use Rattle.dgn_drawing.specs.Rows.{row_of};
 ghost use Rattle.elem_index.specs.Design.{elements, IsWhole};
 ghost use Rattle.edit_ops.specs.Applying.{apply as applied_to, Done};
 ghost use Rattle.edit_ops.specs.Planned.{IsRefused};
+ghost use Rattle.edit_script.specs.declared.command.Command.TheVariants as command;
+ghost use Rattle.edit_script.specs.Built.{IsBuilt};
 
 use dgn_drawing::Edit;
 use edit_ops::{EditFault, plan};
 use elem_index::Design;
-use nest_tree::Nest;
+use nest_tree::types::Nest;
 use patch_bytes::{PatchList, swap_in};
 use std::alloc::Global;
 
-/// Makes an edit on a design, whose nesting is `nesting`, in place. Where it is refused, or there is no
+/// Makes an edit that appends nothing on a design, whose nesting is `nesting`, in place. Where it is refused, or there is no
 /// memory for its plan, the design stays as it was.
 pub fn apply(
     alloc: Global,
@@ -22,6 +24,7 @@ pub fn apply(
 ) -> Result<(), EditFault>
     requires whole { IsWhole design.old }
     requires nesting { nesting.now.rows ≡ map row_of (elements design.old) }
+    requires built { IsBuilt (command.Edit edit.now) }
     ensures done { OnOk result
         (applied_to design.old.dim (elements design.old) (length design.old.tail.items) edit.now
         ≡ Done (elements design.new)) }

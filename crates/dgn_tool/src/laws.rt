@@ -2,9 +2,9 @@
 
 ghost use Rattle.dgn_tool.specs.Laws.{UntouchedBytesStay};
 
-/// The file that a run writes is as long as the file that was read, it opens as the elements that the
-/// accepted commands make and the same tail, and it has that file's byte at each place in no field of an
-/// accepted edit.
+/// The file that a run writes opens as the elements that the accepted commands make and the tail of the file that was
+/// read, and it has that file's byte at each place in the elements of that file that is in no field of an accepted
+/// edit.
 pub fn untouched_bytes_stay()
     ensures { UntouchedBytesStay }
 {}

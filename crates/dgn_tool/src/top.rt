@@ -4,6 +4,8 @@ ghost use Rattle.dgn_desk.specs.Desk.{Rose};
 ghost use Rattle.dgn_drawing.specs.Rows.{row_of};
 ghost use Rattle.elem_index.specs.Design.{elements, IsWhole};
 ghost use Rattle.elem_index.specs.Answers.{opened_of};
+ghost use Rattle.std.specs.List.{AllByRecursion};
+ghost use Rattle.edit_script.specs.Built.{IsBuilt};
 ghost use Rattle.dgn_tool.specs.Request.{request_of};
 ghost use Rattle.dgn_tool.specs.Outcome.{outcome, input_outcome, scripted, script_outcome, told, checked};
 ghost use Rattle.dgn_tool.specs.Outcome.{IsEnding, EndsAs, IsFaultless, HasBoth, HasFiles};
@@ -16,7 +18,8 @@ use crate::status::Status;
 use dgn_desk::{Desk, ReadEnd, read_all, write_file};
 use edit_script::{Command, ScriptFault, read_script};
 use elem_index::{Design, count_elements};
-use nest_tree::{Nest, nest};
+use nest_tree::nest;
+use nest_tree::types::Nest;
 use std::alloc::{AllocError, Global};
 
 // The most bytes that a script may have.
@@ -150,7 +153,8 @@ fn run_script<D: Desk>(
     commands: &[Command],
     output: &str,
 ) -> Status
-    requires { IsWhole design.old }
+    requires whole { IsWhole design.old }
+    requires built { AllByRecursion IsBuilt commands.now }
     ensures outcome { EndsAs result
         (λ _. script_outcome (opened_of design.old) (Ok commands.now) output.now)
         (D.content desk.old) (D.content desk.new) }
@@ -185,6 +189,7 @@ fn finish<D: Desk>(
 ) -> Status
     requires whole { IsWhole design.old }
     requires nesting { nesting.now.rows ≡ map row_of (elements design.old) }
+    requires built { AllByRecursion IsBuilt commands.now }
     ensures outcome { EndsAs result
         (λ _. told (opened_of design.old) commands.now output.now)
         (D.content desk.old) (D.content desk.new) }

@@ -9,12 +9,12 @@ fn says_each_cause(rt: HostRuntime) -> Result<(), Fail> {
     let alloc = rt.alloc();
     let rows: [(Cause, &[u8]); 9] = [
         (Cause::Unknown(9), b"ok\nrefused unknown 9\n"),
-        (Cause::Member(2), b"ok\nrefused member 2\n"),
         (Cause::Broken(1), b"ok\nrefused broken 1\n"),
         (
             Cause::Deleted(4294967295),
             b"ok\nrefused deleted 4294967295\n",
         ),
+        (Cause::Locked(2), b"ok\nrefused locked 2\n"),
         (Cause::Dimension, b"ok\nrefused dimension\n"),
         (Cause::Floating(3), b"ok\nrefused floating 3\n"),
         (Cause::Opaque(0), b"ok\nrefused opaque 0\n"),

@@ -6,7 +6,8 @@ ghost use Rattle.elem_index.specs.Design.{elements, IsWhole};
 
 use crate::write_tree;
 use elem_index::{Design, read_design};
-use nest_tree::{Nest, nest};
+use nest_tree::nest;
+use nest_tree::types::Nest;
 use std::alloc::{AllocError, Global};
 use std::process::Abort;
 use std::test::Fail;

@@ -14,14 +14,14 @@ known r c this old new is front = subst (λ (x : Cause). OnErr r (AppendsFrontOf
 pub returns-in-Unknown-clause-front : goal.returns-in-Unknown-clause-front
 returns-in-Unknown-clause-front c = known c.put_refused.result c.args.c.now (causes.Unknown c.in-Unknown.n) c.args.out.now.items c.put_refused.new.out.items c.in-Unknown.is c.put_refused.ensures.front
 
-pub returns-in-Member-clause-front : goal.returns-in-Member-clause-front
-returns-in-Member-clause-front c = known c.put_refused-in-Member.result c.args.c.now (causes.Member c.in-Member.n) c.args.out.now.items c.put_refused-in-Member.new.out.items c.in-Member.is c.put_refused-in-Member.ensures.front
-
 pub returns-in-Broken-clause-front : goal.returns-in-Broken-clause-front
 returns-in-Broken-clause-front c = known c.put_refused-in-Broken.result c.args.c.now (causes.Broken c.in-Broken.n) c.args.out.now.items c.put_refused-in-Broken.new.out.items c.in-Broken.is c.put_refused-in-Broken.ensures.front
 
 pub returns-in-Deleted-clause-front : goal.returns-in-Deleted-clause-front
 returns-in-Deleted-clause-front c = known c.put_refused-in-Deleted.result c.args.c.now (causes.Deleted c.in-Deleted.n) c.args.out.now.items c.put_refused-in-Deleted.new.out.items c.in-Deleted.is c.put_refused-in-Deleted.ensures.front
+
+pub returns-in-Locked-clause-front : goal.returns-in-Locked-clause-front
+returns-in-Locked-clause-front c = known c.put_refused-in-Locked.result c.args.c.now (causes.Locked c.in-Locked.n) c.args.out.now.items c.put_refused-in-Locked.new.out.items c.in-Locked.is c.put_refused-in-Locked.ensures.front
 
 pub returns-in-Dimension-clause-front : goal.returns-in-Dimension-clause-front
 returns-in-Dimension-clause-front c = known c.put.result c.args.c.now causes.Dimension c.args.out.now.items c.put.new.out.items c.in-Dimension.is c.put.ensures.front
