@@ -33,12 +33,12 @@ def line(x, data=b''):
     return head + low + high + words + bytes(2) + points + data
 
 
-def write_drawing(path, pieces, count, tail):
-    """A TCB, so many elements, which are these pieces again and again, and a tail."""
+def write_drawing(path, pieces, count, tail, before=b''):
+    """A TCB, what stands before the others, so many elements, which are these pieces again and again, and a tail."""
     chunk = b''.join(pieces)
     size = len(pieces[0])
     with open(path, 'wb') as out:
-        out.write(TCB)
+        out.write(TCB + before)
         for _ in range(count // len(pieces)):
             out.write(chunk)
         out.write(chunk[:size * (count % len(pieces))] + tail)
