@@ -56,6 +56,14 @@ module _ (d : Design) (f : List ℕ) (p : ℕ) (run : IsRun f d.kept.items p) (f
       ∙ ap (λ (es : List Element). Ok (record { dim = d.dim; elements = es; tail = drop p f })) (sym same_elements)
       ∙ ap (λ (t : List ℕ). Ok (record { dim = d.dim; elements = elements d; tail = t })) (sym tail)
 
+-- there are as many offsets as elements
+pub length-offsets : (es : List Element) → length (offsets_of es) ≡ length es
+length-offsets es = length-offsets_from 0 (map size_of es) ∙ length-map es size_of
+
+-- each is where its element begins
+pub get_or-offsets : (es : List Element) (n : ℕ) → n < length es → get_or (offsets_of es) n 0 ≡ offset_of es n
+get_or-offsets es n within = get_or-offsets_from 0 n es within ∙ zero-add _
+
 -- a whole design's elements, offsets and body
 module _ (d : Design) (whole : IsWhole d) where
   opening_of : Opens (d.body.items ++ d.tail.items) d.dim (elements d) d.tail.items
@@ -68,7 +76,7 @@ module _ (d : Design) (whole : IsWhole d) where
   body_is = body_spelled d.body.items d.tail.items d.dim (elements d) opening_of
 
   pub length-kept : length d.kept.items ≡ length (elements d)
-  length-kept = ap (length {A = ℕ}) whole.kept ∙ length-offsets_from 0 (map size_of (elements d)) ∙ length-map (elements d) size_of
+  length-kept = ap (length {A = ℕ}) whole.kept ∙ length-offsets (elements d)
 
   pub length-elements : vec_len d.kept ≡ length (elements d)
   length-elements = omega (arith, d.kept.ok.0, length-kept)
@@ -80,7 +88,7 @@ module _ (d : Design) (whole : IsWhole d) where
   -- the offset of each element is kept
   pub get_or-kept : (n : ℕ) → n < length (elements d) → get_or d.kept.items n 0 ≡ offset_of (elements d) n
   get_or-kept n within =
-      ap (λ (l : List ℕ). get_or l n 0) whole.kept ∙ get_or-offsets_from 0 n (elements d) within ∙ zero-add _
+      ap (λ (l : List ℕ). get_or l n 0) whole.kept ∙ get_or-offsets (elements d) n within
 
 -- where element n stands among its spellings
 pub record Stands (es : List Element) (n : ℕ) (e : Element) : Type 0 where

@@ -1,5 +1,6 @@
--- A design: the dimension, body and tail of a file that opens, and the offsets of its elements.
-use Rattle.std.specs.Prelude.{ℕ, ◌≡◌, ◌+◌, ◌≤◌, List, ◌++◌, length}
+-- A design: the dimension, body and tail of a file that opens, and the offsets of its elements. And when the
+-- kept offsets can follow a body that has grown, or one that has lost its last elements.
+use Rattle.std.specs.Prelude.{ℕ, ◌≡◌, ◌+◌, ◌-◌, ◌≤◌, List, ◌++◌, length, take, vec_len, vec_capacity}
 use Rattle.elem_index.specs.declared.design.Design.{Design}
 use Rattle.dgn_drawing.specs.Element.{Element}
 use Rattle.dgn_drawing.specs.Opening.{Opens, elements_of}
@@ -8,6 +9,10 @@ use Rattle.elem_index.specs.Offsets.{offsets_of}
 -- the offsets that are kept
 abbrev pub kept_of : Design → List ℕ
 kept_of d = d.kept.items
+
+-- spare: how many more offsets there is room for
+abbrev pub spare_of : Design → ℕ
+spare_of d = vec_capacity d.kept - vec_len d.kept
 
 -- the elements of the body
 abbrev pub elements : Design → List Element
@@ -22,3 +27,22 @@ pub record IsOpen (d : Design) : Type 0 where
 pub record IsWhole (d : Design) : Type 0 where
   pub is_open : IsOpen d
   pub kept : kept_of d ≡ offsets_of (elements d)
+
+-- body and tail open, the kept offsets are those of the first elements, and spare is at least the number of
+-- the others
+pub record IsFront (d : Design) : Type 0 where
+  pub is_open : IsOpen d
+  pub first : kept_of d ≡ take (length (kept_of d)) (offsets_of (elements d))
+  pub room : length (elements d) ≤ length (kept_of d) + spare_of d
+
+-- body and tail open, there are `count` elements, and their offsets are the first ones of the kept
+pub record IsBehind (count : ℕ) (d : Design) : Type 0 where
+  pub is_open : IsOpen d
+  pub many : length (elements d) ≡ count
+  pub first : take count (kept_of d) ≡ offsets_of (elements d)
+
+-- dimension, body and tail stay, with the room that body and tail have
+pub record SameText (old new : Design) : Type 0 where
+  pub dim : new.dim ≡ old.dim
+  pub body : new.body ≡ old.body
+  pub tail : new.tail ≡ old.tail

@@ -1,7 +1,7 @@
 ghost use Rattle.std.specs.Prelude.{◌≡◌, ◌≤◌, ◌<◌, ◌+◌, ◌++◌, ◌↔◌, length, vec_len, IfOk, IfErr, IsErrOf, IsNone, IfSome, map, slice_get, option_map};
 ghost use Rattle.dgn_drawing.specs.Spelling.{spell};
 ghost use Rattle.dgn_drawing.specs.Rows.{row_of};
-ghost use Rattle.elem_index.specs.Offsets.{offset_of};
+ghost use Rattle.elem_index.specs.Offsets.{offset_of, offsets_of};
 ghost use Rattle.elem_index.specs.Opened.{opening};
 ghost use Rattle.elem_index.specs.Design.{elements, IsWhole};
 ghost use Rattle.elem_index.specs.Answers.{HasCount, HasToldFault, Tells, TellsFault};
@@ -11,9 +11,13 @@ use crate::walk::{begins_with_tcb, count_in, dimension, elements_in};
 use dgn_drawing::{Row, row_of};
 use std::alloc::{AllocError, Global};
 
+mod growth;
+
 /// A design file that is open: its dimension, the bytes of its elements, and the bytes behind them.
 ///
-/// Elements are numbered in file order, from 0. Where each one begins is kept beside the bytes.
+/// Elements are numbered in file order, from 0. Where each one begins is kept beside the bytes. Whoever
+/// writes to the body or the tail and moves an element's beginning calls `grow` or `shrink` before any
+/// other call.
 #[derive(Drop)]
 pub struct Design {
     /// The dimension, 2 or 3.
@@ -113,6 +117,14 @@ impl Design {
             Some(next) => next,
             None => self.body.len(),
         }
+    }
+
+    /// The byte of the body at which each element begins, in file order.
+    pub fn offsets(&self) -> &[u32]
+        requires { IsWhole self.now }
+        ensures { result.now ≡ offsets_of (elements self.now) }
+    {
+        self.kept.as_slice()
     }
 
     /// The row of each element, in file order: what the nesting looks at.

@@ -1,6 +1,7 @@
 // From element to element through a file.
 
 ghost use Rattle.std.specs.Prelude.{◌≡◌, ◌≤◌, length, true, IfOk, IfErr, IsErr, IsErrOf, IsTrue, IsFalse};
+ghost use Rattle.elem_head.specs.Head.{size_of};
 ghost use Rattle.dgn_drawing.specs.Opening.{is_tcb, dimension};
 ghost use Rattle.dgn_drawing.specs.WellFormed.{IsDimension, begins_with_mark};
 ghost use Rattle.elem_index.specs.Answers.{BeginsSound, BeginsFaulty, BeginsBare, BeginsNext, HasCount, IsRun, HasToldFault, TellsFault};
@@ -119,7 +120,7 @@ fn checked_size(dim: u8, at: u32, rest: &[u8]) -> Result<usize, OpenFault>
     if rest.len() < HEAD_END {
         return Err(OpenFault::Cut { at });
     }
-    let size = HEAD_END + 2 * usize::from(head(rest).words);
+    let size = size_said(rest);
     if rest.len() < size {
         return Err(OpenFault::Cut { at });
     }
@@ -129,6 +130,15 @@ fn checked_size(dim: u8, at: u32, rest: &[u8]) -> Result<usize, OpenFault>
         Err(BodyFault::Short) => Err(OpenFault::Short { at }),
         Err(BodyFault::Attr) => Err(OpenFault::Attr { at }),
     }
+}
+
+// The size that the head which the bytes begin with says.
+#[inline(always)]
+pub(crate) fn size_said(rest: &[u8]) -> usize
+    requires { 4 ≤ length rest.now }
+    ensures { result ≡ size_of rest.now }
+{
+    HEAD_END + 2 * usize::from(head(rest).words)
 }
 
 // Whether the bytes begin with a head that says that nothing follows, of a type of which nothing is read,

@@ -1,0 +1,215 @@
+-- How a design becomes whole again: the walk that goes on from its last kept offset.
+use Rattle.std.proofs.Common.{◌≡◌, ℕ, suc, ◌+◌, ◌<◌, ◌≤◌, List, [], ◌∷◌, ◌++◌, length, take, drop, get_or, refl, sym, ap, ◌∙◌, subst, arith, inl, inr, length-append, length-drop}
+use Rattle.std.specs.Prelude.{vec_capacity}
+use Rattle.std.proofs.lemmas.List.{append-nil, take_all, take-take, take_more, length-take, get_or-take, take_at}
+use Rattle.std.proofs.Math.Seq.{get_or-append_seam}
+use Rattle.std.proofs.lemmas.Option.{get_or_from_slice_get}
+use Rattle.std.proofs.lemmas.Bool.{cases_lt}
+use Rattle.elem_head.specs.Head.{size_of as size_said}
+use Rattle.dgn_drawing.specs.Element.{Element}
+use Rattle.dgn_drawing.specs.Spelling.{spell, spelling, size_of}
+use Rattle.dgn_drawing.specs.WellFormed.{IsDimension, IsWellFormed}
+use Rattle.dgn_drawing.specs.Opening.{Opens, elements_of}
+use Rattle.dgn_drawing.proofs.Read.{size_said-spell}
+use Rattle.dgn_drawing.proofs.Opening.{dimension_is, not_empty}
+use Rattle.dgn_drawing.proofs.Fronts.{body_spelled}
+use Rattle.dgn_drawing.proofs.Offsets.{drop-offset}
+use Rattle.elem_index.specs.declared.design.Design.{Design}
+use Rattle.elem_index.specs.Offsets.{offset_of, offsets_of}
+use Rattle.elem_index.specs.Design.{kept_of, spare_of, elements, IsOpen, IsWhole, IsFront, IsBehind, SameText}
+use Rattle.elem_index.proofs.Places.{length-offsets, get_or-offsets, stands_at, offset_past, each_at}
+
+-- one more of the first offsets
+offsets_more : (es : List Element) (kept : List ℕ) (at : ℕ) → length kept < length es → kept ≡ take (length kept) (offsets_of es) → at ≡ offset_of es (length kept)
+    → kept ++ at ∷ [] ≡ take (length kept + 1) (offsets_of es)
+offsets_more es kept at within first place =
+    let inside : length kept < length (offsets_of es) = omega (arith, length-offsets es) in
+    ap (λ (x : List ℕ). x ++ at ∷ []) first
+    ∙ ap (λ (x : ℕ). take (length kept) (offsets_of es) ++ x ∷ []) (place ∙ sym (get_or-offsets es (length kept) within))
+    ∙ sym (take_more (offsets_of es) (length kept) 0 inside)
+
+-- the offsets of the first elements are kept, and the next one begins at the place
+pub record Left (d : Design) (at : ℕ) : Type 0 where
+  pub is_open : IsOpen d
+  pub first : kept_of d ≡ take (length (kept_of d)) (offsets_of (elements d))
+  pub place : at ≡ offset_of (elements d) (length (kept_of d))
+  pub within : length (kept_of d) ≤ length (elements d)
+  pub room : length (elements d) ≤ vec_capacity d.kept
+
+-- dimension and bytes are the same, whatever room there is
+pub record SameBytes (d e : Design) : Type 0 where
+  pub dim : e.dim ≡ d.dim
+  pub body : e.body.items ≡ d.body.items
+  pub tail : e.tail.items ≡ d.tail.items
+
+-- a design of the same text is one of the same bytes
+pub same_bytes : (d e : Design) → SameText d e → SameBytes d e
+same_bytes d e same = record { dim = same.dim; body = ap (λ v. v.items) same.body; tail = ap (λ v. v.items) same.tail }
+
+-- a design of the same bytes has the same elements
+pub elements_same : (d e : Design) → SameBytes d e → elements e ≡ elements d
+elements_same d e same = ap (λ (n : ℕ). elements_of n e.body.items) same.dim ∙ ap (λ (b : List ℕ). elements_of d.dim b) same.body
+
+-- and is open
+pub open_same : (d e : Design) → SameBytes d e → IsOpen d → IsOpen e
+open_same d e same is_open =
+    let es : elements d ≡ elements e = sym (elements_same d e same) in
+    record {
+      few = omega (arith, ap (length {A = ℕ}) same.body, ap (length {A = ℕ}) same.tail, is_open.few);
+      opens =
+          subst (λ (t : List ℕ). Opens (e.body.items ++ t) e.dim (elements e) t) (sym same.tail)
+          (subst (λ (xs : List Element). Opens (e.body.items ++ d.tail.items) e.dim xs d.tail.items) es
+          (subst (λ (n : ℕ). Opens (e.body.items ++ d.tail.items) n (elements d) d.tail.items) (sym same.dim)
+          (subst (λ (b : List ℕ). Opens (b ++ d.tail.items) d.dim (elements d) d.tail.items) (sym same.body) is_open.opens)));
+    }
+
+-- at the offset of element n stands a head that says its size, of at least four bytes, all of them in the body
+pub record Heads (d : Design) (n : ℕ) : Type 0 where
+  pub size : ℕ
+  pub next : offset_of (elements d) (n + 1) ≡ offset_of (elements d) n + size
+  pub four : 4 ≤ size
+  pub inside : offset_of (elements d) n + size ≤ length d.body.items
+  pub said : size_said (drop (offset_of (elements d) n) d.body.items) ≡ size
+
+-- what an open design says of its elements
+module _ (d : Design) (is_open : IsOpen d) where
+  -- the design's dimension is one
+  axes : IsDimension d.dim
+  axes = subst IsDimension (sym is_open.opens.axes) (dimension_is (d.body.items ++ d.tail.items))
+
+  -- their spellings are the body
+  pub spelled : spelling (elements d) ≡ d.body.items
+  spelled = body_spelled d.body.items d.tail.items d.dim (elements d) is_open.opens
+
+  -- and each has its head
+  pub heads_at : (n : ℕ) → n < length (elements d) → Heads d n
+  heads_at n known =
+      let standing = stands_at (elements d) n known in
+      let e : Element = standing.0 in
+      let good : IsWellFormed d.dim e = each_at (IsWellFormed d.dim) (elements d) n e is_open.opens.each standing.1.found in
+      let behind : List ℕ = spelling (drop (suc n) (elements d)) ++ [] in
+      let bytes : drop (offset_of (elements d) n) d.body.items ≡ spell e ++ behind =
+      ap (drop (offset_of (elements d) n)) (sym (append-nil (spelling (elements d)) ∙ spelled)) ∙ drop-offset (elements d) [] n e known
+      ∙ ap (λ (x : Element). spell x ++ behind) (get_or_from_slice_get (elements d) n e e standing.1.found) in
+      record {
+        size = size_of e;
+        next = standing.1.next;
+        four = not_empty d.dim e axes good [];
+        inside = omega (arith, standing.1.inside, ap (length {A = ℕ}) spelled);
+        said = ap size_said bytes ∙ size_said-spell d.dim e axes good behind;
+      }
+
+-- before the end of the body stands one more element
+module _ (d : Design) (at : ℕ) (left : Left d at) where
+  -- the body ends where the elements do
+  ends : length d.body.items ≡ length (spelling (elements d))
+  ends = sym (ap (length {A = ℕ}) (spelled d left.is_open))
+
+  -- so not all offsets are kept
+  more_left : at < length d.body.items → length (kept_of d) < length (elements d)
+  more_left before = elim (cases_lt (length (kept_of d)) (length (elements d))) [ inl within ↦ within | inr past ↦ absurd (omega (arith, left.place, ends, offset_past (elements d) (length (kept_of d)) past)) ]
+
+  -- with its head
+  pub head_here : at < length d.body.items → 4 ≤ length (drop at d.body.items)
+  head_here before =
+      let h = heads_at d left.is_open (length (kept_of d)) (more_left before) in
+      omega (arith, left.place, h.four, h.inside, length-drop at d.body.items)
+
+  -- and its end
+  pub end_here : (size : ℕ) → at < length d.body.items → size ≡ size_said (drop at d.body.items) → at + size ≤ 67108864
+  end_here size before said =
+      let h = heads_at d left.is_open (length (kept_of d)) (more_left before) in
+      let sized : size ≡ h.size = said ∙ ap (λ (k : ℕ). size_said (drop k d.body.items)) left.place ∙ h.said in
+      omega (arith, left.place, sized, h.inside, left.is_open.few)
+
+  -- whose offset is kept: the place behind it is that of the next
+  pub left_more : (e : Design) (size : ℕ) → at < length d.body.items → size ≡ size_said (drop at d.body.items) → SameText d e → kept_of e ≡ kept_of d ++ at ∷ [] → vec_capacity d.kept ≤ vec_capacity e.kept
+      → Left e (at + size)
+  left_more e size before said same kept room =
+      let known = more_left before in
+      let h = heads_at d left.is_open (length (kept_of d)) known in
+      let es : elements e ≡ elements d = elements_same d e (same_bytes d e same) in
+      let long : length (kept_of e) ≡ length (kept_of d) + 1 = omega (arith, ap (length {A = ℕ}) kept, length-append (kept_of d) (at ∷ [])) in
+      let sized : size ≡ h.size = said ∙ ap (λ (k : ℕ). size_said (drop k d.body.items)) left.place ∙ h.said in
+      let count = ap (length {A = Element}) es in
+      record {
+        is_open = open_same d e (same_bytes d e same) left.is_open;
+        first = kept ∙ offsets_more (elements d) (kept_of d) at known left.first left.place ∙ ap (λ (k : ℕ). take k (offsets_of (elements d))) (sym long) ∙ ap (λ (xs : List Element). take (length (kept_of e)) (offsets_of xs)) (sym es);
+        place =
+            let next : at + size ≡ offset_of (elements d) (length (kept_of d) + 1) = omega (arith, left.place, sized, h.next) in
+            next ∙ ap (offset_of (elements d)) (sym long) ∙ ap (λ (xs : List Element). offset_of xs (length (kept_of e))) (sym es);
+        within = omega (arith, long, count, known);
+        room = omega (arith, count, left.room, room);
+      }
+
+  -- at the end of the body all offsets are kept
+  pub left_none : length d.body.items ≤ at → kept_of d ≡ offsets_of (elements d)
+  left_none past =
+      let none : length (elements d) ≤ length (kept_of d) = elim (cases_lt (length (kept_of d)) (length (elements d))) [
+        | inl known ↦ (let h = heads_at d left.is_open (length (kept_of d)) known in absurd (omega (arith, left.place, h.four, h.inside)))
+        | inr all ↦ all
+      ] in
+      left.first ∙ take_all (length (kept_of d)) (offsets_of (elements d)) (omega (arith, length-offsets (elements d)))
+
+-- the last of the kept offsets is taken back, and the walk goes on from it: at the beginning, where none is kept
+pub left_start : (d e : Design) → IsFront d → SameText d e → vec_capacity e.kept ≡ vec_capacity d.kept → length (kept_of d) ≡ 0 → length (kept_of e) ≡ 0 → Left e 0
+left_start d e front same room none_kept still_none =
+    let es : length (elements e) ≡ length (elements d) = ap (length {A = Element}) (elements_same d e (same_bytes d e same)) in
+    record {
+      is_open = open_same d e (same_bytes d e same) front.is_open;
+      first = sym (take_all 0 (kept_of e) (omega (arith, still_none))) ∙ ap (λ (k : ℕ). take k (offsets_of (elements e))) (sym still_none);
+      place = ap (offset_of (elements e)) (sym still_none);
+      within = omega (arith, still_none);
+      room = omega (arith, es, front.room, none_kept, room, d.kept.ok.0);
+    }
+
+-- at the last of the kept offsets, where there is one
+pub left_back : (d e : Design) (last : ℕ) → IsFront d → SameText d e → vec_capacity e.kept ≡ vec_capacity d.kept → kept_of d ≡ kept_of e ++ last ∷ [] → Left e last
+left_back d e last front same room kept =
+    let n : ℕ = length (kept_of e) in
+    let es : elements e ≡ elements d = elements_same d e (same_bytes d e same) in
+    let count = ap (length {A = Element}) es in
+    let long : length (kept_of d) ≡ n + 1 = omega (arith, ap (length {A = ℕ}) kept, length-append (kept_of e) (last ∷ [])) in
+    let first : kept_of d ≡ take (n + 1) (offsets_of (elements d)) = front.first ∙ ap (λ (k : ℕ). take k (offsets_of (elements d))) long in
+    let known : n < length (elements d) = omega (arith, long, ap (length {A = ℕ}) first, length-take (n + 1) (offsets_of (elements d)), length-offsets (elements d)) in
+    let these : kept_of e ≡ take n (offsets_of (elements d)) =
+    sym (take_at (kept_of e) (last ∷ []) n refl) ∙ ap (take n) (sym kept ∙ first) ∙ take-take n (n + 1) (offsets_of (elements d)) (omega arith) in
+    let place : last ≡ offset_of (elements d) n =
+    sym (get_or-append_seam (kept_of e) last [] 0) ∙ ap (λ (x : List ℕ). get_or x n 0) (sym kept ∙ first)
+    ∙ get_or-take (n + 1) (offsets_of (elements d)) n 0 (omega arith) ∙ get_or-offsets (elements d) n known in
+    record {
+      is_open = open_same d e (same_bytes d e same) front.is_open;
+      first = these ∙ ap (λ (xs : List Element). take n (offsets_of xs)) (sym es);
+      place = place ∙ ap (λ (xs : List Element). offset_of xs n) (sym es);
+      within = omega (arith, count, known);
+      room = omega (arith, count, front.room, room, d.kept.ok.0, d.kept.ok.1);
+    }
+
+-- and at its end the design is whole
+pub left_whole : (d : Design) (at : ℕ) → Left d at → length d.body.items ≤ at → IsWhole d
+left_whole d at left past = record { is_open = left.is_open; kept = left_none d at left past }
+
+-- a design with the bytes of a whole one, whose first offsets are those kept, may grow
+pub front_of : (d long : Design) → IsWhole long → SameBytes long d → (some all : List ℕ) → kept_of d ≡ some → all ≡ offsets_of (elements long) → take (length some) all ≡ some
+    → length all ≤ length some + spare_of d → IsFront d
+front_of d long whole same some all kept whole_ones first room =
+    let es : elements d ≡ elements long = elements_same long d same in
+    let count : length all ≡ length (elements d) = ap (length {A = ℕ}) whole_ones ∙ length-offsets (elements long) ∙ sym (ap (length {A = Element}) es) in
+    let kept_many : length (kept_of d) ≡ length some = ap (length {A = ℕ}) kept in
+    record {
+      is_open = open_same long d same whole.is_open;
+      first = kept ∙ sym first ∙ ap (take (length some)) whole_ones ∙ ap (λ (xs : List Element). take (length some) (offsets_of xs)) (sym es) ∙ ap (λ (k : ℕ). take k (offsets_of (elements d))) (sym kept_many);
+      room = omega (arith, count, kept_many, room);
+    }
+
+-- and one with the bytes of a whole one, whose offsets are the first of those kept, may shrink
+pub behind_of : (d short : Design) → IsWhole short → SameBytes short d → (count : ℕ) → count ≡ length (elements short) → (some all : List ℕ) → kept_of d ≡ all → some ≡ offsets_of (elements short)
+    → take (length some) all ≡ some → IsBehind count d
+behind_of d short whole same count counted some all kept first_ones first =
+    let es : elements d ≡ elements short = elements_same short d same in
+    let long : count ≡ length some = counted ∙ sym (ap (length {A = ℕ}) first_ones ∙ length-offsets (elements short)) in
+    record {
+      is_open = open_same short d same whole.is_open;
+      many = ap (length {A = Element}) es ∙ sym counted;
+      first = ap (λ (k : ℕ). take k (kept_of d)) long ∙ ap (take (length some)) kept ∙ first ∙ first_ones ∙ ap offsets_of (sym es);
+    }

@@ -1,0 +1,91 @@
+-- What a crate above knows of a design after it has written to the body: offsets hang on sizes alone, and so on rows.
+use Rattle.std.proofs.Common.{◌≡◌, ℕ, zero, suc, ◌+◌, ◌<◌, ◌≤◌, List, [], ◌∷◌, length, take, map, get_or, refl, sym, ap, ◌∙◌, arith, length-append}
+use Rattle.std.proofs.lemmas.List.{take-map}
+use Rattle.dgn_drawing.specs.declared.row.Row.{Row}
+use Rattle.dgn_drawing.specs.Element.{Element}
+use Rattle.dgn_drawing.specs.Spelling.{spell, spelling, size_of}
+use Rattle.dgn_drawing.specs.Rows.{row_of}
+use Rattle.dgn_drawing.specs.Opening.{offsets_from}
+use Rattle.dgn_drawing.proofs.Offsets.{take-offsets_from, sizes-rows}
+use Rattle.elem_index.specs.declared.design.Design.{Design}
+use Rattle.elem_index.specs.Offsets.{offset_of, offsets_of}
+use Rattle.elem_index.specs.Design.{kept_of, spare_of, elements, IsOpen, IsWhole, IsFront, IsBehind}
+use Rattle.elem_index.proofs.Places.{length-offsets, get_or-offsets}
+
+-- elements with the same rows have the same offsets
+pub offsets-rows : (es fs : List Element) → map row_of es ≡ map row_of fs → offsets_of es ≡ offsets_of fs
+offsets-rows es fs rows =
+    ap (offsets_from 0) (sym (sizes-rows es) ∙ ap (map (λ (r : Row). r.size)) rows ∙ sizes-rows fs)
+
+-- and so spellings of the same length
+pub length-spelling-rows : (es fs : List Element) → map row_of es ≡ map row_of fs → length (spelling es) ≡ length (spelling fs)
+length-spelling-rows [] [] rows = refl
+length-spelling-rows [] (f ∷ fs) rows = absurd (let r = rows in cc)
+length-spelling-rows (e ∷ es) [] rows = absurd (let r = rows in cc)
+length-spelling-rows (e ∷ es) (f ∷ fs) rows =
+    let first : row_of e ≡ row_of f = cc in
+    let others : map row_of es ≡ map row_of fs = cc in
+    omega (arith, length-append (spell e) (spelling es), length-append (spell f) (spelling fs), ap (λ (r : Row). r.size) first, length-spelling-rows es fs others)
+
+-- the offsets of the first elements are the first offsets
+pub offsets-take : (k : ℕ) (es : List Element) → offsets_of (take k es) ≡ take k (offsets_of es)
+offsets-take k es = ap (offsets_from 0) (sym (take-map size_of k es)) ∙ sym (take-offsets_from 0 k (map size_of es))
+
+-- where the first elements have the rows of others, their offsets are those of the others
+pub offsets-front : (es more : List Element) → map row_of (take (length es) more) ≡ map row_of es → offsets_of es ≡ take (length es) (offsets_of more)
+offsets-front es more rows = offsets-rows es (take (length es) more) (sym rows) ∙ offsets-take (length es) more
+
+-- offset n is the length of the spellings of the elements before it
+pub offset-at : (es : List Element) (n : ℕ) → n < length es → get_or (offsets_of es) n 0 ≡ length (spelling (take n es))
+offset-at es n within = get_or-offsets es n within
+
+-- so where the first elements have the rows of others, the next begins where those end
+pub offset-front : (es more : List Element) → map row_of (take (length es) more) ≡ map row_of es → offset_of more (length es) ≡ length (spelling es)
+offset-front es more rows = length-spelling-rows (take (length es) more) es rows
+
+-- each element has bytes
+has_bytes : (e : Element) → 0 < size_of e
+unfolding spell
+has_bytes e = omega arith
+
+-- elements before number n begin before it
+pub offset-below : (es : List Element) (m n : ℕ) → m < n → m < length es → offset_of es m < offset_of es n
+offset-below [] m n below within = absurd (omega arith)
+offset-below (e ∷ es) m zero below within = absurd (omega arith)
+offset-below (e ∷ es) zero (suc n) below within = omega (arith, has_bytes e, length-append (spell e) (spelling (take n es)))
+offset-below (e ∷ es) (suc m) (suc n) below within =
+    omega (arith, offset-below es m n (omega arith) (omega arith), length-append (spell e) (spelling (take m es)), length-append (spell e) (spelling (take n es)))
+
+-- and the others don't
+pub offset-from : (es : List Element) (m n : ℕ) → n ≤ m → offset_of es n ≤ offset_of es m
+offset-from [] m n from = let e : offset_of [] n ≡ 0 = none n in omega arith
+  where
+    none : (n : ℕ) → offset_of [] n ≡ 0
+    none zero = refl
+    none (suc n) = refl
+offset-from (e ∷ es) m zero from = omega arith
+offset-from (e ∷ es) zero (suc n) from = absurd (omega arith)
+offset-from (e ∷ es) (suc m) (suc n) from =
+    omega (arith, offset-from es m n (omega arith), length-append (spell e) (spelling (take m es)), length-append (spell e) (spelling (take n es)))
+
+-- what a body that was written to owes to the kept offsets
+module _ (old new : Design) (whole : IsWhole old) (is_open : IsOpen new) (kept : kept_of new ≡ kept_of old) where
+  -- before it grows: the first elements have the rows that there were, and there is room for the others
+  pub front_after : map row_of (take (length (elements old)) (elements new)) ≡ map row_of (elements old) → length (elements new) ≤ length (elements old) + spare_of new → IsFront new
+  front_after rows room =
+      let is : kept_of new ≡ offsets_of (elements old) = kept ∙ whole.kept in
+      let long : length (kept_of new) ≡ length (elements old) = ap (length {A = ℕ}) is ∙ length-offsets (elements old) in
+      record {
+        is_open = is_open;
+        first = is ∙ offsets-front (elements old) (elements new) rows ∙ ap (λ (k : ℕ). take k (offsets_of (elements new))) (sym long);
+        room = omega (arith, long, room);
+      }
+
+  -- before it shrinks: the elements have the rows that the first ones had
+  pub behind_after : (count : ℕ) → length (elements new) ≡ count → map row_of (take count (elements old)) ≡ map row_of (elements new) → IsBehind count new
+  behind_after count many rows =
+      record {
+        is_open = is_open;
+        many = many;
+        first = ap (take count) (kept ∙ whole.kept) ∙ sym (offsets-take count (elements old)) ∙ offsets-rows (take count (elements old)) (elements new) rows;
+      }
