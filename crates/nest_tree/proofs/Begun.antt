@@ -1,5 +1,5 @@
 -- What is kept of the first element, from which reading goes on; and what is kept of all.
-use Rattle.std.proofs.Common.{◌≡◌, ℕ, ◌-◌, ◌<◌, List, [], ◌∷◌, ◌++◌, length, take, drop, map, refl, sym, ap, ◌∙◌, subst, arith}
+use Rattle.std.proofs.Common.{◌≡◌, ℕ, ◌<◌, List, [], ◌∷◌, ◌++◌, length, take, drop, map, refl, sym, ap, ◌∙◌, subst, arith}
 use Rattle.std.specs.Prelude.{None, slice_get, option_map}
 use Rattle.std.proofs.lemmas.List.{take_all}
 use Rattle.std.proofs.lemmas.Option.{slice_get-map}
@@ -7,28 +7,10 @@ use Rattle.dgn_drawing.specs.declared.row.Row.{Row}
 use Rattle.dgn_drawing.specs.Nesting.{All, itself, nest}
 use Rattle.dgn_drawing.specs.Numbering.{Mark, marks}
 use Rattle.nest_tree.specs.declared.knot.Knot.{Knot}
-use Rattle.nest_tree.specs.declared.link.Link.{Link}
-use Rattle.nest_tree.specs.Sums.{sums_from}
-use Rattle.std.specs.List.{AllByRecursion}
-use Rattle.nest_tree.specs.Depths.{IsWordTotal}
+use Rattle.nest_tree.specs.Linked.{Link}
 use Rattle.nest_tree.specs.Nested.{IsNest}
 use Rattle.nest_tree.specs.Places.{marks_in, link_of, ArePlaces}
 use Rattle.nest_tree.proofs.Stacks.{length-marks_in}
-
-first_sum : (rows : List Row) → 0 ∷ [] ≡ take 1 (sums_from 0 rows)
-unfolding sums_from
-first_sum [] = refl
-first_sum (r ∷ rows) = refl
-
-pub sums_begun : (rows : List Row) (old new : List ℕ) → old ≡ [] → new ≡ old ++ 0 ∷ [] → new ≡ take (length new) (sums_from 0 rows)
-sums_begun rows old new none is =
-    let one : new ≡ 0 ∷ [] = is ∙ ap (λ (l : List ℕ). l ++ 0 ∷ []) none in
-    one ∙ first_sum rows ∙ ap (λ (l : List ℕ). take (length l) (sums_from 0 rows)) (sym one)
-
-pub words_begun : (rows : List Row) (old new : List ℕ) → old ≡ [] → new ≡ old ++ 0 ∷ [] → AllByRecursion IsWordTotal (take (length new - 1) rows)
-words_begun rows old new none is =
-    let one : new ≡ 0 ∷ [] = is ∙ ap (λ (l : List ℕ). l ++ 0 ∷ []) none in
-    subst (λ (l : List ℕ). AllByRecursion IsWordTotal (take (length l - 1) rows)) (sym one) tt
 
 abbrev pub leaf_link : Link
 leaf_link = record { parent = None; depth = 0; knot = Knot.Leaf }
@@ -61,7 +43,7 @@ apart_begun rows ends ends_new some none is =
     subst (λ (x : List ℕ). drop (length x) (marks_in rows) ≡ marks (nest itself All (drop (length x) rows)) (length x) 0 None) (sym e) (first_apart rows some)
 
 -- the marks of as many elements as there are are the marks of all
-all_marks : (rows : List Row) → take (length rows) (marks_in rows) ≡ marks_in rows
+pub all_marks : (rows : List Row) → take (length rows) (marks_in rows) ≡ marks_in rows
 all_marks rows = take_all (length rows) (marks_in rows) (omega (arith, length-marks_in rows))
 
 -- the links of all elements
@@ -69,7 +51,7 @@ pub all_links : (rows : List Row) (ends : List ℕ) (links : List Link) → AreP
 all_links rows ends links places = places.links_are ∙ ap (map link_of) (all_marks rows)
 
 -- what is kept of all elements
-module _ (rows : List Row) (sums ends : List ℕ) (links : List Link) (broken : List ℕ) (kept : IsNest rows sums ends links broken) where
+module _ (rows : List Row) (ends : List ℕ) (links : List Link) (broken : List ℕ) (kept : IsNest rows ends links broken) where
   pub ends_kept : (n : ℕ) → slice_get ends n ≡ option_map (λ (m : Mark). m.end) (slice_get (marks_in rows) n)
   ends_kept n =
       ap (λ (l : List ℕ). slice_get l n) (kept.places.ends_are ∙ ap (map (λ (m : Mark). m.end)) (all_marks rows)) ∙ slice_get-map (λ (m : Mark). m.end) (marks_in rows) n

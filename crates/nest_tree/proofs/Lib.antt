@@ -20,3 +20,7 @@ pub mod Told
 pub mod Passed
 pub mod Elements
 pub mod Nestable
+pub mod Cut
+pub mod Grown
+pub mod Reached
+pub mod Walks

@@ -10,7 +10,7 @@ use Rattle.std.proofs.lemmas.Bool.{cases_Bool, cases_lt, cond-true, cond-false, 
 use Rattle.dgn_drawing.specs.declared.row.Row.{Row}
 use Rattle.dgn_drawing.specs.Nesting.{itself, Forest, NoTree, Tree, flat, forest}
 use Rattle.dgn_drawing.specs.Numbering.{Mark, end_of, marks, is_broken, first_from, first_broken_of}
-use Rattle.nest_tree.specs.declared.link.Link.{Link}
+use Rattle.nest_tree.specs.Linked.{Link}
 use Rattle.nest_tree.specs.Places.{marks_in, link_of, end_told, broken_told}
 use Rattle.nest_tree.specs.Passing.{passing, broken_in, first_at, if_below}
 use Rattle.nest_tree.proofs.Unfolded.{flat-forest}

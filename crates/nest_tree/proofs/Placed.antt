@@ -2,13 +2,13 @@
 use Rattle.std.proofs.Common.{◌≡◌, ℕ, ◌+◌, ◌-◌, ◌*◌, ◌≤◌, ◌<◌, List, [], ◌∷◌, ◌++◌, length, take, drop, map, get_or, sym, ap, ◌∙◌, arith}
 use Rattle.std.specs.Prelude.{Option, Some, None}
 use Rattle.std.specs.List.{AllByRecursion}
-use Rattle.std.proofs.lemmas.List.{get_or-map, get_or-take, length-map, length-take, map_push, append-nil, take_rest}
+use Rattle.std.proofs.lemmas.List.{get_or-map, get_or-take, length-map, length-take, map_push, append-nil, take_rest, drop-drop, length-drop}
 use Rattle.dgn_drawing.specs.declared.row.Row.{Row}
 use Rattle.dgn_drawing.specs.Nesting as nesting
 use Rattle.dgn_drawing.specs.Nesting.{All, itself, nest}
 use Rattle.dgn_drawing.specs.Numbering.{Mark, marks}
 use Rattle.nest_tree.specs.declared.knot.Knot.{Knot}
-use Rattle.nest_tree.specs.declared.link.Link.{Link}
+use Rattle.nest_tree.specs.Linked.{Link}
 use Rattle.nest_tree.specs.declared.shape.Shape as told
 use Rattle.nest_tree.specs.declared.open_list.OpenList.{OpenList}
 use Rattle.nest_tree.specs.Sums.{weights, sums_from}
@@ -109,10 +109,25 @@ module _ (rows : List Row) (n : ℕ) (ends : List ℕ) (links : List Link) (plac
   pub depth_is : (get_or links i no_link).depth ≡ depth_in rows i
   depth_is = ap (λ (x : Link). x.depth) (link_at rows n ends links places i no_link before)
 
--- one element is read on
-module _ (rows : List Row) (at : ℕ) (f : OpenList) (going : Going rows at f) (inside : at < f.end) (few : length rows < 4294967295) where
-  pub between : (sums : List ℕ) → AllByRecursion IsRow rows → weights rows ≤ 4294967295 * length rows → sums ≡ sums_from 0 rows → IsBetween rows sums at f.end
-  between sums each light are = record { some = inside; bounds = going_ends rows at f going; few = few; each = each; light = light; are_sums = are }
+-- one element is read on, by the rows from number `first` on
+module _ (rows new : List Row) (first : ℕ) (are : new ≡ drop first rows) (at : ℕ) (f : OpenList) (going : Going rows at f) (inside : at < f.end) (few : length rows < 4294967295) (from : first ≤ at) where
+  pub between : (sums : List ℕ) → AllByRecursion IsRow new → weights new ≤ 4294967295 * length new → sums ≡ sums_from 0 new → IsBetween new sums (at - first) (f.end - first)
+  between sums each light sums_are =
+      let bound = going_ends rows at f going in
+      let long : length new ≡ length rows - first = ap (length {A = Row}) are ∙ length-drop first rows in
+      record { some = omega arith; bounds = omega arith; few = omega arith; each = each; light = light; are_sums = sums_are }
+
+  same_between : rows_between new (at - first) (f.end - first) ≡ rows_between rows at f.end
+  same_between =
+      let count : f.end - first - (at - first) ≡ f.end - at = omega arith in
+      let place : first + (at - first) ≡ at = omega arith in
+      ap (λ (l : List Row). take (f.end - first - (at - first)) (drop (at - first) l)) are
+      ∙ ap (take (f.end - first - (at - first))) (drop-drop (at - first) first rows ∙ ap (λ (k : ℕ). drop k rows) place)
+      ∙ ap (λ (k : ℕ). take k (drop at rows)) count
+
+  -- so the shape that they tell is the one of all rows
+  pub shaped : (s : told.Shape) → s ≡ shape_told (shape_in f.scope (rows_between new (at - first) (f.end - first))) → s ≡ shape_told (shape_in f.scope (rows_between rows at f.end))
+  shaped s is = is ∙ ap (λ (l : List Row). shape_told (shape_in f.scope l)) same_between
 
   pub end_fits : (s : told.Shape) → s ≡ shape_told (shape_in f.scope (rows_between rows at f.end)) → at + 1 + s.count < 4294967295
   end_fits s is =

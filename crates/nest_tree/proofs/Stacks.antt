@@ -66,7 +66,7 @@ pub record Leaves (rows : List Row) (at : ℕ) (f : OpenList) (n : ℕ) : Type 0
   pub around : Going rows at (list_around rows n)
   pub shallow : (list_around rows n).depth < f.depth
 
-header_of : (rows : List Row) (at : ℕ) (g : OpenList) (gs : List OpenList) → IsStack rows at g gs → IfSome g.parent (λ p. p < at)
+pub header_of : (rows : List Row) (at : ℕ) (g : OpenList) (gs : List OpenList) → IsStack rows at g gs → IfSome g.parent (λ p. p < at)
 header_of rows at g [] is = subst (λ (o : Option ℕ). IfSome o (λ p. p < at)) (sym (ap (λ (x : OpenList). x.parent) is)) tt
 header_of rows at g (k ∷ gs) is = subst (λ (o : Option ℕ). IfSome o (λ p. p < at)) (sym (ap (λ (x : OpenList). x.parent) is.0.list)) is.0.before
 

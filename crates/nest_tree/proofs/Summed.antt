@@ -1,7 +1,7 @@
 -- The sums of the first rows, and one more.
-use Rattle.std.proofs.Common.{◌≡◌, ℕ, zero, suc, ◌+◌, ◌-◌, ◌*◌, ◌≤◌, ◌<◌, List, [], ◌∷◌, ◌++◌, length, take, get_or, sym, ap, ◌∙◌, subst, arith}
+use Rattle.std.proofs.Common.{◌≡◌, ℕ, zero, suc, ◌+◌, ◌*◌, ◌≤◌, ◌<◌, List, [], ◌∷◌, ◌++◌, length, take, get_or, refl, sym, ap, ◌∙◌, subst, arith}
 use Rattle.std.specs.List.{AllByRecursion}
-use Rattle.std.proofs.lemmas.List.{get_or-take, length-take, take_all, take_more, get_or_default}
+use Rattle.std.proofs.lemmas.List.{length-take, take_all, take_more}
 use Rattle.dgn_drawing.specs.declared.row.Row.{Row}
 use Rattle.nest_tree.specs.Sums.{weight, weights, sums_from}
 use Rattle.nest_tree.proofs.Weighed.{length-sums_from, get_or-sums_from}
@@ -16,9 +16,6 @@ all_more P rows i d within each here = subst (AllByRecursion P) (sym (take_more 
 
 pub all_rows : (P : Row → Type 0) (rows : List Row) (i : ℕ) → length rows ≤ i → AllByRecursion P (take i rows) → AllByRecursion P rows
 all_rows P rows i past each = subst (AllByRecursion P) (take_all i rows past) each
-
-pub all_first : (P : Row → Type 0) (rows : List Row) (n m : ℕ) → n ≡ m → AllByRecursion P (take (m - 1) rows) → AllByRecursion P (take (n - 1) rows)
-all_first P rows n m same each = subst (λ (k : ℕ). AllByRecursion P (take (k - 1) rows)) (sym same) each
 
 -- the sums as far as row i, and what the rows before it count
 pub record Summed (rows : List Row) (sums : List ℕ) (sum i : ℕ) : Type 0 where
@@ -38,23 +35,19 @@ pub length-summed : (rows : List Row) (sums : List ℕ) (sum i : ℕ) → Summed
 length-summed rows sums sum i s =
     let within = s.within in ap (length {A = ℕ}) s.are ∙ omega (arith, length-take (i + 1) (sums_from 0 rows), length-sums_from 0 rows)
 
-pub summed_first : (rows : List Row) (sums : List ℕ) (sum n : ℕ) → n ≡ length sums → 0 < length sums → sums ≡ take (length sums) (sums_from 0 rows)
-    → weights (take (length sums - 1) rows) ≤ 4294967295 * (length sums - 1) → sum ≡ get_or sums (n - 1) sum → Summed rows sums sum (n - 1)
-summed_first rows sums sum n count some begun light sum_is =
-    let long = length-sums_from 0 rows in
-    let short : length sums ≤ length rows + 1 = omega (arith, ap (length {A = ℕ}) begun, length-take (length sums) (sums_from 0 rows)) in
-    let e : length sums ≡ n - 1 + 1 = omega arith in
-    let f : length sums - 1 ≡ n - 1 = omega arith in
-    let here : sum ≡ weights (take (n - 1) rows) =
-    sum_is ∙ get_or_default sums (n - 1) sum 0 (omega arith) ∙ ap (λ (l : List ℕ). get_or l (n - 1) 0) begun
-    ∙ get_or-take (length sums) (sums_from 0 rows) (n - 1) 0 (omega arith) ∙ get_or-sums_from 0 rows (n - 1) (omega arith) ∙ omega arith in
-    let weighed = ap (λ (k : ℕ). weights (take k rows)) f in
-    record {
-      are = begun ∙ ap (λ (k : ℕ). take k (sums_from 0 rows)) e;
-      sum_is = here;
-      light = omega arith;
-      within = omega arith;
-    }
+-- before the first row they are one sum
+first_sum : (rows : List Row) → 0 ∷ [] ≡ take 1 (sums_from 0 rows)
+unfolding sums_from
+first_sum [] = refl
+first_sum (r ∷ rows) = refl
+
+pub summed_first : (rows : List Row) (none one : List ℕ) → none ≡ [] → one ≡ none ++ 0 ∷ [] → Summed rows one 0 0
+summed_first rows none one empty is = record {
+  are = is ∙ ap (λ (l : List ℕ). l ++ 0 ∷ []) empty ∙ first_sum rows;
+  sum_is = refl;
+  light = omega arith;
+  within = omega arith;
+}
 
 pub summed_more : (rows : List Row) (sums : List ℕ) (sum i w : ℕ) (d : Row) → Summed rows sums sum i → i < length rows → w ≡ weight (get_or rows i d) → w ≤ 4294967295
     → Summed rows (sums ++ (sum + w) ∷ []) (sum + w) (i + 1)

@@ -8,7 +8,7 @@ use Rattle.dgn_drawing.specs.declared.row.Row.{Row}
 use Rattle.dgn_drawing.specs.Nesting.{itself}
 use Rattle.dgn_drawing.specs.Nesting as nesting
 use Rattle.dgn_drawing.specs.Numbering.{Mark, mark_of, is_broken_as, is_broken, is_loose as is_loose_knot}
-use Rattle.nest_tree.specs.declared.link.Link.{Link}
+use Rattle.nest_tree.specs.Linked.{Link}
 use Rattle.nest_tree.specs.Shapes.{knot_told}
 use Rattle.nest_tree.specs.Places.{marks_in, link_of, is_loose, broken_told}
 use Rattle.nest_tree.proofs.Stacks.{length-marks_in}

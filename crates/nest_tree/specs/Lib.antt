@@ -1,7 +1,9 @@
 pub mod Sums
+pub mod Linked
 pub mod Shapes
 pub mod Places
 pub mod Passing
 pub mod Nested
+pub mod Stepped
 pub mod Depths
 pub mod Laws

@@ -1,10 +1,8 @@
 -- What a nesting is seen as, and what it keeps.
-use Rattle.std.specs.Prelude.{ℕ, ◌*◌, ◌<◌, ◌≤◌, ◌≡◌, min, List, length}
+use Rattle.std.specs.Prelude.{ℕ, ◌<◌, ◌≡◌, min, List, length}
 use Rattle.std.specs.List.{AllByRecursion}
 use Rattle.dgn_drawing.specs.declared.row.Row.{Row}
-use Rattle.nest_tree.specs.declared.link.Link.{Link}
-use Rattle.nest_tree.specs.Sums.{weights, sums_from}
-use Rattle.nest_tree.specs.Shapes.{IsRow}
+use Rattle.nest_tree.specs.Linked.{Link}
 use Rattle.nest_tree.specs.Depths.{IsWordTotal}
 use Rattle.nest_tree.specs.Places.{ArePlaces}
 use Rattle.nest_tree.specs.Passing.{broken_in}
@@ -14,17 +12,14 @@ pub record Nested : Type 0 where
   pub rows : List Row
   pub spare : ℕ
 
--- what it is with rows, and that room in the four lists that have a place for each element
+-- what it is with rows, and that room in its lists
 abbrev pub nested_of : List Row → ℕ → ℕ → ℕ → ℕ → Nested
 nested_of rows a b c d = record { rows = rows; spare = min (min a b) (min c d) }
 
--- what it keeps: rows of elements, their sums and their places, and the broken numbers
-pub record IsNest (rows : List Row) (sums ends : List ℕ) (links : List Link) (broken : List ℕ) : Type 0 where
+-- what it keeps: rows of elements, their places, and the broken numbers
+pub record IsNest (rows : List Row) (ends : List ℕ) (links : List Link) (broken : List ℕ) : Type 0 where
   pub some : 0 < length rows
   pub few : length rows < 4294967295
-  pub each : AllByRecursion IsRow rows
   pub words : AllByRecursion IsWordTotal rows
-  pub light : weights rows ≤ 4294967295 * length rows
-  pub are_sums : sums ≡ sums_from 0 rows
   pub places : ArePlaces rows (length rows) ends links
   pub are_broken : broken ≡ broken_in rows

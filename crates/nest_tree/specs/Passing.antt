@@ -18,6 +18,11 @@ abbrev pub first_at : ℕ → List ℕ → Option ℕ
 first_at n [] = None
 first_at n (m ∷ ms) = if nat_lt m n then first_at n ms else Some m
 
+-- of some numbers those before the first that isn't below n
+abbrev pub below : ℕ → List ℕ → List ℕ
+below n [] = []
+below n (m ∷ ms) = if nat_lt m n then m ∷ below n ms else []
+
 -- a number, where it is below an end
 abbrev pub if_below : ℕ → Option ℕ → Option ℕ
 if_below end None = None

@@ -6,7 +6,7 @@ use Rattle.dgn_drawing.specs.declared.row.Row.{Row}
 use Rattle.dgn_drawing.specs.Nesting.{itself, nest, forest}
 use Rattle.dgn_drawing.specs.Numbering.{Mark, marks, marks_of}
 use Rattle.nest_tree.specs.declared.knot.Knot.{Knot}
-use Rattle.nest_tree.specs.declared.link.Link.{Link}
+use Rattle.nest_tree.specs.Linked.{Link}
 use Rattle.nest_tree.specs.declared.open_list.OpenList.{OpenList}
 use Rattle.nest_tree.specs.declared.shape.Scope.{Scope}
 use Rattle.nest_tree.specs.Shapes.{knot_told, scope_meant}

@@ -9,6 +9,7 @@ mod nested;
 mod nesting;
 mod open_list;
 mod passes;
+mod seen;
 mod shape;
 mod sums;
 pub mod types;

@@ -1,24 +1,29 @@
-ghost use Rattle.std.specs.Prelude.{◌≡◌, ◌≤◌, ◌-◌, ◌↔◌, nat_lt, length, slice_get, option_map, vec_len, vec_capacity, IsNone, IfSome};
+ghost use Rattle.std.specs.Prelude.{◌≡◌, ◌≤◌, ◌<◌, ◌+◌, ◌-◌, ◌++◌, ◌↔◌, nat_lt, length, take, drop, map, slice_get, option_map, vec_len, vec_capacity, IsNone, IfSome, OnOk};
 ghost use Rattle.std.specs.List.{AllByRecursion};
 ghost use Rattle.nest_tree.specs.Depths.{IsSized, IsWordTotal};
-ghost use Rattle.dgn_drawing.specs.Nesting.{itself};
+ghost use Rattle.dgn_drawing.specs.Nesting.{BeginsFree, itself};
 ghost use Rattle.dgn_drawing.specs.Numbering.{span_of, depth_of, parent_of, knot_of, root_of, first_broken_of};
-ghost use Rattle.nest_tree.specs.Shapes.{knot_told};
+ghost use Rattle.nest_tree.specs.Shapes.{knot_told, IsRow};
 ghost use Rattle.nest_tree.specs.Places.{marks_in, link_of, end_told};
 ghost use Rattle.nest_tree.specs.Passing.{broken_in, first_at, if_below};
 ghost use Rattle.nest_tree.specs.Nested.{Nested, nested_of, IsNest};
 
+use crate::broken::{add_broken, cut_broken};
 use crate::knot::Knot;
 use crate::link::Link;
+use crate::passes::read_on;
+use crate::seen::{SeenRows, Step};
+use crate::sums::set_sums;
 use dgn_drawing::Row;
+use std::alloc::AllocError;
 use std::marker::Model;
 
 /// The elements of a drawing as trees.
 #[derive(Drop)]
 pub struct Nest {
-    // The row of each element.
-    pub(crate) rows: Vec<Row>,
-    // What the rows before each one count together, and what all do.
+    // The rows of all elements, which contracts alone see.
+    pub(crate) seen: SeenRows,
+    // Room for the sums of the rows that are being read. It holds nothing between calls.
     pub(crate) sums: Vec<u64>,
     // For each element the number behind the last one below it.
     pub(crate) ends: Vec<u32>,
@@ -31,9 +36,9 @@ pub struct Nest {
 impl Model for Nest {
     ghost Value = { Nested };
 
-    ghost view = { λ s. nested_of s.rows.items (vec_capacity s.rows - vec_len s.rows) (vec_capacity s.sums - vec_len s.sums) (vec_capacity s.ends - vec_len s.ends) (vec_capacity s.links - vec_len s.links) };
+    ghost view = { λ s. nested_of s.seen.list (vec_capacity s.sums - 1) (vec_capacity s.ends - vec_len s.ends) (vec_capacity s.links - vec_len s.links) (vec_capacity s.broken - vec_len s.broken) };
 
-    ghost invariant = { λ s. IsNest s.rows.items s.sums.items s.ends.items s.links.items s.broken.items };
+    ghost invariant = { λ s. IsNest s.seen.list s.ends.items s.links.items s.broken.items };
 }
 
 // What stands at place `n` of a list.
@@ -54,6 +59,67 @@ fn if_below(number: Option<u32>, end: u32) -> Option<u32>
 }
 
 impl Nest {
+    /// Makes room for at least `n` more elements. All else stays as it is, with every answer.
+    pub fn reserve(&mut self, n: u32) -> Result<(), AllocError>
+        ensures rows { self.new.rows ≡ self.old.rows }
+        ensures room { OnOk result (n ≤ self.new.spare) }
+
+        // Room that there was is never given back.
+        ensures more { self.old.spare ≤ self.new.spare }
+    {
+        let more = n as usize;
+        self.sums.reserve(more + 1)?;
+        self.ends.reserve(more)?;
+        self.links.reserve(more)?;
+        self.broken.reserve(more)
+    }
+
+    /// Adds the elements with these rows behind the others, of which they nest apart, since the first of
+    /// them has no bit C. It takes no memory.
+    pub fn grow(&mut self, rows: &[Row])
+        requires room { length rows.now ≤ self.old.spare }
+        requires few { length self.old.rows + length rows.now < 4294967295 }
+        requires each { AllByRecursion IsRow rows.now }
+        requires free { BeginsFree itself rows.now }
+        ensures { self.new.rows ≡ self.old.rows ++ rows.now }
+    {
+        // Without rows there may be no room for their sums, of which there is one more.
+        if rows.is_empty() {
+            return;
+        }
+        let first = self.ends.len();
+        let seen = self.seen.then(&Step::Behind(rows));
+        set_sums(rows, &mut self.sums);
+        read_on(&seen, rows, &self.sums, &mut self.ends, &mut self.links);
+        self.sums.clear();
+        match add_broken(&seen, first, rows, &self.links, &mut self.broken) {
+            Ok(()) => {}
+            Err(_) => unreachable!(),
+        }
+        self.seen = seen;
+    }
+
+    /// Keeps the first `count` elements. The others nest apart from them, since the first of these has
+    /// no bit C. It takes no memory.
+    pub fn shrink(&mut self, count: u32)
+        requires some { 1 ≤ count }
+        requires free { BeginsFree itself (drop count self.old.rows) }
+        ensures { self.new.rows ≡ take count self.old.rows }
+    {
+        let kept = count as usize;
+        self.seen = self.seen.then(&Step::First(count));
+        self.ends.truncate(kept);
+        self.links.truncate(kept);
+        cut_broken(&mut self.broken, count);
+    }
+
+    /// For each element, in the order of the file, the number behind the last element below it.
+    pub fn ends(&self) -> &[u32]
+        ensures { result.now ≡ map end_told (marks_in self.now.rows) }
+    {
+        &self.ends
+    }
+
     // What is kept of element `n`, where there is one.
     fn link(&self, n: u32) -> Option<Link>
         ensures link { result ≡ option_map link_of (slice_get (marks_in self.now.rows) n) }
@@ -86,7 +152,7 @@ impl Nest {
         ensures low { AllByRecursion IsSized self.now.rows → IfSome result (λ d. d ≤ 3278) }
     {
         let link = self.link(n)?;
-        Some(link.depth)
+        Some(link.depth())
     }
 
     /// The number of the header that element `n` stands below; None within for a root. None exactly for
@@ -96,7 +162,7 @@ impl Nest {
         ensures parent { result ≡ parent_of itself self.now.rows n }
     {
         let link = self.link(n)?;
-        Some(link.parent)
+        Some(link.parent())
     }
 
     /// The root of the tree that holds element `n`. None exactly for an unknown number.
@@ -119,7 +185,7 @@ impl Nest {
         ensures knot { result ≡ option_map knot_told (knot_of itself self.now.rows n) }
     {
         let link = self.link(n)?;
-        Some(link.knot)
+        Some(link.knot())
     }
 
     // The least broken number that isn't below `n`, where there is one.

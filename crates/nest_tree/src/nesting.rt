@@ -4,12 +4,13 @@ ghost use Rattle.std.specs.Prelude.{◌≡◌, ◌<◌, length, IfOk};
 ghost use Rattle.std.specs.List.{AllByRecursion};
 ghost use Rattle.nest_tree.specs.Shapes.{IsRow};
 
-use crate::broken::broken_numbers;
+use crate::broken::add_broken;
 use crate::knot::Knot;
 use crate::link::Link;
 use crate::nested::Nest;
 use crate::passes::read_on;
-use crate::sums::add_sums;
+use crate::seen::{SeenRows, Step};
+use crate::sums::{has_word_total, set_sums};
 use dgn_drawing::Row;
 use std::alloc::{AllocError, Global};
 
@@ -20,24 +21,21 @@ pub fn nest(alloc: Global, rows: &[Row]) -> Result<Nest, AllocError>
     requires each { AllByRecursion IsRow rows.now }
     ensures { IfOk result (λ t. t.rows ≡ rows.now) }
 {
-    let mut kept = Vec::with_capacity(alloc, rows.len())?;
-    kept.extend_from_slice(rows)?;
-    let mut sums = Vec::with_capacity(alloc, rows.len() + 1)?;
-    sums.push(0)?;
-    add_sums(rows, &mut sums);
+    let seen = SeenRows::new().then(&Step::Behind(rows));
+    let mut sums = Vec::with_capacity(alloc, rows.len())?;
     let mut ends = Vec::with_capacity(alloc, rows.len())?;
     let mut links = Vec::with_capacity(alloc, rows.len())?;
+    let mut broken = Vec::new(alloc);
     ends.push(1)?;
-    links.push(Link {
-        parent: None,
-        depth: 0,
-        knot: Knot::Leaf,
-    })?;
-    read_on(rows, &sums, &mut ends, &mut links);
-    let broken = broken_numbers(alloc, rows, &links)?;
+    links.push(Link::new(None, 0, Knot::Leaf))?;
+    let (first, others) = rows.split_at(1);
+    has_word_total(first[0]);
+    set_sums(others, &mut sums);
+    read_on(&seen, others, &sums, &mut ends, &mut links);
+    add_broken(&seen, 0, rows, &links, &mut broken)?;
     Ok(Nest {
-        rows: kept,
-        sums,
+        seen,
+        sums: Vec::new(alloc),
         ends,
         links,
         broken,

@@ -1,10 +1,13 @@
 // The list that is being read, and those around it.
 
-ghost use Rattle.std.specs.Prelude.{◌≡◌, ◌<◌, ◌≤◌, length, IfSome, None, Some};
-ghost use Rattle.nest_tree.specs.Places.{ArePlaces, Going, parent_in, scope_below, list_in, list_around};
+ghost use Rattle.std.specs.Prelude.{◌≡◌, ◌<◌, ◌≤◌, drop, length, IfSome, None, Some};
+ghost use Rattle.std.specs.List.{AllByRecursion};
+ghost use Rattle.dgn_drawing.specs.Numbering.{Mark};
+ghost use Rattle.nest_tree.specs.Places.{marks_in, ArePlaces, Going, parent_in, scope_below, list_in, list_around};
 
 use crate::knot::Knot;
 use crate::link::Link;
+use crate::seen::SeenRows;
 use crate::shape::Scope;
 use dgn_drawing::Row;
 
@@ -21,14 +24,15 @@ pub(crate) struct OpenList {
     pub(crate) parent: Option<u32>,
 }
 
-// The list of all elements.
-pub(crate) fn all_elements(rows: &[Row]) -> OpenList
-    requires { length rows.now < 4294967295 }
-    ensures { result ≡ list_in rows.now None 0 }
+// The list of all elements, which ends before number `end`.
+pub(crate) fn all_elements(_seen: &SeenRows, end: usize) -> OpenList
+    requires all { end ≡ length _seen.now.list }
+    requires few { length _seen.now.list < 4294967295 }
+    ensures { result ≡ list_in _seen.now.list None 0 }
 {
     OpenList {
         scope: Scope::All,
-        end: rows.len() as u32,
+        end: end as u32,
         depth: 0,
         parent: None,
     }
@@ -44,16 +48,27 @@ fn scope_below(knot: Knot, kind: u8) -> Scope
     }
 }
 
-// The list of the elements at that depth below element `header`.
-fn list_below(rows: &[Row], ends: &[u32], links: &[Link], header: u32, depth: u32) -> OpenList
-    requires few { length rows.now < 4294967295 }
-    requires places { ArePlaces rows.now (length links.now) ends.now links.now }
+// The list of the elements at that depth below element `header`, which is one of those whose rows are
+// read, from number `first` on.
+fn list_below(
+    _seen: &SeenRows,
+    first: usize,
+    rows: &[Row],
+    ends: &[u32],
+    links: &[Link],
+    header: u32,
+    depth: u32,
+) -> OpenList
+    requires few { length _seen.now.list < 4294967295 }
+    requires rows { rows.now ≡ drop first _seen.now.list }
+    requires places { ArePlaces _seen.now.list (length links.now) ends.now links.now }
     requires known { header < length links.now }
-    ensures { result ≡ list_in rows.now (Some header) depth }
+    requires read { first ≤ header }
+    ensures { result ≡ list_in _seen.now.list (Some header) depth }
 {
     let n = header as usize;
     OpenList {
-        scope: scope_below(links[n].knot, rows[n].kind),
+        scope: scope_below(links[n].knot(), rows[n - first].kind),
         end: ends[n],
         depth,
         parent: Some(header),
@@ -61,38 +76,55 @@ fn list_below(rows: &[Row], ends: &[u32], links: &[Link], header: u32, depth: u3
 }
 
 // The list that element `n` stands in.
-fn list_around(rows: &[Row], ends: &[u32], links: &[Link], n: u32) -> OpenList
-    requires few { length rows.now < 4294967295 }
-    requires places { ArePlaces rows.now (length links.now) ends.now links.now }
+fn list_around(
+    seen: &SeenRows,
+    first: usize,
+    rows: &[Row],
+    ends: &[u32],
+    links: &[Link],
+    n: u32,
+) -> OpenList
+    requires few { length seen.now.list < 4294967295 }
+    requires rows { rows.now ≡ drop first seen.now.list }
+    requires within { first ≤ length seen.now.list }
+    requires places { ArePlaces seen.now.list (length links.now) ends.now links.now }
     requires known { n < length links.now }
-    requires above { IfSome (parent_in rows.now n) (λ p. p < length links.now) }
-    ensures { result ≡ list_around rows.now n }
+    requires above { IfSome (parent_in seen.now.list n) (λ p. p < length links.now) }
+    requires read { IfSome (parent_in seen.now.list n) (λ p. first ≤ p) }
+    ensures { result ≡ list_around seen.now.list n }
 {
     let link = links[n as usize];
-    match link.parent {
-        None => all_elements(rows),
-        Some(parent) => list_below(rows, ends, links, parent, link.depth),
+    match link.parent() {
+        None => all_elements(seen, first + rows.len()),
+        Some(parent) => list_below(seen, first, rows, ends, links, parent, link.depth()),
     }
 }
 
 // The innermost list that element `at` stands in, of `list` and those around it.
 pub(crate) fn list_at(
+    seen: &SeenRows,
+    first: usize,
     rows: &[Row],
     ends: &[u32],
     links: &[Link],
     at: u32,
     mut list: OpenList,
 ) -> OpenList
-    requires few { length rows.now < 4294967295 }
-    requires within { at < length rows.now }
-    requires places { ArePlaces rows.now at ends.now links.now }
-    requires going { Going rows.now at list }
-    ensures going { Going rows.now at result }
+    requires few { length seen.now.list < 4294967295 }
+    requires rows { rows.now ≡ drop first seen.now.list }
+    requires apart { AllByRecursion (λ (m : Mark). IfSome m.parent (λ p. first ≤ p)) (drop first (marks_in seen.now.list)) }
+    requires within { at < length seen.now.list }
+    requires read { first ≤ at }
+    requires places { ArePlaces seen.now.list at ends.now links.now }
+    requires going { Going seen.now.list at list }
+    requires header { IfSome list.parent (λ p. first ≤ p) }
+    ensures going { Going seen.now.list at result }
     ensures inside { at < result.end }
+    ensures header { IfSome result.parent (λ p. first ≤ p) }
 {
     while list.end <= at {
         match list.parent {
-            Some(header) => list = list_around(rows, ends, links, header),
+            Some(header) => list = list_around(seen, first, rows, ends, links, header),
             None => unreachable!(),
         }
     }

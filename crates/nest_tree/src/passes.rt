@@ -10,36 +10,41 @@ ghost use Rattle.nest_tree.specs.Places.{marks_in, ArePlaces};
 
 use crate::link::Link;
 use crate::open_list::{OpenList, all_elements, list_at};
+use crate::seen::SeenRows;
 use crate::shape::shape_at;
 use crate::sums::push_within;
 use dgn_drawing::Row;
 
-// Reads on behind the elements that have their places. There is room for the places of all.
-pub(crate) fn read_on(rows: &[Row], sums: &[u64], ends: &mut Vec<u32>, links: &mut Vec<Link>)
-    requires few { length rows.now < 4294967295 }
+// Reads on behind the elements that have their places: `rows` are those from there on, and `sums` their
+// sums. There is room for the places of all.
+pub(crate) fn read_on(
+    seen: &SeenRows,
+    rows: &[Row],
+    sums: &[u64],
+    ends: &mut Vec<u32>,
+    links: &mut Vec<Link>,
+)
+    requires few { length seen.now.list < 4294967295 }
+    requires rows { rows.now ≡ drop (length ends.old.items) seen.now.list }
     requires each { AllByRecursion IsRow rows.now }
     requires light { weights rows.now ≤ 4294967295 * length rows.now }
     requires sums { sums.now ≡ sums_from 0 rows.now }
-    requires places { ArePlaces rows.now (length ends.old.items) ends.old.items links.old.items }
-    requires apart { drop (length ends.old.items) (marks_in rows.now) ≡ marks (nest itself All (drop (length ends.old.items) rows.now)) (length ends.old.items) 0 None }
-    requires room_for_ends { length rows.now ≤ vec_capacity ends.old }
-    requires room_for_links { length rows.now ≤ vec_capacity links.old }
-    ensures { ArePlaces rows.now (length rows.now) ends.new.items links.new.items }
+    requires places { ArePlaces seen.now.list (length ends.old.items) ends.old.items links.old.items }
+    requires apart { drop (length ends.old.items) (marks_in seen.now.list) ≡ marks (nest itself All (drop (length ends.old.items) seen.now.list)) (length ends.old.items) 0 None }
+    requires room_for_ends { length seen.now.list ≤ vec_capacity ends.old }
+    requires room_for_links { length seen.now.list ≤ vec_capacity links.old }
+    ensures { ArePlaces seen.now.list (length seen.now.list) ends.new.items links.new.items }
 {
-    let mut list = all_elements(rows);
-    for at in ends.len()..rows.len() {
-        let around = list_at(rows, ends, links, at as u32, list);
-        let shape = shape_at(rows, sums, around.scope, at, around.end as usize);
+    let first = ends.len();
+    let count = first + rows.len();
+    let mut list = all_elements(seen, count);
+    for at in first..count {
+        let around = list_at(seen, first, rows, ends, links, at as u32, list);
+        let list_end = around.end as usize;
+        let shape = shape_at(rows, sums, around.scope, at - first, list_end - first);
         let end = (at + 1 + shape.count) as u32;
         push_within(ends, end);
-        push_within(
-            links,
-            Link {
-                parent: around.parent,
-                depth: around.depth,
-                knot: shape.knot,
-            },
-        );
+        push_within(links, Link::new(around.parent, around.depth, shape.knot));
         list = OpenList {
             scope: shape.inside,
             end,

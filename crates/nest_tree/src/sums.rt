@@ -25,6 +25,11 @@ fn weight(row: Row) -> u64
     }
 }
 
+// The total of a row is a word. It does nothing.
+pub(crate) fn has_word_total(_row: Row)
+    ensures { IsWordTotal _row }
+{}
+
 // Puts `value` last. There is room for it.
 pub(crate) fn push_within<T>(list: &mut Vec<T>, value: T)
     requires { vec_len list.old < vec_capacity list.old }
@@ -37,21 +42,20 @@ pub(crate) fn push_within<T>(list: &mut Vec<T>, value: T)
     }
 }
 
-// Adds the sums of those rows that have none yet: sum i is what the first i rows count together.
-pub(crate) fn add_sums(rows: &[Row], sums: &mut Vec<u64>)
+// Puts the sums of the rows in place of what the list holds: sum i is what the first i rows count
+// together. There is room for them.
+pub(crate) fn set_sums(rows: &[Row], sums: &mut Vec<u64>)
     requires few { length rows.now < 4294967295 }
-    requires some { 0 < length sums.old.items }
-    requires begun { sums.old.items ≡ take (length sums.old.items) (sums_from 0 rows.now) }
-    requires light { weights (take (length sums.old.items - 1) rows.now) ≤ 4294967295 * (length sums.old.items - 1) }
-    requires words { AllByRecursion IsWordTotal (take (length sums.old.items - 1) rows.now) }
     requires room { length rows.now + 1 ≤ vec_capacity sums.old }
     ensures sums { sums.new.items ≡ sums_from 0 rows.now }
     ensures light { weights rows.now ≤ 4294967295 * length rows.now }
     ensures words { AllByRecursion IsWordTotal rows.now }
+    ensures room { vec_capacity sums.old ≤ vec_capacity sums.new }
 {
-    let from = sums.len() - 1;
-    let mut sum = sums[from];
-    for i in from..rows.len() {
+    sums.clear();
+    push_within(sums, 0);
+    let mut sum = 0;
+    for i in 0..rows.len() {
         sum += weight(rows[i]);
         push_within(sums, sum);
     }

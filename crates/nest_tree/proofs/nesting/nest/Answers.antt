@@ -1,20 +1,21 @@
-use Rattle.std.proofs.Common.{◌∙◌}
-use Rattle.nest_tree.proofs.Begun.{sums_begun, words_begun, places_begun, apart_begun, all_links}
+use Rattle.std.proofs.Common.{◌≡◌, ◌<◌, ◌∙◌, ◌++◌, ◌∷◌, [], ap, sym, subst, length, List}
+use Rattle.dgn_drawing.specs.declared.row.Row.{Row}
+use Rattle.nest_tree.specs.Linked.{Link}
+use Rattle.nest_tree.proofs.Begun.{places_begun, apart_begun, all_links}
 use Rattle.nest_tree.proofs.nesting.nest.Goals as goal
-
-pub add_sums-requires-clause-begun : goal.add_sums-requires-clause-begun
-add_sums-requires-clause-begun c = sums_begun c.args.rows.now c.in_ok-sums.sums.items c.push.new.self.items c.in_ok-sums.ensures.items c.in_ok-push.ensures.items
-
-pub add_sums-requires-clause-words : goal.add_sums-requires-clause-words
-add_sums-requires-clause-words c = words_begun c.args.rows.now c.in_ok-sums.sums.items c.push.new.self.items c.in_ok-sums.ensures.items c.in_ok-push.ensures.items
 
 pub read_on-requires-clause-places : goal.read_on-requires-clause-places
 read_on-requires-clause-places c =
-    places_begun c.args.rows.now c.in_ok-ends.ends.items c.push-2.new.self.items c.in_ok-links.links.items c.push-3.new.self.items c.requires.some
-    c.in_ok-ends.ensures.items c.in_ok-push-2.ensures.items c.in_ok-links.ensures.items c.in_ok-push-3.ensures.items
+    let same : c.then-seen.result.list ≡ c.args.rows.now = c.then-seen.ensures ∙ ap (λ (l : List Row). l ++ c.args.rows.now) c.new.ensures in
+    let some : 0 < length c.then-seen.result.list = subst (λ (l : List Row). 0 < length l) (sym same) c.requires.some in
+    places_begun c.then-seen.result.list c.in_ok-ends.ends.items c.push.new.self.items c.in_ok-links.links.items c.push-2.new.self.items some
+    c.in_ok-ends.ensures.items c.in_ok-push.ensures.items c.in_ok-links.ensures.items (c.in_ok-push-2.ensures.items ∙ ap (λ (x : Link). c.in_ok-links.links.items ++ x ∷ []) c.new-2.ensures)
 
 pub read_on-requires-clause-apart : goal.read_on-requires-clause-apart
-read_on-requires-clause-apart c = apart_begun c.args.rows.now c.in_ok-ends.ends.items c.push-2.new.self.items c.requires.some c.in_ok-ends.ensures.items c.in_ok-push-2.ensures.items
+read_on-requires-clause-apart c =
+    let same : c.then-seen.result.list ≡ c.args.rows.now = c.then-seen.ensures ∙ ap (λ (l : List Row). l ++ c.args.rows.now) c.new.ensures in
+    let some : 0 < length c.then-seen.result.list = subst (λ (l : List Row). 0 < length l) (sym same) c.requires.some in
+    apart_begun c.then-seen.result.list c.in_ok-ends.ends.items c.push.new.self.items some c.in_ok-ends.ensures.items c.in_ok-push.ensures.items
 
-pub broken_numbers-requires-clause-links : goal.broken_numbers-requires-clause-links
-broken_numbers-requires-clause-links c = c.deref-2.ensures.value ∙ all_links c.args.rows.now c.read_on.new.ends.items c.read_on.new.links.items c.read_on.ensures
+pub add_broken-requires-clause-links : goal.add_broken-requires-clause-links
+add_broken-requires-clause-links c = c.deref-2.ensures.value ∙ all_links c.then-seen.result.list c.read_on.new.ends.items c.read_on.new.links.items c.read_on.ensures

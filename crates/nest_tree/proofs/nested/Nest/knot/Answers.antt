@@ -1,8 +1,9 @@
-use Rattle.std.proofs.Common.{refl, ◌∙◌, ◌≡◌}
+use Rattle.std.proofs.Common.{refl, ap, ◌∙◌, ◌≡◌}
 use Rattle.std.specs.Prelude.{option_map, Option, Some, None}
 use Rattle.dgn_drawing.specs.Nesting.{itself}
 use Rattle.dgn_drawing.specs.Numbering.{Mark, mark_of}
-use Rattle.nest_tree.specs.declared.link.Link.{Link}
+use Rattle.nest_tree.specs.Linked.{Link}
+use Rattle.nest_tree.specs.declared.knot.Knot.{Knot}
 use Rattle.nest_tree.specs.Shapes.{knot_told}
 use Rattle.nest_tree.specs.Places.{link_of}
 use Rattle.nest_tree.proofs.Told.{told, untold, none_past, none_known}
@@ -24,4 +25,4 @@ returns-clause-none c = none_known c.args.self.now.rows c.args.n link_of (λ (m 
 
 pub returns-clause-knot : goal.returns-clause-knot
 returns-clause-knot c =
-    told c.args.self.now.rows c.args.n link_of (λ (m : Mark). knot_told m.knot) (λ (x : Link). x.knot) (λ m. refl) c.in_ok-link.link c.in_ok-link.ensures.link ∙ twice (mark_of itself c.args.self.now.rows c.args.n)
+    ap (λ (k : Knot). Some k) c.knot.ensures ∙ told c.args.self.now.rows c.args.n link_of (λ (m : Mark). knot_told m.knot) (λ (x : Link). x.knot) (λ m. refl) c.in_ok-link.link c.in_ok-link.ensures.link ∙ twice (mark_of itself c.args.self.now.rows c.args.n)

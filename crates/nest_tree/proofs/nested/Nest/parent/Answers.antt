@@ -1,6 +1,7 @@
-use Rattle.std.proofs.Common.{refl}
+use Rattle.std.proofs.Common.{refl, ap, ◌∙◌, ℕ}
+use Rattle.std.specs.Prelude.{Option, Some}
 use Rattle.dgn_drawing.specs.Numbering.{Mark}
-use Rattle.nest_tree.specs.declared.link.Link.{Link}
+use Rattle.nest_tree.specs.Linked.{Link}
 use Rattle.nest_tree.specs.Places.{link_of}
 use Rattle.nest_tree.proofs.Told.{told, untold, none_past, none_known}
 use Rattle.nest_tree.proofs.nested.Nest.parent.Goals as goal
@@ -15,4 +16,4 @@ pub returns-clause-none : goal.returns-clause-none
 returns-clause-none c = none_known c.args.self.now.rows c.args.n link_of (λ (m : Mark). m.parent) c.in_ok-link.link.parent c.in_ok-link.link c.in_ok-link.ensures.link
 
 pub returns-clause-parent : goal.returns-clause-parent
-returns-clause-parent c = told c.args.self.now.rows c.args.n link_of (λ (m : Mark). m.parent) (λ (x : Link). x.parent) (λ m. refl) c.in_ok-link.link c.in_ok-link.ensures.link
+returns-clause-parent c = ap (λ (o : Option ℕ). Some o) c.parent.ensures ∙ told c.args.self.now.rows c.args.n link_of (λ (m : Mark). m.parent) (λ (x : Link). x.parent) (λ m. refl) c.in_ok-link.link c.in_ok-link.ensures.link

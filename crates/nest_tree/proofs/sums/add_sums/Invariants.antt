@@ -1,8 +1,0 @@
-use Rattle.std.proofs.Common.{◌+◌, ◌≤◌, length, take, vec_capacity}
-use Rattle.std.specs.List.{AllByRecursion}
-use Rattle.nest_tree.specs.Depths.{IsWordTotal}
-use Rattle.nest_tree.proofs.Summed.{Summed}
-use Rattle.nest_tree.proofs.sums.add_sums.Given as goal
-
-abbrev pub invariant-loop-i : goal.invariant-loop-i
-invariant-loop-i l = Summed l.rows l.sums.items l.sum l.i × (length l.rows + 1 ≤ vec_capacity l.sums) × AllByRecursion IsWordTotal (take l.i l.rows)
