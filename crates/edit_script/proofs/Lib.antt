@@ -1,6 +1,7 @@
-mod Built
+mod Commas
 mod FirstFault
 mod InOrder
 mod Masks
 mod Numerals
 mod Pieces
+mod PointsRead

@@ -11,7 +11,7 @@ use Rattle.edit_script.specs.Lines.{ended, without_return, lines_of}
 use Rattle.edit_script.specs.Words.{is_blank, from_word, words_of}
 
 -- where no byte is of the kind, the text is the one piece
-split_whole : (p : ℕ → Bool) (xs : List ℕ) → length xs ≤ position_or_len p xs → slice_split p xs ≡ xs ∷ []
+pub split_whole : (p : ℕ → Bool) (xs : List ℕ) → length xs ≤ position_or_len p xs → slice_split p xs ≡ xs ∷ []
 split_whole p xs h = slice_split_none p xs (λ k d l. fails_before_first p xs k d (omega arith))
 
 -- some piece in front of some others

@@ -1,10 +1,10 @@
 -- The grammar of a line of a script: a comment or a line of blanks says nothing, and any other line goes
--- by its first word. A further command is a further case of `reading_of`, beside a definition of its own.
+-- by its first word. A further command is a further case of `other_reading`, beside a definition of its own.
 use Rattle.std.specs.Prelude.{ℕ, ◌==◌, Bool, ◌||◌, if◌then◌else◌, ℤ, pos, List, [], ◌∷◌, length, slice_index, codes, Option, Some, None, option_map}
 use Rattle.std.specs.List.{list_any}
 use Rattle.std.specs.Str.{bytes_eq}
 use Rattle.dgn_drawing.specs.Values.{Displacement, LookChange}
-use Rattle.dgn_drawing.specs.declared.edit.Edit.TheVariants.{Move, Sym, Delete}
+use Rattle.dgn_drawing.specs.declared.edit.Edit.TheVariants.{Move, Copy, Sym, Delete}
 use Rattle.edit_script.specs.declared.command.Command.{Command}
 use Rattle.edit_script.specs.declared.command.Command.TheVariants as command
 use Rattle.edit_script.specs.declared.reading.Reading.{Reading}
@@ -12,6 +12,7 @@ use Rattle.edit_script.specs.declared.reading.Reading.TheVariants.{Nothing, Asks
 use Rattle.edit_script.specs.Words.{from_word, first_word, behind_word, words_of}
 use Rattle.edit_script.specs.Numbers.{number_within, signed_within}
 use Rattle.edit_script.specs.Levels.{mask_named}
+use Rattle.edit_script.specs.Appends.{line_command, string_command, shape_command, text_command}
 
 -- the number of an element
 abbrev pub element_named : List ℕ → Option ℕ
@@ -81,10 +82,26 @@ abbrev pub move_command : List (List ℕ) → Option Command
 move_command [] = None
 move_command (n ∷ words) = move_of (element_named n) (shift_named words)
 
+-- the command that copies this element this far
+abbrev pub copy_of : Option ℕ → Option Displacement → Option Command
+copy_of None by = None
+copy_of (Some n) None = None
+copy_of (Some n) (Some by) = Some (command.Edit (Copy n by))
+
+-- `copy N D D`, `copy N D D D`, by its words behind `copy`
+abbrev pub copy_command : List (List ℕ) → Option Command
+copy_command [] = None
+copy_command (n ∷ words) = copy_of (element_named n) (shift_named words)
+
 -- `delete N`, by its words behind `delete`
 abbrev pub delete_command : List (List ℕ) → Option Command
 delete_command (n ∷ []) = option_map (λ n. command.Edit (Delete n)) (element_named n)
 delete_command _ = None
+
+-- `undo`, behind which no word stands
+abbrev pub undo_command : List (List ℕ) → Option Command
+undo_command [] = Some command.Undo
+undo_command _ = None
 
 -- `levels all`, `levels none`, `levels R ..`, by its words behind `levels`
 abbrev pub levels_command : List (List ℕ) → Option Command
@@ -108,25 +125,36 @@ asking None = Bad
 -- the names of the commands that aren't read yet
 abbrev pub unbuilt_names : List (List ℕ)
 unbuilt_names =
-    codes "copy" ∷ codes "line" ∷ codes "string" ∷ codes "shape" ∷ codes "text"
-    ∷ codes "undo" ∷ codes "fence" ∷ codes "nofence" ∷ codes "elements" ∷ codes "refs" ∷ codes "links" ∷ codes "select" ∷ codes "fmove" ∷ codes "fcopy" ∷ codes "fsym" ∷ codes "fdelete" ∷ []
+    codes "fence" ∷ codes "nofence" ∷ codes "elements" ∷ codes "refs" ∷ codes "links" ∷ codes "select"
+    ∷ codes "fmove" ∷ codes "fcopy" ∷ codes "fsym" ∷ codes "fdelete" ∷ []
 
 -- whether a word is one of them
 abbrev pub is_unbuilt_name : List ℕ → Bool
 is_unbuilt_name name = list_any (λ known. bytes_eq known name) unbuilt_names
 
--- what a line says that begins with this word and goes on with these bytes
-abbrev pub reading_of : List ℕ → List ℕ → Reading
-reading_of name rest =
+-- what a line says that begins with this word, which is no name of an append, and goes on with these bytes
+abbrev pub other_reading : List ℕ → List ℕ → Reading
+other_reading name rest =
     if bytes_eq name (codes "color") then asking (color_command (words_of rest))
     else if bytes_eq name (codes "move") then asking (move_command (words_of rest))
+    else if bytes_eq name (codes "copy") then asking (copy_command (words_of rest))
     else if bytes_eq name (codes "sym") then asking (sym_command (words_of rest))
     else if bytes_eq name (codes "delete") then asking (delete_command (words_of rest))
+    else if bytes_eq name (codes "undo") then asking (undo_command (words_of rest))
     else if bytes_eq name (codes "levels") then asking (levels_command (words_of rest))
     else if bytes_eq name (codes "show") then asking (show_command (words_of rest))
     else if bytes_eq name (codes "tree") then asking (tree_command (words_of rest))
     else if is_unbuilt_name name then Unbuilt
     else Bad
+
+-- what a line says that begins with this word and goes on with these bytes
+abbrev pub reading_of : List ℕ → List ℕ → Reading
+reading_of name rest =
+    if bytes_eq name (codes "line") then asking (line_command (words_of rest))
+    else if bytes_eq name (codes "string") then asking (string_command (words_of rest))
+    else if bytes_eq name (codes "shape") then asking (shape_command (words_of rest))
+    else if bytes_eq name (codes "text") then asking (text_command rest)
+    else other_reading name rest
 
 -- an empty line, or one of blanks alone
 abbrev pub is_blank_line : List ℕ → Bool

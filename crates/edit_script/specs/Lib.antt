@@ -2,7 +2,8 @@ pub mod Lines
 pub mod Words
 pub mod Numbers
 pub mod Levels
+pub mod Points
+pub mod Appends
 pub mod Grammar
 pub mod Script
-pub mod Built
 pub mod Laws

@@ -5,6 +5,8 @@ use dgn_drawing::{Edit, Mask};
 pub enum Command {
     /// A change of the drawing.
     Edit(Edit),
+    /// Takes back the last edit that was made and isn't taken back yet.
+    Undo,
     /// Sets which levels are shown.
     Levels(Mask),
     /// Says the items that are shown.

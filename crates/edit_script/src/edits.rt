@@ -1,7 +1,7 @@
 ghost use Rattle.std.specs.Prelude.{◌≡◌, ◌≤◌, pos, Some, IfSome};
 ghost use Rattle.range_code.specs.Plane.{IsDisplacement};
 ghost use Rattle.edit_script.specs.Words.{words_of};
-ghost use Rattle.edit_script.specs.Grammar.{color_command, given_within, look_named, sym_command, distance_named, shift_of, shift_named, move_command, delete_command};
+ghost use Rattle.edit_script.specs.Grammar.{color_command, given_within, look_named, sym_command, distance_named, shift_of, shift_named, move_command, copy_command, delete_command};
 
 use crate::command::Command;
 use crate::numbers::{number, signed_number};
@@ -77,6 +77,16 @@ pub fn read_move(rest: &[u8]) -> Option<Command>
     let n = number(element, u32::MAX)?;
     let by = read_shift(rest)?;
     Some(Command::Edit(Edit::Move { n, by }))
+}
+
+// The command of `copy` with these bytes behind it: the number of an element, and a displacement.
+pub fn read_copy(rest: &[u8]) -> Option<Command>
+    ensures { result ≡ copy_command (words_of rest.now) }
+{
+    let (element, rest) = next_word(rest)?;
+    let n = number(element, u32::MAX)?;
+    let by = read_shift(rest)?;
+    Some(Command::Edit(Edit::Copy { n, by }))
 }
 
 // The displacement that these bytes give: two numbers or three.

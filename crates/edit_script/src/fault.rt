@@ -7,7 +7,7 @@ pub enum ScriptFault {
     /// of the language.
     #[error("line {number}")]
     Line { number: u32 },
-    /// Want of memory for the list of commands.
+    /// Want of memory for the list of commands, or for the points or the characters of one of them.
     #[error("no memory")]
     Memory,
     /// The line with this number is the first that is bad or unbuilt, and it is unbuilt: its command

@@ -1,46 +1,69 @@
-ghost use Rattle.std.specs.Prelude.{◌≡◌};
+ghost use Rattle.std.specs.Prelude.{◌≡◌, IfOk};
 ghost use Rattle.std.specs.List.{list_any};
 ghost use Rattle.std.specs.Str.{bytes_eq};
 ghost use Rattle.edit_script.specs.Words.{words_of};
-ghost use Rattle.edit_script.specs.Grammar.{command_of, reading_of, show_command, tree_command, is_unbuilt_name};
+ghost use Rattle.edit_script.specs.Grammar.{command_of, reading_of, other_reading, undo_command, show_command, tree_command, is_unbuilt_name};
 
+use crate::appends;
 use crate::command::Command;
-use crate::edits::{read_color, read_delete, read_move, read_sym};
+use crate::edits::{read_color, read_copy, read_delete, read_move, read_sym};
 use crate::levels::read_levels;
 use crate::numbers::number;
 use crate::reading::Reading;
 use crate::words::{first_piece, next_word, strip_blanks};
+use std::alloc::{AllocError, Global};
 
 // The names of the commands that aren't read yet.
-const UNBUILT_NAMES: [&str; 16] = [
-    "copy", "line", "string", "shape", "text", "undo", "fence", "nofence", "elements", "refs",
-    "links", "select", "fmove", "fcopy", "fsym", "fdelete",
+const UNBUILT_NAMES: [&str; 10] = [
+    "fence", "nofence", "elements", "refs", "links", "select", "fmove", "fcopy", "fsym", "fdelete",
 ];
 
 // What a line says.
-pub fn read_line(line: &[u8]) -> Reading
-    ensures { result ≡ command_of line.now }
+pub fn read_line(alloc: Global, line: &[u8]) -> Result<Reading, AllocError>
+    ensures { IfOk result (λ reading. reading ≡ command_of line.now) }
 {
     let line = strip_blanks(line);
     if line.is_empty() || line[0] == b'#' {
-        return Reading::Nothing;
+        return Ok(Reading::Nothing);
     }
     let (name, rest) = first_piece(line, b' ');
-    read_command(name, rest)
+    read_command(alloc, name, rest)
 }
 
 // What a line says that begins with this word and goes on with these bytes.
-fn read_command(name: &[u8], rest: &[u8]) -> Reading
-    ensures { result ≡ reading_of name.now rest.now }
+fn read_command(alloc: Global, name: &[u8], rest: &[u8]) -> Result<Reading, AllocError>
+    ensures { IfOk result (λ reading. reading ≡ reading_of name.now rest.now) }
+{
+    let command = if name == b"line".as_slice() {
+        appends::read_line(alloc, rest)?
+    } else if name == b"string".as_slice() {
+        appends::read_string(alloc, rest)?
+    } else if name == b"shape".as_slice() {
+        appends::read_shape(alloc, rest)?
+    } else if name == b"text".as_slice() {
+        appends::read_text(alloc, rest)?
+    } else {
+        return Ok(other_command(name, rest));
+    };
+    Ok(Reading::asking(command))
+}
+
+// What a line says that begins with this word, which is no name of an append, and goes on with these bytes.
+fn other_command(name: &[u8], rest: &[u8]) -> Reading
+    ensures { result ≡ other_reading name.now rest.now }
 {
     if name == b"color".as_slice() {
         Reading::asking(read_color(rest))
     } else if name == b"move".as_slice() {
         Reading::asking(read_move(rest))
+    } else if name == b"copy".as_slice() {
+        Reading::asking(read_copy(rest))
     } else if name == b"sym".as_slice() {
         Reading::asking(read_sym(rest))
     } else if name == b"delete".as_slice() {
         Reading::asking(read_delete(rest))
+    } else if name == b"undo".as_slice() {
+        Reading::asking(read_undo(rest))
     } else if name == b"levels".as_slice() {
         Reading::asking(read_levels(rest).map(Command::Levels))
     } else if name == b"show".as_slice() {
@@ -66,6 +89,16 @@ fn is_among(word: &[u8], names: &[&str]) -> bool
     ensures { result ≡ list_any (λ known. bytes_eq known.now word.now) names.now }
 {
     names.iter().any(|known| known.as_bytes() == word)
+}
+
+// The command of `undo` with these bytes behind it, of which none is part of a word.
+fn read_undo(rest: &[u8]) -> Option<Command>
+    ensures { result ≡ undo_command (words_of rest.now) }
+{
+    match next_word(rest) {
+        None => Some(Command::Undo),
+        Some(_) => None,
+    }
 }
 
 // The command of `show` with these bytes behind it, of which none is part of a word.

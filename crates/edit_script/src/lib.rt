@@ -5,6 +5,7 @@
 //! are no commands.
 #![tactic(auto)]
 
+mod appends;
 mod command;
 mod edits;
 mod fault;
@@ -13,6 +14,7 @@ pub mod laws;
 mod levels;
 mod lines;
 mod numbers;
+mod points;
 mod reading;
 mod script;
 mod words;

@@ -1,7 +1,5 @@
 ghost use Rattle.std.specs.Prelude.{◌≡◌, ◌≤◌, length, Ok, IfOk, IfErr};
-ghost use Rattle.std.specs.List.{AllByRecursion};
 ghost use Rattle.edit_script.specs.Script.{commands_of, Tells};
-ghost use Rattle.edit_script.specs.Built.{IsBuilt};
 
 use crate::command::Command;
 use crate::fault::ScriptFault;
@@ -13,18 +11,21 @@ use std::alloc::Global;
 /// The commands of a script of at most 1048576 bytes, in the order of its lines.
 ///
 /// `Line` and `Unbuilt` come exactly where the first line that isn't read is bad or unbuilt, and tell
-/// its number. `Memory` comes where the list of commands can't grow.
+/// its number. `Memory` comes where there is no
+/// memory for the list of commands, or for the points or the characters of one of them.
 pub fn read_script(alloc: Global, bytes: &[u8]) -> Result<Vec<Command>, ScriptFault>
     requires { length bytes.now ≤ 1048576 }
     ensures commands { IfOk result (λ v. commands_of bytes.now ≡ Ok v.items) }
-    ensures built { IfOk result (λ v. AllByRecursion IsBuilt v.items) }
     ensures fault { IfErr result (Tells bytes.now) }
 {
     let mut commands = Vec::new(alloc);
     let mut rest = bytes;
     let mut number = 1;
     'lines: while let Some((line, behind)) = next_line(rest) {
-        match read_line(line) {
+        let Ok(reading) = read_line(alloc, line) else {
+            return Err(ScriptFault::Memory);
+        };
+        match reading {
             Reading::Nothing => {}
             Reading::Asks(command) => commands.push(command).map_err(|_| ScriptFault::Memory)?,
             Reading::Bad => return Err(ScriptFault::Line { number }),

@@ -1,7 +1,9 @@
 // Scripts that are read, scripts that aren't, and the texts of the faults.
 
 use super::*;
-use dgn_drawing::Edit;
+use dgn_drawing::{Edit, New, NewShape, Shift};
+use plane_geom::PointList;
+use std::alloc::{AllocError, Global};
 use std::test::Fail;
 
 #[test]
@@ -89,12 +91,12 @@ fn scripts_that_are_not_read(rt: HostRuntime) -> Result<(), Fail> {
         assert_eq!(rt; fault, Some(ScriptFault::Line { number: line }));
     }
     let unbuilt: [(&[u8], u32); 6] = [
-        (b"show\nundo\n\n# x\nmove 1 +1 2\n", 2),
-        (b"show\r\nundo\r\n\r\n# x\r\nmove 1 +1 2\r\n", 2),
-        (b"# x\n\ncopy 1 +1 2\r\ncolour\n", 3),
+        (b"show\nrefs\n\n# x\nmove 1 +1 2\n", 2),
+        (b"show\r\nrefs\r\n\r\n# x\r\nmove 1 +1 2\r\n", 2),
+        (b"# x\n\nfcopy 1 +1 2\r\ncolour\n", 3),
         (b"color 1 1\n fsym inside 3 2 1\n", 2),
-        (b"text", 1),
-        (b"color 1 1\nundo", 2),
+        (b"fence", 1),
+        (b"color 1 1\nrefs", 2),
     ];
     for (script, line) in unbuilt {
         assert!(rt; script.len() <= 1048576);
@@ -104,34 +106,61 @@ fn scripts_that_are_not_read(rt: HostRuntime) -> Result<(), Fail> {
     Ok(())
 }
 
+// The element that a command moves or copies, how far, and whether it is copied.
+fn shifted(command: &Command) -> Option<(u32, &Shift, bool)> {
+    match command {
+        Command::Edit(Edit::Move { n, by }) => Some((*n, by, false)),
+        Command::Edit(Edit::Copy { n, by }) => Some((*n, by, true)),
+        _ => None,
+    }
+}
+
 #[test]
-fn moves_and_deletes(rt: HostRuntime) -> Result<(), Fail> {
+fn moves_and_copies(rt: HostRuntime) -> Result<(), Fail> {
     let alloc = rt.alloc();
-    let moves: [(&[u8], u8, [i64; 3]); 5] = [
-        (b"move 1 10 -5", 2, [10, -5, 0]),
-        (b"move 1 1 2 3\r\n", 3, [1, 2, 3]),
+    let rows: [(&[u8], u8, [i64; 3], bool); 7] = [
+        (b"move 1 10 -5", 2, [10, -5, 0], false),
+        (b"move 1 1 2 3\r\n", 3, [1, 2, 3], false),
         (
             b"move 1 4294967295 -4294967295",
             2,
             [4294967295, -4294967295, 0],
+            false,
         ),
-        (b"  move  1  0  0  ", 2, [0, 0, 0]),
-        (b"move 1 0 0 0", 3, [0, 0, 0]),
+        (b"  move  1  0  0  ", 2, [0, 0, 0], false),
+        (b"move 1 0 0 0", 3, [0, 0, 0], false),
+        (b"copy 1 10 -5", 2, [10, -5, 0], true),
+        (
+            b" copy 1 0 4294967295 -4294967295\r\n",
+            3,
+            [0, 4294967295, -4294967295],
+            true,
+        ),
     ];
-    for (script, axes, wanted) in moves {
+    for (script, axes, wanted, copied) in rows {
         assert!(rt; script.len() <= 1048576);
         let commands = read_script(alloc, script);
         assert!(rt; commands.is_ok());
         if let Ok(commands) = commands {
-            let [Command::Edit(Edit::Move { n, by })] = commands.as_slice() else {
+            let [command] = commands.as_slice() else {
+                panic!(rt; "not one command");
+            };
+            let Some((n, by, is_copy)) = shifted(command) else {
                 panic!(rt; "another command");
             };
-            assert_eq!(rt; *n, 1);
+            assert_eq!(rt; n, 1);
             assert_eq!(rt; by.axes, axes);
             assert_eq!(rt; by.by, wanted);
+            assert_eq!(rt; is_copy, copied);
         }
     }
-    let commands = read_script(alloc, b"delete 1\ndelete 0\nmove 0 0 0\n");
+    Ok(())
+}
+
+#[test]
+fn deletes_and_undos(rt: HostRuntime) -> Result<(), Fail> {
+    let alloc = rt.alloc();
+    let commands = read_script(alloc, b"delete 1\n undo \ndelete 0\n");
     assert!(rt; commands.is_ok());
     if let Ok(commands) = commands {
         assert!(rt;
@@ -139,8 +168,8 @@ fn moves_and_deletes(rt: HostRuntime) -> Result<(), Fail> {
                 commands.as_slice(),
                 [
                     Command::Edit(Edit::Delete { n: 1 }),
-                    Command::Edit(Edit::Delete { n: 0 }),
-                    Command::Edit(Edit::Move { n: 0, .. })
+                    Command::Undo,
+                    Command::Edit(Edit::Delete { n: 0 })
                 ]
             )
         );
@@ -176,7 +205,7 @@ fn looks(rt: HostRuntime) -> Result<(), Fail> {
 #[test]
 fn edits_that_are_bad(rt: HostRuntime) -> Result<(), Fail> {
     let alloc = rt.alloc();
-    let rows: [&[u8]; 23] = [
+    let rows: [&[u8]; 29] = [
         b"move 1 +1 2",
         b"move 1 1",
         b"move 1 1 2 3 4",
@@ -200,6 +229,241 @@ fn edits_that_are_bad(rt: HostRuntime) -> Result<(), Fail> {
         b"delete",
         b"delete 1 2",
         b"delete -1",
+        b"copy 1",
+        b"copy 1 1",
+        b"copy 1 1 2 3 4",
+        b"copy - 1 2",
+        b"undo 1",
+        b"undo undo",
+    ];
+    for script in rows {
+        assert!(rt; script.len() <= 1048576);
+        let fault = read_script(alloc, script).err();
+        assert_eq!(rt; fault, Some(ScriptFault::Line { number: 1 }));
+    }
+    Ok(())
+}
+
+// The type and the points of an element that is to be appended along a path.
+fn path_of(shape: &NewShape) -> Option<(u8, &PointList)> {
+    match shape {
+        NewShape::Line(points) => Some((3, points)),
+        NewShape::Chain(points) => Some((4, points)),
+        NewShape::Shape(points) => Some((6, points)),
+        NewShape::Text { .. } => None,
+    }
+}
+
+// Its level, colour, weight and style.
+fn pen_of(new: &New) -> [u8; 4] {
+    [new.level, new.symb.color, new.symb.weight, new.symb.style]
+}
+
+#[test]
+fn paths_that_are_appended(rt: HostRuntime) -> Result<(), Fail> {
+    let alloc = rt.alloc();
+    let rows: [(&[u8], u8, [u8; 4], u8, &[[i32; 3]]); 6] = [
+        (
+            b"line 0 0 0 0 0,0 1,2",
+            3,
+            [0, 0, 0, 0],
+            2,
+            &[[0, 0, 0], [1, 2, 0]],
+        ),
+        (
+            b"line 63 255 31 7 -2147483648,2147483647 -1,10\r\n",
+            3,
+            [63, 255, 31, 7],
+            2,
+            &[[-2147483648, 2147483647, 0], [-1, 10, 0]],
+        ),
+        (
+            b"  line  9  3  2  1   1,2,3    4,5,-6  ",
+            3,
+            [9, 3, 2, 1],
+            3,
+            &[[1, 2, 3], [4, 5, -6]],
+        ),
+        (
+            b"string 9 3 2 1 1,2 3,4 5,6",
+            4,
+            [9, 3, 2, 1],
+            2,
+            &[[1, 2, 0], [3, 4, 0], [5, 6, 0]],
+        ),
+        (
+            b"string 9 3 2 1 1,2,0 3,4,7\n",
+            4,
+            [9, 3, 2, 1],
+            3,
+            &[[1, 2, 0], [3, 4, 7]],
+        ),
+        (
+            b"shape 9 3 2 1 0,0 9,0 9,9",
+            6,
+            [9, 3, 2, 1],
+            2,
+            &[[0, 0, 0], [9, 0, 0], [9, 9, 0]],
+        ),
+    ];
+    for (script, kind, pen, axes, wanted) in rows {
+        assert!(rt; script.len() <= 1048576);
+        let commands = read_script(alloc, script);
+        assert!(rt; commands.is_ok());
+        if let Ok(commands) = commands {
+            let [Command::Edit(Edit::Append(new))] = commands.as_slice() else {
+                panic!(rt; "another command");
+            };
+            assert_eq!(rt; pen_of(new), pen);
+            assert_eq!(rt; new.axes, axes);
+            let Some((of_kind, points)) = path_of(&new.shape) else {
+                panic!(rt; "a text");
+            };
+            assert_eq!(rt; of_kind, kind);
+            assert!(rt; points.as_slice() == wanted);
+        }
+    }
+    Ok(())
+}
+
+#[test]
+fn texts_that_are_appended(rt: HostRuntime) -> Result<(), Fail> {
+    let alloc = rt.alloc();
+    let rows: [(&[u8], u8, [i32; 3], [i32; 2], &[u8]); 5] = [
+        (
+            b"text 9 3 2 1 5 6 700 800 1,-2 A b  # c ",
+            2,
+            [1, -2, 0],
+            [700, 800],
+            b"A b  # c ",
+        ),
+        (
+            b"  text   9 3 2  1 5 6 2147483647 0  1,2,-3   x\r\n",
+            3,
+            [1, 2, -3],
+            [2147483647, 0],
+            b"  x",
+        ),
+        (b"text 9 3 2 1 5 6 1 1 0,0  \n", 2, [0, 0, 0], [1, 1], b" "),
+        (
+            b"text 9 3 2 1 5 6 1 1 0,0 \t1,1",
+            2,
+            [0, 0, 0],
+            [1, 1],
+            b"\t1,1",
+        ),
+        (
+            b"text 9 3 2 1 5 6 1 1 0,0 \r\r\n",
+            2,
+            [0, 0, 0],
+            [1, 1],
+            b"\r",
+        ),
+    ];
+    for (script, axes, at, multipliers, wanted) in rows {
+        assert!(rt; script.len() <= 1048576);
+        let commands = read_script(alloc, script);
+        assert!(rt; commands.is_ok());
+        if let Ok(commands) = commands {
+            let [Command::Edit(Edit::Append(new))] = commands.as_slice() else {
+                panic!(rt; "another command");
+            };
+            assert_eq!(rt; pen_of(new), [9, 3, 2, 1]);
+            assert_eq!(rt; new.axes, axes);
+            let NewShape::Text {
+                font: 5,
+                just: 6,
+                length,
+                height,
+                origin,
+                chars,
+            } = &new.shape
+            else {
+                panic!(rt; "no text, or of another font");
+            };
+            assert_eq!(rt; [*length, *height], multipliers);
+            assert_eq!(rt; *origin, at);
+            assert_eq!(rt; chars.as_slice(), wanted);
+        }
+    }
+    Ok(())
+}
+
+// A line: these bytes, and so many times a piece.
+fn line_of(alloc: Global, head: &[u8], piece: &[u8], count: u32) -> Result<Vec<u8>, AllocError> {
+    let mut line = head.to_vec(alloc)?;
+    for _ in 0..count {
+        line.extend_from_slice(piece)?;
+    }
+    Ok(line)
+}
+
+#[test]
+fn how_many_points_and_characters(rt: HostRuntime) -> Result<(), Fail> {
+    let alloc = rt.alloc();
+    let text = b"text 9 3 2 1 5 6 700 800 1,2 ".as_slice();
+    let rows: [(&[u8], &[u8], u32, bool); 15] = [
+        (b"line 9 3 2 1", b" 1,2", 1, false),
+        (b"line 9 3 2 1", b" 1,2", 2, true),
+        (b"line 9 3 2 1", b" 1,2", 3, false),
+        (b"string 9 3 2 1", b" 1,2", 1, false),
+        (b"string 9 3 2 1", b" 1,2", 2, true),
+        (b"string 9 3 2 1", b" 1,2", 101, true),
+        (b"string 9 3 2 1", b" 1,2", 102, false),
+        (b"shape 9 3 2 1", b" 1,2,3", 2, false),
+        (b"shape 9 3 2 1", b" 1,2,3", 3, true),
+        (b"shape 9 3 2 1", b" 1,2,3", 101, true),
+        (b"shape 9 3 2 1", b" 1,2,3", 102, false),
+        (text, b"x", 0, false),
+        (text, b" ", 1, true),
+        (text, b"x", 255, true),
+        (text, b"x", 256, false),
+    ];
+    for (head, piece, count, is_read) in rows {
+        let script = line_of(alloc, head, piece, count)?;
+        assert!(rt; script.len() <= 1048576);
+        let read = read_script(alloc, &script);
+        assert_eq!(rt; read.is_ok(), is_read, "at {}", count);
+    }
+    Ok(())
+}
+
+#[test]
+fn appends_that_are_bad(rt: HostRuntime) -> Result<(), Fail> {
+    let alloc = rt.alloc();
+    let rows: [&[u8]; 32] = [
+        b"line",
+        b"line 9 3 2",
+        b"line 64 3 2 1 0,0 1,1",
+        b"line 9 256 2 1 0,0 1,1",
+        b"line 9 3 32 1 0,0 1,1",
+        b"line 9 3 2 8 0,0 1,1",
+        b"line - 3 2 1 0,0 1,1",
+        b"line 9 3 - 1 0,0 1,1",
+        b"line 9 3 2 1 0,0 1,1,1",
+        b"line 9 3 2 1 0,0,0 1,1",
+        b"line 9 3 2 1 0 1",
+        b"line 9 3 2 1 0,0 1, 1",
+        b"line 9 3 2 1 0,0 ,1",
+        b"line 9 3 2 1 0,0 1,1,",
+        b"line 9 3 2 1 0,0 1,,1",
+        b"line 9 3 2 1 0,0,0,0 1,1,1,1",
+        b"line 9 3 2 1 0,0 2147483648,0",
+        b"line 9 3 2 1 0,0 0,-2147483649",
+        b"line 9 3 2 1 0,0 -0,1",
+        b"line 9 3 2 1 0,0 01,1",
+        b"line 9 3 2 1 0,0 +1,1",
+        b"line 9 3 2 1 0,0 1,1 # a line",
+        b"string 9 3 2 1 1,2 3,4 x",
+        b"shape 9 3 2 1 0,0 9,0 9,9,0",
+        b"text 9 3 2 1 5 6 7 8 1,2",
+        b"text 9 3 2 1 5 6 7 8 1 x",
+        b"text 9 3 2 1 256 6 7 8 1,2 x",
+        b"text 9 3 2 1 5 256 7 8 1,2 x",
+        b"text 9 3 2 1 5 6 2147483648 8 1,2 x",
+        b"text 9 3 2 1 5 6 7 2147483648 1,2 x",
+        b"text 9 3 2 1 5 6 -7 8 1,2 x",
+        b"text 9 3 2 1 5 6 7 1,2 x",
     ];
     for script in rows {
         assert!(rt; script.len() <= 1048576);
@@ -210,9 +474,8 @@ fn edits_that_are_bad(rt: HostRuntime) -> Result<(), Fail> {
 }
 
 // The names of the commands that aren't read yet.
-const NAMES: [&str; 16] = [
-    "copy", "line", "string", "shape", "text", "undo", "fence", "nofence", "elements", "refs",
-    "links", "select", "fmove", "fcopy", "fsym", "fdelete",
+const NAMES: [&str; 10] = [
+    "fence", "nofence", "elements", "refs", "links", "select", "fmove", "fcopy", "fsym", "fdelete",
 ];
 
 #[test]

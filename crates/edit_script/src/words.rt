@@ -1,11 +1,12 @@
-ghost use Rattle.std.specs.Prelude.{◌≡◌, ◌==◌, ◌<◌, [], ◌∷◌, length, MatchOption};
+ghost use Rattle.std.specs.Prelude.{◌≡◌, ◌==◌, ◌<◌, [], ◌∷◌, length, IfSome, MatchOption};
 ghost use Rattle.std.specs.List.{before_first, after_first, position};
-ghost use Rattle.edit_script.specs.Words.{from_word, words_of};
+ghost use Rattle.edit_script.specs.Words.{from_word, behind_word, words_of};
 
 // The first word of a line, and what stands behind it and the blank that ends it.
 pub fn next_word(line: &[u8]) -> Option<(&[u8], &[u8])>
-    ensures { MatchOption result (words_of line.now ≡ [])
+    ensures word { MatchOption result (words_of line.now ≡ [])
         (λ r. words_of line.now ≡ r.0.now ∷ words_of r.1.now) }
+    ensures behind { IfSome result (λ r. r.1.now ≡ behind_word line.now) }
 {
     let line = strip_blanks(line);
     if line.is_empty() {
