@@ -1,0 +1,145 @@
+-- What a session keeps when an edit is carried out.
+use Rattle.std.proofs.Common.{◌≡◌, ℕ, ◌+◌, ◌<◌, List, [], ◌∷◌, ◌++◌, length, take, drop, map, reverse, refl, sym, ap, ◌∙◌, subst, arith, length-append}
+use Rattle.std.specs.Prelude.{Vec}
+use Rattle.std.specs.List.{AllByRecursion}
+use Rattle.std.proofs.lemmas.List.{take_at, drop_at, take-map, length-map, reverse-append}
+use Rattle.patch_bytes.specs.Puts.{Put, write, AreWithin, AreApart}
+use Rattle.patch_bytes.proofs.Spans.{span_within, span_apart}
+use Rattle.undo_log.specs.declared.entry.Entry.{Entry}
+use Rattle.undo_log.specs.LogState.{LogState}
+use Rattle.undo_log.specs.Entries.{entry_of, back}
+use Rattle.undo_log.specs.Commits.{MayCommit}
+use Rattle.undo_log.proofs.WritingBack.{entry_restores, entry_fits}
+use Rattle.dgn_drawing.specs.declared.row.Row.{Row}
+use Rattle.dgn_drawing.specs.Element.{Element}
+use Rattle.dgn_drawing.specs.Spelling.{size_of}
+use Rattle.dgn_drawing.specs.Rows.{row_of}
+use Rattle.dgn_drawing.specs.Nesting.{BeginsFree, itself}
+use Rattle.dgn_drawing.specs.Opening.{offsets_from}
+use Rattle.dgn_drawing.proofs.Offsets.{take-offsets_from, sizes-rows}
+use Rattle.elem_index.specs.declared.design.Design.{Design}
+use Rattle.elem_index.specs.Offsets.{offsets_of}
+use Rattle.elem_index.specs.Design.{kept_of, spare_of, elements, IsOpen, IsWhole, IsFront, SameText}
+use Rattle.elem_index.proofs.Places.{length-kept, few_elements}
+use Rattle.nest_tree.specs.Nested.{Nested}
+use Rattle.nest_tree.specs.Shapes.{IsRow}
+use Rattle.level_view.proofs.Rows.{rows_each}
+use Rattle.dgn_session.specs.Kept.{rows_of, OpensAt, IsUnder, Leads, AreKept, IsKept}
+use Rattle.dgn_session.specs.Carried.{HasRoom, IsChange}
+use Rattle.dgn_session.proofs.Rising.{olds_rise}
+
+-- vectors that are the same have the same items
+pub same_items : {X Z : Type 0} {v w : Vec X Z} → v ≡ w → v.items ≡ w.items
+same_items same = ap (λ v. v.items) same
+
+-- the offsets of elements with the first rows of others are the first offsets of these
+pub offsets_front : (es fs : List Element) (n : ℕ) → map row_of es ≡ take n (map row_of fs) → offsets_of es ≡ take n (offsets_of fs)
+offsets_front es fs n front =
+    let sizes : map size_of es ≡ take n (map size_of fs) =
+    sym (sizes-rows es) ∙ ap (map (λ (r : Row). r.size)) front ∙ sym (take-map (λ (r : Row). r.size) n (map row_of fs)) ∙ ap (take n) (sizes-rows fs) in
+    ap (offsets_from 0) sizes ∙ sym (take-offsets_from 0 n (map size_of fs))
+
+-- what opens does so where all is the same
+pub opens_same : (dim : ℕ) (tail b : List ℕ) (dim' : ℕ) (tail' b' : List ℕ) → dim' ≡ dim → tail' ≡ tail → b' ≡ b → OpensAt dim tail b → OpensAt dim' tail' b'
+opens_same dim tail b dim' tail' b' axes behind body opens =
+    subst (λ (n : ℕ). OpensAt n tail' b') (sym axes) (subst (λ (x : List ℕ). OpensAt dim x b') (sym behind) (subst (OpensAt dim tail) (sym body) opens))
+
+pub open_of : (d : Design) → OpensAt d.dim d.tail.items d.body.items → IsOpen d
+open_of d opens = record { few = opens.few; opens = opens.opens }
+
+-- and what is kept is
+pub kept_same : (dim : ℕ) (tail b : List ℕ) (dim' : ℕ) (tail' b' : List ℕ) (es es' : List Entry) → dim' ≡ dim → tail' ≡ tail → b' ≡ b → es' ≡ es → AreKept dim tail b es → AreKept dim' tail' b' es'
+kept_same dim tail b dim' tail' b' es es' axes behind body entries kept =
+    subst (λ (n : ℕ). AreKept n tail' b' es') (sym axes)
+    (subst (λ (x : List ℕ). AreKept dim x b' es') (sym behind)
+    (subst (λ (x : List ℕ). AreKept dim tail x es') (sym body)
+    (subst (AreKept dim tail b) (sym entries) kept)))
+
+module _ (dim : ℕ) (tail b : List ℕ) (ps : List Put) (append : List ℕ) (rows : List Row) (change : IsChange dim tail b ps append rows) where
+  pub patches_within : AreWithin (length b) ps
+  patches_within = span_within (length b) ps 0 change.rise
+
+  pub patches_apart : AreApart ps
+  patches_apart = span_apart (length b) ps 0 change.rise
+
+  pub may_commit : MayCommit b (record { patches = ps; append = append })
+  may_commit = record { within = patches_within; apart = patches_apart }
+
+  -- its entry leads back
+  pub leads_back : back (write b ps ++ append) (entry_of b ps) ≡ b
+  leads_back = entry_restores b (record { patches = ps; append = append }) may_commit
+
+  -- the body lies under the new one
+  under : IsUnder dim b (write b ps ++ append)
+  under = record {
+    front = sym (ap (take (length (rows_of dim b))) change.behind ∙ take_at (rows_of dim b) rows (length (rows_of dim b)) refl);
+    free = subst (BeginsFree itself) (sym (ap (drop (length (rows_of dim b))) change.behind ∙ drop_at (rows_of dim b) rows (length (rows_of dim b)) refl)) change.free;
+  }
+
+  leads : Leads dim (write b ps ++ append) (entry_of b ps)
+  leads = record {
+    long = (entry_fits b (record { patches = ps; append = append }) may_commit).long;
+    rise = olds_rise b (length b) ps 0 (omega arith) change.rise;
+    under = subst (λ (x : List ℕ). IsUnder dim x (write b ps ++ append)) (sym leads_back) under;
+  }
+
+  -- what is kept with one more entry
+  pub kept_more : (es : List Entry) → AreKept dim tail b (reverse es) → AreKept dim tail (write b ps ++ append) (reverse (es ++ entry_of b ps ∷ []))
+  kept_more es kept =
+      subst (AreKept dim tail (write b ps ++ append)) (sym (reverse-append es (entry_of b ps ∷ [])))
+      (change.opens, leads, subst (λ (x : List ℕ). AreKept dim tail x (reverse es)) (sym leads_back) kept)
+
+-- rows behind others
+each_second : (xs ys : List Row) → AllByRecursion IsRow (xs ++ ys) → AllByRecursion IsRow ys
+each_second [] ys each = each
+each_second (x ∷ xs) ys each = each_second xs ys each.1
+
+module _ (d : Design) (t : Nested) (l : LogState) (kept : IsKept d t l) (ps : List Put) (append : List ℕ) (rows : List Row)
+    (room : HasRoom (length append) (length rows) d t l) (change : IsChange d.dim d.tail.items d.body.items ps append rows) where
+  -- a design that has the new body, but the offsets of the old one
+  module _ (e : Design) (axes : e.dim ≡ d.dim) (body : e.body.items ≡ write d.body.items ps ++ append) (tail : e.tail.items ≡ d.tail.items) (offsets : kept_of e ≡ kept_of d) (spare : spare_of e ≡ spare_of d) where
+    opens_new : OpensAt e.dim e.tail.items e.body.items
+    opens_new = opens_same d.dim d.tail.items (write d.body.items ps ++ append) e.dim e.tail.items e.body.items axes tail body change.opens
+
+    rows_new : map row_of (elements e) ≡ map row_of (elements d) ++ rows
+    rows_new = ap (λ (n : ℕ). rows_of n e.body.items) axes ∙ ap (rows_of d.dim) body ∙ change.behind
+
+    many : length (elements e) ≡ length (elements d) + length rows
+    many =
+        omega (arith, length-map (elements e) row_of, length-map (elements d) row_of, ap (length {A = Row}) rows_new, length-append (map row_of (elements d)) rows)
+
+    pub front_after : IsFront e
+    front_after =
+        let n : ℕ = length (map row_of (elements d)) in
+        let old : length (kept_of e) ≡ length (map row_of (elements d)) = ap (length {A = ℕ}) offsets ∙ length-kept d kept.whole ∙ sym (length-map (elements d) row_of) in
+        let front : map row_of (elements d) ≡ take n (map row_of (elements e)) = sym (ap (take n) rows_new ∙ take_at (map row_of (elements d)) rows n refl) in
+        record {
+          is_open = open_of e opens_new;
+          first = offsets ∙ kept.whole.kept ∙ offsets_front (elements d) (elements e) n front ∙ ap (λ (k : ℕ). take k (offsets_of (elements e))) (sym old);
+          room = omega (arith, many, ap (length {A = ℕ}) offsets, length-kept d kept.whole, spare, room.offsets);
+        }
+
+    -- and one that has the new offsets too
+    module _ (g : Design) (same : SameText e g) (whole : IsWhole g) where
+      pub rows_grown : map row_of (elements g) ≡ t.rows ++ rows
+      rows_grown =
+          ap (λ (n : ℕ). rows_of n g.body.items) same.dim ∙ ap (rows_of e.dim) (same_items same.body) ∙ rows_new
+          ∙ ap (λ (x : List Row). x ++ rows) (sym kept.nesting)
+
+      pub few_rows : length t.rows + length rows < 4294967295
+      few_rows =
+          omega (arith, few_elements g whole, length-map (elements g) row_of, ap (length {A = Row}) rows_grown, length-append t.rows rows)
+
+      pub each_row : AllByRecursion IsRow rows
+      each_row = each_second t.rows rows (rows_each g whole (t.rows ++ rows) (sym rows_grown))
+
+      pub kept_after : (u : Nested) (m : LogState) → u.rows ≡ t.rows ++ rows → m.entries ≡ l.entries ++ entry_of d.body.items ps ∷ [] → IsKept g u m
+      kept_after u m nesting entries = record {
+        whole = whole;
+        nesting = nesting ∙ sym rows_grown;
+        back =
+            kept_same d.dim d.tail.items (write d.body.items ps ++ append) g.dim g.tail.items g.body.items
+            (reverse (l.entries ++ entry_of d.body.items ps ∷ [])) (reverse m.entries)
+            (same.dim ∙ axes) (same_items same.tail ∙ tail) (same_items same.body ∙ body) (ap (reverse {A = Entry}) entries)
+            (kept_more d.dim d.tail.items d.body.items ps append rows change l.entries kept.back);
+      }

@@ -1,0 +1,58 @@
+-- What an edit needs to be carried out, and what an undo looks for.
+use Rattle.std.specs.Prelude.{ℕ, ◌≡◌, ◌+◌, ◌<◌, ◌≤◌, List, [], ◌∷◌, ◌++◌, length, map, slice_index, vec_len, vec_capacity}
+use Rattle.std.specs.List.{AllByRecursion}
+use Rattle.patch_bytes.specs.Puts.{Put, write, Span}
+use Rattle.undo_log.specs.declared.entry.Entry.{Entry}
+use Rattle.undo_log.specs.LogState.{LogState}
+use Rattle.dgn_drawing.specs.declared.row.Row.{Row}
+use Rattle.dgn_drawing.specs.Element.{Element}
+use Rattle.dgn_drawing.specs.Spelling.{spelling}
+use Rattle.dgn_drawing.specs.WellFormed.{IsDimension, IsWellFormed}
+use Rattle.dgn_drawing.specs.Rows.{row_of}
+use Rattle.dgn_drawing.specs.Nesting.{BeginsFree, itself}
+use Rattle.elem_index.specs.declared.design.Design.{Design}
+use Rattle.elem_index.specs.Design.{spare_of}
+use Rattle.nest_tree.specs.Nested.{Nested}
+use Rattle.dgn_session.specs.Kept.{rows_of, OpensAt}
+
+-- bytes are the spellings of these elements, which are well formed
+pub record Spells (dim : ℕ) (es : List Element) (b : List ℕ) : Type 0 where
+  pub axes : IsDimension dim
+  pub each : AllByRecursion (IsWellFormed dim) es
+  pub text : b ≡ spelling es
+
+-- they are those of some elements
+abbrev pub IsSpelling : List ℕ → Type 0
+IsSpelling b = (dim : ℕ) × (es : List Element) × Spells dim es b
+
+-- these are the rows of the elements that they spell
+abbrev pub AreRowsOf : List ℕ → List Row → Type 0
+AreRowsOf b rows = (dim : ℕ) (es : List Element) → Spells dim es b → rows ≡ map row_of es
+
+-- there is room for one more entry, so many more bytes of the body, and so many more elements
+pub record HasRoom (bytes rows : ℕ) (d : Design) (t : Nested) (l : LogState) : Type 0 where
+  pub entry : 1 ≤ l.spare
+  pub body : vec_len d.body + bytes ≤ vec_capacity d.body
+  pub offsets : rows ≤ spare_of d
+  pub nesting : rows ≤ t.spare
+
+-- a body into which patches are written, and behind which bytes are put: it opens with the tail; the patches rise in
+-- the body; and the rows of its elements are those of the body's and these, the first of which has no bit C
+pub record IsChange (dim : ℕ) (tail b : List ℕ) (ps : List Put) (append : List ℕ) (rows : List Row) : Type 0 where
+  pub opens : OpensAt dim tail (write b ps ++ append)
+  pub rise : Span 0 ps (length b)
+  pub behind : rows_of dim (write b ps ++ append) ≡ rows_of dim b ++ rows
+  pub free : BeginsFree itself rows
+
+-- the last of some entries has this length
+pub record HasLast (entries : List Entry) (len : ℕ) : Type 0 where
+  pub before : List Entry
+  pub last : Entry
+  pub are : entries ≡ before ++ last ∷ []
+  pub long : len ≡ last.len
+
+-- of these places the first `count` are left where those from `len` on are cut off
+pub record IsCutAt (places : List ℕ) (len count : ℕ) : Type 0 where
+  pub within : count ≤ length places
+  pub behind : (k : ℕ) → count ≤ k → k < length places → len ≤ slice_index places k
+  pub before : (k : ℕ) → count ≡ k + 1 → slice_index places k < len

@@ -1,0 +1,4 @@
+pub mod State
+pub mod Kept
+pub mod Carried
+pub mod Laws

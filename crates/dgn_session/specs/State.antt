@@ -1,0 +1,104 @@
+-- The session machine: its states, with what an edit, an undo and a setting do to them, and the state that a
+-- session's value stands for.
+use Rattle.std.specs.Prelude.{ℕ, Bool, true, false, Option, None, List, [], ◌∷◌, length, map, drop, reverse}
+use Rattle.plane_geom.specs.declared.pt.Pt.{Pt}
+use Rattle.dgn_drawing.specs.declared.edit.Edit.{Edit}
+use Rattle.dgn_drawing.specs.declared.mask.Mask.{Mask}
+use Rattle.dgn_drawing.specs.Element.{Element}
+use Rattle.dgn_drawing.specs.Spelling.{spelling}
+use Rattle.dgn_drawing.specs.Opening.{elements_of}
+use Rattle.undo_log.specs.declared.entry.Entry.{Entry}
+use Rattle.undo_log.specs.Entries.{bodies}
+use Rattle.edit_ops.specs.Applying.{Applied, Done, Refused, apply}
+use Rattle.edit_ops.specs.Fields.{edited_fields, filled}
+
+-- a state: the dimension, the number of bytes of the tail, a stack of element lists, which is never empty: its top
+-- and those below it, the newest first; the mask, and the fence, where there is one
+pub record State : Type 0 where
+  pub dim : ℕ
+  pub rest : ℕ
+  pub top : List Element
+  pub earlier : List (List Element)
+  pub mask : Mask
+  pub fence : Option (List Pt)
+
+-- all levels
+abbrev pub all_levels : Mask
+all_levels = record { 0 = 18446744073709551615 }
+
+-- it begins with the opened elements alone, all levels and no fence
+abbrev pub begun : ℕ → List Element → ℕ → State
+begun dim es rest = record { dim = dim; rest = rest; top = es; earlier = []; mask = all_levels; fence = None }
+
+-- the state with another stack
+abbrev pub with_stack : List Element → List (List Element) → State → State
+with_stack top earlier s = record { dim = s.dim; rest = s.rest; top = top; earlier = earlier; mask = s.mask; fence = s.fence }
+
+-- what an edit comes to in a state
+abbrev pub applied : Edit → State → Applied
+applied e s = apply s.dim s.top s.rest e
+
+-- an edit that is done pushes what it makes, and one that is refused leaves the state
+abbrev pub pushed : Applied → State → State
+pushed (Done made) s = with_stack made (s.top ∷ s.earlier) s
+pushed (Refused cause) s = s
+
+abbrev pub edited : Edit → State → State
+edited e s = pushed (applied e s) s
+
+-- whether it is refused
+abbrev pub is_refused : Applied → Bool
+is_refused (Done made) = false
+is_refused (Refused cause) = true
+
+-- the top is dropped, where a list is below it
+abbrev pub dropped : List (List Element) → State → State
+dropped [] s = s
+dropped (es ∷ earlier) s = with_stack es earlier s
+
+-- an undo drops the top, and is refused where it is the only list
+abbrev pub undone : State → State
+undone s = dropped s.earlier s
+
+abbrev pub is_none : List (List Element) → Bool
+is_none [] = true
+is_none (es ∷ earlier) = false
+
+abbrev pub undo_refused : State → Bool
+undo_refused s = is_none s.earlier
+
+-- a mask is set
+abbrev pub with_mask : Mask → State → State
+with_mask mask s = record { dim = s.dim; rest = s.rest; top = s.top; earlier = s.earlier; mask = mask; fence = s.fence }
+
+-- a session's value, as plain data: dimension, body and tail, the entries of the log, the oldest first, the mask, and
+-- the fence, where there is one
+pub record SessionValue : Type 0 where
+  pub dim : ℕ
+  pub body : List ℕ
+  pub tail : List ℕ
+  pub entries : List Entry
+  pub mask : Mask
+  pub fence : Option (List Pt)
+
+-- the element lists of the bodies that the entries of a body lead back to, the newest first. Those entries stand the
+-- newest first too
+abbrev pub earlier_of : ℕ → List ℕ → List Entry → List (List Element)
+earlier_of dim b entries = drop 1 (map (elements_of dim) (bodies b entries))
+
+-- the state that it stands for: the elements of its body on top, and below them those of each body that its entries
+-- lead back to
+abbrev pub state_of : SessionValue → State
+state_of v = record { dim = v.dim; rest = length v.tail; top = elements_of v.dim v.body; earlier = earlier_of v.dim v.body (reverse v.entries); mask = v.mask; fence = v.fence }
+
+-- the entry of an edit of these elements: its fields with the bytes that stand there, and how many bytes there are
+abbrev pub entry : ℕ → List Element → Edit → Entry
+entry dim es e = record { patches = filled (spelling es) (edited_fields dim es e); len = length (spelling es) }
+
+-- a session's value with another mask
+abbrev pub value_with_mask : Mask → SessionValue → SessionValue
+value_with_mask mask v = record { dim = v.dim; body = v.body; tail = v.tail; entries = v.entries; mask = mask; fence = v.fence }
+
+-- and with another body and other entries
+abbrev pub value_with : List ℕ → List Entry → SessionValue → SessionValue
+value_with body entries v = record { dim = v.dim; body = body; tail = v.tail; entries = entries; mask = v.mask; fence = v.fence }

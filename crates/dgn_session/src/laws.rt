@@ -1,0 +1,23 @@
+//! What holds of all sessions. Each call does nothing; its contract is the law.
+
+ghost use Rattle.dgn_session.specs.Laws.{EditsAreUndone, OpenedStay, EntriesAreCounted, EntriesLeadBack, OpenedStandsStill};
+
+/// Edits are undone: after an edit that is done an undo is not refused, and gives the state before; and the opened
+/// elements stay at the bottom of the stack.
+pub fn edits_are_undone()
+    ensures undone { EditsAreUndone }
+    ensures opened { OpenedStay }
+{}
+
+/// Entries lead back: there is one list below the top for each entry, and the newest entries, written back in turn, give
+/// the exact bytes of the list that stands as many below the top; all of them, those of the opened one.
+pub fn entries_lead_back()
+    ensures counted { EntriesAreCounted }
+    ensures back { EntriesLeadBack }
+{}
+
+/// The opened stands still: each of its elements keeps its size and its offset, and each of its bytes that is in no
+/// patch of an entry that is left.
+pub fn the_opened_stands_still()
+    ensures { OpenedStandsStill }
+{}

@@ -1,0 +1,172 @@
+ghost use Rattle.std.specs.Prelude.{◌≡◌, ◌↔◌, [], ◌∷◌, ◌++◌, length, map, IfOk, IfErr, IsErr, OnOk, OnErr};
+ghost use Rattle.undo_log.specs.Entries.{IsUndone};
+ghost use Rattle.dgn_drawing.specs.Rows.{row_of};
+ghost use Rattle.dgn_drawing.specs.Spelling.{spelling};
+ghost use Rattle.dgn_drawing.specs.Shown.{shown};
+ghost use Rattle.elem_index.specs.Design.{elements, IsWhole};
+ghost use Rattle.edit_ops.specs.Applying.{Done};
+ghost use Rattle.edit_ops.specs.Planned.{IsRefused};
+ghost use Rattle.dgn_session.specs.State.{SessionValue, state_of, begun, applied, edited, undone, with_mask, entry, value_with, value_with_mask};
+ghost use Rattle.dgn_session.specs.Kept.{IsKept, value_of, started};
+ghost use Rattle.dgn_session.specs.Laws.{IsSound};
+
+use crate::appended::rows_of;
+use crate::carrying::carry_out;
+use crate::nothing::Nothing;
+use crate::room::make_room;
+use crate::taking::{last_len, take_back};
+use dgn_drawing::types::Item;
+use dgn_drawing::{Edit, Mask};
+use edit_ops::{EditFault, plan};
+use elem_index::Design;
+use level_view::show;
+use nest_tree::nest;
+use nest_tree::types::Nest;
+use std::alloc::{AllocError, Global};
+use std::marker::Model;
+use undo_log::Log;
+
+/// A drawing that is edited: the design, its nesting, what each edit wrote over, and the levels that are shown.
+///
+/// A contract sees its value, `SessionValue`, and by it the state of the session machine that it stands for, `state_of`.
+#[derive(Drop)]
+pub struct Session {
+    // Where an edit finds memory.
+    pub(crate) alloc: Global,
+    // The drawing as it is now.
+    pub(crate) design: Design,
+    // The trees of its elements.
+    pub(crate) nest: Nest,
+    // What leads back to each drawing before.
+    pub(crate) log: Log,
+    // Which levels are shown.
+    pub(crate) mask: Mask,
+}
+
+impl Model for Session {
+    ghost Value = { SessionValue };
+
+    ghost view = { λ s. value_of s.design s.log s.mask };
+
+    ghost invariant = { λ s. IsKept s.design s.nest s.log };
+}
+
+impl Session {
+    /// Begins a session on the design `d`, with all levels shown and nothing to undo. There is an error exactly where
+    /// there is no memory.
+    pub fn start(alloc: Global, d: Design) -> Result<Session, AllocError>
+        requires { IsWhole d }
+        ensures value { IfOk result (λ s. s ≡ started d) }
+        ensures begun { IfOk result (λ s. state_of s ≡ begun d.dim (elements d) (length d.tail.items)) }
+    {
+        let rows = d.rows()?;
+        let nest = nest(alloc, &rows)?;
+        Ok(Session {
+            alloc,
+            design: d,
+            nest,
+            log: Log::new(alloc),
+            mask: Mask(u64::MAX),
+        })
+    }
+
+    /// Makes an edit: writes its fields, puts what it appends behind the body, and adds the entry that takes it back.
+    ///
+    /// Refused comes with the first cause that stands, exactly where the edit is refused (`edit_ops::plan`), and Memory
+    /// where there is no memory for it. The session is then as before: all memory is taken before the first byte is
+    /// written.
+    pub fn edit(&mut self, e: &Edit) -> Result<(), EditFault>
+        ensures done { OnOk result (state_of self.new ≡ edited e.now (state_of self.old)) }
+        ensures accepted { OnOk result (applied e.now (state_of self.old) ≡ Done (state_of self.new).top) }
+        ensures value { OnOk result (self.new ≡ value_with (spelling (state_of self.new).top)
+            (self.old.entries ++ entry self.old.dim (state_of self.old).top e.now ∷ []) self.old) }
+        ensures refused { IfErr result (IsRefused (applied e.now (state_of self.old))) }
+        ensures kept { OnErr result (self.new ≡ self.old) }
+    {
+        let plan = plan(self.alloc, &self.design, &self.nest, e, 0)?;
+        let rows = rows_of(self.alloc, plan.append.as_slice())?;
+        make_room(
+            &mut self.design,
+            &mut self.nest,
+            &mut self.log,
+            plan.append.len(),
+            rows.len() as u32,
+        )?;
+        carry_out(&mut self.design, &mut self.nest, &mut self.log, plan, &rows);
+        Ok(())
+    }
+
+    /// Takes the last edit back: writes its entry back, so the exact bytes before it stand there again, and drops the
+    /// entry. The levels that are shown stay. It takes no memory.
+    ///
+    /// Nothing comes exactly where there is no entry, and the session is then as before.
+    pub fn undo(&mut self) -> Result<(), Nothing>
+        ensures done { OnOk result (state_of self.new ≡ undone (state_of self.old)) }
+        ensures back { OnOk result (IsUndone self.old.entries self.old.body self.new.entries self.new.body) }
+        ensures value { OnOk result (self.new ≡ value_with self.new.body self.new.entries self.old) }
+        ensures nothing { IsErr result ↔ (self.old.entries ≡ []) }
+        ensures kept { OnErr result (self.new ≡ self.old) }
+    {
+        let Some(len) = last_len(self.log.entries()) else {
+            return Err(Nothing);
+        };
+        take_back(&mut self.design, &mut self.nest, &mut self.log, len);
+        Ok(())
+    }
+
+    /// The items that the display shows of the drawing (`level_view::show`), in file order. There is an error exactly
+    /// where there is no memory.
+    pub fn show(&self) -> Result<Vec<Item>, AllocError>
+        ensures { IfOk result (λ found. found.items ≡ shown self.now.dim self.now.mask (state_of self.now).top) }
+    {
+        show(self.alloc, &self.design, &self.nest, self.mask)
+    }
+
+    /// Shows these levels from now on.
+    pub fn set_mask(&mut self, m: Mask)
+        ensures value { self.new ≡ value_with_mask m self.old }
+        ensures state { state_of self.new ≡ with_mask m (state_of self.old) }
+    {
+        self.mask = m;
+    }
+
+    /// The bytes of the elements, one behind the other.
+    pub fn body(&self) -> &[u8]
+        ensures body { result.now ≡ self.now.body }
+        ensures spelled { result.now ≡ spelling (state_of self.now).top }
+    {
+        &self.design.body
+    }
+
+    /// The bytes behind the elements: nothing, or bytes that begin with FF FF. No edit changes them.
+    pub fn tail(&self) -> &[u8]
+        ensures { result.now ≡ self.now.tail }
+    {
+        &self.design.tail
+    }
+
+    /// The drawing as it is now.
+    pub fn design(&self) -> &Design
+        ensures whole { IsWhole result.now }
+        ensures dim { result.now.dim ≡ self.now.dim }
+        ensures body { result.now.body.items ≡ self.now.body }
+        ensures tail { result.now.tail.items ≡ self.now.tail }
+    {
+        &self.design
+    }
+
+    /// The trees of its elements.
+    pub fn nesting(&self) -> &Nest
+        ensures { result.now.rows ≡ map row_of (state_of self.now).top }
+    {
+        &self.nest
+    }
+
+    /// What leads back to each drawing before the last edits.
+    pub fn log(&self) -> &Log
+        ensures entries { result.now.entries ≡ self.now.entries }
+        ensures sound { IsSound self.now }
+    {
+        &self.log
+    }
+}
