@@ -1,5 +1,5 @@
-mod Written
 mod Untouched
 mod Endings
 mod Ran
 mod Finished
+mod Answered

@@ -1,80 +1,101 @@
 -- The commands of a script, one after the other: what those that ran have said and done, and what those
 -- that are left will.
-use Rattle.std.proofs.Common.{◌≡◌, ℕ, Bool, true, false, List, [], ◌∷◌, ◌++◌, map, Option, Some, None, refl, sym, ap, ◌∙◌, append_assoc}
-use Rattle.std.specs.Prelude.{◌||◌, option_map}
-use Rattle.std.proofs.lemmas.List.{append-nil}
+use Rattle.std.proofs.Common.{◌≡◌, ℕ, ◌+◌, ◌≤◌, Bool, true, false, Result, Ok, Err, OnErr, List, [], ◌∷◌, ◌++◌, take, drop, arith, Option, Some, None, refl, sym, ap, ◌∙◌, append_assoc}
+use Rattle.std.specs.Prelude.{option_map}
+use Rattle.std.specs.Int.{from_bool}
+use Rattle.std.proofs.lemmas.List.{append-nil, take-append-drop}
 use Rattle.dgn_desk.specs.Content.{Content, spoken}
 use Rattle.dgn_desk.proofs.Telling.{spoken-append}
-use Rattle.dgn_drawing.specs.Rows.{row_of}
-use Rattle.dgn_drawing.specs.declared.row.Row.{Row}
-use Rattle.dgn_drawing.specs.declared.mask.Mask.{Mask}
-use Rattle.elem_index.specs.declared.design.Design.{Design}
-use Rattle.elem_index.specs.Design.{elements, IsWhole}
+use Rattle.dgn_session.specs.State.{State}
 use Rattle.edit_script.specs.declared.command.Command.{Command}
-use Rattle.edit_script.specs.Built.{IsBuilt}
-use Rattle.std.specs.List.{AllByRecursion}
-use Rattle.elem_index.specs.Answers.{opened_of}
-use Rattle.dgn_tool.specs.Commands.{State, state_of, begun, text_of, is_refused, after_command, after_all, texts_of, is_any_refused}
-
--- what a run has come to with this design and this mask
-abbrev pub come_to : Design → Mask → State
-come_to d mask = state_of (opened_of d) mask
+use Rattle.dgn_tool.specs.Commands.{text_of, is_refused, after_command, after_all, texts_of, refused_count}
+use Rattle.dgn_tool.specs.Outcome.{SaysFront}
 
 -- the commands before these are done
-pub record Ran (rows : List Row) (all left : List Command) (refused : Bool) (from d : Design) (mask : Mask) (old now : Option Content) : Type 0 where
-  pub built : AllByRecursion IsBuilt left
-  pub whole : IsWhole d
-  pub rows_are : rows ≡ map row_of (elements d)
+pub record Ran (all left : List Command) (refused : ℕ) (from s : State) (old now : Option Content) : Type 0 where
   pub done : List ℕ
-  pub texts : texts_of all (begun (opened_of from)) ≡ done ++ texts_of left (come_to d mask)
+  pub texts : texts_of all from ≡ done ++ texts_of left s
   pub said : now ≡ option_map (spoken done) old
-  pub any : is_any_refused all (begun (opened_of from)) ≡ (refused || is_any_refused left (come_to d mask))
-  pub drawing : after_all all (begun (opened_of from)) ≡ after_all left (come_to d mask)
-  pub tail : d.tail.items ≡ from.tail.items
+  pub count : refused_count all from ≡ refused + refused_count left s
+  pub state : after_all all from ≡ after_all left s
 
 -- with nothing said, what is told is as it was
 spoken-nil : (old : Option Content) → old ≡ option_map (spoken []) old
 spoken-nil None = refl
 spoken-nil (Some c) = rw (append-nil c.said) refl
 
-pub ran_none : (rows : List Row) (all : List Command) (d : Design) (old : Option Content) → AllByRecursion IsBuilt all → IsWhole d → rows ≡ map row_of (elements d) → Ran rows all all false d d (record { 0 = 18446744073709551615 }) old old
-ran_none rows all d old built whole are =
-    record { built = built; whole = whole; rows_are = are; done = []; texts = refl; said = spoken-nil old; any = refl; drawing = refl; tail = refl }
+sum_front : (a : ℕ) → 0 + a ≡ a
+sum_front a = omega arith
 
-or_assoc_test : (a b c : Bool) → (a || (b || c)) ≡ ((a || b) || c)
-or_assoc_test true b c = refl
-or_assoc_test false b c = refl
+-- no command is done
+pub ran_none : (all : List Command) (s : State) (old : Option Content) → Ran all all 0 s s old old
+ran_none all s old = record { done = []; texts = refl; said = spoken-nil old; count = sym (sum_front (refused_count all s)); state = refl }
+
+sum_moved : (a b c : ℕ) → a + (b + c) ≡ (a + b) + c
+sum_moved a b c = omega arith
+
+sum_zero : (a : ℕ) → a + 0 ≡ a
+sum_zero a = omega arith
 
 -- one more command
-pub ran_more : (rows : List Row) (all left : List Command) (c : Command) (refused was : Bool) (line : List ℕ) (from d new : Design) (mask new_mask : Mask) (old now then : Option Content) → Ran rows all (c ∷ left) refused from d mask old now
-    → come_to new new_mask ≡ after_command (come_to d mask) c → IsWhole new → map row_of (elements new) ≡ map row_of (elements d) → new.tail.items ≡ d.tail.items
-    → line ≡ text_of (come_to d mask) c → then ≡ option_map (spoken line) now → was ≡ is_refused (come_to d mask) c
-    → Ran rows all left (refused || was) from new new_mask old then
-ran_more rows all left c refused was line from d new mask new_mask old now then ran drawn whole same_rows tail_same line_is says was_is =
-    let text : List ℕ = text_of (come_to d mask) c in
+pub ran_more : (all left : List Command) (c : Command) (refused : ℕ) (was : Bool) (line : List ℕ) (from s new : State) (old now then : Option Content) → Ran all (c ∷ left) refused from s old now
+    → new ≡ after_command s c → line ≡ text_of s c → then ≡ option_map (spoken line) now → was ≡ is_refused s c
+    → Ran all left (refused + from_bool was) from new old then
+ran_more all left c refused was line from s new old now then ran new_is line_is says was_is =
+    let text : List ℕ = text_of s c in
     let said_line : then ≡ option_map (spoken text) now = says ∙ ap (λ (l : List ℕ). option_map (spoken l) now) line_is in
     record {
-      built = ran.built.1;
-      whole = whole;
-      rows_are = ran.rows_are ∙ sym same_rows;
       done = ran.done ++ text;
       texts = ran.texts
-          ∙ ap (λ (s : State). ran.done ++ (text ++ texts_of left s)) (sym drawn)
-          ∙ sym (append_assoc ran.done text (texts_of left (come_to new new_mask)));
+          ∙ ap (λ (t : State). ran.done ++ (text ++ texts_of left t)) (sym new_is)
+          ∙ sym (append_assoc ran.done text (texts_of left new));
       said = said_line ∙ ap (option_map (spoken text)) ran.said ∙ spoken-append ran.done text old;
-      any = ran.any
-          ∙ ap (λ (s : State). refused || (is_refused (come_to d mask) c || is_any_refused left s)) (sym drawn)
-          ∙ or_assoc_test refused (is_refused (come_to d mask) c) (is_any_refused left (come_to new new_mask))
-          ∙ ap (λ (b : Bool). (refused || b) || is_any_refused left (come_to new new_mask)) (sym was_is);
-      drawing = ran.drawing ∙ ap (after_all left) (sym drawn);
-      tail = tail_same ∙ ran.tail;
+      count = ran.count
+          ∙ ap (λ (t : State). refused + (from_bool (is_refused s c) + refused_count left t)) (sym new_is)
+          ∙ sum_moved refused (from_bool (is_refused s c)) (refused_count left new)
+          ∙ ap (λ (b : Bool). (refused + from_bool b) + refused_count left new) (sym was_is);
+      state = ran.state ∙ ap (after_all left) (sym new_is);
     }
 
--- nothing more is refused where no command is left
-or_false : (b : Bool) → (b || false) ≡ b
-or_false true = refl
-or_false false = refl
+-- where no command is left, all is done
+pub ran_all : (all left : List Command) (refused : ℕ) (from s : State) (old now : Option Content) → Ran all left refused from s old now → left ≡ [] → refused ≡ refused_count all from
+ran_all all left refused from s old now ran none =
+    sym (ran.count ∙ ap (λ (cs : List Command). refused + refused_count cs s) none ∙ sum_zero refused)
 
-pub ran_all : (rows : List Row) (all left : List Command) (refused : Bool) (from d : Design) (mask : Mask) (old now : Option Content) → Ran rows all left refused from d mask old now → left ≡ [] → refused ≡ is_any_refused all (begun (opened_of from))
-ran_all rows all left refused from d mask old now ran none =
-    sym (ran.any ∙ ap (λ (cs : List Command). refused || is_any_refused cs (come_to d mask)) none ∙ or_false refused)
+pub ran_said : (all left : List Command) (refused : ℕ) (from s : State) (old now : Option Content) → Ran all left refused from s old now → left ≡ [] → now ≡ option_map (spoken (texts_of all from)) old
+ran_said all left refused from s old now ran none =
+    let whole : texts_of all from ≡ ran.done = ran.texts ∙ ap (λ (cs : List Command). ran.done ++ texts_of cs s) none ∙ append-nil ran.done in
+    ran.said ∙ ap (λ (t : List ℕ). option_map (spoken t) old) (sym whole)
+
+pub ran_state : (all left : List Command) (refused : ℕ) (from s : State) (old now : Option Content) → Ran all left refused from s old now → left ≡ [] → s ≡ after_all all from
+ran_state all left refused from s old now ran none =
+    sym (ran.state ∙ ap (λ (cs : List Command). after_all cs s) none)
+
+-- where the run stops before a command is said, those before it were said
+pub ran_so_far : (all left : List Command) (refused : ℕ) (from s : State) (old now : Option Content) → Ran all left refused from s old now → SaysFront (texts_of all from) old now
+ran_so_far all left refused from s old now ran = (ran.done, (texts_of left s, ran.texts), ran.said)
+
+-- and where the desk stops in the midst of its text, a front of that too
+pub ran_part : (all left : List Command) (c : Command) (refused count : ℕ) (line : List ℕ) (from s : State) (old now then : Option Content) → Ran all (c ∷ left) refused from s old now → line ≡ text_of s c → then ≡ option_map (spoken (take count line)) now → SaysFront (texts_of all from) old then
+ran_part all left c refused count line from s old now then ran line_is says =
+    let more : List ℕ = texts_of left (after_command s c) in (
+      ran.done ++ take count line,
+      (
+        drop count line ++ more,
+        ran.texts
+            ∙ ap (λ (t : List ℕ). ran.done ++ (t ++ more)) (sym (take-append-drop count line ∙ line_is))
+            ∙ ap (λ (t : List ℕ). ran.done ++ t) (append_assoc (take count line) (drop count line) more)
+            ∙ sym (append_assoc ran.done (take count line) (drop count line ++ more)),
+      ),
+      says ∙ ap (option_map (spoken (take count line))) ran.said ∙ spoken-append ran.done (take count line) old,
+    )
+
+-- at most one more is refused with each command
+pub refused_few : (refused i : ℕ) (was : Bool) → refused ≤ i → refused + from_bool was ≤ i + 1
+refused_few refused i true few = omega (arith, few)
+refused_few refused i false few = omega (arith, few)
+
+-- what holds holds where there is an error
+pub on_err : {T E : Type 0} (r : Result T E) (P : Type 0) → P → OnErr r P
+on_err (Ok x) P p = tt
+on_err (Err e) P p = p

@@ -1,105 +1,142 @@
 -- The file that commands make: it opens, and its bytes are those of the file before at each place of its elements in
--- no field of an accepted edit.
-use Rattle.std.proofs.Common.{◌≡◌, ℕ, ◌+◌, ◌<◌, ◌≤◌, List, [], ◌∷◌, ◌++◌, length, get_or, refl, sym, ap, ◌∙◌, subst, arith}
-use Rattle.std.specs.Prelude.{All}
-use Rattle.std.proofs.lemmas.List.{get_or_append_left}
-use Rattle.std.proofs.lemmas.List.Elements.{All-head, All-tail}
+-- no field of an edit that is left.
+use Rattle.std.proofs.Common.{◌≡◌, ℕ, ◌<◌, ◌≤◌, List, [], ◌∷◌, ◌++◌, length, reverse, get_or, refl, sym, ap, ◌∙◌, subst, arith}
+use Rattle.std.specs.Prelude.{All, Some}
+use Rattle.std.proofs.lemmas.List.{get_or_append_left, reverse-append}
+use Rattle.std.proofs.lemmas.List.Elements.{All-head, All-tail, All-cons, All-pop}
 use Rattle.dgn_drawing.specs.Element.{Element}
 use Rattle.dgn_drawing.specs.Spelling.{spelling}
 use Rattle.dgn_drawing.specs.Opening.{Opens}
 use Rattle.dgn_drawing.specs.declared.edit.Edit.{Edit}
+use Rattle.dgn_session.specs.State.{State, applied, pushed, dropped, is_none}
 use Rattle.edit_ops.specs.Applying.{Applied, Done, Refused, apply, IsEdit}
 use Rattle.edit_ops.proofs.Reopened.{edited_opens, changes_fields}
 use Rattle.edit_script.specs.declared.command.Command.{Command}
 use Rattle.edit_script.specs.declared.command.Command.TheVariants as command
-use Rattle.dgn_tool.specs.Commands.{State, begun, applied, left_of, after_command, after_all}
-use Rattle.dgn_tool.specs.Laws.{Made, with_made, with_command, remaining, IsOutside, IsEditIn, IsEditedFile, UntouchedBytesStay}
+use Rattle.dgn_tool.specs.Commands.{begun, after_command, after_all}
+use Rattle.dgn_tool.specs.Laws.{Made, with_made, without_newest, with_command, with_commands, IsOutside, IsEditIn, IsEditedFile, UntouchedBytesStay}
 
--- elements with no fewer bytes than others, and their bytes at each place that the edits among these don't write
-record Stays (dim : ℕ) (es now : List Element) (with_these these : List Made) : Type 0 where
-  same : (p : ℕ) → p < length (spelling es) → All (IsOutside dim p) with_these → get_or (spelling now) p 0 ≡ get_or (spelling es) p 0
-  left : (p : ℕ) → All (IsOutside dim p) with_these → All (IsOutside dim p) these
+-- elements that an edit made of others: no fewer bytes, and the same byte at each place that it doesn't write
+record IsGrown (dim : ℕ) (es now : List Element) (m : Made) : Type 0 where
+  long : length (spelling es) ≤ length (spelling now)
+  same : (p : ℕ) → p < length (spelling es) → IsOutside dim p m → get_or (spelling now) p 0 ≡ get_or (spelling es) p 0
 
--- one edit: the file opens with the elements after it, and stays where it writes nothing
-record IsStep (dim : ℕ) (es : List Element) (t : List ℕ) (e : Edit) (came : Applied) : Type 0 where
-  opens : Opens (spelling (left_of es came) ++ t) dim (left_of es came) t
-  long : length (spelling es) ≤ length (spelling (left_of es came))
-  stays : (more : List Made) → Stays dim es (left_of es came) (with_made came (record { on = es; edit = e }) more) more
+-- the top of a stack and the lists below it, each made of the next one by the edit that is left for it, and the
+-- lowest of which is the file's; each opens with the tail
+abbrev IsChain : ℕ → List ℕ → List Element → List Element → List (List Element) → List Made → Type 0
+IsChain dim t base top [] [] = Opens (spelling top ++ t) dim top t × (top ≡ base)
+IsChain dim t base top [] (m ∷ left) = ⊥
+IsChain dim t base top (es ∷ earlier) [] = ⊥
+IsChain dim t base top (es ∷ earlier) (m ∷ left) = Opens (spelling top ++ t) dim top t × IsGrown dim es top m × IsChain dim t base es earlier left
 
-edit_step : (dim : ℕ) (es : List Element) (t : List ℕ) (rest : ℕ) (e : Edit) (came : Applied) → IsEdit e → Opens (spelling es ++ t) dim es t → apply dim es rest e ≡ came → IsStep dim es t e came
-edit_step dim es t rest e (Refused cause) fits opens is =
-    record { opens = opens; long = omega arith; stays = λ more. record { same = λ p below all. refl; left = λ p all. all } }
-edit_step dim es t rest e (Done made) fits opens is =
-    let changed = changes_fields (spelling es ++ t) dim es t rest e made fits opens is in
-    let grown = changed.long in
-    record {
-      opens = edited_opens (spelling es ++ t) dim es t rest e made fits opens is;
-      long = omega arith;
-      stays = λ more. record {
-        same = λ p below all. changed.stays p below (All-head (IsOutside dim p) (record { on = es; edit = e }) more all);
-        left = λ p all. All-tail (IsOutside dim p) (record { on = es; edit = e }) more all;
-      };
-    }
+-- a state with the edits that are left in it
+abbrev IsChained : List ℕ → List Element → State → List Made → Type 0
+IsChained t base s left = IsChain s.dim t base s.top s.earlier left
 
--- one command: only an edit writes
-record IsDone (s : State) (t : List ℕ) (c : Command) : Type 0 where
-  opens : Opens (spelling (after_command s c).elements ++ t) s.dim (after_command s c).elements t
-  long : length (spelling s.elements) ≤ length (spelling (after_command s c).elements)
-  axes : (after_command s c).dim ≡ s.dim
-  stays : (more : List Made) → Stays s.dim s.elements (after_command s c).elements (with_command s c more) more
+-- the top opens
+chain_opens : (dim : ℕ) (t : List ℕ) (base top : List Element) (earlier : List (List Element)) (left : List Made) → IsChain dim t base top earlier left → Opens (spelling top ++ t) dim top t
+chain_opens dim t base top [] [] chain = chain.0
+chain_opens dim t base top [] (m ∷ left) chain = absurd chain
+chain_opens dim t base top (es ∷ earlier) [] chain = absurd chain
+chain_opens dim t base top (es ∷ earlier) (m ∷ left) chain = chain.0
 
--- a command that leaves the elements
-left_alone : (dim : ℕ) (es : List Element) (more : List Made) → Stays dim es es more more
-left_alone dim es more = record { same = λ p below all. refl; left = λ p all. all }
+-- the top has no fewer bytes than the file's elements
+chain_long : (dim : ℕ) (t : List ℕ) (base top : List Element) (earlier : List (List Element)) (left : List Made) → IsChain dim t base top earlier left → length (spelling base) ≤ length (spelling top)
+chain_long dim t base top [] [] chain = subst (λ (b : List Element). length (spelling b) ≤ length (spelling top)) chain.1 (omega arith)
+chain_long dim t base top [] (m ∷ left) chain = absurd chain
+chain_long dim t base top (es ∷ earlier) [] chain = absurd chain
+chain_long dim t base top (es ∷ earlier) (m ∷ left) chain =
+    let below = chain_long dim t base es earlier left chain.2 in
+    let grown = chain.1.long in
+    omega arith
 
-command_step : (s : State) (t : List ℕ) (c : Command) → IsEditIn c → Opens (spelling s.elements ++ t) s.dim s.elements t → IsDone s t c
-command_step s t (command.Edit e) fits opens =
-    let one = edit_step s.dim s.elements t s.rest e (applied s e) fits opens refl in
-    record { opens = one.opens; long = one.long; axes = refl; stays = one.stays }
-command_step s t (command.Levels mask) fits opens = record { opens = opens; long = omega arith; axes = refl; stays = left_alone s.dim s.elements }
-command_step s t command.Show fits opens = record { opens = opens; long = omega arith; axes = refl; stays = left_alone s.dim s.elements }
-command_step s t (command.Tree n) fits opens = record { opens = opens; long = omega arith; axes = refl; stays = left_alone s.dim s.elements }
+-- and the same byte at each place that none of the edits writes
+chain_same : (dim : ℕ) (t : List ℕ) (base top : List Element) (earlier : List (List Element)) (left : List Made) (p : ℕ) → IsChain dim t base top earlier left → p < length (spelling base) → All (IsOutside dim p) left → get_or (spelling top) p 0 ≡ get_or (spelling base) p 0
+chain_same dim t base top [] [] p chain below all = ap (λ (b : List Element). get_or (spelling b) p 0) chain.1
+chain_same dim t base top [] (m ∷ left) p chain below all = absurd chain
+chain_same dim t base top (es ∷ earlier) [] p chain below all = absurd chain
+chain_same dim t base top (es ∷ earlier) (m ∷ left) p chain below all =
+    let long = chain_long dim t base es earlier left chain.2 in
+    chain.1.same p (omega arith) (All-head (IsOutside dim p) m left all)
+    ∙ chain_same dim t base es earlier left p chain.2 below (All-tail (IsOutside dim p) m left all)
 
--- what all commands leave of a drawing
-record AreDone (s : State) (t : List ℕ) (cs : List Command) : Type 0 where
-  opens : Opens (spelling (after_all cs s).elements ++ t) s.dim (after_all cs s).elements t
-  long : length (spelling s.elements) ≤ length (spelling (after_all cs s).elements)
-  stays : (p : ℕ) → p < length (spelling s.elements) → All (IsOutside s.dim p) (remaining cs s)
-      → get_or (spelling (after_all cs s).elements) p 0 ≡ get_or (spelling s.elements) p 0
+-- an edit that is done is one link more
+chain_pushed : (dim : ℕ) (t : List ℕ) (base top made : List Element) (earlier : List (List Element)) (left : List Made) (rest : ℕ) (e : Edit) → IsEdit e → apply dim top rest e ≡ Done made → IsChain dim t base top earlier left → IsChain dim t base made (top ∷ earlier) (record { on = top; edit = e } ∷ left)
+chain_pushed dim t base top made earlier left rest e fits is chain =
+    let opens = chain_opens dim t base top earlier left chain in
+    let changed = changes_fields (spelling top ++ t) dim top t rest e made fits opens is in
+    (edited_opens (spelling top ++ t) dim top t rest e made fits opens is, record { long = omega (arith, changed.long); same = changed.stays }, chain)
 
--- all commands, in a file of the same dimension
-all_done : (t : List ℕ) (cs : List Command) (s : State) → All IsEditIn cs → Opens (spelling s.elements ++ t) s.dim s.elements t → AreDone s t cs
-all_done t [] s fits opens = record { opens = opens; long = omega arith; stays = λ p below all. refl }
-all_done t (c ∷ cs) s fits opens =
-    let one = command_step s t c (All-head IsEditIn c cs fits) opens in
-    let next : State = after_command s c in
-    let more = all_done t cs next (All-tail IsEditIn c cs fits) (subst (λ (k : ℕ). Opens (spelling next.elements ++ t) k next.elements t) (sym one.axes) one.opens) in
-    let first_long = one.long in
-    let more_long = more.long in
-    record {
-      opens = subst (λ (k : ℕ). Opens (spelling (after_all cs next).elements ++ t) k (after_all cs next).elements t) one.axes more.opens;
-      long = omega arith;
-      stays = λ p below all.
-          let first = one.stays (remaining cs next) in
-          more.stays p (omega arith) (subst (λ (k : ℕ). All (IsOutside k p) (remaining cs next)) (sym one.axes) (first.left p all)) ∙ first.same p below all;
-    }
+edit_step : (t : List ℕ) (base : List Element) (s : State) (left : List Made) (e : Edit) (came : Applied) → IsEdit e → applied e s ≡ came → IsChained t base s left → IsChained t base (pushed came s) (with_made came (record { on = s.top; edit = e }) left)
+edit_step t base s left e (Refused cause) fits is chain = chain
+edit_step t base s left e (Done made) fits is chain = chain_pushed s.dim t base s.top made s.earlier left s.rest e fits is chain
+
+-- an undo takes the newest link away
+undo_step : (t : List ℕ) (base : List Element) (s : State) (earlier : List (List Element)) (left : List Made) → IsChain s.dim t base s.top earlier left → s.earlier ≡ earlier → IsChained t base (dropped earlier s) (without_newest (is_none earlier) left)
+undo_step t base s [] left chain is = subst (λ (below : List (List Element)). IsChain s.dim t base s.top below left) (sym is) chain
+undo_step t base s (es ∷ earlier) [] chain is = absurd chain
+undo_step t base s (es ∷ earlier) (m ∷ left) chain is = chain.2
+
+-- one command
+command_step : (t : List ℕ) (base : List Element) (s : State) (left : List Made) (c : Command) → IsEditIn c → IsChained t base s left → IsChained t base (after_command s c) (with_command s c left)
+command_step t base s left (command.Edit e) fits chain = edit_step t base s left e (applied e s) fits refl chain
+command_step t base s left command.Undo fits chain = undo_step t base s s.earlier left chain refl
+command_step t base s left (command.Levels mask) fits chain = chain
+command_step t base s left command.Show fits chain = chain
+command_step t base s left (command.Tree n) fits chain = chain
+
+-- all commands
+commands_step : (t : List ℕ) (base : List Element) (cs : List Command) (s : State) (left : List Made) → All IsEditIn cs → IsChained t base s left → IsChained t base (after_all cs s) (with_commands cs s left)
+commands_step t base [] s left fits chain = chain
+commands_step t base (c ∷ cs) s left fits chain =
+    commands_step t base cs (after_command s c) (with_command s c left) (All-tail IsEditIn c cs fits) (command_step t base s left c (All-head IsEditIn c cs fits) chain)
+
+-- no command changes the dimension
+pushed_dim : (came : Applied) (s : State) → (pushed came s).dim ≡ s.dim
+pushed_dim (Done made) s = refl
+pushed_dim (Refused cause) s = refl
+
+dropped_dim : (earlier : List (List Element)) (s : State) → (dropped earlier s).dim ≡ s.dim
+dropped_dim [] s = refl
+dropped_dim (es ∷ earlier) s = refl
+
+command_dim : (s : State) (c : Command) → (after_command s c).dim ≡ s.dim
+command_dim s (command.Edit e) = pushed_dim (applied e s) s
+command_dim s command.Undo = dropped_dim s.earlier s
+command_dim s (command.Levels mask) = refl
+command_dim s command.Show = refl
+command_dim s (command.Tree n) = refl
+
+commands_dim : (cs : List Command) (s : State) → (after_all cs s).dim ≡ s.dim
+commands_dim [] s = refl
+commands_dim (c ∷ cs) s = commands_dim cs (after_command s c) ∙ command_dim s c
+
+-- what holds of each of a list from behind holds of each
+all_back : (P : Made → Type 0) (ms : List Made) → All P (reverse ms) → All P ms
+all_back P [] all = all
+all_back P (m ∷ ms) all =
+    let parts = All-pop P (reverse ms ++ m ∷ []) (reverse ms) (Some m) refl (subst (All P) (reverse-append (m ∷ []) ms) all) in
+    All-cons P m ms parts.1 (all_back P ms parts.0)
 
 -- the same of the file, whose tail stands behind the elements
-edited_file : (t : List ℕ) (cs : List Command) (s : State) → All IsEditIn cs → Opens (spelling s.elements ++ t) s.dim s.elements t → IsEditedFile (spelling s.elements ++ t) s t cs
-edited_file t cs s fits opens =
-    let done = all_done t cs s fits opens in
-    let grown = done.long in
+edited_file : (t : List ℕ) (cs : List Command) (s : State) → s.earlier ≡ [] → All IsEditIn cs → Opens (spelling s.top ++ t) s.dim s.top t → IsEditedFile (spelling s.top ++ t) s t cs
+edited_file t cs s none fits opens =
+    let left : List Made = with_commands cs s [] in
+    let end : State = after_all cs s in
+    let start : IsChained t s.top s [] = subst (λ (below : List (List Element)). IsChain s.dim t s.top s.top below []) (sym none) (opens, refl) in
+    let chain = subst (λ (k : ℕ). IsChain k t s.top end.top end.earlier left) (commands_dim cs s) (commands_step t s.top cs s [] fits start) in
+    let long = chain_long s.dim t s.top end.top end.earlier left chain in
     record {
-      opens = done.opens;
-      long = done.long;
+      opens = chain_opens s.dim t s.top end.top end.earlier left chain;
+      long = long;
       stays = λ p below all.
-          get_or_append_left (spelling (after_all cs s).elements) t 0 p (omega arith)
-          ∙ done.stays p below all
-          ∙ sym (get_or_append_left (spelling s.elements) t 0 p below);
+          get_or_append_left (spelling end.top) t 0 p (omega arith)
+          ∙ chain_same s.dim t s.top end.top end.earlier left p chain below (all_back (IsOutside s.dim p) left all)
+          ∙ sym (get_or_append_left (spelling s.top) t 0 p below);
     }
 
 -- what the commands of a script make of a file that opens
 pub untouched : UntouchedBytesStay
 untouched f d cs opens fits =
     subst (λ (g : List ℕ). IsEditedFile g (begun d) d.tail cs) (sym opens.whole)
-    (edited_file d.tail cs (begun d) fits (subst (λ (g : List ℕ). Opens g d.dim d.elements d.tail) opens.whole opens))
+    (edited_file d.tail cs (begun d) refl fits (subst (λ (g : List ℕ). Opens g d.dim d.elements d.tail) opens.whole opens))

@@ -1,36 +1,51 @@
 -- What holds of every drawing that opens and every list of commands, each the contract of a function in
 -- `laws`.
-use Rattle.std.specs.Prelude.{ℕ, ◌≡◌, ◌<◌, ◌≤◌, List, [], ◌∷◌, ◌++◌, length, slice_index, All}
+use Rattle.std.specs.Prelude.{ℕ, ◌≡◌, ◌<◌, ◌≤◌, Bool, true, false, List, [], ◌∷◌, ◌++◌, length, drop, reverse, slice_index, All}
 use Rattle.dgn_drawing.specs.Element.{Element}
 use Rattle.dgn_drawing.specs.Spelling.{spelling}
 use Rattle.dgn_drawing.specs.Opening.{Opens}
 use Rattle.dgn_drawing.specs.declared.edit.Edit.{Edit}
+use Rattle.dgn_session.specs.State.{State, applied, undo_refused}
 use Rattle.edit_ops.specs.Applying.{Applied, Done, Refused, IsEdit}
 use Rattle.edit_ops.specs.Fields.{IsIn, edited_fields}
 use Rattle.edit_script.specs.declared.command.Command.{Command}
 use Rattle.edit_script.specs.declared.command.Command.TheVariants as command
 use Rattle.elem_index.specs.Opened.{Opened}
-use Rattle.dgn_tool.specs.Commands.{State, begun, applied, after_command, after_all}
+use Rattle.dgn_tool.specs.Commands.{begun, after_command, after_all}
 
 -- an edit that is left in a drawing, and the elements that it was made on
 pub record Made : Type 0 where
   pub on : List Element
   pub edit : Edit
 
--- an edit before those behind it, where it is done
+-- In what follows edits stand the newest first.
+
+-- an edit is put before those that are left, where it is done
 abbrev pub with_made : Applied → Made → List Made → List Made
-with_made (Done made) one more = one ∷ more
-with_made (Refused cause) one more = more
+with_made (Done made) one left = one ∷ left
+with_made (Refused cause) one left = left
 
--- a command before those behind it, where it is an edit that is done
+-- an undo takes the newest away, unless it is refused
+abbrev pub without_newest : Bool → List Made → List Made
+without_newest true left = left
+without_newest false left = drop 1 left
+
+-- what a command leaves of the edits that are left
 abbrev pub with_command : State → Command → List Made → List Made
-with_command s (command.Edit e) more = with_made (applied s e) (record { on = s.elements; edit = e }) more
-with_command s other more = more
+with_command s (command.Edit e) left = with_made (applied e s) (record { on = s.top; edit = e }) left
+with_command s command.Undo left = without_newest (undo_refused s) left
+with_command s (command.Levels mask) left = left
+with_command s command.Show left = left
+with_command s (command.Tree n) left = left
 
--- the edits that commands leave, the first one first
+-- and what all commands leave of them
+abbrev pub with_commands : List Command → State → List Made → List Made
+with_commands [] s left = left
+with_commands (c ∷ cs) s left = with_commands cs (after_command s c) (with_command s c left)
+
+-- the edits that a run of these commands leaves: those that were done and not taken back, the first one first
 abbrev pub remaining : List Command → State → List Made
-remaining [] s = []
-remaining (c ∷ cs) s = with_command s c (remaining cs (after_command s c))
+remaining cs s = reverse (with_commands cs s [])
 
 -- the place is in no field that an edit writes
 abbrev pub IsOutside : ℕ → ℕ → Made → Type 0
@@ -45,10 +60,10 @@ IsEditIn other = Unit {0}
 -- have no fewer bytes; and it has the file's byte at each place in the elements of the file that no edit that is left
 -- writes
 pub record IsEditedFile (f : List ℕ) (s : State) (t : List ℕ) (cs : List Command) : Type 0 where
-  pub opens : Opens (spelling (after_all cs s).elements ++ t) s.dim (after_all cs s).elements t
-  pub long : length (spelling s.elements) ≤ length (spelling (after_all cs s).elements)
-  pub stays : (p : ℕ) → p < length (spelling s.elements) → All (IsOutside s.dim p) (remaining cs s)
-      → slice_index (spelling (after_all cs s).elements ++ t) p ≡ slice_index f p
+  pub opens : Opens (spelling (after_all cs s).top ++ t) s.dim (after_all cs s).top t
+  pub long : length (spelling s.top) ≤ length (spelling (after_all cs s).top)
+  pub stays : (p : ℕ) → p < length (spelling s.top) → All (IsOutside s.dim p) (remaining cs s)
+      → slice_index (spelling (after_all cs s).top ++ t) p ≡ slice_index f p
 
 abbrev pub UntouchedBytesStay : Type 0
 UntouchedBytesStay =

@@ -1,11 +1,12 @@
 -- What a run comes to: a status, what is said, and the file that is written, computed from the words of
 -- the command line and the files that they name.
-use Rattle.std.specs.Prelude.{ℕ, ◌≡◌, ◌≤◌, nat_lt, nat_le, Bool, ◌&&◌, if◌then◌else◌, List, [], ◌++◌, length, codes, Option, Some, None, Result, Ok, Err, IsSome, IfSome, IsTrue, ⊤}
+use Rattle.std.specs.Prelude.{ℕ, ◌≡◌, ◌⊎◌, ◌≤◌, nat_lt, nat_le, Bool, ◌&&◌, if◌then◌else◌, List, [], ◌++◌, length, codes, Option, Some, None, Result, Ok, Err, IsSome, IfSome, IsTrue, option_map, ⊤}
 use Rattle.std.specs.FinMap as maps
 use Rattle.std.specs.Result.{is_ok}
-use Rattle.dgn_desk.specs.Content.{Files, Content, bytes_of, with_file}
+use Rattle.dgn_desk.specs.Content.{Files, Content, bytes_of, with_file, spoken}
 use Rattle.dgn_drawing.specs.Spelling.{spelling}
 use Rattle.dgn_drawing.specs.Opening.{Fault, NotDesign, Cut, Short, Attr}
+use Rattle.dgn_session.specs.State.{State}
 use Rattle.elem_index.specs.Opened.{Opened, opening}
 use Rattle.edit_script.specs.Script.{commands_of}
 use Rattle.edit_script.specs.declared.command.Command.{Command}
@@ -13,7 +14,7 @@ use Rattle.edit_script.specs.declared.fault.ScriptFault.{ScriptFault}
 use Rattle.edit_script.specs.declared.fault.ScriptFault.TheVariants as faults
 use Rattle.dgn_tool.specs.Request.{Request, Edit, Check, request_of}
 use Rattle.dgn_tool.specs.Lines.{numbered}
-use Rattle.dgn_tool.specs.Commands.{begun, after_all, texts_of, is_any_refused}
+use Rattle.dgn_tool.specs.Commands.{begun, after_all, texts_of, refused_count}
 use Rattle.dgn_tool.specs.declared.status.Status.{Status}
 use Rattle.dgn_tool.specs.declared.status.Status.TheVariants as statuses
 
@@ -27,13 +28,17 @@ pub record Outcome : Type 0 where
 abbrev pub ended : Status → List ℕ → Outcome
 ended status line = record { status = status; text = line; file = None }
 
--- what the commands come to on a drawing: their texts, and the file of the drawing after them
-abbrev pub told : Opened → List Command → List ℕ → Outcome
-told d cs output = record {
-  status = if is_any_refused cs (begun d) then statuses.SomeRefused else statuses.Done;
-  text = texts_of cs (begun d);
-  file = Some (output, spelling (after_all cs (begun d)).elements ++ d.tail);
+-- what the commands come to in a state, with this tail: their texts, and the file of the drawing after them
+abbrev pub told_from : State → List ℕ → List Command → List ℕ → Outcome
+told_from s tail cs output = record {
+  status = if nat_lt 0 (refused_count cs s) then statuses.SomeRefused else statuses.Done;
+  text = texts_of cs s;
+  file = Some (output, spelling (after_all cs s).top ++ tail);
 }
+
+-- and on a drawing
+abbrev pub told : Opened → List Command → List ℕ → Outcome
+told d cs output = told_from (begun d) d.tail cs output
 
 -- what a script comes to that reads so; its reading alone never wants memory
 abbrev pub script_outcome : Opened → Result (List Command) ScriptFault → List ℕ → Outcome
@@ -104,10 +109,48 @@ pub record Leaves (o : Outcome) (status : Status) (old : Content) (now : Option 
 abbrev pub EndsAs : Status → (Files → Outcome) → Option Content → Option Content → Type 0
 EndsAs status o old now = IsEnding status → IfSome old (λ c. Leaves (o c.files) status c now)
 
--- a run that reads the named IN first ended so, whatever it would have gone on with
-abbrev pub EndsEarly : List ℕ → Option Content → Option Content → Status → Type 0
-EndsEarly name old now status =
-    (go_on : Files → Opened → Outcome) → EndsAs status (λ files. input_outcome (bytes_of files name) (go_on files)) old now
+-- a status that a fault of writing or want of memory made
+abbrev pub IsStopped : Status → Type 0
+IsStopped statuses.WriteFault = ⊤
+IsStopped statuses.Memory = ⊤
+IsStopped _ = ⊥
+
+-- bytes that these begin with: some first ones of them, none and all among them
+abbrev pub IsFrontOf : List ℕ → List ℕ → Type 0
+IsFrontOf whole front = (rest : List ℕ) × (whole ≡ front ++ rest)
+
+-- a front of this text was said, and nothing else changed
+abbrev pub SaysFront : List ℕ → Option Content → Option Content → Type 0
+SaysFront text old now = (front : List ℕ) × IsFrontOf text front × (now ≡ option_map (spoken front) old)
+
+-- the file that is to be written is as it was, or it holds a front of its bytes; and no other file changed
+abbrev pub HoldsFront : Option (List ℕ × List ℕ) → Files → Files → Type 0
+HoldsFront None old now = now ≡ old
+HoldsFront (Some file) old now = (now ≡ old) ⊎ ((front : List ℕ) × IsFrontOf file.1 front × (now ≡ with_file file.0 front old))
+
+-- a run over a desk that told this content stopped so: a front of the outcome's text was said, and of the file that
+-- it writes there is a front, or the file as it was
+pub record Stops (o : Outcome) (old : Content) (now : Option Content) : Type 0 where
+  pub content : Content
+  pub told_is : now ≡ Some content
+  pub front : List ℕ
+  pub is_front : IsFrontOf o.text front
+  pub said_is : content.said ≡ old.said ++ front
+  pub files_are : HoldsFront o.file old.files content.files
+
+-- where a fault of writing or want of memory stopped a run, over a desk that told what it holds, it had come to a front
+-- of the outcome that its files have
+abbrev pub StoppedAs : Status → (Files → Outcome) → Option Content → Option Content → Type 0
+StoppedAs status o old now = IsStopped status → IfSome old (λ c. Stops (o c.files) c now)
+
+-- a run came to an ending or was stopped, both with the outcome that its files have
+abbrev pub ComesTo : Status → (Files → Outcome) → Option Content → Option Content → Type 0
+ComesTo status o old now = EndsAs status o old now × StoppedAs status o old now
+
+-- a run that reads the named IN first came to this, whatever it would have gone on with
+abbrev pub ComesEarly : List ℕ → Option Content → Option Content → Status → Type 0
+ComesEarly name old now status =
+    (go_on : Files → Opened → Outcome) → ComesTo status (λ files. input_outcome (bytes_of files name) (go_on files)) old now
 
 -- the named IN is within its limit and opens as this, where the desk told it
 abbrev pub OpensAs : List ℕ → Option Content → Opened → Type 0

@@ -1,7 +1,7 @@
 ghost use Rattle.std.specs.Prelude.{◌≡◌, IsTrue};
 ghost use Rattle.dgn_desk.specs.Desk.{Rose};
 ghost use Rattle.dgn_tool.specs.Lines.{numbered};
-ghost use Rattle.dgn_tool.specs.Outcome.{ended, IsEnding, EndsAs, IsFaultless};
+ghost use Rattle.dgn_tool.specs.Outcome.{ended, IsEnding, IsStopped, ComesTo, IsFaultless};
 
 use crate::lines::push_numbered;
 use crate::status::Status;
@@ -11,8 +11,10 @@ use std::alloc::Global;
 /// Ends the run with a line.
 pub fn end<D: Desk>(desk: &mut D, line: &[u8], status: Status) -> Status
     requires { IsEnding status }
-    ensures outcome { EndsAs result (λ _. ended status line.now) (D.content desk.old) (D.content desk.new) }
+    ensures outcome { ComesTo result (λ _. ended status line.now) (D.content desk.old) (D.content desk.new) }
     ensures kept { IsEnding result → result ≡ status }
+    ensures counted { IsEnding result → (D.read_faults desk.new ≡ D.read_faults desk.old)
+        × (D.write_faults desk.new ≡ D.write_faults desk.old) }
     ensures read { result ≡ Status.ReadFault → ⊥ }
     ensures write { result ≡ Status.WriteFault → Rose (D.write_faults desk.old) (D.write_faults desk.new) }
     ensures able { IsTrue (D.willing desk.old) → IsFaultless result }
@@ -32,8 +34,10 @@ pub fn end_numbered<D: Desk>(
     status: Status,
 ) -> Status
     requires { IsEnding status }
-    ensures outcome { EndsAs result (λ _. ended status (numbered words.now number)) (D.content desk.old) (D.content desk.new) }
+    ensures outcome { ComesTo result (λ _. ended status (numbered words.now number)) (D.content desk.old) (D.content desk.new) }
     ensures kept { IsEnding result → result ≡ status }
+    ensures counted { IsEnding result → (D.read_faults desk.new ≡ D.read_faults desk.old)
+        × (D.write_faults desk.new ≡ D.write_faults desk.old) }
     ensures read { result ≡ Status.ReadFault → ⊥ }
     ensures write { result ≡ Status.WriteFault → Rose (D.write_faults desk.old) (D.write_faults desk.new) }
     ensures able { IsTrue (D.willing desk.old) → IsFaultless result }
@@ -49,6 +53,7 @@ pub fn end_numbered<D: Desk>(
 pub fn stopped(stop: Stop) -> Status
     ensures failed { stop ≡ Stop.Failed → result ≡ Status.WriteFault }
     ensures memory { stop ≡ Stop.Memory → result ≡ Status.Memory }
+    ensures stops { IsStopped result }
 {
     match stop {
         Stop::Failed => Status::WriteFault,

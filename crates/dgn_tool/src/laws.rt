@@ -3,8 +3,8 @@
 ghost use Rattle.dgn_tool.specs.Laws.{UntouchedBytesStay};
 
 /// The file that a run writes opens as the elements that the accepted commands make and the tail of the file that was
-/// read, and it has that file's byte at each place in the elements of that file that is in no field of an accepted
-/// edit.
+/// read, and it has that file's byte at each place in the elements of that file that is in no field of an edit that is
+/// left: one that was accepted, and that no undo took back.
 pub fn untouched_bytes_stay()
     ensures { UntouchedBytesStay }
 {}

@@ -1,8 +1,9 @@
-//! The editor's top call: it reads a design file and a script, runs the commands and writes the file.
+//! The editor's top calls: `run` reads a design file and a script, runs the commands in a session and writes the file;
+//! `answer` runs one command in a session.
 #![tactic(auto)]
 
+mod answers;
 mod commands;
-mod edits;
 mod ending;
 pub mod laws;
 mod lines;
@@ -11,6 +12,7 @@ mod request;
 mod status;
 mod top;
 
+pub use answers::answer;
 pub use status::Status;
 pub use top::run;
 

@@ -3,7 +3,7 @@ ghost use Rattle.dgn_desk.specs.Content.{bytes_of, OnlyLeftDiffers, HasFile};
 ghost use Rattle.dgn_desk.specs.Desk.{Rose, StaysWilling};
 ghost use Rattle.elem_index.specs.Design.{IsWhole};
 ghost use Rattle.elem_index.specs.Answers.{opened_of};
-ghost use Rattle.dgn_tool.specs.Outcome.{IsEnding, EndsAs, EndsEarly, OpensAs, IsFaultless};
+ghost use Rattle.dgn_tool.specs.Outcome.{IsEnding, ComesTo, ComesEarly, OpensAs, IsFaultless};
 ghost use Rattle.dgn_tool.specs.Told.{told_fault};
 
 use crate::ending::{end, end_numbered};
@@ -23,7 +23,9 @@ pub fn read_input<D: Desk>(alloc: Global, desk: &mut D, input: &str) -> Result<V
     ensures quiet { OnOk result (D.write_faults desk.new ≡ D.write_faults desk.old) }
     ensures calm { OnOk result (D.read_faults desk.new ≡ D.read_faults desk.old) }
     ensures stays { OnOk result (StaysWilling (D.willing desk.old) (D.willing desk.new)) }
-    ensures ended { IfErr result (EndsEarly input.now (D.content desk.old) (D.content desk.new)) }
+    ensures ended { IfErr result (ComesEarly input.now (D.content desk.old) (D.content desk.new)) }
+    ensures counted { IfErr result (λ status. IsEnding status → (D.read_faults desk.new ≡ D.read_faults desk.old)
+        × (D.write_faults desk.new ≡ D.write_faults desk.old)) }
     ensures usage { IsErrOf result Status.Usage → ⊥ }
     ensures read { IsErrOf result Status.ReadFault → Rose (D.read_faults desk.old) (D.read_faults desk.new) }
     ensures unread { IsErrOf result Status.ReadFault → OnlyLeftDiffers (D.content desk.old) (D.content desk.new) }
@@ -46,7 +48,9 @@ pub fn open_design<D: Desk>(alloc: Global, desk: &mut D, input: &str) -> Result<
     ensures quiet { OnOk result (D.write_faults desk.new ≡ D.write_faults desk.old) }
     ensures calm { OnOk result (D.read_faults desk.new ≡ D.read_faults desk.old) }
     ensures stays { OnOk result (StaysWilling (D.willing desk.old) (D.willing desk.new)) }
-    ensures ended { IfErr result (EndsEarly input.now (D.content desk.old) (D.content desk.new)) }
+    ensures ended { IfErr result (ComesEarly input.now (D.content desk.old) (D.content desk.new)) }
+    ensures counted { IfErr result (λ status. IsEnding status → (D.read_faults desk.new ≡ D.read_faults desk.old)
+        × (D.write_faults desk.new ≡ D.write_faults desk.old)) }
     ensures usage { IsErrOf result Status.Usage → ⊥ }
     ensures read { IsErrOf result Status.ReadFault → Rose (D.read_faults desk.old) (D.read_faults desk.new) }
     ensures unread { IsErrOf result Status.ReadFault → OnlyLeftDiffers (D.content desk.old) (D.content desk.new) }
@@ -65,8 +69,10 @@ pub fn open_design<D: Desk>(alloc: Global, desk: &mut D, input: &str) -> Result<
 
 /// Ends the run with what is wrong with IN.
 pub fn end_bad_design<D: Desk>(alloc: Global, desk: &mut D, fault: OpenFault) -> Status
-    ensures outcome { EndsAs result (λ _. told_fault fault) (D.content desk.old) (D.content desk.new) }
-    ensures memory { fault ≡ OpenFault.Memory → result ≡ Status.Memory }
+    ensures outcome { ComesTo result (λ _. told_fault fault) (D.content desk.old) (D.content desk.new) }
+    ensures memory { fault ≡ OpenFault.Memory → (result ≡ Status.Memory) × (D.content desk.new ≡ D.content desk.old) }
+    ensures counted { IsEnding result → (D.read_faults desk.new ≡ D.read_faults desk.old)
+        × (D.write_faults desk.new ≡ D.write_faults desk.old) }
     ensures usage { result ≡ Status.Usage → ⊥ }
     ensures read { result ≡ Status.ReadFault → ⊥ }
     ensures write { result ≡ Status.WriteFault → Rose (D.write_faults desk.old) (D.write_faults desk.new) }

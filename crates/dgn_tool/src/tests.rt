@@ -205,10 +205,80 @@ const SMALL_HEADER: [u8; 40] = [
 // An element of four bytes with bit C. Marked deleted it would be a mark that ends a file.
 const NEARLY_END: [u8; 4] = [0xFF, 0x7F, 0x00, 0x00];
 
+// A line from 0,0 to 10,10 on level 2 of colour 3 and weight 1.
+const NEW_LINE: [u8; 52] = [
+    0x02, 0x03, 0x18, 0x00, 0x00, 0x80, 0x00, 0x00, 0x00, 0x80, 0x00, 0x00, 0x00, 0x80, 0x00, 0x00,
+    0x00, 0x80, 0x0A, 0x00, 0x00, 0x80, 0x0A, 0x00, 0x00, 0x80, 0x00, 0x00, 0x00, 0x00, 0x0A, 0x00,
+    0x00, 0x00, 0x08, 0x03, 0x00, 0x00, 0x00, 0x00, 0x00, 0x00, 0x00, 0x00, 0x00, 0x00, 0x0A, 0x00,
+    0x00, 0x00, 0x0A, 0x00,
+];
+
+// A line from 0,0 to 1,1 on level 1.
+const SHORT_LINE: [u8; 52] = [
+    0x01, 0x03, 0x18, 0x00, 0x00, 0x80, 0x00, 0x00, 0x00, 0x80, 0x00, 0x00, 0x00, 0x80, 0x00, 0x00,
+    0x00, 0x80, 0x01, 0x00, 0x00, 0x80, 0x01, 0x00, 0x00, 0x80, 0x00, 0x00, 0x00, 0x00, 0x0A, 0x00,
+    0x00, 0x00, 0x00, 0x00, 0x00, 0x00, 0x00, 0x00, 0x00, 0x00, 0x00, 0x00, 0x00, 0x00, 0x01, 0x00,
+    0x00, 0x00, 0x01, 0x00,
+];
+
+// A chain of 0,0,0 and 5,5,5 of colour 2, weight 3 and style 4.
+const NEW_CHAIN: [u8; 62] = [
+    0x01, 0x04, 0x1D, 0x00, 0x00, 0x80, 0x00, 0x00, 0x00, 0x80, 0x00, 0x00, 0x00, 0x80, 0x00, 0x00,
+    0x00, 0x80, 0x05, 0x00, 0x00, 0x80, 0x05, 0x00, 0x00, 0x80, 0x05, 0x00, 0x00, 0x00, 0x0F, 0x00,
+    0x00, 0x00, 0x1C, 0x02, 0x02, 0x00, 0x00, 0x00, 0x00, 0x00, 0x00, 0x00, 0x00, 0x00, 0x00, 0x00,
+    0x00, 0x00, 0x00, 0x00, 0x05, 0x00, 0x00, 0x00, 0x05, 0x00, 0x00, 0x00, 0x05, 0x00,
+];
+
+// The text `Hi there` at 5,6 in font 3.
+const NEW_TEXT: [u8; 68] = [
+    0x01, 0x11, 0x20, 0x00, 0x00, 0x80, 0x05, 0x00, 0x00, 0x80, 0x06, 0x00, 0x00, 0x80, 0x00, 0x00,
+    0x00, 0x80, 0x05, 0x00, 0x00, 0x80, 0x06, 0x00, 0x00, 0x80, 0x00, 0x00, 0x00, 0x00, 0x12, 0x00,
+    0x00, 0x00, 0x00, 0x00, 0x03, 0x00, 0x00, 0x00, 0xE8, 0x03, 0x00, 0x00, 0xE8, 0x03, 0x00, 0x00,
+    0x00, 0x00, 0x00, 0x00, 0x05, 0x00, 0x00, 0x00, 0x06, 0x00, 0x08, 0x00, 0x48, 0x69, 0x20, 0x74,
+    0x68, 0x65, 0x72, 0x65,
+];
+
+// A line from 10,10 to 110,60 on level 1.
+const FREED_COPY: [u8; 52] = [
+    0x01, 0x03, 0x18, 0x00, 0x00, 0x80, 0x0A, 0x00, 0x00, 0x80, 0x0A, 0x00, 0x00, 0x80, 0x00, 0x00,
+    0x00, 0x80, 0x6E, 0x00, 0x00, 0x80, 0x3C, 0x00, 0x00, 0x80, 0x00, 0x00, 0x00, 0x00, 0x0A, 0x00,
+    0x00, 0x00, 0x00, 0x00, 0x00, 0x00, 0x0A, 0x00, 0x00, 0x00, 0x0A, 0x00, 0x00, 0x00, 0x6E, 0x00,
+    0x00, 0x00, 0x3C, 0x00,
+];
+
+// The cell moved by 1,1.
+const MOVED_CELL: [u8; 92] = [
+    0x01, 0x02, 0x2C, 0x00, 0x00, 0x80, 0x01, 0x00, 0x00, 0x80, 0x01, 0x00, 0x00, 0x80, 0x00, 0x00,
+    0x00, 0x80, 0x65, 0x00, 0x00, 0x80, 0x33, 0x00, 0x00, 0x80, 0x00, 0x00, 0x00, 0x00, 0x1E, 0x00,
+    0x00, 0x00, 0x00, 0x00, 0x35, 0x00, 0x93, 0x06, 0x00, 0x00, 0x00, 0x00, 0x00, 0x00, 0x00, 0x00,
+    0x00, 0x00, 0x00, 0x00, 0xAA, 0xAA, 0xAA, 0xAA, 0xAA, 0xAA, 0xAA, 0xAA, 0xAA, 0xAA, 0xAA, 0xAA,
+    0xAA, 0xAA, 0xAA, 0xAA, 0xAA, 0xAA, 0xAA, 0xAA, 0xAA, 0xAA, 0xAA, 0xAA, 0xAA, 0xAA, 0xAA, 0xAA,
+    0xAA, 0xAA, 0xAA, 0xAA, 0x00, 0x00, 0x01, 0x00, 0x00, 0x00, 0x01, 0x00,
+];
+
+// The line with bit C, locked.
+const LOCKED_MEMBER: [u8; 52] = [
+    0x81, 0x03, 0x18, 0x00, 0x00, 0x80, 0x00, 0x00, 0x00, 0x80, 0x00, 0x00, 0x00, 0x80, 0x00, 0x00,
+    0x00, 0x80, 0x64, 0x00, 0x00, 0x80, 0x32, 0x00, 0x00, 0x80, 0x00, 0x00, 0x00, 0x00, 0x0A, 0x00,
+    0x00, 0x01, 0x00, 0x00, 0x00, 0x00, 0x00, 0x00, 0x00, 0x00, 0x00, 0x00, 0x00, 0x00, 0x64, 0x00,
+    0x00, 0x00, 0x32, 0x00,
+];
+
+// The same moved by 1,1.
+const MOVED_MEMBER: [u8; 52] = [
+    0x81, 0x03, 0x18, 0x00, 0x00, 0x80, 0x01, 0x00, 0x00, 0x80, 0x01, 0x00, 0x00, 0x80, 0x00, 0x00,
+    0x00, 0x80, 0x65, 0x00, 0x00, 0x80, 0x33, 0x00, 0x00, 0x80, 0x00, 0x00, 0x00, 0x00, 0x0A, 0x00,
+    0x00, 0x01, 0x00, 0x00, 0x00, 0x00, 0x01, 0x00, 0x00, 0x00, 0x01, 0x00, 0x00, 0x00, 0x65, 0x00,
+    0x00, 0x00, 0x33, 0x00,
+];
+
 // Attribute data.
 const DATA: [u8; 4] = [0x00, 0x80, 0x01, 0x00];
 
 const END: [u8; 2] = [0xFF, 0xFF];
+
+// What may stand behind the mark.
+const REST: [u8; 8] = [0; 8];
 
 // So many bytes, all 0.
 fn zeros(alloc: Global, count: usize) -> Result<Vec<u8>, AllocError> {
@@ -434,7 +504,7 @@ fn edits(rt: HostRuntime) -> Result<(), Fail> {
     let none = Status::SomeRefused;
     // Byte 1214, what stands behind the TCB, the script, the status, what is said, and words of OUT by
     // their places; every other byte is IN's.
-    let rows: [(u8, &[&[u8]], &[u8], Status, &[u8], &[(usize, [u8; 4])]); 10] = [
+    let rows: [(u8, &[&[u8]], &[u8], Status, &[u8], &[(usize, [u8; 4])]); 8] = [
         (
             0,
             &[&LINE, &END],
@@ -547,34 +617,126 @@ fn edits(rt: HostRuntime) -> Result<(), Fail> {
         (
             0,
             &[&CELL_OF_81, &MEMBER, &ARC, &END],
-            b"move 1 1 1\nsym 1 4 - -\n",
+            b"move 1 1 1\ncopy 1 1 1\nshow\nsym 1 4 - -\n",
             none,
-            b"refused floating 3\nok\n",
+            b"refused floating 3\nrefused floating 3\n1 0 2 1 0 0 0 cell [ABC       ] 0,0\n2 1 3 1 0 0 0 path 0,0 100,50\n3 1 16 1 0 0 0 box 5,5 9,9\nshown 3\nok\n",
             &[
                 (1568, [0x00, 0x00, 0x00, 0x04]),
                 (1660, [0x00, 0x00, 0x00, 0x04]),
                 (1712, [0x00, 0x00, 0x00, 0x04]),
             ],
         ),
+    ];
+    for (mark, behind, script, status, said, changes) in rows {
+        let out = with_words(design(alloc, mark, behind)?, changes);
+        let files = (design(alloc, mark, behind)?, script);
+        shows(&rt, 512, &EDIT, files, (status, said, Some(out.as_slice())))?;
+    }
+    Ok(())
+}
+
+#[test]
+fn sessions(rt: HostRuntime) -> Result<(), Fail> {
+    let alloc = rt.alloc();
+    let none = Status::SomeRefused;
+    // Byte 1214, what stands behind the TCB, the script, the status, what is said, what stands behind the
+    // TCB of OUT, and words of OUT by their places.
+    let rows: [(
+        u8,
+        &[&[u8]],
+        &[u8],
+        Status,
+        &[u8],
+        &[&[u8]],
+        &[(usize, [u8; 4])],
+    ); 9] = [
+        (
+            0,
+            &[&LINE, &END, &REST],
+            b"line 2 3 1 0 0,0 10,10\n",
+            Status::Done,
+            b"ok\n",
+            &[&LINE, &NEW_LINE, &END, &REST],
+            &[],
+        ),
         (
             0,
             &[&CELL_OF_52, &MEMBER, &END],
-            b"move 1 1 1\nmove 2 1 1\n",
+            b"move 1 1 1\nmove 2 1 1\nline 1 0 0 0 0,0 1,1\ntree 1\n",
             none,
-            b"refused broken 1\nrefused broken 2\n",
+            b"refused broken 1\nrefused broken 2\nok\n1 0 2 1 loose live\ntree 1\n",
+            &[&CELL_OF_52, &MEMBER, &SHORT_LINE, &END],
+            &[],
+        ),
+        (
+            0,
+            &[&CELL_OF_52, &MEMBER, &END],
+            b"line 1 0 0 0 0,0 1,1\ntree 3\nundo\ntree 3\ntree 1\n",
+            none,
+            b"ok\n3 0 3 1 leaf live\ntree 1\nok\nrefused unknown 3\n1 0 2 1 loose live\ntree 1\n",
+            &[&CELL_OF_52, &MEMBER, &END],
+            &[],
+        ),
+        (
+            0x40,
+            &[&END],
+            b"line 1 0 0 0 0,0 1,1\nstring 1 2 3 4 0,0,0 5,5,5\nshow\n",
+            none,
+            b"refused dimension\nok\n1 0 4 1 2 3 4 path 0,0,0 5,5,5\nshown 1\n",
+            &[&NEW_CHAIN, &END],
+            &[],
+        ),
+        (
+            0,
+            &[&END],
+            b"text 1 0 0 0 3 0 1000 1000 5,6 Hi there\nshow\ncopy 1 -5 -6\nundo\n",
+            Status::Done,
+            b"ok\n1 0 17 1 0 0 0 text 5,6 Hi there\nshown 1\nok\nok\n",
+            &[&NEW_TEXT, &END],
             &[],
         ),
         (
             0,
             &[&LINE, &END],
-            b"delete 1\nshow\ndelete 1\n",
+            b"delete 1\nshow\ndelete 1\nundo\nshow\n",
             none,
-            b"ok\nshown 0\nrefused deleted 1\n",
-            &[(1536, [0x01, 0x83, 0x18, 0x00])],
+            b"ok\nshown 0\nrefused deleted 1\nok\n1 0 3 1 0 0 0 path 0,0 100,50\nshown 1\n",
+            &[&LINE, &END],
+            &[],
+        ),
+        (
+            0,
+            &[&LINE, &END],
+            b"delete 1\ncopy 1 0 0\nline 1 0 0 0 0,0 1,1\nundo\nundo\nundo\nshow\n",
+            none,
+            b"ok\nrefused deleted 1\nok\nok\nok\nrefused nothing\n1 0 3 1 0 0 0 path 0,0 100,50\nshown 1\n",
+            &[&LINE, &END],
+            &[],
+        ),
+        (
+            0,
+            &[&CELL, &MEMBER, &END],
+            b"copy 2 10 10\nshow\ndelete 2\nshow\nsym 2 1 - -\ndelete 1\nmove 2 1 1\n",
+            none,
+            b"ok\n1 0 2 1 0 0 0 cell [ABC       ] 0,0\n2 1 3 1 0 0 0 path 0,0 100,50\n3 0 3 1 0 0 0 path 10,10 110,60\nshown 3\nok\n3 0 3 1 0 0 0 path 10,10 110,60\nshown 1\nrefused deleted 2\nok\nrefused deleted 1\n",
+            &[&CELL, &MEMBER, &FREED_COPY, &END],
+            &[
+                (1536, [0x01, 0x82, 0x2C, 0x00]),
+                (1628, [0x81, 0x83, 0x18, 0x00]),
+            ],
+        ),
+        (
+            0,
+            &[&CELL, &LOCKED_MEMBER, &END],
+            b"move 1 1 1\nsym 2 1 - -\ndelete 1\ncopy 1 1 1\ndelete 3\n",
+            none,
+            b"refused locked 2\nrefused locked 2\nrefused locked 2\nok\nrefused locked 4\n",
+            &[&CELL, &LOCKED_MEMBER, &MOVED_CELL, &MOVED_MEMBER, &END],
+            &[],
         ),
     ];
-    for (mark, behind, script, status, said, changes) in rows {
-        let out = with_words(design(alloc, mark, behind)?, changes);
+    for (mark, behind, script, status, said, after, changes) in rows {
+        let out = with_words(design(alloc, mark, after)?, changes);
         let files = (design(alloc, mark, behind)?, script);
         shows(&rt, 512, &EDIT, files, (status, said, Some(out.as_slice())))?;
     }
@@ -657,11 +819,11 @@ fn scripts_that_are_not_run(rt: HostRuntime) -> Result<(), Fail> {
             Status::BadScript,
             b"bad script line 3\n",
         ),
-        (b"color 1 1\nundo\ncolour", Status::Unbuilt, b"unbuilt\n"),
+        (b"undo\nfence\ncolour", Status::Unbuilt, b"unbuilt\n"),
         (
-            b"color 01 1\nundo",
+            b"show\r\nundo\r\n\r\n# x\r\nmove 1 +1 2",
             Status::BadScript,
-            b"bad script line 1\n",
+            b"bad script line 5\n",
         ),
         (b"refs", Status::Unbuilt, b"unbuilt\n"),
     ];

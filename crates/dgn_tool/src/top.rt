@@ -1,14 +1,12 @@
 ghost use Rattle.std.specs.Prelude.{◌≡◌, map, string_bytes, Ok, IfOk, IsNone, IsSome, IfSome, IsTrue};
 ghost use Rattle.dgn_desk.specs.Content.{bytes_of, OnlyLeftDiffers, HasFile};
 ghost use Rattle.dgn_desk.specs.Desk.{Rose};
-ghost use Rattle.dgn_drawing.specs.Rows.{row_of};
-ghost use Rattle.elem_index.specs.Design.{elements, IsWhole};
+ghost use Rattle.elem_index.specs.Design.{IsWhole};
 ghost use Rattle.elem_index.specs.Answers.{opened_of};
-ghost use Rattle.std.specs.List.{AllByRecursion};
-ghost use Rattle.edit_script.specs.Built.{IsBuilt};
+ghost use Rattle.dgn_session.specs.State.{state_of};
 ghost use Rattle.dgn_tool.specs.Request.{request_of};
-ghost use Rattle.dgn_tool.specs.Outcome.{outcome, input_outcome, scripted, script_outcome, told, checked};
-ghost use Rattle.dgn_tool.specs.Outcome.{IsEnding, EndsAs, IsFaultless, HasBoth, HasFiles};
+ghost use Rattle.dgn_tool.specs.Outcome.{outcome, input_outcome, scripted, script_outcome, told_from, checked};
+ghost use Rattle.dgn_tool.specs.Outcome.{IsEnding, EndsAs, StoppedAs, ComesTo, IsFaultless, HasBoth, HasFiles};
 
 use crate::commands::run_all;
 use crate::ending::{end, end_numbered, stopped};
@@ -16,11 +14,10 @@ use crate::opening::{end_bad_design, open_design, read_input};
 use crate::request::{Request, read_words};
 use crate::status::Status;
 use dgn_desk::{Desk, ReadEnd, read_all, write_file};
+use dgn_session::Session;
 use edit_script::{Command, ScriptFault, read_script};
 use elem_index::{Design, count_elements};
-use nest_tree::nest;
-use nest_tree::types::Nest;
-use std::alloc::{AllocError, Global};
+use std::alloc::Global;
 
 // The most bytes that a script may have.
 const MOST_SCRIPT: usize = 1048576;
@@ -31,12 +28,18 @@ const MOST_SCRIPT: usize = 1048576;
 /// `edit IN SCRIPT OUT` reads the design file IN and the script SCRIPT whole, runs the commands of the
 /// script and writes OUT. `check IN` reads IN and says how many elements it has. The files, the texts
 /// and the status are those of `outcome`; `Status` says when each status comes. Where the desk fails, or
-/// there is no memory, the run ends at once and says nothing more. Where the desk doesn't fail, the run
-/// comes to its ending unless there is no memory; and a willing desk doesn't fail, where it has the files
-/// that the run comes to read.
+/// there is no memory, the run ends at once and says nothing more: after WriteFault or Memory some first
+/// part of the outcome's text was said, the file that the outcome writes is as before or holds some first
+/// part of its bytes, and no other file changed. No fault is passed over: an ending comes only where neither
+/// count of faults changed. Where the desk doesn't fail, the run comes to its ending unless there is no
+/// memory; and a willing desk doesn't fail, where it has the files that the run comes to read.
 pub fn run<D: Desk>(alloc: Global, words: &[String], desk: &mut D) -> Status
     ensures outcome { EndsAs result
         (outcome (map string_bytes words.now)) (D.content desk.old) (D.content desk.new) }
+    ensures prefix { StoppedAs result
+        (outcome (map string_bytes words.now)) (D.content desk.old) (D.content desk.new) }
+    ensures counted { IsEnding result → (D.read_faults desk.new ≡ D.read_faults desk.old)
+        × (D.write_faults desk.new ≡ D.write_faults desk.old) }
     ensures usage { result ≡ Status.Usage → IsNone (request_of (map string_bytes words.now)) }
     ensures improper { IsNone (request_of (map string_bytes words.now)) → IsEnding result
         → result ≡ Status.Usage }
@@ -70,8 +73,10 @@ pub fn run<D: Desk>(alloc: Global, words: &[String], desk: &mut D) -> Status
 
 // Reads IN, and says how many elements it has, or what keeps it from being a design file.
 fn check<D: Desk>(alloc: Global, desk: &mut D, input: &str) -> Status
-    ensures outcome { EndsAs result (λ files. input_outcome (bytes_of files input.now) checked)
+    ensures outcome { ComesTo result (λ files. input_outcome (bytes_of files input.now) checked)
         (D.content desk.old) (D.content desk.new) }
+    ensures counted { IsEnding result → (D.read_faults desk.new ≡ D.read_faults desk.old)
+        × (D.write_faults desk.new ≡ D.write_faults desk.old) }
     ensures usage { result ≡ Status.Usage → ⊥ }
     ensures read { result ≡ Status.ReadFault → Rose (D.read_faults desk.old) (D.read_faults desk.new) }
     ensures unread { result ≡ Status.ReadFault → OnlyLeftDiffers (D.content desk.old) (D.content desk.new) }
@@ -90,9 +95,11 @@ fn check<D: Desk>(alloc: Global, desk: &mut D, input: &str) -> Status
 
 // Reads and opens IN, and goes on with it.
 fn edit<D: Desk>(alloc: Global, desk: &mut D, input: &str, script: &str, output: &str) -> Status
-    ensures outcome { EndsAs result
+    ensures outcome { ComesTo result
         (λ files. input_outcome (bytes_of files input.now) (λ d. scripted d (bytes_of files script.now) output.now))
         (D.content desk.old) (D.content desk.new) }
+    ensures counted { IsEnding result → (D.read_faults desk.new ≡ D.read_faults desk.old)
+        × (D.write_faults desk.new ≡ D.write_faults desk.old) }
     ensures usage { result ≡ Status.Usage → ⊥ }
     ensures read { result ≡ Status.ReadFault → Rose (D.read_faults desk.old) (D.read_faults desk.new) }
     ensures unread { result ≡ Status.ReadFault → OnlyLeftDiffers (D.content desk.old) (D.content desk.new) }
@@ -100,25 +107,27 @@ fn edit<D: Desk>(alloc: Global, desk: &mut D, input: &str, script: &str, output:
     ensures able { IsTrue (D.willing desk.old)
         → IfSome (D.content desk.old) (λ c. HasBoth input.now script.now c.files) → IsFaultless result }
 {
-    let mut design = match open_design(alloc, desk, input) {
+    let design = match open_design(alloc, desk, input) {
         Ok(design) => design,
         Err(status) => return status,
     };
-    edit_design(alloc, desk, &mut design, script, output)
+    edit_design(alloc, desk, design, script, output)
 }
 
 // Reads SCRIPT and runs it on the design.
 fn edit_design<D: Desk>(
     alloc: Global,
     desk: &mut D,
-    design: &mut Design,
+    design: Design,
     script: &str,
     output: &str,
 ) -> Status
-    requires { IsWhole design.old }
-    ensures outcome { EndsAs result
-        (λ files. scripted (opened_of design.old) (bytes_of files script.now) output.now)
+    requires { IsWhole design }
+    ensures outcome { ComesTo result
+        (λ files. scripted (opened_of design) (bytes_of files script.now) output.now)
         (D.content desk.old) (D.content desk.new) }
+    ensures counted { IsEnding result → (D.read_faults desk.new ≡ D.read_faults desk.old)
+        × (D.write_faults desk.new ≡ D.write_faults desk.old) }
     ensures usage { result ≡ Status.Usage → ⊥ }
     ensures read { result ≡ Status.ReadFault → Rose (D.read_faults desk.old) (D.read_faults desk.new) }
     ensures unread { result ≡ Status.ReadFault → OnlyLeftDiffers (D.content desk.old) (D.content desk.new) }
@@ -145,65 +154,55 @@ fn edit_design<D: Desk>(
     }
 }
 
-// Nests the elements, and goes on with the commands.
+// Begins a session, and goes on with the commands.
 fn run_script<D: Desk>(
     alloc: Global,
     desk: &mut D,
-    design: &mut Design,
+    design: Design,
     commands: &[Command],
     output: &str,
 ) -> Status
-    requires whole { IsWhole design.old }
-    requires built { AllByRecursion IsBuilt commands.now }
-    ensures outcome { EndsAs result
-        (λ _. script_outcome (opened_of design.old) (Ok commands.now) output.now)
+    requires { IsWhole design }
+    ensures outcome { ComesTo result
+        (λ _. script_outcome (opened_of design) (Ok commands.now) output.now)
         (D.content desk.old) (D.content desk.new) }
+    ensures counted { IsEnding result → (D.read_faults desk.new ≡ D.read_faults desk.old)
+        × (D.write_faults desk.new ≡ D.write_faults desk.old) }
     ensures usage { result ≡ Status.Usage → ⊥ }
     ensures read { result ≡ Status.ReadFault → ⊥ }
     ensures write { result ≡ Status.WriteFault → Rose (D.write_faults desk.old) (D.write_faults desk.new) }
     ensures able { IsTrue (D.willing desk.old) → IsFaultless result }
 {
-    match nesting_of(alloc, design) {
-        Ok(nesting) => finish(alloc, desk, design, &nesting, commands, output),
+    match Session::start(alloc, design) {
+        Ok(mut session) => finish(alloc, desk, &mut session, commands, output),
         Err(_) => Status::Memory,
     }
-}
-
-// The nesting of a design.
-fn nesting_of(alloc: Global, design: &Design) -> Result<Nest, AllocError>
-    requires { IsWhole design.now }
-    ensures { IfOk result (λ t. t.rows ≡ map row_of (elements design.now)) }
-{
-    let rows = design.rows()?;
-    nest(alloc, &rows)
 }
 
 // Runs the commands and writes OUT.
 fn finish<D: Desk>(
     alloc: Global,
     desk: &mut D,
-    design: &mut Design,
-    nesting: &Nest,
+    session: &mut Session,
     commands: &[Command],
     output: &str,
 ) -> Status
-    requires whole { IsWhole design.old }
-    requires nesting { nesting.now.rows ≡ map row_of (elements design.old) }
-    requires built { AllByRecursion IsBuilt commands.now }
-    ensures outcome { EndsAs result
-        (λ _. told (opened_of design.old) commands.now output.now)
+    ensures outcome { ComesTo result
+        (λ _. told_from (state_of session.old) session.old.tail commands.now output.now)
         (D.content desk.old) (D.content desk.new) }
+    ensures counted { IsEnding result → (D.read_faults desk.new ≡ D.read_faults desk.old)
+        × (D.write_faults desk.new ≡ D.write_faults desk.old) }
     ensures usage { result ≡ Status.Usage → ⊥ }
     ensures read { result ≡ Status.ReadFault → ⊥ }
     ensures write { result ≡ Status.WriteFault → Rose (D.write_faults desk.old) (D.write_faults desk.new) }
     ensures able { IsTrue (D.willing desk.old) → IsFaultless result }
 {
-    let refused = match run_all(alloc, desk, design, nesting, commands) {
+    let refused = match run_all(alloc, desk, session, commands) {
         Ok(refused) => refused,
         Err(stop) => return stopped(stop),
     };
-    match write_file(desk, output, &design.body, &design.tail) {
-        Ok(()) if refused => Status::SomeRefused,
+    match write_file(desk, output, session.body(), session.tail()) {
+        Ok(()) if refused > 0 => Status::SomeRefused,
         Ok(()) => Status::Done,
         Err(stop) => stopped(stop),
     }

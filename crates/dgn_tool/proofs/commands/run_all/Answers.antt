@@ -1,8 +1,10 @@
-use Rattle.std.proofs.Common.{◌≡◌, ◌+◌, ◌∷◌, ◌++◌, List, ℕ, drop, ap, ◌∙◌, sym, subst}
+use Rattle.std.proofs.Common.{rules, ◌≡◌, ◌≤◌, ◌+◌, ◌∷◌, ◌++◌, List, ℕ, drop, ap, ◌∙◌, sym, subst}
 use Rattle.std.proofs.lemmas.List.{drop_more, drop_all}
+use Rattle.dgn_session.specs.State.{state_of}
 use Rattle.edit_script.specs.declared.command.Command.{Command}
-use Rattle.dgn_tool.specs.Commands.{text_of}
-use Rattle.dgn_tool.proofs.Ran.{come_to, Ran, ran_more, ran_all}
+use Rattle.dgn_tool.specs.Commands.{text_of, texts_of}
+use Rattle.dgn_tool.specs.Outcome.{SaysFront}
+use Rattle.dgn_tool.proofs.Ran.{Ran, ran_more, ran_part, ran_all, refused_few, on_err}
 use Rattle.dgn_tool.proofs.commands.run_all.Goals as goal
 
 pub commands-preserved : goal.commands-preserved
@@ -11,20 +13,42 @@ commands-preserved g c =
     let split : drop c.commands.command-index c.args.commands.now ≡ command ∷ drop (c.commands.command-index + 1) c.args.commands.now =
     drop_more c.args.commands.now c.commands.command-index command c.commands-test.true
     ∙ ap (λ (x : Command). x ∷ drop (c.commands.command-index + 1) c.args.commands.now) (sym c.command-item.is) in
-    let ran = subst (λ (left : List Command). Ran c.args.nesting.now.rows c.args.commands.now left c.commands.refused c.args.design.now c.commands.design c.commands.mask (g.D.Desk.content c.args.desk.now) (g.D.Desk.content c.commands.desk)) split c.commands.invariant.ran in
+    let ran = subst (λ (left : List Command). Ran c.args.commands.now left c.commands.refused (state_of c.args.session.now) (state_of c.commands.session) (g.D.Desk.content c.args.desk.now) (g.D.Desk.content c.commands.desk)) split c.commands.invariant.ran in
     let did = c.in-Ok.ensures in
     let said = c.in_ok-say_all.ensures in
-    let text : List ℕ = text_of (come_to c.commands.design c.commands.mask) command in
+    let text : List ℕ = text_of (state_of c.commands.session) command in
     let line : c.deref.result.now ≡ text =
-    ◌∙◌ {A = List ℕ} {b = c.run_command.new.out.items} c.deref.ensures.value (◌∙◌ {A = List ℕ} {b = c.clear.new.self.items ++ text} did.text (ap (λ (before : List ℕ). before ++ text) c.clear.ensures.items)) in
+    ◌∙◌ {A = List ℕ} {b = c.answer.new.out.items} c.deref.ensures.value (◌∙◌ {A = List ℕ} {b = c.clear.new.self.items ++ text} did.text (ap (λ (before : List ℕ). before ++ text) c.clear.ensures.items)) in
     record {
-      ran = ran_more c.args.nesting.now.rows c.args.commands.now (drop (c.commands.command-index + 1) c.args.commands.now) command c.commands.refused c.in-Ok.was_refused c.deref.result.now c.args.design.now c.commands.design c.run_command.new.design c.commands.mask c.run_command.new.mask (g.D.Desk.content c.args.desk.now) (g.D.Desk.content c.commands.desk) (g.D.Desk.content c.say_all.new.desk) ran did.state did.whole did.rows did.tail line said.told did.refused;
+      ran = subst (λ (more : ℕ). Ran c.args.commands.now (drop (c.commands.command-index + 1) c.args.commands.now) (c.commands.refused + more) (state_of c.args.session.now) (state_of c.answer.new.s) (g.D.Desk.content c.args.desk.now) (g.D.Desk.content c.say_all.new.desk)) (sym c.from-refused.ensures) (ran_more c.args.commands.now (drop (c.commands.command-index + 1) c.args.commands.now) command c.commands.refused c.in-Ok.was_refused c.deref.result.now (state_of c.args.session.now) (state_of c.commands.session) (state_of c.answer.new.s) (g.D.Desk.content c.args.desk.now) (g.D.Desk.content c.commands.desk) (g.D.Desk.content c.say_all.new.desk) ran did.state line said.told did.refused);
+      tail = did.tail ∙ c.commands.invariant.tail;
       write = said.cause ∙ c.commands.invariant.write;
       read = said.other ∙ c.commands.invariant.read;
+      most = subst (λ (more : ℕ). c.commands.refused + more ≤ c.commands.command-index + 1) (sym c.from-refused.ensures) (refused_few c.commands.refused c.commands.command-index c.in-Ok.was_refused c.commands.invariant.most);
       stays = λ willing. said.stays (c.commands.invariant.stays willing);
     }
 
 pub returns-clause-refused : goal.returns-clause-refused
 returns-clause-refused g c =
-    ran_all c.args.nesting.now.rows c.args.commands.now (drop c.commands.command-index c.args.commands.now) c.commands.refused c.args.design.now c.commands.design c.commands.mask (g.D.Desk.content c.args.desk.now) (g.D.Desk.content c.commands.desk) c.commands.invariant.ran
+    ran_all c.args.commands.now (drop c.commands.command-index c.args.commands.now) c.commands.refused (state_of c.args.session.now) (state_of c.commands.session) (g.D.Desk.content c.args.desk.now) (g.D.Desk.content c.commands.desk) c.commands.invariant.ran
     (drop_all c.commands.command-index c.args.commands.now c.commands-test.false)
+
+pub returns-in_err-say_all-clause-front : goal.returns-in_err-say_all-clause-front
+returns-in_err-say_all-clause-front g c =
+    let command : Command = c.command-item.result in
+    let split : drop c.commands.command-index c.args.commands.now ≡ command ∷ drop (c.commands.command-index + 1) c.args.commands.now =
+    drop_more c.args.commands.now c.commands.command-index command c.commands-test.true
+    ∙ ap (λ (x : Command). x ∷ drop (c.commands.command-index + 1) c.args.commands.now) (sym c.command-item.is) in
+    let ran = subst (λ (left : List Command). Ran c.args.commands.now left c.commands.refused (state_of c.args.session.now) (state_of c.commands.session) (g.D.Desk.content c.args.desk.now) (g.D.Desk.content c.commands.desk)) split c.commands.invariant.ran in
+    let text : List ℕ = text_of (state_of c.commands.session) command in
+    let line : c.deref.result.now ≡ text =
+    ◌∙◌ {A = List ℕ} {b = c.answer.new.out.items} c.deref.ensures.value (◌∙◌ {A = List ℕ} {b = c.clear.new.self.items ++ text} c.in-Ok.ensures.text (ap (λ (before : List ℕ). before ++ text) c.clear.ensures.items)) in
+    let stopped = c.in_err-say_all.ensures.told in
+    on_err c.from_residual.result (SaysFront (texts_of c.args.commands.now (state_of c.args.session.now)) (g.D.Desk.content c.args.desk.now) (g.D.Desk.content c.say_all.new.desk))
+    (ran_part c.args.commands.now (drop (c.commands.command-index + 1) c.args.commands.now) command c.commands.refused stopped.0 c.deref.result.now (state_of c.args.session.now) (state_of c.commands.session) (g.D.Desk.content c.args.desk.now) (g.D.Desk.content c.commands.desk) (g.D.Desk.content c.say_all.new.desk) ran line stopped.2)
+
+pub overflow_add-refused : goal.overflow_add-refused
+overflow_add-refused g c =
+    let few = subst (λ (more : ℕ). c.commands.refused + more ≤ c.commands.command-index + 1) (sym c.from-refused.ensures) (refused_few c.commands.refused c.commands.command-index c.in-Ok.was_refused c.commands.invariant.most) in
+    let below = c.commands-test.true in
+    search rules

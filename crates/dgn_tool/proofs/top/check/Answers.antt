@@ -13,10 +13,9 @@ pub returns-in-Ok-count_elements-clause-outcome : goal.returns-in-Ok-count_eleme
 returns-in-Ok-count_elements-clause-outcome g c =
     let read = c.in-Ok.ensures in
     let count = subst (λ (b : List ℕ). HasCount b c.in-Ok-count_elements.count) c.deref.ensures.value c.in-Ok-count_elements.ensures.count in
-    λ ending.
     through (λ fs. input_outcome (bytes_of fs c.args.input.now) checked) (λ _. ended statuses.Done (numbered (codes "elements ") c.in-Ok-count_elements.count)) c.end_numbered.result (g.D.Desk.content c.args.desk.now) (g.D.Desk.content c.read_input.new.desk) (g.D.Desk.content c.end_numbered.new.desk) read.told
     (counts c.args.input.now c.in-Ok.bytes.items c.in-Ok-count_elements.count (g.D.Desk.content c.args.desk.now) read.whole (items_within c.in-Ok.bytes 67108864 read.within) count)
-    (c.end_numbered.ensures.outcome ending)
+    c.end_numbered.ensures.outcome
 
 pub returns-in-Err-clause-outcome : goal.returns-in-Err-clause-outcome
 returns-in-Err-clause-outcome g c = c.in-Err.ensures.ended (λ _. checked)

@@ -7,10 +7,9 @@ use Rattle.dgn_tool.proofs.top.edit.Goals as goal
 pub returns-clause-outcome : goal.returns-clause-outcome
 returns-clause-outcome g c =
     let opened = c.in-Ok.ensures in
-    λ ending.
     through (λ fs. input_outcome (bytes_of fs c.args.input.now) (λ d. scripted d (bytes_of fs c.args.script.now) c.args.output.now)) (λ fs. scripted (opened_of c.in-Ok.design) (bytes_of fs c.args.script.now) c.args.output.now) c.edit_design.result (g.D.Desk.content c.args.desk.now) (g.D.Desk.content c.open_design.new.desk) (g.D.Desk.content c.edit_design.new.desk) opened.told
     (goes_on c.args.input.now c.args.script.now c.args.output.now (opened_of c.in-Ok.design) (g.D.Desk.content c.args.desk.now) opened.opened)
-    (c.edit_design.ensures.outcome ending)
+    c.edit_design.ensures.outcome
 
 pub returns-clause-unread : goal.returns-clause-unread
 returns-clause-unread g c =
