@@ -2,3 +2,4 @@ pub mod ItemTexts
 pub mod Lines
 pub mod TreeTexts
 pub mod CauseTexts
+pub mod SelectedTexts

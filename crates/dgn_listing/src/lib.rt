@@ -7,11 +7,13 @@
 mod causes;
 mod items;
 mod pieces;
+mod selected;
 mod tree;
 mod tree_line;
 
 pub use causes::write_cause;
 pub use items::write_items;
+pub use selected::write_selected;
 pub use tree::write_tree;
 
 #[cfg(test)]

@@ -1,3 +1,4 @@
 mod causes;
 mod items;
+mod selected;
 mod trees;

@@ -1,7 +1,7 @@
 mod Commas
+mod EachRead
 mod FirstFault
 mod InOrder
 mod Masks
 mod Numerals
 mod Pieces
-mod PointsRead

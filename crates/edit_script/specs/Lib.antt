@@ -4,6 +4,8 @@ pub mod Numbers
 pub mod Levels
 pub mod Points
 pub mod Appends
+pub mod Edits
+pub mod Fences
 pub mod Grammar
 pub mod Script
 pub mod Laws

@@ -7,6 +7,7 @@ use Rattle.dgn_drawing.specs.NewElements.{IsPointFor, ArePoints}
 use Rattle.edit_script.specs.declared.points.PointGiven.{PointGiven}
 use Rattle.edit_script.specs.declared.points.Path.{Path}
 use Rattle.edit_script.specs.Numbers.{signed_within}
+use Rattle.edit_script.specs.Words.{each_named}
 
 -- a number, where it is a coordinate of the design plane
 abbrev pub on_plane : Option ℤ → Option ℤ
@@ -47,16 +48,9 @@ abbrev pub for_axes : ℕ → Option PointGiven → Option (List ℤ)
 for_axes axes None = None
 for_axes axes (Some p) = if p.axes == axes then Some p.at else None
 
--- a point before others, where each is one
-abbrev pub before_points : Option (List ℤ) → Option (List (List ℤ)) → Option (List (List ℤ))
-before_points None more = None
-before_points (Some p) None = None
-before_points (Some p) (Some more) = Some (p ∷ more)
-
 -- the points of these words, where each is given for so many axes
 abbrev pub points_named : ℕ → List (List ℕ) → Option (List (List ℤ))
-points_named axes [] = Some []
-points_named axes (word ∷ words) = before_points (for_axes axes (point_named word)) (points_named axes words)
+points_named axes words = each_named (λ word. for_axes axes (point_named word)) words
 
 -- a path of points, where there are at least and at most so many
 abbrev pub path_of : ℕ → ℕ → ℕ → Option (List (List ℤ)) → Option Path

@@ -1,16 +1,26 @@
-use dgn_drawing::{Edit, Mask};
+use dgn_drawing::{Edit, FenceEdit, Mask, Mode};
+use plane_geom::PtList;
 
 /// What one line of a script asks for. Elements are numbered in file order, from 0.
 #[derive(Drop)]
 pub enum Command {
     /// A change of the drawing.
     Edit(Edit),
+    /// A change of all trees that the fence chooses so.
+    Fenced(Mode, FenceEdit),
     /// Takes back the last edit that was made and isn't taken back yet.
     Undo,
     /// Sets which levels are shown.
     Levels(Mask),
+    /// Sets the fence to the polygon with these corners. Whether they are as many as a fence may have isn't
+    /// asked here.
+    Fence(PtList),
+    /// Clears the fence.
+    NoFence,
     /// Says the items that are shown.
     Show,
     /// Says the elements of the tree of this one, it and all below it.
     Tree(u32),
+    /// Says the numbers of the trees that the fence chooses so.
+    Select(Mode),
 }

@@ -1,7 +1,7 @@
 ghost use Rattle.std.specs.Prelude.{◌≡◌, ◌≤◌, pos, Some, IfSome};
 ghost use Rattle.range_code.specs.Plane.{IsDisplacement};
 ghost use Rattle.edit_script.specs.Words.{words_of};
-ghost use Rattle.edit_script.specs.Grammar.{color_command, given_within, look_named, sym_command, distance_named, shift_of, shift_named, move_command, copy_command, delete_command};
+ghost use Rattle.edit_script.specs.Edits.{color_command, given_within, look_named, sym_command, distance_named, shift_of, shift_named, move_command, copy_command, delete_command};
 
 use crate::command::Command;
 use crate::numbers::{number, signed_number};
@@ -38,7 +38,7 @@ pub fn read_sym(rest: &[u8]) -> Option<Command>
 }
 
 // The look that these bytes give: colour, weight and style.
-fn read_look(rest: &[u8]) -> Option<SymbChange>
+pub fn read_look(rest: &[u8]) -> Option<SymbChange>
     ensures { result ≡ look_named (words_of rest.now) }
 {
     let (color, rest) = next_word(rest)?;
@@ -90,7 +90,7 @@ pub fn read_copy(rest: &[u8]) -> Option<Command>
 }
 
 // The displacement that these bytes give: two numbers or three.
-fn read_shift(rest: &[u8]) -> Option<Shift>
+pub fn read_shift(rest: &[u8]) -> Option<Shift>
     ensures { result ≡ shift_named (words_of rest.now) }
 {
     let (x, rest) = next_word(rest)?;

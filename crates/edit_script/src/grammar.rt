@@ -2,11 +2,14 @@ ghost use Rattle.std.specs.Prelude.{◌≡◌, IfOk};
 ghost use Rattle.std.specs.List.{list_any};
 ghost use Rattle.std.specs.Str.{bytes_eq};
 ghost use Rattle.edit_script.specs.Words.{words_of};
-ghost use Rattle.edit_script.specs.Grammar.{command_of, reading_of, other_reading, undo_command, show_command, tree_command, is_unbuilt_name};
+ghost use Rattle.edit_script.specs.Grammar.{command_of, reading_of, other_reading, fence_reading, undo_command, show_command, tree_command, is_unbuilt_name};
 
 use crate::appends;
 use crate::command::Command;
 use crate::edits::{read_color, read_copy, read_delete, read_move, read_sym};
+use crate::fences::{
+    read_fcopy, read_fdelete, read_fence, read_fmove, read_fsym, read_nofence, read_select,
+};
 use crate::levels::read_levels;
 use crate::numbers::number;
 use crate::reading::Reading;
@@ -14,9 +17,7 @@ use crate::words::{first_piece, next_word, strip_blanks};
 use std::alloc::{AllocError, Global};
 
 // The names of the commands that aren't read yet.
-const UNBUILT_NAMES: [&str; 10] = [
-    "fence", "nofence", "elements", "refs", "links", "select", "fmove", "fcopy", "fsym", "fdelete",
-];
+const UNBUILT_NAMES: [&str; 3] = ["elements", "refs", "links"];
 
 // What a line says.
 pub fn read_line(alloc: Global, line: &[u8]) -> Result<Reading, AllocError>
@@ -42,13 +43,16 @@ fn read_command(alloc: Global, name: &[u8], rest: &[u8]) -> Result<Reading, Allo
         appends::read_shape(alloc, rest)?
     } else if name == b"text".as_slice() {
         appends::read_text(alloc, rest)?
+    } else if name == b"fence".as_slice() {
+        read_fence(alloc, rest)?
     } else {
         return Ok(other_command(name, rest));
     };
     Ok(Reading::asking(command))
 }
 
-// What a line says that begins with this word, which is no name of an append, and goes on with these bytes.
+// What a line says that begins with this word, which is no name of an append and not `fence`, and goes on with these
+// bytes.
 fn other_command(name: &[u8], rest: &[u8]) -> Reading
     ensures { result ≡ other_reading name.now rest.now }
 {
@@ -70,6 +74,27 @@ fn other_command(name: &[u8], rest: &[u8]) -> Reading
         Reading::asking(read_show(rest))
     } else if name == b"tree".as_slice() {
         Reading::asking(read_tree(rest))
+    } else {
+        fence_command(name, rest)
+    }
+}
+
+// What a line says that begins with one of the words that are left, and goes on with these bytes.
+fn fence_command(name: &[u8], rest: &[u8]) -> Reading
+    ensures { result ≡ fence_reading name.now rest.now }
+{
+    if name == b"nofence".as_slice() {
+        Reading::asking(read_nofence(rest))
+    } else if name == b"select".as_slice() {
+        Reading::asking(read_select(rest))
+    } else if name == b"fmove".as_slice() {
+        Reading::asking(read_fmove(rest))
+    } else if name == b"fcopy".as_slice() {
+        Reading::asking(read_fcopy(rest))
+    } else if name == b"fsym".as_slice() {
+        Reading::asking(read_fsym(rest))
+    } else if name == b"fdelete".as_slice() {
+        Reading::asking(read_fdelete(rest))
     } else if is_unbuilt(name) {
         Reading::Unbuilt
     } else {

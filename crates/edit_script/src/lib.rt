@@ -9,6 +9,7 @@ mod appends;
 mod command;
 mod edits;
 mod fault;
+mod fences;
 mod grammar;
 pub mod laws;
 mod levels;

@@ -1,8 +1,8 @@
 // Scripts that are read, scripts that aren't, and the texts of the faults.
 
 use super::*;
-use dgn_drawing::{Edit, New, NewShape, Shift};
-use plane_geom::PointList;
+use dgn_drawing::{Edit, FenceEdit, Mode, New, NewShape, Shift, SymbChange};
+use plane_geom::{PointList, Pt};
 use std::alloc::{AllocError, Global};
 use std::test::Fail;
 
@@ -93,9 +93,9 @@ fn scripts_that_are_not_read(rt: HostRuntime) -> Result<(), Fail> {
     let unbuilt: [(&[u8], u32); 6] = [
         (b"show\nrefs\n\n# x\nmove 1 +1 2\n", 2),
         (b"show\r\nrefs\r\n\r\n# x\r\nmove 1 +1 2\r\n", 2),
-        (b"# x\n\nfcopy 1 +1 2\r\ncolour\n", 3),
-        (b"color 1 1\n fsym inside 3 2 1\n", 2),
-        (b"fence", 1),
+        (b"# x\n\nlinks +1\r\ncolour\n", 3),
+        (b"color 1 1\n elements 3 2 1\n", 2),
+        (b"links", 1),
         (b"color 1 1\nrefs", 2),
     ];
     for (script, line) in unbuilt {
@@ -473,10 +473,167 @@ fn appends_that_are_bad(rt: HostRuntime) -> Result<(), Fail> {
     Ok(())
 }
 
+// How a command's fence chooses, what is done with what it chooses, and the numbers of that: axes and distances, or
+// what is given of a look, with -1 for what isn't.
+fn fenced(command: &Command) -> Option<(Mode, u8, [i64; 4])> {
+    match command {
+        Command::Fenced(mode, FenceEdit::Move(by)) => Some((*mode, 1, distances(by))),
+        Command::Fenced(mode, FenceEdit::Copy(by)) => Some((*mode, 2, distances(by))),
+        Command::Fenced(mode, FenceEdit::Sym(change)) => Some((*mode, 3, given(change))),
+        Command::Fenced(mode, FenceEdit::Delete) => Some((*mode, 4, [0; 4])),
+        Command::Select(mode) => Some((*mode, 5, [0; 4])),
+        _ => None,
+    }
+}
+
+// For how many axes a displacement is given, and how far it goes.
+fn distances(by: &Shift) -> [i64; 4] {
+    [i64::from(by.axes), by.by[0], by.by[1], by.by[2]]
+}
+
+// What is given of a look.
+fn given(change: &SymbChange) -> [i64; 4] {
+    [
+        change.color.map_or(-1, i64::from),
+        change.weight.map_or(-1, i64::from),
+        change.style.map_or(-1, i64::from),
+        0,
+    ]
+}
+
+#[test]
+fn edits_of_fences(rt: HostRuntime) -> Result<(), Fail> {
+    let alloc = rt.alloc();
+    let rows: [(&[u8], Mode, u8, [i64; 4]); 8] = [
+        (b"fmove overlap 1 0", Mode::Overlap, 1, [2, 1, 0, 0]),
+        (
+            b"  fmove  inside 1  -2 3 \r\n",
+            Mode::Inside,
+            1,
+            [3, 1, -2, 3],
+        ),
+        (
+            b"fcopy void 0 4294967295",
+            Mode::Void,
+            2,
+            [2, 0, 4294967295, 0],
+        ),
+        (
+            b"fcopy inside 0 0 -4294967295",
+            Mode::Inside,
+            2,
+            [3, 0, 0, -4294967295],
+        ),
+        (b"fsym inside 5 - -", Mode::Inside, 3, [5, -1, -1, 0]),
+        (b"fsym void - 31 7", Mode::Void, 3, [-1, 31, 7, 0]),
+        (b"fdelete void", Mode::Void, 4, [0, 0, 0, 0]),
+        (b" select overlap ", Mode::Overlap, 5, [0, 0, 0, 0]),
+    ];
+    for (script, mode, what, numbers) in rows {
+        assert!(rt; script.len() <= 1048576);
+        let commands = read_script(alloc, script);
+        assert!(rt; commands.is_ok());
+        if let Ok(commands) = commands {
+            let [command] = commands.as_slice() else {
+                panic!(rt; "not one command");
+            };
+            assert_eq!(rt; fenced(command), Some((mode, what, numbers)));
+        }
+    }
+    Ok(())
+}
+
+#[test]
+fn fences(rt: HostRuntime) -> Result<(), Fail> {
+    let alloc = rt.alloc();
+    let rows: [(&[u8], u32, &[Pt]); 4] = [
+        (
+            b"fence -10,2147483647",
+            0,
+            &[Pt {
+                x: -10,
+                y: 2147483647,
+            }],
+        ),
+        (
+            b"fence 0,0 100,0 100,100 0,100\r\n",
+            0,
+            &[
+                Pt { x: 0, y: 0 },
+                Pt { x: 100, y: 0 },
+                Pt { x: 100, y: 100 },
+                Pt { x: 0, y: 100 },
+            ],
+        ),
+        (b"fence", 2, &[Pt { x: 1, y: 2 }, Pt { x: 1, y: 2 }]),
+        (b"fence", 300, &[]),
+    ];
+    for (head, more, wanted) in rows {
+        let script = line_of(alloc, head, b" 1,2", more)?;
+        assert!(rt; script.len() <= 1048576);
+        let commands = read_script(alloc, &script);
+        assert!(rt; commands.is_ok());
+        if let Ok(commands) = commands {
+            let [Command::Fence(corners)] = commands.as_slice() else {
+                panic!(rt; "another command");
+            };
+            if wanted.is_empty() {
+                assert_eq!(rt; corners.len(), 300);
+            } else {
+                assert!(rt; corners.as_slice() == wanted);
+            }
+        }
+    }
+    let cleared = read_script(alloc, b"nofence \nnofence");
+    assert!(rt; cleared.is_ok());
+    if let Ok(commands) = cleared {
+        assert!(rt; matches!(commands.as_slice(), [Command::NoFence, Command::NoFence]));
+    }
+    Ok(())
+}
+
+#[test]
+fn fences_that_are_bad(rt: HostRuntime) -> Result<(), Fail> {
+    let alloc = rt.alloc();
+    let rows: [&[u8]; 27] = [
+        b"fence",
+        b"fence  \r\n",
+        b"fence 0,0,0",
+        b"fence 0,0 1,1,1",
+        b"fence 0,0 1",
+        b"fence 0,0 1, 1",
+        b"fence 0,0 +1,1",
+        b"fence 0,0 2147483648,0",
+        b"fence 0,0 0,-2147483649",
+        b"fence inside 0,0",
+        b"nofence 1",
+        b"nofence nofence",
+        b"select",
+        b"select Inside",
+        b"select inside void",
+        b"fmove 1 1",
+        b"fmove inside 1",
+        b"fmove inside 1 2 3 4",
+        b"fmove outside 1 1",
+        b"fcopy inside",
+        b"fcopy 1 1 inside",
+        b"fsym inside 1 1",
+        b"fsym inside 1 1 1 1",
+        b"fsym 1 1 1",
+        b"fsym void 256 - -",
+        b"fdelete",
+        b"fdelete voids",
+    ];
+    for script in rows {
+        assert!(rt; script.len() <= 1048576);
+        let fault = read_script(alloc, script).err();
+        assert_eq!(rt; fault, Some(ScriptFault::Line { number: 1 }));
+    }
+    Ok(())
+}
+
 // The names of the commands that aren't read yet.
-const NAMES: [&str; 10] = [
-    "fence", "nofence", "elements", "refs", "links", "select", "fmove", "fcopy", "fsym", "fdelete",
-];
+const NAMES: [&str; 3] = ["elements", "refs", "links"];
 
 #[test]
 fn masks_and_listings(rt: HostRuntime) -> Result<(), Fail> {

@@ -3,12 +3,12 @@ use Rattle.std.specs.List.{AllByRecursion}
 use Rattle.dgn_drawing.specs.NewElements.{IsPointFor}
 use Rattle.edit_script.specs.Words.{words_of}
 use Rattle.edit_script.specs.Points.{points_named}
-use Rattle.edit_script.proofs.PointsRead.{behind_points}
+use Rattle.edit_script.proofs.EachRead.{behind_all}
 use Rattle.edit_script.proofs.points.read_points.Given as goal
 
 abbrev pub invariant-words : goal.invariant-words
 invariant-words l = record {
-  reads : behind_points l.points (points_named l.axes (words_of l.left)) ≡ points_named l.axes (words_of l.words);
+  reads : behind_all l.points (points_named l.axes (words_of l.left)) ≡ points_named l.axes (words_of l.words);
   fits : AllByRecursion (IsPointFor l.axes) l.points;
 }
 
