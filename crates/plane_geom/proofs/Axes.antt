@@ -11,7 +11,7 @@ use Rattle.plane_geom.proofs.Readings.{Reads, number, itself, plus, minus, times
 pub blocked : {A B : Type 0} (t : Bool) → t ≡ false → (A → IsTrue t) → (B → A) → (IsTrue false → B) × (B → IsTrue false)
 blocked t e f g = (λ h. absurd (true≢false (sym h)), λ y. sym e ∙ f (g y))
 
-compared : (a b : ℤ) → (IsTrue (int_le a b) → a ≤ℤ b) × (a ≤ℤ b → IsTrue (int_le a b))
+pub compared : (a b : ℤ) → (IsTrue (int_le a b) → a ≤ℤ b) × (a ≤ℤ b → IsTrue (int_le a b))
 compared a b = (λ t. omega (arith, ints), λ h. grind (arith, ints))
 
 -- the test of two numbers that fit is the order of what they are

@@ -12,19 +12,19 @@ use Rattle.plane_geom.proofs.Axes.{along_reads, overlaps}
 
 -- ---- readings
 
-way : (a b : ℤ) → Reads (b -ℤ a) (up b + down a) (down b + up a)
+pub way : (a b : ℤ) → Reads (b -ℤ a) (up b + down a) (down b + up a)
 way a b = minus (itself b) (itself a)
 
-abbrev more : ℤ → ℤ → ℤ → ℤ → ℕ
+abbrev pub more : ℤ → ℤ → ℤ → ℤ → ℕ
 more a b c d = (up b + down a) * (up d + down c) + (down b + up a) * (down d + up c)
 
-abbrev less : ℤ → ℤ → ℤ → ℤ → ℕ
+abbrev pub less : ℤ → ℤ → ℤ → ℤ → ℕ
 less a b c d = (up b + down a) * (down d + up c) + (down b + up a) * (up d + down c)
 
-ways : (a b c d : ℤ) → Reads ((b -ℤ a) *ℤ (d -ℤ c)) (more a b c d) (less a b c d)
+pub ways : (a b c d : ℤ) → Reads ((b -ℤ a) *ℤ (d -ℤ c)) (more a b c d) (less a b c d)
 ways a b c d = times (way a b) (way c d)
 
-turn_reads : (a b p : Pt) → Reads (turn a b p) (more a.x b.x a.y p.y + less a.y b.y a.x p.x) (less a.x b.x a.y p.y + more a.y b.y a.x p.x)
+pub turn_reads : (a b p : Pt) → Reads (turn a b p) (more a.x b.x a.y p.y + less a.y b.y a.x p.x) (less a.x b.x a.y p.y + more a.y b.y a.x p.x)
 turn_reads a b p = minus (ways a.x b.x a.y p.y) (ways a.y b.y a.x p.x)
 
 -- ---- symmetries

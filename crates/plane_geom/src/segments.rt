@@ -1,8 +1,9 @@
 // Whether two segments have a point in common.
 
-ghost use Rattle.std.specs.Prelude.{◌↔◌, IsTrue};
+ghost use Rattle.std.specs.Prelude.{◌≡◌, ◌↔◌, IsTrue};
 ghost use Rattle.plane_geom.specs.Turns.{turn};
 ghost use Rattle.plane_geom.specs.Segments.{Touch};
+ghost use Rattle.plane_geom.specs.Touches.{touches};
 ghost use Rattle.plane_geom.specs.Tests.{Split, Overlap, BoxesMeet};
 
 use crate::orientation::side;
@@ -11,7 +12,8 @@ use crate::pt::Pt;
 /// Whether the closed segments from `p` to `q` and from `r` to `s` have a common point, which need
 /// not be one of whole coordinates. A segment may be one point.
 pub fn touch(p: Pt, q: Pt, r: Pt, s: Pt) -> bool
-    ensures { IsTrue result ↔ Touch p q r s }
+    ensures common { IsTrue result ↔ Touch p q r s }
+    ensures computed { result ≡ touches p q r s }
 {
     if !boxes_meet(p, q, r, s) {
         return false;
