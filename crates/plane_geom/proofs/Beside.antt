@@ -164,15 +164,15 @@ unmet_untouched p q r s e = rw e refl
 apart : (low high other_low other_high : Pt) → lies_apart low high other_low other_high ≡ true → ((high.x <ℤ other_low.x) ⊎ (other_high.x <ℤ low.x)) ⊎ ((high.y <ℤ other_low.y) ⊎ (other_high.y <ℤ low.y))
 unfolding lies_apart
 apart low high l h e =
-    elim (or_cases (int_lt high.x l.x || int_lt h.x low.x || int_lt high.y l.y) (int_lt h.y low.y) e) [
-    inl f ↦ elim (or_cases (int_lt high.x l.x || int_lt h.x low.x) (int_lt high.y l.y) f) [
-      inl g ↦ elim (or_cases (int_lt high.x l.x) (int_lt h.x low.x) g) [
-        inl k ↦ inl (inl ((below _ _).0 k))
-        | inr k ↦ inl (inr ((below _ _).0 k))
-      ]
-      | inr g ↦ inr (inl ((below _ _).0 g))
+    elim (or_cases (int_lt high.x l.x || int_lt h.x low.x) (int_lt high.y l.y || int_lt h.y low.y) e) [
+    inl f ↦ elim (or_cases (int_lt high.x l.x) (int_lt h.x low.x) f) [
+      inl g ↦ inl (inl ((below _ _).0 g))
+      | inr g ↦ inl (inr ((below _ _).0 g))
     ]
-    | inr f ↦ inr (inr ((below _ _).0 f))
+    | inr f ↦ elim (or_cases (int_lt high.y l.y) (int_lt h.y low.y) f) [
+      inl g ↦ inr (inl ((below _ _).0 g))
+      | inr g ↦ inr (inr ((below _ _).0 g))
+    ]
     ]
 
 unmet : (p q r s : Pt) → (BoxesMeet p q r s → ⊥) → boxes_meet p q r s ≡ false

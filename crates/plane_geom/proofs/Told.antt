@@ -1,5 +1,6 @@
 -- The test of two segments is that they have a common point.
-use Rattle.std.proofs.Common.{◌≡◌, Bool, true, false, not, ◌&&◌, ◌||◌, IsTrue, ◌↔◌, inl, inr, refl, sym, ◌∙◌, arith, ℤ, pos, ◌<ℤ◌, ◌≤ℤ◌, int_lt, int_le}
+use Rattle.std.proofs.Common.{◌≡◌, Bool, true, false, not, ◌&&◌, ◌||◌, IsTrue, ◌↔◌, inl, inr, refl, sym, ◌∙◌, arith, ℤ, pos, ◌<ℤ◌, ◌≤ℤ◌, int_lt, int_le, nat_eq, w8, of_z}
+use Rattle.std.specs.Int.{int_signum}
 use Rattle.std.proofs.lemmas.Int.{by_lt_z}
 use Rattle.std.proofs.lemmas.Bool.{true≢false, cases_Bool, and_parts, and_from, or_cases}
 use borrow.Author.Differences.{ints}
@@ -8,6 +9,7 @@ use Rattle.plane_geom.specs.Turns.{turn}
 use Rattle.plane_geom.specs.Segments.{Touch}
 use Rattle.plane_geom.specs.Tests.{Split, Overlap, BoxesMeet}
 use Rattle.plane_geom.specs.Touches.{intervals_meet, boxes_meet, on_one_side, touches}
+use Rattle.plane_geom.proofs.Signs.{zero_splits, unequal_splits}
 use Rattle.plane_geom.proofs.Axes.{compared}
 use Rattle.plane_geom.proofs.Touching as touching
 
@@ -77,3 +79,19 @@ told p q r s =
           (and_from (boxes_meet p q r s) _ ((boxes_told p q r s).1 (touching.boxes p q r s t)) (at_first.1 (touching.splits_second p q r s t)))
           (at_second.1 (touching.splits_second r s p q (touching.exchanged p q r s t))),
     )
+
+-- ---- signs kept in a byte
+
+unnegated : (a b : Bool) → not a ≡ not b → a ≡ b
+unnegated true true e = refl
+unnegated true false e = absurd (true≢false (sym e))
+unnegated false true e = absurd (true≢false e)
+unnegated false false e = refl
+
+-- two signs of which the first isn't 0 are equal where their numbers lie on one side
+pub equal_signs : (m n r t : ℤ) → r ≡ int_signum m → t ≡ int_signum n → (of_z w8 r ≡ 0 → ⊥) → nat_eq (of_z w8 r) (of_z w8 t) ≡ on_one_side m n
+equal_signs m n r t e f g = unnegated _ _ (same_test _ _ (unequal_splits m n r t e f g) (sides_told m n))
+
+-- and a sign of 0 is that of a number on no side
+pub no_sign : (m n r : ℤ) → r ≡ int_signum m → of_z w8 r ≡ 0 → false ≡ on_one_side m n
+no_sign m n r e f = unnegated _ _ (same_test _ _ (let h = zero_splits m n r e f in (λ t. h.0 (rw f refl), λ s. refl)) (sides_told m n))

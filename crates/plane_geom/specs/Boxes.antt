@@ -19,7 +19,7 @@ AreInBox low high ps = AllByRecursion (IsInBox low high) ps
 -- whether one of two boxes lies left of the other, right of it, below it or above it
 unfoldable pub lies_apart : Pt → Pt → Pt → Pt → Bool
 lies_apart low high other_low other_high =
-    int_lt high.x other_low.x || int_lt other_high.x low.x || int_lt high.y other_low.y || int_lt other_high.y low.y
+    (int_lt high.x other_low.x || int_lt other_high.x low.x) || (int_lt high.y other_low.y || int_lt other_high.y low.y)
 
 -- the two corners that are neither the low nor the high one
 abbrev pub low_right : Pt → Pt → Pt

@@ -1,0 +1,3 @@
+pub mod Segments
+pub mod Held
+pub mod Misses

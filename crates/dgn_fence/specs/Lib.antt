@@ -1,0 +1,4 @@
+pub mod Segments
+pub mod Taken
+pub mod Selected
+pub mod Limits

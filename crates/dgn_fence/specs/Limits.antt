@@ -1,0 +1,66 @@
+-- Bounds of points: a box by its low and its high corner. Contracts of private functions alone cite this.
+use Rattle.std.specs.Prelude.{ℕ, ◌≡◌, ◌≤◌, int_le, Bool, not, ◌&&◌, ◌||◌, if◌then◌else◌, Option, Some, None, List, [], ◌∷◌, length, map}
+use Rattle.std.specs.List.{fold}
+use Rattle.std.specs.Int.{int_min, int_max}
+use Rattle.range_code.specs.declared.Box3.{Box3}
+use Rattle.plane_geom.specs.declared.pt.Pt.{Pt}
+use Rattle.plane_geom.specs.Boxes.{lies_apart, lies_beside}
+use Rattle.dgn_drawing.specs.declared.types.item.Item.{Item}
+use Rattle.dgn_drawing.specs.declared.types.item_body.ItemBody.{ItemBody}
+use Rattle.dgn_fence.specs.declared.bounds.Bounds.{Bounds}
+use Rattle.dgn_fence.specs.Segments.{flat}
+
+-- those of one point
+abbrev pub at : Pt → Bounds
+at p = record { low = p; high = p }
+
+-- on each axis the lesser and the greater number of two points
+abbrev pub least : Pt → Pt → Pt
+least p q = record { x = int_min p.x q.x; y = int_min p.y q.y }
+
+abbrev pub greatest : Pt → Pt → Pt
+greatest p q = record { x = int_max p.x q.x; y = int_max p.y q.y }
+
+-- those of a point more
+abbrev pub grown : Bounds → Pt → Bounds
+grown b p = record { low = least b.low p; high = greatest b.high p }
+
+-- those of some points, if there are any
+abbrev pub bounds_of : List Pt → Option Bounds
+bounds_of [] = None
+bounds_of (p ∷ points) = Some (fold grown (at p) points)
+
+-- those of the segments of an item, if it has any
+abbrev pub body_bounds : Box3 → ItemBody → Option Bounds
+body_bounds range (ItemBody.Path points) = bounds_of (map flat points)
+body_bounds range (ItemBody.Text origin chars) = Some (grown (at (flat range.lo)) (flat range.hi))
+body_bounds range ItemBody.Boxed = Some (grown (at (flat range.lo)) (flat range.hi))
+body_bounds range (ItemBody.Cell name origin) = None
+body_bounds range (ItemBody.Node origin) = None
+body_bounds range ItemBody.Group = None
+
+abbrev pub extent_of : Item → Option Bounds
+extent_of item = body_bounds item.range item.body
+
+-- whether bounds hold a point
+abbrev pub is_held : Bounds → Pt → Bool
+is_held b p = (int_le b.low.x p.x && int_le p.x b.high.x) && (int_le b.low.y p.y && int_le p.y b.high.y)
+
+-- whether bounds lie apart from others, and whether all that they hold misses the edge from r to s: the bounds of the
+-- edge lie apart, or the bounds lie beside its line
+abbrev pub is_apart : Bounds → Bounds → Bool
+is_apart a b = lies_apart a.low a.high b.low b.high
+
+abbrev pub misses : Bounds → Pt → Pt → Bool
+misses b r s = is_apart b (grown (at r) s) || lies_beside b.low b.high r s
+
+-- those that lie apart from others count for nothing
+abbrev pub unless_apart : Bounds → Option Bounds → Option Bounds
+unless_apart other None = None
+unless_apart other (Some b) = if is_apart b other then None else Some b
+
+-- what a fence keeps: 3 to 256 corners, and their bounds
+pub record IsFence (corners : List Pt) (bounds : Bounds) : Type 0 where
+  pub least : 3 ≤ length corners
+  pub most : length corners ≤ 256
+  pub bounded : bounds_of corners ≡ Some bounds

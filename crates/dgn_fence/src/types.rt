@@ -1,0 +1,5 @@
+//! The fence.
+
+mod fence;
+
+pub use fence::Fence;
