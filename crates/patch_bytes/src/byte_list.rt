@@ -45,6 +45,14 @@ impl ByteList {
         Ok(())
     }
 
+    /// Adds the bytes of `other` at the end. Where there is no memory for them, the list stays as it was.
+    pub fn push_all(&mut self, other: &ByteList) -> Result<(), AllocError>
+        ensures ok { OnOk result (self.new ≡ self.old ++ other.now) }
+        ensures err { OnErr result (self.new ≡ self.old) }
+    {
+        self.kept.extend_from_slice(&other.kept)
+    }
+
     /// The number of bytes.
     pub fn len(&self) -> usize
         ensures { result ≡ length self.now }
