@@ -260,7 +260,7 @@ widens dim es rest n by is =
     none_first dim tests.Widens (above_tree es n) each.1.1.0
 
 -- what is done has no cause, and leaves the elements of the changed trees
-done_unless : (c : Option Cause) (left made : List Element) → unless c left ≡ Done made → (c ≡ None) × (made ≡ left)
+pub done_unless : (c : Option Cause) (left made : List Element) → unless c left ≡ Done made → (c ≡ None) × (made ≡ left)
 done_unless None left made is = let x = is in (refl, cc)
 done_unless (Some c) left made is = absurd (let x = is in cc)
 

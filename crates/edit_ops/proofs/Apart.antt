@@ -30,7 +30,7 @@ use Rattle.edit_ops.proofs.InPlace.{IsInPlace, in_place, named_written}
 use Rattle.edit_ops.proofs.Spread.{LiesBetween, LieInTree, lie_in_tree}
 
 -- the fields of puts that rise do so
-fields_rise : (m : ℕ) (ps : List Put) (n : ℕ) → Span n ps m → Rise n (map field_of ps) m
+pub fields_rise : (m : ℕ) (ps : List Put) (n : ℕ) → Span n ps m → Rise n (map field_of ps) m
 fields_rise m [] n span = span
 fields_rise m (p ∷ ps) n span = (span.0, fields_rise m ps (p.at + length p.bytes) span.1)
 

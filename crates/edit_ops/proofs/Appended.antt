@@ -90,6 +90,12 @@ pub some_element : (es : List Element) → BeginsWithTcb es → 0 < length es
 some_element [] first = absurd first
 some_element (e ∷ es) first = omega arith
 
+-- a file that isn't too long with so many more bytes
+pub short_left : (body rest more : ℕ) → too_long (body + rest + more) ≡ None → body + (rest + more) ≤ 67108864
+short_left body rest more short =
+    let few : body + rest + more ≤ 67108864 = ltb-false 67108864 _ (unmet (nat_lt 67108864 (body + rest + more)) causes.TooLong short) in
+    omega arith
+
 -- an edit that leaves the elements and others behind them
 module _ (dim : ℕ) (es more : List Element) (e : Edit) (fields : edited_fields dim es e ≡ []) where
   -- their bytes
@@ -117,8 +123,7 @@ module _ (dim : ℕ) (es more : List Element) (e : Edit) (fields : edited_fields
   pub appended_fits : (rest : ℕ) → length (spelling more) ≡ bytes_appended es e → too_long (length (spelling es) + rest + bytes_appended es e) ≡ None
       → length (spelling (es ++ more)) + rest ≤ 67108864
   appended_fits rest long short =
-      let few : length (spelling es) + rest + bytes_appended es e ≤ 67108864 =
-      ltb-false 67108864 _ (unmet (nat_lt 67108864 (length (spelling es) + rest + bytes_appended es e)) causes.TooLong short) in
+      let few = short_left (length (spelling es)) rest (bytes_appended es e) short in
       let all : length (spelling (es ++ more)) ≡ length (spelling es) + length (spelling more) = ap (length {A = ℕ}) whole ∙ length-append (spelling es) (spelling more) in
       omega (arith, few, all, long)
 

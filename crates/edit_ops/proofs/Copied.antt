@@ -80,7 +80,7 @@ module _ (dim : ℕ) where
       ap (λ (b : ℕ). b ∷ (second_byte h ∷ ((word_bytes (length (body_bytes h.body) / 2) ++ body_bytes h.body) ++ spelling (flat below ++ flat behind)))) (byte_freed h.level h.bit6 h.cbit good.0.level)
 
 -- it begins without bit C
-freed_first : (f : Forest Element) → BeginsFree row_of (flat (head_freed f))
+pub freed_first : (f : Forest Element) → BeginsFree row_of (flat (head_freed f))
 freed_first NoTree = tt
 freed_first (Tree knot h below behind) = refl
 
@@ -114,7 +114,7 @@ module _ (dim : ℕ) (axes : IsDimension dim) (es : List Element) (e : Edit) (n 
   changed_looks = live_looks (change_of dim e) n (offset_of es n) part
       (all_so (λ v. IsPut dim e v.element) (λ v. row_of (change_of dim e v.element) ≡ row_of v.element) (λ v is. is.row) (live_tree es n) each_put)
 
-  copied_good : AllByRecursion (IsWellFormed dim) (flat (copied dim es e n))
+  pub copied_good : AllByRecursion (IsWellFormed dim) (flat (copied dim es e n))
   copied_good = freed_each dim changed changed_good
 
   -- the copy is as long as the part
@@ -141,7 +141,7 @@ module _ (dim : ℕ) (axes : IsDimension dim) (es : List Element) (e : Edit) (n 
 
   module _ (known : n < length es) (later : 0 < n) (head : Element) (there : slice_get es n ≡ Some head) (spots : has_spots (class_of head.kind) ≡ true) where
     -- the copy nests behind the drawing as the copied part
-    copied_nests : forest row_of (es ++ flat (copied dim es e n)) ≡ joined (forest row_of es) (copied dim es e n)
+    pub copied_nests : forest row_of (es ++ flat (copied dim es e n)) ≡ joined (forest row_of es) (copied dim es e n)
     copied_nests =
         let p : IsPlaced es n = placed es n known in
         let left : drop n es ≡ (p.head ∷ flat p.below) ++ p.behind = ap (drop n) p.parts ∙ drop_at p.front ((p.head ∷ flat p.below) ++ p.behind) n p.count in
@@ -166,7 +166,7 @@ copy_leaves dim es n by =
     flat-joined (forest row_of es) (copied dim es (edit.Copy n by) n) ∙ ap (λ (l : List Element). l ++ flat (copied dim es (edit.Copy n by) n)) (flat-forest row_of es)
 
 -- a copy that isn't refused leaves a file that isn't too long
-copy_short : (dim : ℕ) (es : List Element) (rest n : ℕ) (by : Displacement) → cause_of dim es rest (edit.Copy n by) ≡ None
+pub copy_short : (dim : ℕ) (es : List Element) (rest n : ℕ) (by : Displacement) → cause_of dim es rest (edit.Copy n by) ≡ None
     → too_long (length (spelling es) + rest + bytes_appended es (edit.Copy n by)) ≡ None
 copy_short dim es rest n by none =
     let causes = (named_cause dim es rest (edit.Copy n by) n refl none).2 in

@@ -29,7 +29,7 @@ use Rattle.edit_ops.proofs.Holding.{IsAbovePut, above_put, above_fields_put}
 use Rattle.edit_ops.proofs.Exchanged.{above_turned}
 
 -- what a text has where puts were laid fills their fields
-filled_reads : (text : List ℕ) (ps : List Put) → map (old_of text) ps ≡ filled text (map field_of ps)
+pub filled_reads : (text : List ℕ) (ps : List Put) → map (old_of text) ps ≡ filled text (map field_of ps)
 unfolding old_of
 filled_reads text [] = refl
 filled_reads text (p ∷ ps) = ap (λ (qs : List Put). old_of text p ∷ qs) (filled_reads text ps)

@@ -18,7 +18,7 @@ use Rattle.dgn_drawing.specs.Spelling.{spell, spelling}
 use Rattle.dgn_drawing.specs.WellFormed.{IsDimension, IsWellFormed}
 use Rattle.dgn_drawing.specs.Rows.{row_of}
 use Rattle.dgn_drawing.specs.Nesting.{Leaf, All, Forest, NoTree, Tree, flat, nest, forest, BeginsFree}
-use Rattle.dgn_drawing.specs.Opening.{dimension, BeginsWithTcb, Opens}
+use Rattle.dgn_drawing.specs.Opening.{dimension, IsTcb, BeginsWithTcb, Opens}
 use Rattle.edit_ops.specs.Trees.{live_map, live_tree, above_tree, exchange}
 use Rattle.edit_ops.specs.Causes.{target_of, cause_of, bytes_appended}
 use Rattle.edit_ops.specs.Applying.{Done, apply, change_of, above_change, altered, changed_forest, IsEdit}
@@ -36,9 +36,21 @@ use Rattle.edit_ops.proofs.Accepted.{IsAccepted, accepted, done_is, done_without
 use Rattle.edit_ops.proofs.Appended.{tcb_long, same_dimension}
 
 -- a list of elements that begins with this one
-record BeginsWith (x : Element) (made : List Element) : Type 0 where
-  behind : List Element
-  is : made ≡ x ∷ behind
+pub record BeginsWith (x : Element) (made : List Element) : Type 0 where
+  pub behind : List Element
+  pub is : made ≡ x ∷ behind
+
+-- what begins with the TCB of a drawing has its dimension
+pub begins_as : (dim : ℕ) (x : Element) (xs made : List Element) (t : List ℕ) → IsDimension dim → IsWellFormed dim x → IsTcb x → BeginsWith x made
+    → BeginsWithTcb made × (dimension (spelling made ++ t) ≡ dimension (spelling (x ∷ xs) ++ t))
+begins_as dim x xs made t axes good first begins =
+    let long : 1214 < length (spell x) = omega (arith, tcb_long dim x axes good first) in (
+      subst BeginsWithTcb (sym begins.is) first,
+      ap (λ (es : List Element). dimension (spelling es ++ t)) begins.is
+          ∙ ap dimension (append_assoc (spell x) (spelling begins.behind) t)
+          ∙ same_dimension (spell x) (spelling begins.behind ++ t) (spelling xs ++ t) long
+          ∙ ap dimension (sym (append_assoc (spell x) (spelling xs) t)),
+    )
 
 -- a change of a later element and of the headers above it leaves the first element
 first_stays : (x : Element) (xs : List Element) (n : ℕ) (above : Element → Element) (other : Forest Element → Forest Element) → 0 < n → BeginsWith x (flat (exchange above other n (forest row_of (x ∷ xs))))
@@ -55,18 +67,10 @@ begins_same : (dim : ℕ) (es : List Element) (n : ℕ) (above : Element → Ele
     → BeginsWithTcb (flat (exchange above other n (forest row_of es))) × (dimension (spelling (flat (exchange above other n (forest row_of es))) ++ t) ≡ dimension (spelling es ++ t))
 begins_same dim [] n above other t axes each first later = absurd first
 begins_same dim (x ∷ xs) n above other t axes each first later =
-    let made : List Element = flat (exchange above other n (forest row_of (x ∷ xs))) in
-    let begins = first_stays x xs n above other later in
-    let long : 1214 < length (spell x) = omega (arith, tcb_long dim x axes each.0 first) in (
-      subst BeginsWithTcb (sym begins.is) first,
-      ap (λ (es : List Element). dimension (spelling es ++ t)) begins.is
-          ∙ ap dimension (append_assoc (spell x) (spelling begins.behind) t)
-          ∙ same_dimension (spell x) (spelling begins.behind ++ t) (spelling xs ++ t) long
-          ∙ ap dimension (sym (append_assoc (spell x) (spelling xs) t)),
-    )
+    begins_as dim x xs (flat (exchange above other n (forest row_of (x ∷ xs)))) t axes each.0 first (first_stays x xs n above other later)
 
 -- a byte in no field is held by no put
-held_by_none : (k : ℕ) (ps : List Put) → AllByRecursion (λ f. ¬ IsIn f k) (map field_of ps) → AllByRecursion (λ p. Holds p k → ⊥) ps
+pub held_by_none : (k : ℕ) (ps : List Put) → AllByRecursion (λ f. ¬ IsIn f k) (map field_of ps) → AllByRecursion (λ p. Holds p k → ⊥) ps
 held_by_none k [] none = tt
 held_by_none k (p ∷ ps) none = ((λ held. none.0 (record { from = held.from; below = held.below })), held_by_none k ps none.1)
 

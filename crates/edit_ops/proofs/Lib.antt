@@ -32,3 +32,10 @@ pub mod Wider
 pub mod Worked
 pub mod Made
 pub mod Listed
+pub mod Members
+pub mod Chosen
+pub mod Copies
+pub mod Together
+pub mod Fenced
+pub mod Joined
+pub mod Choosing

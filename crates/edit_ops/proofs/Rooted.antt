@@ -21,7 +21,7 @@ use Rattle.edit_ops.proofs.Listed.{or_assoc, cause_both, cause_alone}
 pub marks_by_rows : (es : List Element) → marks_of (forest row_of es) ≡ marks_of (forest itself (map row_of es))
 marks_by_rows es = sym (marks-map row_of (forest row_of es) 0 0 None) ∙ ap (λ (f : Forest Row). marks_of f) (forest_rows row_of es)
 
-mark_by_rows : (es : List Element) (n : ℕ) → mark_of row_of es n ≡ mark_of itself (map row_of es) n
+pub mark_by_rows : (es : List Element) (n : ℕ) → mark_of row_of es n ≡ mark_of itself (map row_of es) n
 mark_by_rows es n = ap (λ (ms : List Mark). slice_get ms n) (marks_by_rows es)
 
 -- so the same of them are broken

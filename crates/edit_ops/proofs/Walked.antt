@@ -49,7 +49,7 @@ numbers-joined (Tree knot e below behind) g n at is =
     ∙ sym (append_assoc (cond e.deleted [] (n ∷ numbers below (n + 1))) (numbers behind (end_of n below)) (numbers g at))
 
 -- and so do the ends
-ends-joined : {A : Type 0} (f g : Forest A) (n at : ℕ) → at ≡ n + length (flat f) → ends (joined f g) n ≡ ends f n ++ ends g at
+pub ends-joined : {A : Type 0} (f g : Forest A) (n at : ℕ) → at ≡ n + length (flat f) → ends (joined f g) n ≡ ends f n ++ ends g at
 ends-joined NoTree g n at is = let e : n ≡ at = omega arith in ap (ends g) e
 ends-joined (Tree knot h below behind) g n at is =
     let rest = ends-joined behind g (end_of n below) at (omega (arith, length-append (flat below) (flat behind))) in

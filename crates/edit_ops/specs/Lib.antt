@@ -3,7 +3,9 @@ pub mod Causes
 pub mod Applying
 pub mod Fields
 pub mod Written
+pub mod Fenced
 pub mod Found
 pub mod Asking
 pub mod Planned
 pub mod Laws
+pub mod FenceLaws

@@ -1,6 +1,7 @@
 -- What the answer of a plan says.
 use Rattle.std.specs.Prelude.{ℕ, ◌≡◌, List, length, drop}
 use Rattle.dgn_drawing.specs.declared.edit.Edit.{Edit}
+use Rattle.dgn_drawing.specs.declared.fence_edit.FenceEdit.{FenceEdit}
 use Rattle.dgn_drawing.specs.Element.{Element}
 use Rattle.dgn_drawing.specs.Spelling.{spelling}
 use Rattle.edit_ops.specs.declared.edit_fault.EditFault.{EditFault}
@@ -8,6 +9,7 @@ use Rattle.edit_ops.specs.declared.edit_fault.EditFault.TheVariants as faults
 use Rattle.edit_ops.specs.declared.types.plan.Plan.{Plan}
 use Rattle.edit_ops.specs.Applying.{Applied, Done, Refused, apply}
 use Rattle.edit_ops.specs.Fields.{edited_fields, filled}
+use Rattle.edit_ops.specs.Fenced.{apply_all, fenced_fields}
 
 -- the edit is done, and the plan is its fields with the bytes that the result has there, and the bytes of the
 -- result behind the old length
@@ -15,6 +17,13 @@ pub record IsPlan (dim : ℕ) (es : List Element) (rest : ℕ) (e : Edit) (p : P
   pub made : List Element
   pub done : apply dim es rest e ≡ Done made
   pub patches : p.patches ≡ filled (spelling made) (edited_fields dim es e)
+  pub append : p.append ≡ drop (length (spelling es)) (spelling made)
+
+-- the same of an edit of these roots
+pub record IsFencePlan (dim : ℕ) (es : List Element) (rest : ℕ) (e : FenceEdit) (ns : List ℕ) (p : Plan) : Type 0 where
+  pub made : List Element
+  pub done : apply_all dim es rest e ns ≡ Done made
+  pub patches : p.patches ≡ filled (spelling made) (fenced_fields dim es e ns)
   pub append : p.append ≡ drop (length (spelling es)) (spelling made)
 
 -- the edit is refused with the cause that is told; want of memory says nothing of it

@@ -1,6 +1,7 @@
 //! What holds of every edit. Each call does nothing; its contract is the law.
 
 ghost use Rattle.edit_ops.specs.Laws.{EditedDrawingsOpen, EditedDrawingsFit, EditsChangeTheirFields, EditedFieldsAreApart, LiveNumbersRise, PathNumbersRise, FirstCauseIsLeast};
+ghost use Rattle.edit_ops.specs.FenceLaws.{FencedDrawingsOpen, FencedDrawingsFit, FenceEditsChangeTheirFields, FencedFieldsAreApart};
 
 /// An edited drawing opens: what an edit that is done leaves opens in the same dimension, with the elements
 /// that it makes and the same tail. Where its elements and the rest keep the limit of a design file before, they
@@ -28,4 +29,23 @@ pub fn causes_name_the_least()
     ensures live { LiveNumbersRise }
     ensures path { PathNumbersRise }
     ensures first { FirstCauseIsLeast }
+{}
+
+/// A drawing of which several roots are edited at once opens: what such an edit that is done leaves opens in the same
+/// dimension, with the elements that it makes and the same tail. Where its elements and the rest keep the limit of a
+/// design file before, they do so after it.
+pub fn a_fenced_drawing_opens()
+    ensures opens { FencedDrawingsOpen }
+    ensures fits { FencedDrawingsFit }
+{}
+
+/// An edit of several roots changes its fields alone: each byte in no edited field stays, what is longer is whole
+/// trees behind the others, and the trees are those of which the chosen ones are changed.
+pub fn a_fence_edit_changes_its_fields_alone()
+    ensures { FenceEditsChangeTheirFields }
+{}
+
+/// The fields of an edit of several roots are apart: they rise within the elements, so no two share a byte.
+pub fn fenced_fields_are_apart()
+    ensures { FencedFieldsAreApart }
 {}

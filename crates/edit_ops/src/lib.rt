@@ -11,6 +11,7 @@ mod cause;
 mod causes;
 mod copying;
 mod edit_fault;
+mod fencing;
 mod finding;
 pub mod laws;
 mod live;
@@ -23,6 +24,7 @@ pub mod types;
 
 pub use cause::Cause;
 pub use edit_fault::EditFault;
+pub use fencing::plan_all;
 pub use planning::plan;
 
 #[cfg(test)]

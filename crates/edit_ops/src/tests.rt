@@ -1,12 +1,14 @@
 // Plans of edits on worked drawings.
 
-ghost use Rattle.std.specs.Prelude.{◌≡◌, [], ◌∷◌, map, IfOk};
+ghost use Rattle.std.specs.Prelude.{◌≡◌, ◌<◌, ◌&&◌, [], ◌∷◌, nat_le, length, map, IfOk};
 ghost use Rattle.dgn_drawing.specs.Rows.{row_of};
 ghost use Rattle.elem_index.specs.Design.{elements, IsWhole};
+ghost use Rattle.edit_ops.specs.Fenced.{AreRoots};
 
 use super::*;
+use crate::live::end_of;
 use crate::types::Plan;
-use dgn_drawing::{Edit, New, NewShape, Shift, SymbChange};
+use dgn_drawing::{Edit, FenceEdit, New, NewShape, Shift, SymbChange};
 use elem_head::types::Symb;
 use elem_index::{Design, read_design};
 use nest_tree::nest;
@@ -376,5 +378,122 @@ fn appended_elements(rt: HostRuntime) -> Result<(), Fail> {
     assert_eq!(rt; chain.get(34), Some(0x1C));
     let refused = planned(&rt, 3, &[], &[], &Edit::Append(new_line(alloc)?), 0)?;
     assert_eq!(rt; refused.err(), Some(EditFault::Refused(Cause::Dimension)));
+    Ok(())
+}
+
+// Whether n is from `first` to `last`.
+fn is_between(n: u32, first: u32, last: u32) -> bool
+    ensures { result ≡ (nat_le first n && nat_le n last) }
+{
+    first <= n && n <= last
+}
+
+// The roots of a drawing with numbers from `first` to `last`.
+fn roots_between(
+    alloc: Global,
+    d: &Design,
+    t: &Nest,
+    first: u32,
+    last: u32,
+) -> Result<Vec<u32>, AllocError>
+    requires whole { IsWhole d.now }
+    requires nesting { t.now.rows ≡ map row_of (elements d.now) }
+    ensures { IfOk result (λ roots. AreRoots (elements d.now) roots.items) }
+{
+    let mut roots = Vec::new(alloc);
+    let mut next = 0;
+    'roots: while next < d.count() {
+        let n = next;
+        next = end_of(t, n);
+        if is_between(n, first, last) {
+            roots.push(n)?;
+        }
+    }
+    Ok(roots)
+}
+
+// The lines of level 1 from 0,0 to 1,1, from 2,2 to 3,3, and from 2147483646,5 to 2147483647,5.
+const LINES: [u8; 156] = [
+    0x01, 0x03, 0x18, 0x00, 0x00, 0x80, 0x00, 0x00, 0x00, 0x80, 0x00, 0x00, 0x00, 0x80, 0x00, 0x00,
+    0x00, 0x80, 0x01, 0x00, 0x00, 0x80, 0x01, 0x00, 0x00, 0x80, 0x00, 0x00, 0x00, 0x00, 0x0A, 0x00,
+    0x00, 0x00, 0x00, 0x00, 0x00, 0x00, 0x00, 0x00, 0x00, 0x00, 0x00, 0x00, 0x00, 0x00, 0x01, 0x00,
+    0x00, 0x00, 0x01, 0x00, //
+    0x01, 0x03, 0x18, 0x00, 0x00, 0x80, 0x02, 0x00, 0x00, 0x80, 0x02, 0x00, 0x00, 0x80, 0x00, 0x00,
+    0x00, 0x80, 0x03, 0x00, 0x00, 0x80, 0x03, 0x00, 0x00, 0x80, 0x00, 0x00, 0x00, 0x00, 0x0A, 0x00,
+    0x00, 0x00, 0x00, 0x00, 0x00, 0x00, 0x02, 0x00, 0x00, 0x00, 0x02, 0x00, 0x00, 0x00, 0x03, 0x00,
+    0x00, 0x00, 0x03, 0x00, //
+    0x01, 0x03, 0x18, 0x00, 0xFF, 0xFF, 0xFE, 0xFF, 0x00, 0x80, 0x05, 0x00, 0x00, 0x80, 0x00, 0x00,
+    0xFF, 0xFF, 0xFF, 0xFF, 0x00, 0x80, 0x05, 0x00, 0x00, 0x80, 0x00, 0x00, 0x00, 0x00, 0x0A, 0x00,
+    0x00, 0x00, 0x00, 0x00, 0xFF, 0x7F, 0xFE, 0xFF, 0x00, 0x00, 0x05, 0x00, 0xFF, 0x7F, 0xFF, 0xFF,
+    0x00, 0x00, 0x05, 0x00,
+];
+
+// The lines with y one greater: the low bytes of y in the range and in the points.
+fn raised(alloc: Global) -> Result<Vec<u8>, AllocError> {
+    let mut bytes = Vec::from_slice(alloc, &LINES)?;
+    for (i, byte) in bytes.iter_mut().enumerate() {
+        if [10, 22, 42, 50].contains(&(i % 52)) {
+            *byte = byte.wrapping_add(1);
+        }
+    }
+    Ok(bytes)
+}
+
+// What an edit of the roots with numbers from `first` to `last` of the drawing of these lines comes to.
+fn all_planned(
+    rt: &(impl AllocGlobal + Abort),
+    first: u32,
+    last: u32,
+    edit: &FenceEdit,
+) -> Result<Result<Plan, EditFault>, Fail> {
+    let alloc = rt.alloc();
+    let bytes = file(alloc, 2, &LINES, &[])?;
+    assert!(rt; bytes.len() <= 67108864);
+    let Ok(design) = read_design(alloc, bytes) else {
+        panic!(rt; "it doesn't open");
+    };
+    let nesting = nested(alloc, &design)?;
+    let roots = roots_between(alloc, &design, &nesting, first, last)?;
+    Ok(plan_all(alloc, &design, &nesting, &roots, edit))
+}
+
+// All or nothing: one root that leaves the plane refuses the move of all. Two that don't are moved one after the other,
+// copies come one behind the other, and of no root nothing is planned.
+#[test]
+fn edits_of_several_roots(rt: HostRuntime) -> Result<(), Fail> {
+    let refused = all_planned(&rt, 1, 3, &FenceEdit::Move(along(1, 0)))?;
+    assert_eq!(rt; refused.err(), Some(EditFault::Refused(Cause::OffPlane(3))));
+    let moved = [
+        field(1540, [0x00, 0x80, 0x01, 0x00]),
+        field(1544, [0x00, 0x80, 0x00, 0x00]),
+        field(1552, [0x00, 0x80, 0x02, 0x00]),
+        field(1556, [0x00, 0x80, 0x01, 0x00]),
+        field(1572, [0x00, 0x00, 0x01, 0x00]),
+        field(1576, [0x00, 0x00, 0x00, 0x00]),
+        field(1580, [0x00, 0x00, 0x02, 0x00]),
+        field(1584, [0x00, 0x00, 0x01, 0x00]),
+        field(1592, [0x00, 0x80, 0x03, 0x00]),
+        field(1596, [0x00, 0x80, 0x02, 0x00]),
+        field(1604, [0x00, 0x80, 0x04, 0x00]),
+        field(1608, [0x00, 0x80, 0x03, 0x00]),
+        field(1624, [0x00, 0x00, 0x03, 0x00]),
+        field(1628, [0x00, 0x00, 0x02, 0x00]),
+        field(1632, [0x00, 0x00, 0x04, 0x00]),
+        field(1636, [0x00, 0x00, 0x03, 0x00]),
+    ];
+    let copied = raised(rt.alloc())?;
+    let none: [Patch; 0] = [];
+    let rows = [
+        (2, FenceEdit::Move(along(1, 0)), moved.as_slice(), 0),
+        (3, FenceEdit::Copy(along(0, 1)), none.as_slice(), 156),
+        (0, FenceEdit::Delete, none.as_slice(), 0),
+    ];
+    for (last, edit, patches, appended) in &rows {
+        let Ok(plan) = all_planned(&rt, 1, *last, edit)? else {
+            panic!(rt; "it is refused");
+        };
+        assert_eq!(rt; plan.patches.as_slice(), *patches);
+        assert_eq!(rt; Some(plan.append.as_slice()), copied.get(..*appended));
+    }
     Ok(())
 }

@@ -1,0 +1,51 @@
+-- What holds of every edit of several roots that is done.
+use Rattle.std.specs.Prelude.{ℕ, ◌≡◌, ◌+◌, ◌<◌, ◌≤◌, List, ◌++◌, length, map, take, drop, slice_index, All}
+use Rattle.patch_bytes.specs.Puts.{write}
+use Rattle.dgn_drawing.specs.declared.fence_edit.FenceEdit.{FenceEdit}
+use Rattle.dgn_drawing.specs.Element.{Element}
+use Rattle.dgn_drawing.specs.Spelling.{spelling}
+use Rattle.dgn_drawing.specs.Rows.{row_of}
+use Rattle.dgn_drawing.specs.Nesting.{forest, BeginsFree}
+use Rattle.dgn_drawing.specs.Opening.{Opens}
+use Rattle.edit_ops.specs.Applying.{Done}
+use Rattle.edit_ops.specs.Fields.{IsIn, Rise, filled}
+use Rattle.edit_ops.specs.Fenced.{apply_all, fenced_forest, fenced_fields, edits_at, all_appended, AreRoots, IsFenceEdit}
+
+-- what it leaves opens in the same dimension, with the same tail
+abbrev pub FencedDrawingsOpen : Type 0
+FencedDrawingsOpen =
+    (f : List ℕ) (dim : ℕ) (es : List Element) (t : List ℕ) (rest : ℕ) (e : FenceEdit) (ns : List ℕ) (made : List Element)
+    → IsFenceEdit e → AreRoots es ns → Opens f dim es t → apply_all dim es rest e ns ≡ Done made
+    → Opens (spelling made ++ t) dim made t
+
+-- and where the elements and the rest keep the limit of a design file, so do those that it makes and the rest
+abbrev pub FencedDrawingsFit : Type 0
+FencedDrawingsFit =
+    (f : List ℕ) (dim : ℕ) (es : List Element) (t : List ℕ) (rest : ℕ) (e : FenceEdit) (ns : List ℕ) (made : List Element)
+    → IsFenceEdit e → AreRoots es ns → Opens f dim es t → apply_all dim es rest e ns ≡ Done made
+    → length (spelling es) + rest ≤ 67108864 → length (spelling made) + rest ≤ 67108864
+
+-- its result has the old bytes in no edited field, and is the old bytes with these written; it is longer only by whole
+-- elements, which begin without bit C, so by whole trees; and its trees are those of which the chosen ones are changed
+pub record ChangesFencedFields (dim : ℕ) (es : List Element) (e : FenceEdit) (ns : List ℕ) (made : List Element) : Type 0 where
+  pub stays : (k : ℕ) → k < length (spelling es) → All (λ f. ¬ IsIn f k) (fenced_fields dim es e ns)
+      → slice_index (spelling made) k ≡ slice_index (spelling es) k
+  pub written : spelling made
+      ≡ write (spelling es) (filled (spelling made) (fenced_fields dim es e ns)) ++ drop (length (spelling es)) (spelling made)
+  pub long : length (spelling made) ≡ length (spelling es) + all_appended es (edits_at e ns)
+  pub rows : map row_of (take (length es) made) ≡ map row_of es
+  pub appended : BeginsFree row_of (drop (length es) made)
+  pub nested : forest row_of made ≡ fenced_forest dim es e ns
+
+abbrev pub FenceEditsChangeTheirFields : Type 0
+FenceEditsChangeTheirFields =
+    (f : List ℕ) (dim : ℕ) (es : List Element) (t : List ℕ) (rest : ℕ) (e : FenceEdit) (ns : List ℕ) (made : List Element)
+    → IsFenceEdit e → AreRoots es ns → Opens f dim es t → apply_all dim es rest e ns ≡ Done made
+    → ChangesFencedFields dim es e ns made
+
+-- its fields rise within the elements, so no two share a byte
+abbrev pub FencedFieldsAreApart : Type 0
+FencedFieldsAreApart =
+    (f : List ℕ) (dim : ℕ) (es : List Element) (t : List ℕ) (rest : ℕ) (e : FenceEdit) (ns : List ℕ) (made : List Element)
+    → IsFenceEdit e → AreRoots es ns → Opens f dim es t → apply_all dim es rest e ns ≡ Done made
+    → Rise 0 (fenced_fields dim es e ns) (length (spelling es))
