@@ -6,5 +6,6 @@ pub mod Bare
 pub mod Stands
 pub mod Roots
 pub mod Trees
+pub mod Onward
 pub mod Places
 pub mod Rows

@@ -25,7 +25,7 @@ some_parent (Some m) is = (m, refl)
 
 module _ (es : List Element) where
   -- each element of trees that stand below a header has a parent
-  not_root : (f : Forest Element) (n depth p k : ℕ) → Stands es f n depth (Some p) → n ≤ k → k < n + length (flat f) → (q : ℕ) × (parent_at (mark_of row_of es k) ≡ Some (Some q))
+  pub not_root : (f : Forest Element) (n depth p k : ℕ) → Stands es f n depth (Some p) → n ≤ k → k < n + length (flat f) → (q : ℕ) × (parent_at (mark_of row_of es k) ≡ Some (Some q))
   not_root NoTree n depth p k stands low high = absurd (omega arith)
   not_root (Tree knot e below behind) n depth p k stands low high =
       elim (cases_lt n k) [

@@ -14,7 +14,7 @@ use Rattle.dgn_drawing.specs.Shown.{shown_tree, items, shown, tree_from, tree_sh
 use Rattle.level_view.proofs.Stands.{Stands, head_marked, behind_stands, all_stand}
 use Rattle.level_view.proofs.Roots.{parent_at}
 
-roots_from : {A : Type 0} (k n : ℕ) (f : Forest A) → k ≤ n → AllByRecursion (λ r. k ≤ r) (roots n f)
+pub roots_from : {A : Type 0} (k n : ℕ) (f : Forest A) → k ≤ n → AllByRecursion (λ r. k ≤ r) (roots n f)
 roots_from k n NoTree low = tt
 roots_from k n (Tree knot h below behind) low = (low, roots_from k (end_of n below) behind (omega arith))
 
