@@ -3,13 +3,11 @@ use Rattle.std.proofs.Common.{◌≡◌, ℕ, ◌+◌, ◌<◌, List, [], ◌∷
 use Rattle.std.specs.Prelude.{Vec}
 use Rattle.std.specs.List.{AllByRecursion}
 use Rattle.std.proofs.lemmas.List.{take_at, drop_at, take-map, length-map, reverse-append}
-use Rattle.patch_bytes.specs.Puts.{Put, write, AreWithin, AreApart}
-use Rattle.patch_bytes.proofs.Spans.{span_within, span_apart}
+use Rattle.patch_bytes.specs.Puts.{Put, write}
 use Rattle.undo_log.specs.declared.entry.Entry.{Entry}
 use Rattle.undo_log.specs.LogState.{LogState}
 use Rattle.undo_log.specs.Entries.{entry_of, back}
-use Rattle.undo_log.specs.Commits.{MayCommit}
-use Rattle.undo_log.proofs.WritingBack.{entry_restores, entry_fits}
+use Rattle.undo_log.proofs.WritingBack.{entry_fits}
 use Rattle.dgn_drawing.specs.declared.row.Row.{Row}
 use Rattle.dgn_drawing.specs.Element.{Element}
 use Rattle.dgn_drawing.specs.Spelling.{size_of}
@@ -27,6 +25,7 @@ use Rattle.level_view.proofs.Rows.{rows_each}
 use Rattle.dgn_session.specs.Kept.{rows_of, OpensAt, IsUnder, Leads, AreKept, IsKept}
 use Rattle.dgn_session.specs.Carried.{HasRoom, IsChange}
 use Rattle.dgn_session.proofs.Rising.{olds_rise}
+use Rattle.dgn_session.proofs.Leading.{may_commit, leads_back}
 
 -- vectors that are the same have the same items
 pub same_items : {X Z : Type 0} {v w : Vec X Z} → v ≡ w → v.items ≡ w.items
@@ -56,19 +55,6 @@ kept_same dim tail b dim' tail' b' es es' axes behind body entries kept =
     (subst (AreKept dim tail b) (sym entries) kept)))
 
 module _ (dim : ℕ) (tail b : List ℕ) (ps : List Put) (append : List ℕ) (rows : List Row) (change : IsChange dim tail b ps append rows) where
-  pub patches_within : AreWithin (length b) ps
-  patches_within = span_within (length b) ps 0 change.rise
-
-  pub patches_apart : AreApart ps
-  patches_apart = span_apart (length b) ps 0 change.rise
-
-  pub may_commit : MayCommit b (record { patches = ps; append = append })
-  may_commit = record { within = patches_within; apart = patches_apart }
-
-  -- its entry leads back
-  pub leads_back : back (write b ps ++ append) (entry_of b ps) ≡ b
-  leads_back = entry_restores b (record { patches = ps; append = append }) may_commit
-
   -- the body lies under the new one
   under : IsUnder dim b (write b ps ++ append)
   under = record {
@@ -78,16 +64,16 @@ module _ (dim : ℕ) (tail b : List ℕ) (ps : List Put) (append : List ℕ) (ro
 
   leads : Leads dim (write b ps ++ append) (entry_of b ps)
   leads = record {
-    long = (entry_fits b (record { patches = ps; append = append }) may_commit).long;
+    long = (entry_fits b (record { patches = ps; append = append }) (may_commit b ps append change.rise)).long;
     rise = olds_rise b (length b) ps 0 (omega arith) change.rise;
-    under = subst (λ (x : List ℕ). IsUnder dim x (write b ps ++ append)) (sym leads_back) under;
+    under = subst (λ (x : List ℕ). IsUnder dim x (write b ps ++ append)) (sym (leads_back b ps append change.rise)) under;
   }
 
   -- what is kept with one more entry
   pub kept_more : (es : List Entry) → AreKept dim tail b (reverse es) → AreKept dim tail (write b ps ++ append) (reverse (es ++ entry_of b ps ∷ []))
   kept_more es kept =
       subst (AreKept dim tail (write b ps ++ append)) (sym (reverse-append es (entry_of b ps ∷ [])))
-      (change.opens, leads, subst (λ (x : List ℕ). AreKept dim tail x (reverse es)) (sym leads_back) kept)
+      (change.opens, leads, subst (λ (x : List ℕ). AreKept dim tail x (reverse es)) (sym (leads_back b ps append change.rise)) kept)
 
 -- rows behind others
 each_second : (xs ys : List Row) → AllByRecursion IsRow (xs ++ ys) → AllByRecursion IsRow ys

@@ -1,8 +1,12 @@
 pub mod Spelled
 pub mod Rising
+pub mod Becoming
+pub mod Leading
 pub mod Planned
 pub mod Keeping
 pub mod Cutting
 pub mod Steps
 pub mod Carried
+pub mod Choosing
+pub mod Chosen
 pub mod Restored

@@ -1,5 +1,5 @@
 -- What the entries of a session lead back to, and what stands still.
-use Rattle.std.proofs.Common.{◌≡◌, ℕ, zero, suc, ◌≤◌, ◌<◌, List, [], ◌∷◌, length, take, map, drop, get_or, reverse, Some, refl, sym, ap, ◌∙◌, subst, arith}
+use Rattle.std.proofs.Common.{◌≡◌, ℕ, zero, suc, ◌≤◌, ◌<◌, List, [], ◌∷◌, length, take, map, drop, get_or, reverse, Option, Some, None, refl, sym, ap, ◌∙◌, subst, arith}
 use Rattle.std.specs.Prelude.{slice_get}
 use Rattle.std.specs.List.{AllByRecursion}
 use Rattle.std.proofs.lemmas.List.{take-take, take_all, take-map, length-map, length-take, length-take-le, length-reverse, get_or-take}
@@ -16,15 +16,19 @@ use Rattle.dgn_drawing.specs.Opening.{elements_of}
 use Rattle.dgn_drawing.proofs.Fronts.{body_spelled}
 use Rattle.elem_index.specs.Offsets.{offset_of}
 use Rattle.edit_ops.specs.Applying.{Applied, Done, Refused}
-use Rattle.dgn_session.specs.State.{State, pushed, dropped, undone, applied, undo_refused, earlier_of}
+use Rattle.dgn_session.specs.State.{State, pushed, pushed_if, dropped, undone, applied, fence_applied, undo_refused, earlier_of}
 use Rattle.dgn_session.specs.Kept.{rows_of, AreKept}
-use Rattle.dgn_session.specs.Laws.{EditsAreUndone, last_of, opened_in, OpenedStay, EntriesAreCounted, EntriesLeadBack, IsUnheld, OpenedStandsStill}
+use Rattle.dgn_session.specs.Laws.{EditsAreUndone, FenceEditsAreUndone, last_of, opened_in, OpenedStay, EntriesAreCounted, EntriesLeadBack, IsUnheld, OpenedStandsStill}
 use Rattle.dgn_session.proofs.Planned.{front_long}
 use Rattle.dgn_session.proofs.Cutting.{leads_fit, opens_kept}
 use Rattle.dgn_session.proofs.Steps.{bodies_first}
 
 pub edits_are_undone : EditsAreUndone
 edits_are_undone s e made done = (ap (λ (a : Applied). undone (pushed a s)) done, ap (λ (a : Applied). undo_refused (pushed a s)) done)
+
+pub fence_edits_are_undone : FenceEditsAreUndone
+fence_edits_are_undone s mode e made done =
+    (ap (λ (a : Option Applied). undone (pushed_if a s)) done, ap (λ (a : Option Applied). undo_refused (pushed_if a s)) done)
 
 pushed_stays : (s : State) (a : Applied) → opened_in (pushed a s) ≡ opened_in s
 pushed_stays s (Done made) = refl
@@ -34,8 +38,12 @@ dropped_stays : (s : State) (earlier : List (List Element)) → s.earlier ≡ ea
 dropped_stays s [] is = refl
 dropped_stays s (es ∷ earlier) is = sym (ap (last_of s.top) is)
 
+pushed_if_stays : (s : State) (a : Option Applied) → opened_in (pushed_if a s) ≡ opened_in s
+pushed_if_stays s None = refl
+pushed_if_stays s (Some a) = pushed_stays s a
+
 pub opened_stay : OpenedStay
-opened_stay s = (λ e. pushed_stays s (applied e s), dropped_stays s s.earlier refl)
+opened_stay s = (λ e. pushed_stays s (applied e s), λ mode e. pushed_if_stays s (fence_applied mode e s), dropped_stays s s.earlier refl)
 
 length-bodies : (b : List ℕ) (es : List Entry) → length (drop 1 (bodies b es)) ≡ length es
 length-bodies b [] = refl

@@ -3,11 +3,10 @@ use Rattle.std.proofs.Common.{◌≡◌, ℕ, List, [], ◌∷◌, ◌++◌, len
 use Rattle.std.proofs.lemmas.List.{reverse-append}
 use Rattle.undo_log.specs.declared.entry.Entry.{Entry}
 use Rattle.undo_log.specs.Entries.{back, bodies, IsUndone}
-use Rattle.dgn_drawing.specs.declared.edit.Edit.{Edit}
 use Rattle.dgn_drawing.specs.Element.{Element}
 use Rattle.dgn_drawing.specs.Opening.{elements_of}
-use Rattle.edit_ops.specs.Applying.{Applied, Done, apply}
-use Rattle.dgn_session.specs.State.{with_stack, pushed, edited, dropped, undone, SessionValue, earlier_of, state_of, value_with}
+use Rattle.edit_ops.specs.Applying.{Done}
+use Rattle.dgn_session.specs.State.{with_stack, pushed, dropped, undone, SessionValue, earlier_of, state_of, value_with}
 
 -- the lists of the bodies that entries lead back to begin with that of the body itself
 pub bodies_first : (dim : ℕ) (b : List ℕ) (es : List Entry) → map (elements_of dim) (bodies b es) ≡ elements_of dim b ∷ earlier_of dim b es
@@ -21,13 +20,12 @@ earlier_more dim b new e es leads =
     ∙ ap (λ (x : List ℕ). map (elements_of dim) (bodies x (reverse es))) leads
     ∙ bodies_first dim b (reverse es)
 
--- an edit that is done pushes
-pub edited_state : (v : SessionValue) (new : List ℕ) (e : Entry) (edit : Edit) (made : List Element) → back new e ≡ v.body → elements_of v.dim new ≡ made → apply v.dim (elements_of v.dim v.body) (length v.tail) edit ≡ Done made
-    → state_of (value_with new (v.entries ++ e ∷ []) v) ≡ edited edit (state_of v)
-edited_state v new e edit made leads are done =
+-- what is done pushes
+pub pushed_state : (v : SessionValue) (new : List ℕ) (e : Entry) (made : List Element) → back new e ≡ v.body → elements_of v.dim new ≡ made
+    → state_of (value_with new (v.entries ++ e ∷ []) v) ≡ pushed (Done made) (state_of v)
+pushed_state v new e made leads are =
     ap (λ (top : List Element). with_stack top (earlier_of v.dim new (reverse (v.entries ++ e ∷ []))) (state_of v)) are
     ∙ ap (λ (earlier : List (List Element)). with_stack made earlier (state_of v)) (earlier_more v.dim v.body new e v.entries leads)
-    ∙ sym (ap (λ (a : Applied). pushed a (state_of v)) done)
 
 -- an undo drops
 pub undone_state : (v : SessionValue) (new : List ℕ) (entries : List Entry) → IsUndone v.entries v.body entries new → state_of (value_with new entries v) ≡ undone (state_of v)

@@ -13,6 +13,7 @@ use Rattle.dgn_drawing.specs.Nesting.{BeginsFree, itself}
 use Rattle.elem_index.specs.declared.design.Design.{Design}
 use Rattle.elem_index.specs.Design.{spare_of}
 use Rattle.nest_tree.specs.Nested.{Nested}
+use Rattle.edit_ops.specs.declared.types.plan.Plan.{Plan}
 use Rattle.dgn_session.specs.Kept.{rows_of, OpensAt}
 
 -- bytes are the spellings of these elements, which are well formed
@@ -43,6 +44,12 @@ pub record IsChange (dim : ℕ) (tail b : List ℕ) (ps : List Put) (append : Li
   pub rise : Span 0 ps (length b)
   pub behind : rows_of dim (write b ps ++ append) ≡ rows_of dim b ++ rows
   pub free : BeginsFree itself rows
+
+-- a plan that may be carried out on a body: what it appends spells elements, and with their rows it is a change
+pub record IsSoundPlan (dim : ℕ) (tail b : List ℕ) (p : Plan) : Type 0 where
+  pub spelled : IsSpelling p.append
+  pub short : length p.append ≤ 67108864
+  pub change : (rows : List Row) → AreRowsOf p.append rows → IsChange dim tail b p.patches p.append rows
 
 -- the last of some entries has this length
 pub record HasLast (entries : List Entry) (len : ℕ) : Type 0 where

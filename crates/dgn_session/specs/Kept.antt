@@ -1,6 +1,7 @@
 -- What the type of a session keeps of its values.
-use Rattle.std.specs.Prelude.{ℕ, ◌≡◌, ◌+◌, ◌≤◌, None, List, [], ◌∷◌, ◌++◌, length, take, drop, map, reverse}
+use Rattle.std.specs.Prelude.{ℕ, ◌≡◌, ◌+◌, ◌≤◌, Option, None, List, [], ◌∷◌, ◌++◌, length, take, drop, map, reverse}
 use Rattle.patch_bytes.specs.Puts.{Span}
+use Rattle.plane_geom.specs.declared.pt.Pt.{Pt}
 use Rattle.undo_log.specs.declared.entry.Entry.{Entry}
 use Rattle.undo_log.specs.LogState.{LogState}
 use Rattle.undo_log.specs.Entries.{back}
@@ -48,8 +49,8 @@ pub record IsKept (d : Design) (t : Nested) (l : LogState) : Type 0 where
   pub back : AreKept d.dim d.tail.items d.body.items (reverse l.entries)
 
 -- what a contract sees of a session
-abbrev pub value_of : Design → LogState → Mask → SessionValue
-value_of d l mask = record { dim = d.dim; body = d.body.items; tail = d.tail.items; entries = l.entries; mask = mask; fence = None }
+abbrev pub value_of : Design → LogState → Mask → Option (List Pt) → SessionValue
+value_of d l mask fence = record { dim = d.dim; body = d.body.items; tail = d.tail.items; entries = l.entries; mask = mask; fence = fence }
 
 -- the value of a session that begins on a design
 abbrev pub started : Design → SessionValue

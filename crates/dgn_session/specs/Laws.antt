@@ -5,17 +5,25 @@ use Rattle.patch_bytes.specs.Puts.{Put, Holds}
 use Rattle.undo_log.specs.declared.entry.Entry.{Entry}
 use Rattle.undo_log.specs.Entries.{back_by}
 use Rattle.dgn_drawing.specs.declared.edit.Edit.{Edit}
+use Rattle.dgn_drawing.specs.declared.fence_edit.FenceEdit.{FenceEdit}
+use Rattle.dgn_drawing.specs.declared.mode.Mode.{Mode}
 use Rattle.dgn_drawing.specs.Element.{Element}
 use Rattle.dgn_drawing.specs.Spelling.{spelling}
 use Rattle.dgn_drawing.specs.Opening.{elements_of}
 use Rattle.elem_index.specs.Offsets.{offset_of}
 use Rattle.edit_ops.specs.Applying.{Done}
-use Rattle.dgn_session.specs.State.{State, SessionValue, state_of, applied, edited, undone, undo_refused}
+use Rattle.dgn_session.specs.State.{State, SessionValue, state_of, applied, edited, fence_applied, fence_edited, undone, undo_refused}
 use Rattle.dgn_session.specs.Kept.{rows_of, AreKept}
 
 -- after an edit that is done an undo is not refused, and gives the state before
 abbrev pub EditsAreUndone : Type 0
 EditsAreUndone = (s : State) (e : Edit) (made : List Element) → applied e s ≡ Done made → (undone (edited e s) ≡ s) × (undo_refused (edited e s) ≡ false)
+
+-- and so it is after an edit that is done of all that a fence chooses
+abbrev pub FenceEditsAreUndone : Type 0
+FenceEditsAreUndone =
+    (s : State) (mode : Mode) (e : FenceEdit) (made : List Element) → fence_applied mode e s ≡ Some (Done made)
+    → (undone (fence_edited mode e s) ≡ s) × (undo_refused (fence_edited mode e s) ≡ false)
 
 -- the last list of a stack
 abbrev pub last_of : List Element → List (List Element) → List Element
@@ -28,7 +36,10 @@ opened_in s = last_of s.top s.earlier
 
 -- they stay
 abbrev pub OpenedStay : Type 0
-OpenedStay = (s : State) → ((e : Edit) → opened_in (edited e s) ≡ opened_in s) × (opened_in (undone s) ≡ opened_in s)
+OpenedStay =
+    (s : State) → ((e : Edit) → opened_in (edited e s) ≡ opened_in s)
+    × ((mode : Mode) (e : FenceEdit) → opened_in (fence_edited mode e s) ≡ opened_in s)
+    × (opened_in (undone s) ≡ opened_in s)
 
 -- a value of a session
 abbrev pub IsSound : SessionValue → Type 0

@@ -1,16 +1,20 @@
 -- The session machine: its states, with what an edit, an undo and a setting do to them, and the state that a
 -- session's value stands for.
-use Rattle.std.specs.Prelude.{ℕ, Bool, true, false, Option, None, List, [], ◌∷◌, length, map, drop, reverse}
+use Rattle.std.specs.Prelude.{ℕ, Bool, true, false, Option, Some, None, option_map, List, [], ◌∷◌, length, map, drop, reverse}
 use Rattle.plane_geom.specs.declared.pt.Pt.{Pt}
 use Rattle.dgn_drawing.specs.declared.edit.Edit.{Edit}
+use Rattle.dgn_drawing.specs.declared.fence_edit.FenceEdit.{FenceEdit}
 use Rattle.dgn_drawing.specs.declared.mask.Mask.{Mask}
+use Rattle.dgn_drawing.specs.declared.mode.Mode.{Mode}
 use Rattle.dgn_drawing.specs.Element.{Element}
 use Rattle.dgn_drawing.specs.Spelling.{spelling}
 use Rattle.dgn_drawing.specs.Opening.{elements_of}
+use Rattle.dgn_fence.specs.Selected.{selected}
 use Rattle.undo_log.specs.declared.entry.Entry.{Entry}
 use Rattle.undo_log.specs.Entries.{bodies}
 use Rattle.edit_ops.specs.Applying.{Applied, Done, Refused, apply}
-use Rattle.edit_ops.specs.Fields.{edited_fields, filled}
+use Rattle.edit_ops.specs.Fields.{Field, edited_fields, filled}
+use Rattle.edit_ops.specs.Fenced.{apply_all, fenced_fields}
 
 -- a state: the dimension, the number of bytes of the tail, a stack of element lists, which is never empty: its top
 -- and those below it, the newest first; the mask, and the fence, where there is one
@@ -51,6 +55,22 @@ abbrev pub is_refused : Applied → Bool
 is_refused (Done made) = false
 is_refused (Refused cause) = true
 
+-- the roots of the top that the fence chooses, where one is set
+abbrev pub selection : Mode → State → Option (List ℕ)
+selection mode s = option_map (λ fence. selected s.dim s.mask fence mode s.top) s.fence
+
+-- what an edit of all that the fence chooses comes to, where one is set
+abbrev pub fence_applied : Mode → FenceEdit → State → Option Applied
+fence_applied mode e s = option_map (apply_all s.dim s.top s.rest e) (selection mode s)
+
+-- what it leaves: where no fence is set it is refused
+abbrev pub pushed_if : Option Applied → State → State
+pushed_if None s = s
+pushed_if (Some applied) s = pushed applied s
+
+abbrev pub fence_edited : Mode → FenceEdit → State → State
+fence_edited mode e s = pushed_if (fence_applied mode e s) s
+
 -- the top is dropped, where a list is below it
 abbrev pub dropped : List (List Element) → State → State
 dropped [] s = s
@@ -70,6 +90,10 @@ undo_refused s = is_none s.earlier
 -- a mask is set
 abbrev pub with_mask : Mask → State → State
 with_mask mask s = record { dim = s.dim; rest = s.rest; top = s.top; earlier = s.earlier; mask = mask; fence = s.fence }
+
+-- a fence is set, or cleared
+abbrev pub with_fence : Option (List Pt) → State → State
+with_fence fence s = record { dim = s.dim; rest = s.rest; top = s.top; earlier = s.earlier; mask = s.mask; fence = fence }
 
 -- a session's value, as plain data: dimension, body and tail, the entries of the log, the oldest first, the mask, and
 -- the fence, where there is one
@@ -91,13 +115,26 @@ earlier_of dim b entries = drop 1 (map (elements_of dim) (bodies b entries))
 abbrev pub state_of : SessionValue → State
 state_of v = record { dim = v.dim; rest = length v.tail; top = elements_of v.dim v.body; earlier = earlier_of v.dim v.body (reverse v.entries); mask = v.mask; fence = v.fence }
 
--- the entry of an edit of these elements: its fields with the bytes that stand there, and how many bytes there are
+-- the entry of what writes these fields of elements: the fields with the bytes that stand there, and how many bytes
+-- there are
+abbrev pub entry_with : List Element → List Field → Entry
+entry_with es fields = record { patches = filled (spelling es) fields; len = length (spelling es) }
+
+-- that of an edit of these elements
 abbrev pub entry : ℕ → List Element → Edit → Entry
-entry dim es e = record { patches = filled (spelling es) (edited_fields dim es e); len = length (spelling es) }
+entry dim es e = entry_with es (edited_fields dim es e)
+
+-- that of an edit of these roots
+abbrev pub fence_entry : ℕ → List Element → FenceEdit → List ℕ → Entry
+fence_entry dim es e ns = entry_with es (fenced_fields dim es e ns)
 
 -- a session's value with another mask
 abbrev pub value_with_mask : Mask → SessionValue → SessionValue
 value_with_mask mask v = record { dim = v.dim; body = v.body; tail = v.tail; entries = v.entries; mask = mask; fence = v.fence }
+
+-- with another fence
+abbrev pub value_with_fence : Option (List Pt) → SessionValue → SessionValue
+value_with_fence fence v = record { dim = v.dim; body = v.body; tail = v.tail; entries = v.entries; mask = v.mask; fence = fence }
 
 -- and with another body and other entries
 abbrev pub value_with : List ℕ → List Entry → SessionValue → SessionValue

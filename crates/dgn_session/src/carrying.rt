@@ -1,26 +1,48 @@
-// An edit is carried out. It takes no memory.
+// An edit is carried out.
 
-ghost use Rattle.std.specs.Prelude.{◌≡◌, [], ◌∷◌, ◌++◌, length};
+ghost use Rattle.std.specs.Prelude.{◌≡◌, [], ◌∷◌, ◌++◌, length, OnOk, OnErr};
 ghost use Rattle.patch_bytes.specs.Puts.{write};
 ghost use Rattle.undo_log.specs.Entries.{entry_of};
 ghost use Rattle.dgn_session.specs.Kept.{IsKept};
-ghost use Rattle.dgn_session.specs.Carried.{HasRoom, IsChange};
+ghost use Rattle.dgn_session.specs.Carried.{HasRoom, IsChange, IsSoundPlan};
 
+use crate::appended::rows_of;
+use crate::room::make_room;
 use dgn_drawing::Row;
 use edit_ops::types::Plan;
 use elem_index::Design;
 use nest_tree::types::Nest;
+use std::alloc::{AllocError, Global};
 use undo_log::Log;
 
-// Writes the plan's patches, puts its bytes behind the body, adds the entry, and lets offsets and nesting follow.
-// These are the rows of the elements that it appends.
-pub(crate) fn carry_out(
+// Takes the memory that a plan wants, and then carries it out. Where there is no memory, all stays as it was.
+pub(crate) fn carry(
+    alloc: Global,
     design: &mut Design,
     nest: &mut Nest,
     log: &mut Log,
     plan: Plan,
-    rows: &[Row],
-)
+) -> Result<(), AllocError>
+    requires kept { IsKept design.old nest.old log.old }
+    requires sound { IsSoundPlan design.old.dim design.old.tail.items design.old.body.items plan }
+    ensures kept { IsKept design.new nest.new log.new }
+    ensures dim { design.new.dim ≡ design.old.dim }
+    ensures tail { design.new.tail.items ≡ design.old.tail.items }
+    ensures body { OnOk result (design.new.body.items ≡ write design.old.body.items plan.patches ++ plan.append) }
+    ensures entries { OnOk result
+        (log.new.entries ≡ log.old.entries ++ entry_of design.old.body.items plan.patches ∷ []) }
+    ensures same_body { OnErr result (design.new.body.items ≡ design.old.body.items) }
+    ensures same_entries { OnErr result (log.new.entries ≡ log.old.entries) }
+{
+    let rows = rows_of(alloc, plan.append.as_slice())?;
+    make_room(design, nest, log, plan.append.len(), rows.len() as u32)?;
+    carry_out(design, nest, log, plan, &rows);
+    Ok(())
+}
+
+// Takes no memory: writes the plan's patches, puts its bytes behind the body, adds the entry, and lets offsets and nesting follow.
+// These are the rows of the elements that it appends.
+fn carry_out(design: &mut Design, nest: &mut Nest, log: &mut Log, plan: Plan, rows: &[Row])
     requires kept { IsKept design.old nest.old log.old }
     requires room { HasRoom (length plan.append) (length rows.now) design.old nest.old log.old }
     requires change { IsChange design.old.dim design.old.tail.items design.old.body.items plan.patches plan.append rows.now }

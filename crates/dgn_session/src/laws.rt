@@ -1,11 +1,12 @@
 //! What holds of all sessions. Each call does nothing; its contract is the law.
 
-ghost use Rattle.dgn_session.specs.Laws.{EditsAreUndone, OpenedStay, EntriesAreCounted, EntriesLeadBack, OpenedStandsStill};
+ghost use Rattle.dgn_session.specs.Laws.{EditsAreUndone, FenceEditsAreUndone, OpenedStay, EntriesAreCounted, EntriesLeadBack, OpenedStandsStill};
 
-/// Edits are undone: after an edit that is done an undo is not refused, and gives the state before; and the opened
-/// elements stay at the bottom of the stack.
+/// Edits are undone: after an edit that is done, of one part or of all that a fence chooses, an undo is not refused, and
+/// gives the state before; and the opened elements stay at the bottom of the stack.
 pub fn edits_are_undone()
     ensures undone { EditsAreUndone }
+    ensures fenced { FenceEditsAreUndone }
     ensures opened { OpenedStay }
 {}
 

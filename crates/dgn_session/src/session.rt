@@ -1,4 +1,4 @@
-ghost use Rattle.std.specs.Prelude.{◌≡◌, ◌↔◌, [], ◌∷◌, ◌++◌, length, map, IfOk, IfErr, IsErr, OnOk, OnErr};
+ghost use Rattle.std.specs.Prelude.{◌≡◌, ◌↔◌, [], ◌∷◌, ◌++◌, length, map, option_map, Some, None, Err, IfOk, IfErr, IsErr, OnOk, OnErr};
 ghost use Rattle.undo_log.specs.Entries.{IsUndone};
 ghost use Rattle.dgn_drawing.specs.Rows.{row_of};
 ghost use Rattle.dgn_drawing.specs.Spelling.{spelling};
@@ -7,17 +7,21 @@ ghost use Rattle.elem_index.specs.Design.{elements, IsWhole};
 ghost use Rattle.edit_ops.specs.Applying.{Done};
 ghost use Rattle.edit_ops.specs.Planned.{IsRefused};
 ghost use Rattle.dgn_session.specs.State.{SessionValue, state_of, begun, applied, edited, undone, with_mask, entry, value_with, value_with_mask};
+ghost use Rattle.dgn_session.specs.State.{selection, fence_applied, fence_edited, with_fence, fence_entry, value_with_fence};
+ghost use Rattle.dgn_session.specs.Answers.{IsFenceRefused};
 ghost use Rattle.dgn_session.specs.Kept.{IsKept, value_of, started};
 ghost use Rattle.dgn_session.specs.Laws.{IsSound};
 
-use crate::appended::rows_of;
-use crate::carrying::carry_out;
+use crate::carrying::carry;
+use crate::fence_edit_fault::FenceEditFault;
 use crate::nothing::Nothing;
-use crate::room::make_room;
+use crate::select_fault::SelectFault;
+use crate::selecting::select;
 use crate::taking::{last_len, take_back};
 use dgn_drawing::types::Item;
-use dgn_drawing::{Edit, Mask};
-use edit_ops::{EditFault, plan};
+use dgn_drawing::{Edit, FenceEdit, Mask, Mode};
+use dgn_fence::types::Fence;
+use edit_ops::{EditFault, plan, plan_all};
 use elem_index::Design;
 use level_view::show;
 use nest_tree::nest;
@@ -26,7 +30,8 @@ use std::alloc::{AllocError, Global};
 use std::marker::Model;
 use undo_log::Log;
 
-/// A drawing that is edited: the design, its nesting, what each edit wrote over, and the levels that are shown.
+/// A drawing that is edited: the design, its nesting, what each edit wrote over, the levels that are shown, and the fence
+/// that is set, if one is.
 ///
 /// A contract sees its value, `SessionValue`, and by it the state of the session machine that it stands for, `state_of`.
 #[derive(Drop)]
@@ -41,18 +46,20 @@ pub struct Session {
     pub(crate) log: Log,
     // Which levels are shown.
     pub(crate) mask: Mask,
+    // By what trees are chosen.
+    pub(crate) fence: Option<Fence>,
 }
 
 impl Model for Session {
     ghost Value = { SessionValue };
 
-    ghost view = { λ s. value_of s.design s.log s.mask };
+    ghost view = { λ s. value_of s.design s.log s.mask s.fence };
 
     ghost invariant = { λ s. IsKept s.design s.nest s.log };
 }
 
 impl Session {
-    /// Begins a session on the design `d`, with all levels shown and nothing to undo. There is an error exactly where
+    /// Begins a session on the design `d`, with all levels shown, no fence and nothing to undo. There is an error exactly where
     /// there is no memory.
     pub fn start(alloc: Global, d: Design) -> Result<Session, AllocError>
         requires { IsWhole d }
@@ -67,6 +74,7 @@ impl Session {
             nest,
             log: Log::new(alloc),
             mask: Mask(u64::MAX),
+            fence: None,
         })
     }
 
@@ -84,20 +92,54 @@ impl Session {
         ensures kept { OnErr result (self.new ≡ self.old) }
     {
         let plan = plan(self.alloc, &self.design, &self.nest, e, 0)?;
-        let rows = rows_of(self.alloc, plan.append.as_slice())?;
-        make_room(
+        carry(
+            self.alloc,
             &mut self.design,
             &mut self.nest,
             &mut self.log,
-            plan.append.len(),
-            rows.len() as u32,
+            plan,
         )?;
-        carry_out(&mut self.design, &mut self.nest, &mut self.log, plan, &rows);
         Ok(())
     }
 
+    /// Makes an edit of all trees that the fence chooses in this mode: of each by itself, on the drawing as it was, and
+    /// of all of them or of none. It is one edit for an undo, also where nothing is chosen. The answer is the number of
+    /// trees.
+    ///
+    /// NoFence comes exactly where no fence is set, whatever else stands against the edit. Refused comes with the first
+    /// cause of the first tree in file order that has one, exactly where one has; for a copy, the bytes that the trees
+    /// before it append count too. Memory comes where there is no memory for it. The session is then as before: all
+    /// memory is taken before the first byte is written.
+    pub fn edit_fence(&mut self, mode: Mode, e: &FenceEdit) -> Result<u32, FenceEditFault>
+        ensures done { OnOk result (state_of self.new ≡ fence_edited mode e.now (state_of self.old)) }
+        ensures accepted { OnOk result
+            (fence_applied mode e.now (state_of self.old) ≡ Some (Done (state_of self.new).top)) }
+        ensures count { IfOk result (λ count. Some count ≡ option_map length (selection mode (state_of self.old))) }
+        ensures value { OnOk result (Some self.new ≡ option_map
+            (λ ns. value_with (spelling (state_of self.new).top)
+            (self.old.entries ++ fence_entry self.old.dim (state_of self.old).top e.now ns ∷ []) self.old)
+            (selection mode (state_of self.old))) }
+        ensures no_fence { (result ≡ Err FenceEditFault.NoFence) ↔ (self.old.fence ≡ None) }
+        ensures refused { IfErr result (IsFenceRefused (fence_applied mode e.now (state_of self.old))) }
+        ensures kept { OnErr result (self.new ≡ self.old) }
+    {
+        let Some(fence) = &self.fence else {
+            return Err(FenceEditFault::NoFence);
+        };
+        let roots = select(self.alloc, &self.design, &self.nest, self.mask, fence, mode)?;
+        let plan = plan_all(self.alloc, &self.design, &self.nest, &roots, e)?;
+        carry(
+            self.alloc,
+            &mut self.design,
+            &mut self.nest,
+            &mut self.log,
+            plan,
+        )?;
+        Ok(roots.len() as u32)
+    }
+
     /// Takes the last edit back: writes its entry back, so the exact bytes before it stand there again, and drops the
-    /// entry. The levels that are shown stay. It takes no memory.
+    /// entry. The levels that are shown and the fence stay. It takes no memory.
     ///
     /// Nothing comes exactly where there is no entry, and the session is then as before.
     pub fn undo(&mut self) -> Result<(), Nothing>
@@ -122,12 +164,41 @@ impl Session {
         show(self.alloc, &self.design, &self.nest, self.mask)
     }
 
+    /// The numbers of the roots, in file order, whose items under the levels that are shown the fence takes in this mode
+    /// (`dgn_fence`). NoFence comes exactly where no fence is set, and Memory where there is no memory.
+    pub fn select(&self, mode: Mode) -> Result<Vec<u32>, SelectFault>
+        ensures found { IfOk result (λ found. Some found.items ≡ selection mode (state_of self.now)) }
+        ensures no_fence { (result ≡ Err SelectFault.NoFence) ↔ (self.now.fence ≡ None) }
+    {
+        let Some(fence) = &self.fence else {
+            return Err(SelectFault::NoFence);
+        };
+        let found = select(self.alloc, &self.design, &self.nest, self.mask, fence, mode)?;
+        Ok(found)
+    }
+
     /// Shows these levels from now on.
     pub fn set_mask(&mut self, m: Mask)
         ensures value { self.new ≡ value_with_mask m self.old }
         ensures state { state_of self.new ≡ with_mask m (state_of self.old) }
     {
         self.mask = m;
+    }
+
+    /// Chooses by this fence from now on.
+    pub fn set_fence(&mut self, f: Fence)
+        ensures value { self.new ≡ value_with_fence (Some f) self.old }
+        ensures state { state_of self.new ≡ with_fence (Some f) (state_of self.old) }
+    {
+        self.fence = Some(f);
+    }
+
+    /// Chooses by no fence from now on.
+    pub fn clear_fence(&mut self)
+        ensures value { self.new ≡ value_with_fence None self.old }
+        ensures state { state_of self.new ≡ with_fence None (state_of self.old) }
+    {
+        self.fence = None;
     }
 
     /// The bytes of the elements, one behind the other.

@@ -1,14 +1,15 @@
 use Rattle.std.proofs.Common.{◌≡◌, ℕ, List, ◌++◌, refl, ap, ◌∙◌}
 use Rattle.patch_bytes.specs.Puts.{write}
 use Rattle.elem_index.specs.declared.design.Design.{Design}
-use Rattle.dgn_session.proofs.Keeping.{patches_within, patches_apart, front_after, few_rows, each_row, kept_after}
+use Rattle.dgn_session.proofs.Keeping.{front_after, few_rows, each_row, kept_after}
+use Rattle.dgn_session.proofs.Leading.{patches_within, patches_apart}
 use Rattle.dgn_session.proofs.carrying.carry_out.Goals as goal
 
 pub commit-requires-clause-within : goal.commit-requires-clause-within
-commit-requires-clause-within c = patches_within c.args.design.now.dim c.args.design.now.tail.items c.args.design.now.body.items c.args.plan.patches c.args.plan.append c.args.rows.now c.requires.change
+commit-requires-clause-within c = patches_within c.args.design.now.body.items c.args.plan.patches c.args.plan.append c.requires.change.rise
 
 pub commit-requires-clause-apart : goal.commit-requires-clause-apart
-commit-requires-clause-apart c = patches_apart c.args.design.now.dim c.args.design.now.tail.items c.args.design.now.body.items c.args.plan.patches c.args.plan.append c.args.rows.now c.requires.change
+commit-requires-clause-apart c = patches_apart c.args.design.now.body.items c.args.plan.patches c.args.plan.append c.requires.change.rise
 
 pub grow-requires : goal.grow-requires
 grow-requires c =
