@@ -5,6 +5,7 @@ ghost use Rattle.dgn_listing.specs.Lines.{AppendsFrontOf};
 ghost use Rattle.dgn_session.specs.State.{state_of, applied, edited, undone, undo_refused, is_refused as is_refusal};
 ghost use Rattle.dgn_tool.specs.Commands.{edit_said, undo_said, tree_said, text_of, is_refused, after_command};
 
+use crate::fences::{answer_fence, answer_fenced, answer_select};
 use dgn_drawing::Edit;
 use dgn_listing::{write_cause, write_items, write_tree};
 use dgn_session::Session;
@@ -15,7 +16,7 @@ use nest_tree::types::Nest;
 use std::alloc::{AllocError, Global};
 
 // The room that a command makes for its text before it changes the session. No line that it says then is longer.
-const ROOM: usize = 64;
+pub(crate) const ROOM: usize = 64;
 
 /// Runs one command in a session, appends what it says, and answers whether it was refused.
 ///
@@ -36,6 +37,7 @@ pub fn answer(
 {
     match c {
         Command::Edit(edit) => answer_edit(alloc, s, edit, out),
+        Command::Fenced(mode, edit) => answer_fenced(alloc, s, *mode, edit, out),
         Command::Undo => answer_undo(s, out),
         Command::Levels(levels) => {
             out.reserve(ROOM)?;
@@ -43,8 +45,16 @@ pub fn answer(
             put_known(out, b"ok\n");
             Ok(false)
         }
+        Command::Fence(corners) => answer_fence(alloc, s, corners.as_slice(), out),
+        Command::NoFence => {
+            out.reserve(ROOM)?;
+            s.clear_fence();
+            put_known(out, b"ok\n");
+            Ok(false)
+        }
         Command::Show => answer_show(alloc, s, out),
         Command::Tree(n) => answer_tree(alloc, s.design(), s.nesting(), *n, out),
+        Command::Select(mode) => answer_select(alloc, s, *mode, out),
     }
 }
 
@@ -136,9 +146,10 @@ fn answer_tree(
 }
 
 // Appends bytes for which there is room.
-fn put_known(out: &mut Vec<u8>, bytes: &[u8])
+pub(crate) fn put_known(out: &mut Vec<u8>, bytes: &[u8])
     requires { vec_len out.old + length bytes.now ≤ vec_capacity out.old }
-    ensures { out.new.items ≡ out.old.items ++ bytes.now }
+    ensures bytes { out.new.items ≡ out.old.items ++ bytes.now }
+    ensures room { vec_capacity out.old ≤ vec_capacity out.new }
 {
     match out.extend_from_slice(bytes) {
         Ok(()) => {}

@@ -5,6 +5,7 @@
 mod answers;
 mod commands;
 mod ending;
+mod fences;
 pub mod laws;
 mod lines;
 mod opening;

@@ -6,7 +6,7 @@ use Rattle.dgn_tool.proofs.answers.answer_undo.Goals as goal
 pub returns-in-Ok-clause-text : goal.returns-in-Ok-clause-text
 returns-in-Ok-clause-text c =
     subst (λ (b : Bool). c.put_known.new.out.items ≡ c.args.out.now.items ++ undo_said b) (sym (not_refused c.args.s.now c.in-Ok.ensures.nothing.1))
-    (c.put_known.ensures ∙ ap (λ (o : List ℕ). o ++ codes "ok\n") c.reserve.ensures.items)
+    (c.put_known.ensures.bytes ∙ ap (λ (o : List ℕ). o ++ codes "ok\n") c.reserve.ensures.items)
 
 pub returns-in-Ok-clause-refused : goal.returns-in-Ok-clause-refused
 returns-in-Ok-clause-refused c = sym (not_refused c.args.s.now c.in-Ok.ensures.nothing.1)

@@ -1,0 +1,121 @@
+// What a session answers to the commands on its fence.
+
+ghost use Rattle.std.specs.Prelude.{◌≡◌, ◌+◌, ◌≤◌, ◌++◌, codes, length, vec_len, vec_capacity, IfOk, OnOk, OnErr};
+ghost use Rattle.dgn_listing.specs.Lines.{AppendsFrontOf};
+ghost use Rattle.dgn_session.specs.State.{state_of, selection, fence_applied, fence_edited};
+ghost use Rattle.dgn_tool.specs.Lines.{numbered};
+ghost use Rattle.dgn_tool.specs.Commands.{fenced_said, fenced_refused, selection_said, selection_refused, fence_said, fence_refused, fence_set};
+
+use crate::answers::{ROOM, put_known};
+use dgn_drawing::{FenceEdit, Mode};
+use dgn_fence::{FenceFault, fence};
+use dgn_listing::{write_cause, write_selected};
+use dgn_session::{FenceEditFault, SelectFault, Session};
+use itoa::Buffer;
+use plane_geom::Pt;
+use std::alloc::{AllocError, Global};
+
+// Makes an edit of all that the fence chooses, appends what is said of it, and answers whether it was refused.
+pub(crate) fn answer_fenced(
+    alloc: Global,
+    s: &mut Session,
+    mode: Mode,
+    edit: &FenceEdit,
+    out: &mut Vec<u8>,
+) -> Result<bool, AllocError>
+    ensures text { OnOk result (out.new.items ≡ out.old.items
+        ++ fenced_said (fence_applied mode edit.now (state_of s.old)) (selection mode (state_of s.old))) }
+    ensures refused { IfOk result (λ refused. refused ≡ fenced_refused (fence_applied mode edit.now (state_of s.old))) }
+    ensures state { OnOk result (state_of s.new ≡ fence_edited mode edit.now (state_of s.old)) }
+    ensures tail { s.new.tail ≡ s.old.tail }
+    ensures kept { OnErr result (s.new ≡ s.old) }
+    ensures front { OnErr result (AppendsFrontOf
+        (fenced_said (fence_applied mode edit.now (state_of s.old)) (selection mode (state_of s.old)))
+        out.old.items out.new.items) }
+{
+    out.reserve(ROOM)?;
+    match s.edit_fence(mode, edit) {
+        Ok(count) => {
+            put_count(out, count);
+            Ok(false)
+        }
+        Err(FenceEditFault::NoFence) => {
+            put_known(out, b"refused no-fence\n");
+            Ok(true)
+        }
+        Err(FenceEditFault::Refused(cause)) => {
+            write_cause(alloc, out, &cause)?;
+            Ok(true)
+        }
+        Err(FenceEditFault::Memory) => Err(AllocError),
+    }
+}
+
+// Appends that so many trees were edited. There is room for it.
+fn put_count(out: &mut Vec<u8>, count: u32)
+    requires { vec_len out.old + 64 ≤ vec_capacity out.old }
+    ensures { out.new.items ≡ out.old.items ++ numbered (codes "ok ") count }
+{
+    let mut buffer = Buffer::new();
+    put_known(out, b"ok ");
+    put_known(out, buffer.format(count).as_bytes());
+    put_known(out, b"\n");
+}
+
+// Sets the fence to these corners, appends what is said of it, and answers whether it was refused.
+pub(crate) fn answer_fence(
+    alloc: Global,
+    s: &mut Session,
+    corners: &[Pt],
+    out: &mut Vec<u8>,
+) -> Result<bool, AllocError>
+    ensures text { OnOk result (out.new.items ≡ out.old.items ++ fence_said corners.now) }
+    ensures refused { IfOk result (λ refused. refused ≡ fence_refused corners.now) }
+    ensures state { OnOk result (state_of s.new ≡ fence_set corners.now (state_of s.old)) }
+    ensures tail { s.new.tail ≡ s.old.tail }
+    ensures kept { OnErr result (s.new ≡ s.old) }
+    ensures bytes { OnErr result (out.new.items ≡ out.old.items) }
+{
+    out.reserve(ROOM)?;
+    match fence(alloc, corners) {
+        Ok(made) => {
+            s.set_fence(made);
+            put_known(out, b"ok\n");
+            Ok(false)
+        }
+        Err(FenceFault::Few) => {
+            put_known(out, b"refused few\n");
+            Ok(true)
+        }
+        Err(FenceFault::Many) => {
+            put_known(out, b"refused many\n");
+            Ok(true)
+        }
+        Err(FenceFault::Memory) => Err(AllocError),
+    }
+}
+
+// Appends the numbers of the roots that the fence chooses, and answers whether there is no fence.
+pub(crate) fn answer_select(
+    alloc: Global,
+    s: &Session,
+    mode: Mode,
+    out: &mut Vec<u8>,
+) -> Result<bool, AllocError>
+    ensures text { OnOk result (out.new.items ≡ out.old.items ++ selection_said (selection mode (state_of s.now))) }
+    ensures refused { IfOk result (λ refused. refused ≡ selection_refused (selection mode (state_of s.now))) }
+    ensures front { OnErr result
+        (AppendsFrontOf (selection_said (selection mode (state_of s.now))) out.old.items out.new.items) }
+{
+    match s.select(mode) {
+        Ok(found) => {
+            write_selected(alloc, out, &found)?;
+            Ok(false)
+        }
+        Err(SelectFault::NoFence) => {
+            out.extend_from_slice(b"refused no-fence\n")?;
+            Ok(true)
+        }
+        Err(SelectFault::Memory) => Err(AllocError),
+    }
+}
