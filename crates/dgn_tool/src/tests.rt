@@ -1,5 +1,7 @@
 // Runs over a desk of memory, by the rows of the format's examples.
 
+mod fences;
+
 use super::*;
 use dgn_desk::SureDesk;
 use std::alloc::{AllocError, Global};
@@ -819,7 +821,11 @@ fn scripts_that_are_not_run(rt: HostRuntime) -> Result<(), Fail> {
             Status::BadScript,
             b"bad script line 3\n",
         ),
-        (b"undo\nfence\ncolour", Status::Unbuilt, b"unbuilt\n"),
+        (
+            b"undo\nfence\ncolour",
+            Status::BadScript,
+            b"bad script line 2\n",
+        ),
         (
             b"show\r\nundo\r\n\r\n# x\r\nmove 1 +1 2",
             Status::BadScript,
