@@ -3,3 +3,5 @@ mod Endings
 mod Ran
 mod Finished
 mod Answered
+mod TreeBytes
+mod Growing

@@ -6,3 +6,5 @@ pub mod Commands
 pub mod Outcome
 pub mod Told
 pub mod Laws
+pub mod Generator
+pub mod Fronts

@@ -6,14 +6,19 @@ mod answers;
 mod commands;
 mod ending;
 mod fences;
+mod fields;
+mod generator;
 pub mod laws;
 mod lines;
 mod opening;
+mod place;
 mod request;
 mod status;
 mod top;
+mod trees;
 
 pub use answers::answer;
+pub use generator::generate;
 pub use status::Status;
 pub use top::run;
 

@@ -1,0 +1,8 @@
+use Rattle.std.proofs.Common.{rules, append_assoc}
+use Rattle.dgn_drawing.specs.Spelling.{display_bytes}
+use Rattle.dgn_tool.proofs.TreeBytes.{chain_spelled}
+use Rattle.dgn_tool.proofs.trees.push_chain.Goals as goal
+
+pub returns : goal.returns
+unfolding display_bytes
+returns c = rw (chain_spelled c.args.at.before c.args.at.x c.args.at.y) (search (rules, append_assoc))
