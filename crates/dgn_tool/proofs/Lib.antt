@@ -5,3 +5,4 @@ mod Finished
 mod Answered
 mod TreeBytes
 mod Growing
+mod GeneratedFile

@@ -1,10 +1,18 @@
 //! Laws over the definitions that the contracts cite. The function does nothing; its contract is the law.
 
 ghost use Rattle.dgn_tool.specs.Laws.{UntouchedBytesStay};
+ghost use Rattle.dgn_tool.specs.Generator.{GeneratedDrawingsOpen};
 
 /// The file that a run writes opens as the elements that the accepted commands make and the tail of the file that was
 /// read, and it has that file's byte at each place in the elements of that file that is in no field of an edit that is
 /// left: one that was accepted, and that no undo took back.
 pub fn untouched_bytes_stay()
     ensures { UntouchedBytesStay }
+{}
+
+/// The drawing of any seed and of at most 200000 elements behind its TCB opens as these elements: a drawing of the
+/// plane, each of whose elements is well formed. It has exactly as many elements as were asked for, and its TCB, and
+/// it isn't too long for a design file.
+pub fn generated_drawings_open()
+    ensures { GeneratedDrawingsOpen }
 {}
