@@ -1,6 +1,6 @@
 -- A generated drawing opens as its elements.
 use Rattle.std.proofs.Common.{◌≡◌, ℕ, zero, suc, ◌+◌, ◌-◌, ◌*◌, ◌/◌, ◌%◌, ◌^◌, ◌<◌, ◌≤◌, Bool, true, false, cond, List, [], ◌∷◌, ◌++◌, length, replicate, get_or, refl, sym, ap, ◌∙◌, subst, inl, append_assoc, arith, length-append}
-use Rattle.std.specs.Prelude.{ℤ, pos, ◌==◌, ◌&&◌, nat_le, codes}
+use Rattle.std.specs.Prelude.{pos, ◌==◌, ◌&&◌, nat_le, codes}
 use Rattle.std.specs.List.{AllByRecursion}
 use Rattle.std.proofs.lemmas.Int.{ints}
 use Rattle.std.proofs.lemmas.Bool.Decides.{nat_tests}
@@ -10,13 +10,13 @@ use Rattle.std.proofs.lemmas.List.Elements.{All-nil, All-cons}
 use Rattle.dgn_drawing.specs.declared.new_shape.NewShape.{NewShape}
 use Rattle.dgn_drawing.specs.declared.new_shape.NewShape.TheVariants as shapes
 use Rattle.dgn_drawing.specs.Forms.{form_of}
-use Rattle.dgn_drawing.specs.Element.{Body, Silent, Shown, Element}
-use Rattle.dgn_drawing.specs.Spelling.{first_byte, second_byte, display_bytes, parts_bytes, body_bytes, spell, spelling, size_of}
-use Rattle.dgn_drawing.specs.WellFormed.{IsBytes, IsCoordinate, IsPoint, IsWellFormed, HasAttributesInPlace}
+use Rattle.dgn_drawing.specs.Element.{Element}
+use Rattle.dgn_drawing.specs.Spelling.{first_byte, second_byte, display_bytes, parts_bytes, body_bytes, spell, spelling}
+use Rattle.dgn_drawing.specs.WellFormed.{IsBytes, IsCoordinate, IsWellFormed}
 use Rattle.dgn_drawing.specs.NewElements.{NewElement, IsPointFor, IsShapeFor, IsNew, size_made, made}
-use Rattle.dgn_drawing.specs.Opening.{dimension, IsTcb, Opens}
+use Rattle.dgn_drawing.specs.Opening.{dimension, IsTcb}
 use Rattle.dgn_drawing.proofs.Making.{made_good}
-use Rattle.dgn_tool.specs.Generator.{next_state, number_of, point, new_at, member_of, shape_at, cell_header, cell, tree, tree_drawn, trees_within, blank_tcb, generated_elements, generated, IsGenerated, GeneratedDrawingsOpen}
+use Rattle.dgn_tool.specs.Generator.{next_state, number_of, point, new_at, member_of, shape_at, cell_header, cell, tree, tree_drawn, trees_within, blank_tcb, generated_elements, generated, GeneratedDrawingsOpen}
 use Rattle.dgn_tool.proofs.Growing.{none_left, one_more}
 
 -- a number that is drawn is below 2 ^ 20, and so is far within the plane
@@ -77,19 +77,21 @@ module _ (i x y : ℕ) (right : x < 2 ^ 20) (up : y < 2 ^ 20) where
       (record { enough = omega arith; few = omega arith; each = (a, (b, (c, tt))) }, omega arith) in
       let ring : IsSmallShape (shapes.Shape (point x y ∷ point (x + 20) y ∷ point (x + 20) (y + 20) ∷ point x y ∷ [])) =
       (record { enough = omega arith; few = omega arith; each = (a, (d, (e, (a, tt)))) }, omega arith) in
-      let text : IsSmallShape (shapes.Text 1 0 (pos 1000) (pos 1000) (point x y) (codes "DGN")) =
-      (record {
-        font_byte = omega arith;
-        just_byte = omega arith;
-        wide_long = refl;
-        wide_up = omega (arith, ints);
-        high_long = refl;
-        high_up = omega (arith, ints);
-        point = a;
-        some = omega arith;
-        few = omega arith;
-        bytes = All-cons (λ z. z < 256) 68 (71 ∷ 78 ∷ []) (omega arith) (All-cons (λ z. z < 256) 71 (78 ∷ []) (omega arith) (All-cons (λ z. z < 256) 78 [] (omega arith) (All-nil (λ z. z < 256))));
-      }, omega arith) in
+      let text : IsSmallShape (shapes.Text 1 0 (pos 1000) (pos 1000) (point x y) (codes "DGN")) = (
+        record {
+          font_byte = omega arith;
+          just_byte = omega arith;
+          wide_long = refl;
+          wide_up = omega (arith, ints);
+          high_long = refl;
+          high_up = omega (arith, ints);
+          point = a;
+          some = omega arith;
+          few = omega arith;
+          bytes = All-cons (λ z. z < 256) 68 (71 ∷ 78 ∷ []) (omega arith) (All-cons (λ z. z < 256) 71 (78 ∷ []) (omega arith) (All-cons (λ z. z < 256) 78 [] (omega arith) (All-nil (λ z. z < 256))));
+        },
+        omega arith,
+      ) in
       either IsSmallShape (i % 4 == 0) _ _ (line_new 100 50 (omega arith) (omega arith), omega arith)
       (either IsSmallShape (i % 4 == 1) _ _ chain (either IsSmallShape (i % 4 == 2) _ _ ring text))
 
@@ -118,7 +120,8 @@ module _ (i x y : ℕ) (right : x < 2 ^ 20) (up : y < 2 ^ 20) where
     level = omega arith;
     kind = omega arith;
     form = refl;
-    parts = (record {
+    parts = (
+      record {
         low = (point_good x y (omega arith) (omega arith)).numbers;
         high = (point_good (x + 30) (y + 30) (omega arith) (omega arith)).numbers;
         group = omega arith;
@@ -127,13 +130,16 @@ module _ (i x y : ℕ) (right : x < 2 ^ 20) (up : y < 2 ^ 20) where
         style = omega arith;
         weight = omega arith;
         color = omega arith;
-      }, record {
+      },
+      record {
         word = omega arith;
         name_long = refl;
         name_words = (omega arith, (omega arith, tt));
         before = record { long = refl; bytes = zeros_good 42 };
         point = record { long = refl; on_plane = (near x (omega arith), (near y (omega arith), tt)) };
-      }, All-nil (λ z. z < 256));
+      },
+      All-nil (λ z. z < 256),
+    );
     even = refl;
     small = omega arith;
     no_mark = second_differs (first_byte (cell_header i x y)) 2 (omega arith);

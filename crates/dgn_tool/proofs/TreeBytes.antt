@@ -1,15 +1,14 @@
 -- The bytes of the elements of a generated drawing, as the code joins them.
-use Rattle.std.proofs.Common.{◌≡◌, ℕ, ◌+◌, ◌-◌, ◌/◌, ◌%◌, ◌≤◌, Bool, true, false, List, [], ◌∷◌, ◌++◌, length, refl, sym, ap, ◌∙◌, append_assoc, arith}
+use Rattle.std.proofs.Common.{◌≡◌, ℕ, ◌+◌, ◌%◌, ◌≤◌, Bool, false, List, [], ◌∷◌, ◌++◌, refl, sym, ap, ◌∙◌, append_assoc, arith}
 use Rattle.std.specs.Prelude.{ℤ, pos, codes, replicate}
 use Rattle.std.specs.Int.{int_min, int_max}
-use Rattle.std.specs.List.{flat_map}
 use Rattle.std.proofs.lemmas.Int.{ints, int_min_is, int_max_is}
 use Rattle.dgn_words.specs.Numbers.{word_bytes, long_bytes}
 use Rattle.dgn_drawing.specs.declared.new_shape.NewShape.{NewShape}
 use Rattle.dgn_drawing.specs.declared.new_shape.NewShape.TheVariants as shapes
-use Rattle.dgn_drawing.specs.Element.{Display, Parts, Shown, Element}
+use Rattle.dgn_drawing.specs.Element.{Display}
 use Rattle.dgn_drawing.specs.Spelling.{bit, point_bytes, display_bytes, parts_bytes, body_bytes, spell}
-use Rattle.dgn_drawing.specs.NewElements.{NewElement, points_given, lowest, highest, display_made, made}
+use Rattle.dgn_drawing.specs.NewElements.{points_given, lowest, highest, made}
 use Rattle.dgn_tool.specs.Generator.{point, new_at, cell_header, blank_tcb}
 use Rattle.dgn_tool.specs.Fronts.{front_at}
 
@@ -82,11 +81,11 @@ unfolding spell body_bytes parts_bytes display_bytes display_of
 chain_spelled i x y =
     shown i x y 10 10 (shapes.Chain (point x y ∷ point (x + 10) y ∷ point (x + 10) (y + 10) ∷ []))
     (ap (lower_of (point x y)) (least_left (x + 10) y (x + 10) (y + 10) (omega arith) (omega arith))
-        ∙ least_left x y (x + 10) y (omega arith) (omega arith))
+    ∙ least_left x y (x + 10) y (omega arith) (omega arith))
     (ap (upper_of (point x y)) (greatest_right (x + 10) y (x + 10) (y + 10) (omega arith) (omega arith))
-        ∙ greatest_right x y (x + 10) (y + 10) (omega arith) (omega arith))
+    ∙ greatest_right x y (x + 10) (y + 10) (omega arith) (omega arith))
     (λ (d : Display). (1 + i % 8 + bit 64 false + bit 128 false) ∷ 4 ∷ (word_bytes 29 ++ (display_bytes d
-        ++ (word_bytes 3 ++ (point_bytes (pos x ∷ pos y ∷ []) ++ (point_bytes (pos (x + 10) ∷ pos y ∷ []) ++ point_bytes (pos (x + 10) ∷ pos (y + 10) ∷ [])))))))
+    ++ (word_bytes 3 ++ (point_bytes (pos x ∷ pos y ∷ []) ++ (point_bytes (pos (x + 10) ∷ pos y ∷ []) ++ point_bytes (pos (x + 10) ∷ pos (y + 10) ∷ [])))))))
     15
 
 -- a shape
@@ -97,13 +96,13 @@ unfolding spell body_bytes parts_bytes display_bytes display_of
 shape_spelled i x y =
     shown i x y 20 20 (shapes.Shape (point x y ∷ point (x + 20) y ∷ point (x + 20) (y + 20) ∷ point x y ∷ []))
     (ap (λ (p : List ℤ). lower_of (point x y) (lower_of (point (x + 20) y) p)) (least_right (x + 20) (y + 20) x y (omega arith) (omega arith))
-        ∙ ap (lower_of (point x y)) (least_right (x + 20) y x y (omega arith) (omega arith))
-        ∙ least_left x y x y (omega arith) (omega arith))
+    ∙ ap (lower_of (point x y)) (least_right (x + 20) y x y (omega arith) (omega arith))
+    ∙ least_left x y x y (omega arith) (omega arith))
     (ap (λ (p : List ℤ). upper_of (point x y) (upper_of (point (x + 20) y) p)) (greatest_left (x + 20) (y + 20) x y (omega arith) (omega arith))
-        ∙ ap (upper_of (point x y)) (greatest_right (x + 20) y (x + 20) (y + 20) (omega arith) (omega arith))
-        ∙ greatest_right x y (x + 20) (y + 20) (omega arith) (omega arith))
+    ∙ ap (upper_of (point x y)) (greatest_right (x + 20) y (x + 20) (y + 20) (omega arith) (omega arith))
+    ∙ greatest_right x y (x + 20) (y + 20) (omega arith) (omega arith))
     (λ (d : Display). (1 + i % 8 + bit 64 false + bit 128 false) ∷ 6 ∷ (word_bytes 33 ++ (display_bytes d
-        ++ (word_bytes 4 ++ (point_bytes (pos x ∷ pos y ∷ []) ++ (point_bytes (pos (x + 20) ∷ pos y ∷ []) ++ (point_bytes (pos (x + 20) ∷ pos (y + 20) ∷ []) ++ point_bytes (pos x ∷ pos y ∷ []))))))))
+    ++ (word_bytes 4 ++ (point_bytes (pos x ∷ pos y ∷ []) ++ (point_bytes (pos (x + 20) ∷ pos y ∷ []) ++ (point_bytes (pos (x + 20) ∷ pos (y + 20) ∷ []) ++ point_bytes (pos x ∷ pos y ∷ []))))))))
     19
 
 -- a text
@@ -114,7 +113,7 @@ text_spelled i x y =
     shown i x y 0 0 (shapes.Text 1 0 (pos 1000) (pos 1000) (point x y) (codes "DGN"))
     refl (corners (pos x) (pos y) (pos (x + 0)) (pos (y + 0)) (ap pos (omega arith)) (ap pos (omega arith)))
     (λ (d : Display). (1 + i % 8 + bit 64 false + bit 128 false) ∷ 17 ∷ (word_bytes 30 ++ (display_bytes d
-        ++ ((1 ∷ 0 ∷ []) ++ (long_bytes (pos 1000) ++ (long_bytes (pos 1000) ++ (long_bytes (pos 0) ++ (point_bytes (pos x ∷ pos y ∷ []) ++ (3 ∷ 0 ∷ 68 ∷ 71 ∷ 78 ∷ 0 ∷ [])))))))))
+    ++ ((1 ∷ 0 ∷ []) ++ (long_bytes (pos 1000) ++ (long_bytes (pos 1000) ++ (long_bytes (pos 0) ++ (point_bytes (pos x ∷ pos y ∷ []) ++ (3 ∷ 0 ∷ 68 ∷ 71 ∷ 78 ∷ 0 ∷ [])))))))))
     16
 
 -- the header of a cell

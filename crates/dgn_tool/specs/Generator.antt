@@ -1,6 +1,6 @@
 -- The drawing that is generated from a seed: a TCB, and trees of one element or three until as many elements stand
 -- behind it as were asked for. Each tree stands at x, y, two numbers that are drawn for it, x first.
-use Rattle.std.specs.Prelude.{ℕ, zero, suc, ◌+◌, ◌-◌, ◌*◌, ◌/◌, ◌%◌, ◌≤◌, ◌≡◌, ◌==◌, ◌&&◌, nat_le, Bool, true, false, if◌then◌else◌, ℤ, pos, List, [], ◌∷◌, ◌++◌, length, replicate, codes}
+use Rattle.std.specs.Prelude.{ℕ, zero, suc, ◌+◌, ◌-◌, ◌*◌, ◌/◌, ◌%◌, ◌≤◌, ◌≡◌, ◌==◌, ◌&&◌, nat_le, true, false, if◌then◌else◌, ℤ, pos, List, [], ◌∷◌, ◌++◌, length, replicate, codes}
 use Rattle.dgn_drawing.specs.declared.new_shape.NewShape.{NewShape}
 use Rattle.dgn_drawing.specs.declared.new_shape.NewShape.TheVariants as shapes
 use Rattle.dgn_drawing.specs.Element.{Display, Cell, Silent, Shown, Element}
@@ -85,7 +85,7 @@ trees_within zero left i s = []
 trees_within (suc n) left i s =
     if left == 0 then []
     else tree_drawn left i s
-        ++ trees_within n (left - length (tree_drawn left i s)) (i + length (tree_drawn left i s)) (next_state (next_state s))
+    ++ trees_within n (left - length (tree_drawn left i s)) (i + length (tree_drawn left i s)) (next_state (next_state s))
 
 -- the TCB: 08 09 FE 02 and 1532 zero bytes
 unfoldable pub blank_tcb : Element

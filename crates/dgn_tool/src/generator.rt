@@ -2,9 +2,13 @@ ghost use Rattle.std.specs.Prelude.{◌≡◌, ◌≤◌, ◌^◌, ◌<◌, ◌+
 ghost use Rattle.dgn_drawing.specs.Spelling.{spell, spelling};
 ghost use Rattle.dgn_tool.specs.Generator.{next_state, trees_within, blank_tcb, generated};
 
-use crate::place::Place;
-use crate::trees::push_tree;
+mod fields;
+mod place;
+mod trees;
+
+use place::Place;
 use std::alloc::{AllocError, Global};
+use trees::push_tree;
 
 // The most bytes that a tree has for each of its elements.
 const MOST: usize = 70;
@@ -64,3 +68,6 @@ fn drawn(state: u32) -> u32
 {
     ((u64::from(state) * 1103515245 + 12345) % 2147483648) as u32
 }
+
+#[cfg(test)]
+mod tests;

@@ -6,16 +6,13 @@ mod answers;
 mod commands;
 mod ending;
 mod fences;
-mod fields;
 mod generator;
 pub mod laws;
 mod lines;
 mod opening;
-mod place;
 mod request;
 mod status;
 mod top;
-mod trees;
 
 pub use answers::answer;
 pub use generator::generate;

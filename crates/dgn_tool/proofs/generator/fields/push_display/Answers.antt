@@ -1,6 +1,6 @@
 use Rattle.std.proofs.Common.{rules, append_assoc}
 use Rattle.dgn_drawing.specs.Spelling.{display_bytes}
-use Rattle.dgn_tool.proofs.fields.push_display.Goals as goal
+use Rattle.dgn_tool.proofs.generator.fields.push_display.Goals as goal
 
 pub returns : goal.returns
 unfolding display_bytes

@@ -5,7 +5,7 @@ ghost use Rattle.dgn_tool.specs.Generator.{point, display_at};
 ghost use Rattle.dgn_tool.specs.Fronts.{front_at};
 ghost use Rattle.std.specs.List.{flat_map};
 
-use crate::place::Place;
+use crate::generator::place::Place;
 use dgn_words::{put_long, put_range_long, put_word};
 use std::alloc::AllocError;
 

@@ -1,7 +1,7 @@
 use Rattle.std.proofs.Common.{rules, append_assoc}
 use Rattle.dgn_drawing.specs.Spelling.{display_bytes}
 use Rattle.dgn_tool.proofs.TreeBytes.{chain_spelled}
-use Rattle.dgn_tool.proofs.trees.push_chain.Goals as goal
+use Rattle.dgn_tool.proofs.generator.trees.push_chain.Goals as goal
 
 pub returns : goal.returns
 unfolding display_bytes

@@ -4,8 +4,8 @@ ghost use Rattle.dgn_drawing.specs.Spelling.{spell, spelling};
 ghost use Rattle.dgn_drawing.specs.NewElements.{made};
 ghost use Rattle.dgn_tool.specs.Generator.{point, new_at, shape_at, cell_header, cell, tree};
 
-use crate::fields::{push_front, push_long, push_point, push_word};
-use crate::place::Place;
+use crate::generator::fields::{push_front, push_long, push_point, push_word};
+use crate::generator::place::Place;
 use std::alloc::AllocError;
 
 // Appends the tree at this place, and answers how many elements it has. So many are left to make.
