@@ -9,7 +9,7 @@ use crate::generator::place::Place;
 use dgn_words::{put_long, put_range_long, put_word};
 use std::alloc::AllocError;
 
-// Appends the first 36 bytes of an element of this type and size, whose range is so wide and high.
+/// Appends the first 36 bytes of an element of this type and size, whose range is so wide and high.
 pub fn push_front(
     bytes: &mut Vec<u8>,
     at: Place,
@@ -70,7 +70,7 @@ fn push_corner(bytes: &mut Vec<u8>, x: u32, y: u32) -> Result<(), AllocError>
     push_range_long(bytes, 0)
 }
 
-// Appends a point of two numbers.
+/// Appends a point of two numbers.
 pub fn push_point(bytes: &mut Vec<u8>, x: u32, y: u32) -> Result<(), AllocError>
     requires x { x < 2 ^ 31 }
     requires y { y < 2 ^ 31 }
@@ -80,7 +80,7 @@ pub fn push_point(bytes: &mut Vec<u8>, x: u32, y: u32) -> Result<(), AllocError>
     push_long(bytes, y)
 }
 
-// Appends a word.
+/// Appends a word.
 pub fn push_word(bytes: &mut Vec<u8>, v: u16) -> Result<(), AllocError>
     ensures { OnOk result (bytes.new.items ≡ bytes.old.items ++ word_bytes v) }
 {
@@ -89,7 +89,7 @@ pub fn push_word(bytes: &mut Vec<u8>, v: u16) -> Result<(), AllocError>
     bytes.extend_from_slice(&two)
 }
 
-// Appends a long.
+/// Appends a long.
 pub fn push_long(bytes: &mut Vec<u8>, v: u32) -> Result<(), AllocError>
     requires { v < 2 ^ 31 }
     ensures { OnOk result (bytes.new.items ≡ bytes.old.items ++ long_bytes (pos v)) }

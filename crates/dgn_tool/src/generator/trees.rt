@@ -8,7 +8,7 @@ use crate::generator::fields::{push_front, push_long, push_point, push_word};
 use crate::generator::place::Place;
 use std::alloc::AllocError;
 
-// Appends the tree at this place, and answers how many elements it has. So many are left to make.
+/// Appends the tree at this place, and answers how many elements it has. So many are left to make.
 pub fn push_tree(bytes: &mut Vec<u8>, left: u32, at: Place) -> Result<u32, AllocError>
     requires { 1 ≤ left }
     ensures bytes { OnOk result (bytes.new.items ≡ bytes.old.items ++ spelling (tree left at.before at.x at.y)) }
