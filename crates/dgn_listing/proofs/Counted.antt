@@ -38,3 +38,18 @@ counted text n count k old mid new from within before front =
     ∙ ap (λ (m : ℕ). texts_from text n (k - n) ++ (text m ++ texts_from text (m + 1) (count - (k - n) - 1))) here) in
     subst (λ (t : List ℕ). AppendsFrontOf t old new) whole
     (later (texts_from text n (k - n)) (text k ++ rest) old mid new before (first (text k) rest mid new front))
+
+-- the same from 0 on
+pub one_after : (text : ℕ → List ℕ) (k : ℕ) (old mid new : List ℕ) → mid ≡ old ++ texts_from text 0 k → new ≡ mid ++ text k → new ≡ old ++ texts_from text 0 (k + 1)
+one_after text k old mid new before one =
+    let here : k - 0 ≡ k = omega arith in
+    let next : k + 1 - 0 ≡ k + 1 = omega arith in
+    let more : texts_from text 0 (k + 1) ≡ texts_from text 0 k ++ text k =
+    sym (ap (texts_from text 0) next) ∙ (texts-more text 0 k (omega arith) ∙ ap (λ (n : ℕ). texts_from text 0 n ++ text k) here)
+    in
+    one ∙ (ap (λ (t : List ℕ). t ++ text k) before ∙ (append_assoc old (texts_from text 0 k) (text k) ∙ ap (λ (t : List ℕ). old ++ t) (sym more)))
+
+pub all_before : (text : ℕ → List ℕ) (count k : ℕ) (old mid new : List ℕ) → k < count → mid ≡ old ++ texts_from text 0 k → AppendsFrontOf (text k) mid new → AppendsFrontOf (texts_from text 0 count) old new
+all_before text count k old mid new within before front =
+    let here : k ≡ k - 0 = omega arith in
+    counted text 0 count k old mid new (omega arith) (omega arith) (before ∙ ap (λ (n : ℕ). old ++ texts_from text 0 n) here) front

@@ -1,5 +1,8 @@
 pub mod Counted
+pub mod Counting
 pub mod Fronts
+pub mod Linked
+pub mod Listings
 pub mod Marked
 pub mod Rows
 pub mod Told

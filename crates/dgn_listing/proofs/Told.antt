@@ -32,7 +32,7 @@ marked es rows n same =
     ∙ ap (λ (ms : List Mark). slice_get ms n) (marks-map row_of (forest row_of es) 0 0 None)
 
 -- the element whose spelling is given is the one there
-taken : (o : Option Element) (b : List ℕ) → Some b ≡ option_map spell o → (e : Element) × (o ≡ Some e) × (b ≡ spell e)
+pub taken : (o : Option Element) (b : List ℕ) → Some b ≡ option_map spell o → (e : Element) × (o ≡ Some e) × (b ≡ spell e)
 taken None b is = absurd (let f = is in cc)
 taken (Some e) b is = (e, refl, cc)
 
@@ -43,7 +43,7 @@ pub record HeadIs (e : Element) (head : Head) : Type 0 where
   pub kind : head.kind ≡ e.kind
   pub deleted : head.deleted ≡ e.deleted
 
-head_is : (d : Design) → IsWhole d → (n : ℕ) (e : Element) → slice_get (elements d) n ≡ Some e → HeadIs e (head_of (spell e))
+pub head_is : (d : Design) → IsWhole d → (n : ℕ) (e : Element) → slice_get (elements d) n ≡ Some e → HeadIs e (head_of (spell e))
 head_is d whole n e found =
     let axes : IsDimension d.dim = subst IsDimension (sym whole.is_open.opens.axes) (dimension_is (d.body.items ++ d.tail.items)) in
     let good : IsWellFormed d.dim e = each_at (IsWellFormed d.dim) (elements d) n e whole.is_open.opens.each found in

@@ -3,3 +3,8 @@ pub mod Lines
 pub mod TreeTexts
 pub mod CauseTexts
 pub mod SelectedTexts
+pub mod Counts
+pub mod ElementTexts
+pub mod RefTexts
+pub mod LinkTexts
+pub mod Laws

@@ -5,14 +5,23 @@
 #![tactic(auto)]
 
 mod causes;
+mod counts;
+mod elements;
 mod items;
+pub mod laws;
+mod links;
+mod listed;
 mod pieces;
+mod refs;
 mod selected;
 mod tree;
 mod tree_line;
 
 pub use causes::write_cause;
+pub use elements::write_elements;
 pub use items::write_items;
+pub use links::write_links;
+pub use refs::write_refs;
 pub use selected::write_selected;
 pub use tree::write_tree;
 

@@ -25,7 +25,7 @@ pub(crate) fn put(out: &mut Vec<u8>, piece: &[u8]) -> Result<(), AllocError>
 }
 
 // Appends a number and a blank.
-fn put_field(out: &mut Vec<u8>, n: u64) -> Result<(), AllocError>
+pub(crate) fn put_field(out: &mut Vec<u8>, n: u64) -> Result<(), AllocError>
     ensures text { OnOk result (out.new.items ≡ out.old.items ++ field_text n) }
     ensures front { OnErr result (AppendsFrontOf (field_text n) out.old.items out.new.items) }
 {

@@ -121,7 +121,7 @@ fn put_knot(out: &mut Vec<u8>, knot: Knot) -> Result<(), AllocError>
 }
 
 // Appends a blank, and whether the element itself is marked deleted.
-fn put_state(out: &mut Vec<u8>, deleted: bool) -> Result<(), AllocError>
+pub(crate) fn put_state(out: &mut Vec<u8>, deleted: bool) -> Result<(), AllocError>
     ensures text { OnOk result (out.new.items ≡ out.old.items ++ state_text deleted) }
     ensures front { OnErr result (AppendsFrontOf (state_text deleted) out.old.items out.new.items) }
 {

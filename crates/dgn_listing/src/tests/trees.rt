@@ -4,6 +4,7 @@ ghost use Rattle.std.specs.Prelude.{◌≡◌, map, IfOk};
 ghost use Rattle.dgn_drawing.specs.Rows.{row_of};
 ghost use Rattle.elem_index.specs.Design.{elements, IsWhole};
 
+use super::file;
 use crate::write_tree;
 use elem_index::{Design, read_design};
 use nest_tree::nest;
@@ -58,17 +59,6 @@ fn member(second: u8) -> [u8; 52] {
     let mut bytes = MEMBER;
     bytes[1] = second;
     bytes
-}
-
-// A file of two dimensions: a TCB, these elements, and the mark that ends them.
-fn file(alloc: Global, elements: &[&[u8]]) -> Result<Vec<u8>, AllocError> {
-    let mut bytes = Vec::from_slice(alloc, &[0x08, 0x09, 0xFE, 0x02])?;
-    bytes.resize(1536, 0)?;
-    for element in elements {
-        bytes.extend_from_slice(element)?;
-    }
-    bytes.extend_from_slice(&[0xFF, 0xFF])?;
-    Ok(bytes)
 }
 
 // The nesting of a design.
