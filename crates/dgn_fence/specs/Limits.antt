@@ -54,10 +54,11 @@ is_apart a b = lies_apart a.low a.high b.low b.high
 abbrev pub misses : Bounds → Pt → Pt → Bool
 misses b r s = is_apart b (grown (at r) s) || lies_beside b.low b.high r s
 
--- those that lie apart from others count for nothing
-abbrev pub unless_apart : Bounds → Option Bounds → Option Bounds
-unless_apart other None = None
-unless_apart other (Some b) = if is_apart b other then None else Some b
+-- those of an item, beside those of a fence: none where they lie apart
+abbrev pub near_bounds : Option Bounds → Option Bounds → Option Bounds
+near_bounds None other = None
+near_bounds (Some fence) None = None
+near_bounds (Some fence) (Some item) = if is_apart item fence then None else Some item
 
 -- what a fence keeps: 3 to 256 corners, and their bounds
 pub record IsFence (corners : List Pt) (bounds : Bounds) : Type 0 where

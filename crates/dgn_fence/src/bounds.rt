@@ -82,7 +82,7 @@ impl Bounds {
     }
 
     // Whether all segments within them miss the one from `r` to `s`, by its bounds or by its line.
-    #[inline]
+    #[inline(always)]
     pub(crate) fn misses(self, r: Pt, s: Pt) -> bool
         ensures { result ≡ misses self r s }
     {

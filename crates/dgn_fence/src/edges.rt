@@ -34,6 +34,7 @@ pub(crate) fn touches_fence(corners: &[Pt], item: &Item, around: Bounds) -> bool
 }
 
 // Whether some of them touches the edge from `r` to `s`. Where they all miss it, none is tried.
+#[inline(always)]
 fn touches_edge(item: &Item, around: Bounds, r: Pt, s: Pt) -> bool
     requires { extent_of item.now ≡ Some around }
     ensures { result ≡ any_touches (segments_of item.now) (r, s) }
@@ -41,6 +42,14 @@ fn touches_edge(item: &Item, around: Bounds, r: Pt, s: Pt) -> bool
     if around.misses(r, s) {
         return false;
     }
+    some_touches(item, r, s)
+}
+
+// Whether some segment of an item touches the edge.
+#[tactic(auto, unfolding(crate::specs::Taken::any_touches))]
+fn some_touches(item: &Item, r: Pt, s: Pt) -> bool
+    ensures { result ≡ any_touches (segments_of item.now) (r, s) }
+{
     match &item.body {
         ItemBody::Path(points) => path_touches(points.as_slice(), item.kind == 6, r, s),
         ItemBody::Text { .. } | ItemBody::Boxed => range_touches(item.range, r, s),
@@ -77,7 +86,10 @@ fn range_touches(range: Box3, r: Pt, s: Pt) -> bool
     let [left, bottom, _] = range.lo;
     let [right, top, _] = range.hi;
     let low = Pt { x: left, y: bottom };
-    let low_right = Pt { x: right, y: bottom };
+    let low_right = Pt {
+        x: right,
+        y: bottom,
+    };
     let high = Pt { x: right, y: top };
     let high_left = Pt { x: left, y: top };
     if touch(low, low_right, r, s) || touch(low_right, high, r, s) {

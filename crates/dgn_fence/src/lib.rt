@@ -12,3 +12,6 @@ pub mod types;
 
 pub use fence_fault::FenceFault;
 pub use making::fence;
+
+#[cfg(test)]
+mod tests;

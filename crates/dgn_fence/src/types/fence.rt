@@ -1,12 +1,12 @@
-ghost use Rattle.std.specs.Prelude.{◌≡◌, ◌≤◌, Some, None, OnSome, IfSome, IfNone, List, length, false};
+ghost use Rattle.std.specs.Prelude.{◌≡◌, ◌≤◌, List, length};
 ghost use Rattle.std.specs.List.{list_any, list_all};
 ghost use Rattle.std.specs.Cmp.{partial_equiv_from_equiv};
 ghost use Rattle.std.specs.Cmp.Lexicographic.{pointwise, lists_equiv};
 ghost use Rattle.plane_geom.specs.declared.pt.Pt.{Pt};
 ghost use Rattle.plane_geom.specs.Points.{same_point, same_point_equiv};
 ghost use Rattle.dgn_fence.specs.Segments.{segments_of};
-ghost use Rattle.dgn_fence.specs.Taken.{begins_within, touches_fence, is_inside, overlaps, has_some, parts, takes};
-ghost use Rattle.dgn_fence.specs.Limits.{IsFence, extent_of, unless_apart};
+ghost use Rattle.dgn_fence.specs.Taken.{begins_within, is_inside, overlaps, parts, takes};
+ghost use Rattle.dgn_fence.specs.Limits.{IsFence, bounds_of, extent_of, near_bounds};
 
 use crate::bounds::{Bounds, bounds_of};
 use crate::edges::touches_fence;
@@ -87,7 +87,7 @@ impl Fence {
     }
 
     // Whether the segments of an item are inside.
-    #[tactic(auto, unfolding(crate::specs::Taken::is_inside))]
+    #[tactic(auto, using(crate::proofs::Misses::is_far, crate::proofs::Misses::is_near), unfolding(crate::specs::Taken::is_inside))]
     fn is_inside(&self, item: &Item) -> bool
         ensures { result ≡ is_inside self.now (segments_of item.now) }
     {
@@ -98,7 +98,7 @@ impl Fence {
     }
 
     // Whether they overlap.
-    #[tactic(auto, unfolding(crate::specs::Taken::overlaps))]
+    #[tactic(auto, using(crate::proofs::Misses::is_far, crate::proofs::Misses::is_near), unfolding(crate::specs::Taken::overlaps))]
     fn overlaps(&self, item: &Item) -> bool
         ensures { result ≡ overlaps self.now (segments_of item.now) }
     {
@@ -111,9 +111,7 @@ impl Fence {
     // The bounds of the segments of an item. None where it has none, or where they lie apart from those of
     // the fence.
     fn near(&self, item: &Item) -> Option<Bounds>
-        ensures around { IfSome result (λ b. extent_of item.now ≡ Some b) }
-        ensures outside { IfNone result (begins_within self.now (segments_of item.now) ≡ false) }
-        ensures untouched { IfNone result (touches_fence self.now (segments_of item.now) ≡ false) }
+        ensures { result ≡ near_bounds (bounds_of self.now) (extent_of item.now) }
     {
         let around = extent(item)?;
         if around.is_apart(self.bounds) {
@@ -132,4 +130,18 @@ impl Fence {
         };
         self.bounds.holds(start) && within(start, self.corners.as_slice())
     }
+}
+
+impl PartialEq for Fence {
+    ghost eq = { pointwise same_point };
+
+    ghost laws = { partial_equiv_from_equiv (lists_equiv same_point_equiv) };
+
+    fn eq(&self, other: &Self) -> bool {
+        self.corners.as_slice() == other.corners.as_slice()
+    }
+}
+
+impl Eq for Fence {
+    ghost laws = { lists_equiv same_point_equiv };
 }
