@@ -67,6 +67,7 @@ impl Bounds {
         self.is_left_or_right(other) || self.is_below_or_above(other)
     }
 
+    // Whether they lie left or right of `other`.
     #[inline]
     fn is_left_or_right(self, other: Bounds) -> bool
         ensures { result ≡ int_lt self.high.x other.low.x || int_lt other.high.x self.low.x }
@@ -74,6 +75,7 @@ impl Bounds {
         self.high.x < other.low.x || other.high.x < self.low.x
     }
 
+    // Whether they lie below or above `other`.
     #[inline]
     fn is_below_or_above(self, other: Bounds) -> bool
         ensures { result ≡ int_lt self.high.y other.low.y || int_lt other.high.y self.low.y }
