@@ -11,6 +11,7 @@ use crate::pt::Pt;
 
 /// Whether the closed segments from `p` to `q` and from `r` to `s` have a common point, which need
 /// not be one of whole coordinates. A segment may be one point.
+#[inline]
 pub fn touch(p: Pt, q: Pt, r: Pt, s: Pt) -> bool
     ensures common { IsTrue result ↔ Touch p q r s }
     ensures computed { result ≡ touches p q r s }
@@ -25,6 +26,7 @@ pub fn touch(p: Pt, q: Pt, r: Pt, s: Pt) -> bool
 }
 
 // Whether the line through `a` and `b` has not both `p` and `q` strictly on one side.
+#[inline]
 fn splits(a: Pt, b: Pt, p: Pt, q: Pt) -> bool
     ensures { IsTrue result ↔ Split (turn a b p) (turn a b q) }
 {
@@ -33,6 +35,7 @@ fn splits(a: Pt, b: Pt, p: Pt, q: Pt) -> bool
 }
 
 // Whether the boxes of two segments meet.
+#[inline]
 fn boxes_meet(p: Pt, q: Pt, r: Pt, s: Pt) -> bool
     ensures { IsTrue result ↔ BoxesMeet p q r s }
 {
@@ -43,6 +46,7 @@ fn boxes_meet(p: Pt, q: Pt, r: Pt, s: Pt) -> bool
 }
 
 // Whether two intervals of one axis, each given by its ends in any order, meet.
+#[inline]
 fn overlap(p: i32, q: i32, r: i32, s: i32) -> bool
     ensures { IsTrue result ↔ Overlap p q r s }
 {
