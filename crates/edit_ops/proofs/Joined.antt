@@ -147,26 +147,24 @@ module _ (dim : ℕ) (es : List Element) (tail : ℕ) (e : FenceEdit) (ns : List
       left_planned f dim es t e ns opens (fenced f dim es t tail e ns fits some opens none) tail p none
       (sym (append-nil p.patches) ∙ joined.puts) (sym (append-nil p.append) ∙ joined.bytes)
 
-  -- where the edit x that is planned next is refused, with so many bytes pending
-  pub next_refused : (i : ℕ) (patches : List Put) (append : List ℕ) → i < length ns → (x : Edit) (pending : ℕ) (fault : EditFault)
-      → x ≡ edit_at e (get_or ns i 0) → pending ≡ length append → AreJoined dim es tail e ns (drop i ns) patches append
-      → IsRefused (apply dim es (tail + pending) x) fault → IsRefused (apply_all dim es tail e ns) fault
-  next_refused i patches append within x pending fault is so joined refused =
+  -- where the next root is, with so many bytes pending, so are all
+  pub next_refused : (i : ℕ) (patches : List Put) (append : List ℕ) → i < length ns → (pending : ℕ) (fault : EditFault) → pending ≡ length append
+      → AreJoined dim es tail e ns (drop i ns) patches append → IsRefused (apply dim es (tail + pending) (edit_at e (get_or ns i 0))) fault
+      → IsRefused (apply_all dim es tail e ns) fault
+  next_refused i patches append within pending fault so joined refused =
       next_fails (get_or ns i 0) (drop (i + 1) ns) patches append fault
       (subst (λ (l : List ℕ). AreJoined dim es tail e ns l patches append) (next_left ns i within) joined)
-      (subst (λ (y : Edit). IsRefused (apply dim es (tail + length append) y) fault) is
-      (subst (λ (k : ℕ). IsRefused (apply dim es (tail + k) x) fault) so refused))
+      (subst (λ (k : ℕ). IsRefused (apply dim es (tail + k) (edit_at e (get_or ns i 0))) fault) so refused)
 
 module _ (dim : ℕ) (es : List Element) (tail : ℕ) (e : FenceEdit) (ns : List ℕ) (f t : List ℕ) (opens : Opens f dim es t) (fits : IsFenceEdit e) where
   -- the plan of the next root is joined
-  pub next_planned : (i : ℕ) (patches : List Put) (append : List ℕ) → i < length ns → (x : Edit) (pending : ℕ) (p : Plan) (more_patches : List Put) (more_append : List ℕ)
-      → x ≡ edit_at e (get_or ns i 0) → pending ≡ length append → AreJoined dim es tail e ns (drop i ns) patches append → IsPlan dim es (tail + pending) x p
+  pub next_planned : (i : ℕ) (patches : List Put) (append : List ℕ) → i < length ns → (pending : ℕ) (p : Plan) (more_patches : List Put) (more_append : List ℕ)
+      → pending ≡ length append → AreJoined dim es tail e ns (drop i ns) patches append → IsPlan dim es (tail + pending) (edit_at e (get_or ns i 0)) p
       → more_patches ≡ patches ++ p.patches → more_append ≡ append ++ p.append → AreJoined dim es tail e ns (drop (i + 1) ns) more_patches more_append
-  next_planned i patches append within x pending p more_patches more_append is so joined planned with_patches with_append =
+  next_planned i patches append within pending p more_patches more_append so joined planned with_patches with_append =
       let n : ℕ = get_or ns i 0 in
       let own : IsOwn dim es (tail + length append) (edit_at e n) p =
-      root_own f dim es t opens (tail + length append) e n p fits
-      (subst (λ (y : Edit). IsPlan dim es (tail + length append) y p) is (subst (λ (k : ℕ). IsPlan dim es (tail + k) x p) so planned)) in
+      root_own f dim es t opens (tail + length append) e n p fits (subst (λ (k : ℕ). IsPlan dim es (tail + k) (edit_at e n) p) so planned) in
       subst (λ (ps : List Put). AreJoined dim es tail e ns (drop (i + 1) ns) ps more_append) (sym with_patches)
       (subst (λ (b : List ℕ). AreJoined dim es tail e ns (drop (i + 1) ns) (patches ++ p.patches) b) (sym with_append)
       (next_joined dim es tail e ns n (drop (i + 1) ns) patches append p

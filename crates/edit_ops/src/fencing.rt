@@ -1,9 +1,9 @@
-ghost use Rattle.std.specs.Prelude.{◌≡◌, length, map, IfOk, IfErr};
+ghost use Rattle.std.specs.Prelude.{◌≡◌, ◌+◌, ◌≤◌, [], length, map, IfOk, IfErr};
 ghost use Rattle.dgn_drawing.specs.Rows.{row_of};
 ghost use Rattle.elem_index.specs.Design.{elements, IsWhole};
-ghost use Rattle.edit_ops.specs.Applying.{IsEdit};
+ghost use Rattle.edit_ops.specs.Applying.{apply};
 ghost use Rattle.edit_ops.specs.Fenced.{edit_at, apply_all, AreRoots, IsFenceEdit};
-ghost use Rattle.edit_ops.specs.Planned.{IsFencePlan, IsRefused};
+ghost use Rattle.edit_ops.specs.Planned.{IsPlan, IsFencePlan, IsRefused};
 
 use crate::edit_fault::EditFault;
 use crate::planning::plan;
@@ -44,12 +44,56 @@ pub fn plan_all(
         patches: PatchList::new(alloc),
         append: ByteList::new(alloc),
     };
+    join_plans(alloc, d, t, roots, edit, &mut all)?;
+    Ok(all)
+}
+
+// Joins the plans of these roots to `all`, in which nothing is planned yet.
+fn join_plans(
+    alloc: Global,
+    d: &Design,
+    t: &Nest,
+    roots: &[u32],
+    edit: &FenceEdit,
+    all: &mut Plan,
+) -> Result<(), EditFault>
+    requires whole { IsWhole d.now }
+    requires nesting { t.now.rows ≡ map row_of (elements d.now) }
+    requires roots { AreRoots (elements d.now) roots.now }
+    requires fits { IsFenceEdit edit.now }
+    requires no_patches { all.old.patches ≡ [] }
+    requires no_bytes { all.old.append ≡ [] }
+    ensures planned { IfOk result
+        (λ _. IsFencePlan d.now.dim (elements d.now) (length d.now.tail.items) edit.now roots.now all.new) }
+    ensures refused { IfErr result
+        (IsRefused (apply_all d.now.dim (elements d.now) (length d.now.tail.items) edit.now roots.now)) }
+{
     'roots: for n in roots {
-        let one = plan(alloc, d, t, &root_edit(edit, *n), all.append.len())?;
+        let one = plan_root(alloc, d, t, *n, edit, all.append.len())?;
         all.patches.push_all(&one.patches)?;
         all.append.push_all(&one.append)?;
     }
-    Ok(all)
+    Ok(())
+}
+
+// The plan of root n, where so many bytes are pending.
+fn plan_root(
+    alloc: Global,
+    d: &Design,
+    t: &Nest,
+    n: u32,
+    edit: &FenceEdit,
+    pending: usize,
+) -> Result<Plan, EditFault>
+    requires whole { IsWhole d.now }
+    requires nesting { t.now.rows ≡ map row_of (elements d.now) }
+    requires room { length d.now.body.items + (length d.now.tail.items + pending) ≤ 67108864 }
+    ensures planned { IfOk result
+        (IsPlan d.now.dim (elements d.now) (length d.now.tail.items + pending) (edit_at edit.now n)) }
+    ensures refused { IfErr result
+        (IsRefused (apply d.now.dim (elements d.now) (length d.now.tail.items + pending) (edit_at edit.now n))) }
+{
+    plan(alloc, d, t, &root_edit(edit, n), pending)
 }
 
 // The edit of root n.

@@ -1,7 +1,7 @@
 use Rattle.std.proofs.Common.{length, drop}
 use Rattle.elem_index.specs.Design.{elements}
 use Rattle.edit_ops.proofs.Joined.{AreJoined}
-use Rattle.edit_ops.proofs.fencing.plan_all.Given as goal
+use Rattle.edit_ops.proofs.fencing.join_plans.Given as goal
 
 -- what is joined so far and what the roots that are left give are what all give
 abbrev pub invariant-roots : goal.invariant-roots
