@@ -1,10 +1,9 @@
 -- The bounds of an item hold its segments, and those of a fence its edges.
-use Rattle.std.proofs.Common.{◌≡◌, ◌⊎◌, inl, inr, ℕ, ◌==◌, ℤ, Bool, true, false, ◌||◌, Option, Some, None, map, List, [], ◌∷◌, length, refl, sym, subst, ◌∙◌, arith, ◌≤ℤ◌}
+use Rattle.std.proofs.Common.{◌≡◌, ◌⊎◌, inl, inr, ℕ, ◌==◌, Bool, true, false, Some, None, map, List, [], ◌∷◌, refl, subst, arith}
 use Rattle.std.specs.List.{fold, AllByRecursion}
 use Rattle.std.proofs.lemmas.Int.{clamps}
 use borrow.Author.Differences.{ints}
 use Rattle.range_code.specs.declared.Box3.{Box3}
-use Rattle.range_code.specs.Ranges.{on_axis}
 use Rattle.plane_geom.specs.declared.pt.Pt.{Pt}
 use Rattle.plane_geom.specs.Polygons.{edges_from, edges}
 use Rattle.plane_geom.specs.Boxes.{IsInBox, AreInBox}

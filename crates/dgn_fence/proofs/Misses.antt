@@ -1,20 +1,20 @@
 -- What need not be tried: an edge that an item misses, a fence that lies apart from it, and a first point outside of the
 -- bounds of the fence.
 use Rattle.std.proofs.Common.{◌≡◌, inl, inr, ℕ, ◌<◌, Bool, true, false, ◌&&◌, ◌||◌, Option, Some, None, List, [], ◌∷◌, length, drop, get_or, refl, sym, ◌∙◌, if◌then◌else◌, int_le}
-use Rattle.std.specs.List.{list_any, AllByRecursion}
+use Rattle.std.specs.List.{list_any}
 use Rattle.std.proofs.Math.Seq.{drop-cons}
-use Rattle.std.proofs.lemmas.Bool.{both_ways, or_cases, and_from, cases_Bool, true≢false}
+use Rattle.std.proofs.lemmas.Bool.{both_ways, or_cases, and_from, cases_Bool}
 use Rattle.plane_geom.specs.declared.pt.Pt.{Pt}
 use Rattle.plane_geom.specs.Touches.{touches}
-use Rattle.plane_geom.specs.Polygons.{edges_from, edges, is_within}
-use Rattle.plane_geom.specs.Boxes.{IsInBox, lies_apart, lies_beside}
+use Rattle.plane_geom.specs.Polygons.{edges, is_within}
+use Rattle.plane_geom.specs.Boxes.{lies_beside}
 use Rattle.plane_geom.proofs.Axes.{compared}
 use Rattle.plane_geom.proofs.Beside.{beside_untouched, apart_untouched, apart_points}
 use Rattle.plane_geom.proofs.Outside.{inside_the_box}
 use Rattle.dgn_drawing.specs.declared.types.item.Item.{Item}
 use Rattle.dgn_fence.specs.declared.bounds.Bounds.{Bounds}
 use Rattle.dgn_fence.specs.Segments.{segments_of}
-use Rattle.dgn_fence.specs.Taken.{any_touches, touches_fence, first_point_of, starts_within, begins_within, overlaps, has_some, parts}
+use Rattle.dgn_fence.specs.Taken.{any_touches, touches_fence, first_point_of, begins_within, overlaps, has_some, parts}
 use Rattle.dgn_fence.specs.Limits.{at, grown, bounds_of, extent_of, is_held, is_apart, near_bounds, misses}
 use Rattle.dgn_fence.proofs.Held.{IsIn, Spans, SpanAll, itself, held, kept, bounds_hold, edges_held, item_held, item_bare}
 

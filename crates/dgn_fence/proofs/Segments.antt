@@ -1,8 +1,7 @@
 -- Where the segments of a path begin.
-use Rattle.std.proofs.Common.{◌≡◌, ℤ, Bool, true, false, ◌||◌, option_map, map, List, [], ◌∷◌, refl}
+use Rattle.std.proofs.Common.{◌≡◌, ℤ, Bool, true, false, option_map, map, List, [], ◌∷◌, refl}
 use Rattle.std.specs.List.{slice_get}
-use Rattle.plane_geom.specs.declared.pt.Pt.{Pt}
-use Rattle.dgn_fence.specs.Segments.{flat, legs, path_segments}
+use Rattle.dgn_fence.specs.Segments.{flat, path_segments}
 use Rattle.dgn_fence.specs.Taken.{first_point_of}
 
 pub path_begins : (closed : Bool) (points : List (List ℤ)) → option_map flat (slice_get points 0) ≡ first_point_of (path_segments closed (map flat points))

@@ -2,3 +2,4 @@ pub mod Segments
 pub mod Taken
 pub mod Selected
 pub mod Limits
+pub mod Ends

@@ -1,5 +1,5 @@
 -- Bounds of points: a box by its low and its high corner. Contracts of private functions alone cite this.
-use Rattle.std.specs.Prelude.{ℕ, ◌≡◌, ◌≤◌, int_le, Bool, not, ◌&&◌, ◌||◌, if◌then◌else◌, Option, Some, None, List, [], ◌∷◌, length, map}
+use Rattle.std.specs.Prelude.{◌≡◌, ◌≤◌, int_le, Bool, ◌&&◌, ◌||◌, if◌then◌else◌, Option, Some, None, List, [], ◌∷◌, length, map}
 use Rattle.std.specs.List.{fold}
 use Rattle.std.specs.Int.{int_min, int_max}
 use Rattle.range_code.specs.declared.Box3.{Box3}

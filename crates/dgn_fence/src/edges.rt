@@ -8,6 +8,7 @@ ghost use Rattle.dgn_fence.specs.Taken.{any_touches, touches_fence};
 ghost use Rattle.dgn_fence.specs.Limits.{extent_of};
 
 use crate::bounds::Bounds;
+use crate::end::End;
 use crate::extent::flat;
 use dgn_drawing::types::{Item, ItemBody};
 use plane_geom::{Pt, touch};
@@ -66,16 +67,16 @@ fn path_touches(points: &[[i32; 3]], closed: bool, r: Pt, s: Pt) -> bool
         return false;
     };
     let closes = closed || rest.is_empty();
-    let start = flat(*first);
+    let start = End::of(r, s, flat(*first));
     let mut from = start;
     for point in rest {
-        let to = flat(*point);
-        if touch(from, to, r, s) {
+        let to = End::of(r, s, flat(*point));
+        if from.leg_touches(to, r, s) {
             return true;
         }
         from = to;
     }
-    closes && touch(from, start, r, s)
+    closes && from.leg_touches(start, r, s)
 }
 
 // Whether some edge of a range touches the edge.

@@ -5,6 +5,7 @@
 
 mod bounds;
 mod edges;
+mod end;
 mod extent;
 mod fence_fault;
 mod making;

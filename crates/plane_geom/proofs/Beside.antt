@@ -1,14 +1,14 @@
 -- Boxes that lie apart from a segment, or beside its line: no segment within them touches it.
-use Rattle.std.proofs.Common.{◌≡◌, ◌⊎◌, inl, inr, ℕ, zero, suc, ◌+◌, ◌*◌, ◌<◌, ◌≤◌, Bool, true, false, not, ◌&&◌, ◌||◌, IsTrue, refl, sym, ◌∙◌, ap, arith, mul-le-mul_left, ℤ, pos, negsuc, ◌+ℤ◌, ◌-ℤ◌, ◌*ℤ◌, ◌<ℤ◌, ◌≤ℤ◌, int_lt}
-use Rattle.std.proofs.lemmas.Int.{by_lt_z, clamps}
-use Rattle.std.proofs.lemmas.Bool.{true≢false, both_ways, and_parts, and_from, and_right, or_cases, cases_Bool, not-true}
+use Rattle.std.proofs.Common.{◌≡◌, ◌⊎◌, inl, inr, ℕ, suc, ◌+◌, ◌*◌, ◌≤◌, Bool, true, false, ◌&&◌, ◌||◌, refl, arith, mul-le-mul_left, ℤ, pos, negsuc, ◌-ℤ◌, ◌*ℤ◌, ◌<ℤ◌, ◌≤ℤ◌, int_lt}
+use Rattle.std.proofs.lemmas.Int.{clamps}
+use Rattle.std.proofs.lemmas.Bool.{and_parts, or_cases, cases_Bool}
 use borrow.Author.Differences.{up, down, ints}
 use Rattle.plane_geom.specs.declared.pt.Pt.{Pt}
 use Rattle.plane_geom.specs.Turns.{turn}
 use Rattle.plane_geom.specs.Tests.{Overlap, BoxesMeet}
 use Rattle.plane_geom.specs.Touches.{boxes_meet, on_one_side, touches}
 use Rattle.plane_geom.specs.Boxes.{IsInBox, low_right, high_left, lies_apart, lies_beside}
-use Rattle.plane_geom.proofs.Readings.{Reads, number, itself, times, minus}
+use Rattle.plane_geom.proofs.Readings.{Reads, number, itself, times}
 use Rattle.plane_geom.proofs.Told.{below, boxes_told}
 
 -- ---- a product of a fixed factor and a number between two others lies between its values at these
@@ -54,14 +54,14 @@ between_corners : (low high r s p : Pt) → IsInBox low high p →
     ⊎ (Between (turn r s (low_right low high)) (turn r s p) (turn r s (high_left low high)) ⊎ Between (turn r s (high_left low high)) (turn r s p) (turn r s (low_right low high)))
 between_corners low high r s p i =
     elim (scaled (s.x -ℤ r.x) (low.y -ℤ r.y) (p.y -ℤ r.y) (high.y -ℤ r.y) (from_place _ _ _ i.below) (from_place _ _ _ i.above)) [
-    inl a ↦ elim (scaled (s.y -ℤ r.y) (low.x -ℤ r.x) (p.x -ℤ r.x) (high.x -ℤ r.x) (from_place _ _ _ i.left) (from_place _ _ _ i.right)) [
-      inl b ↦ inr (inl (less_apart _ _ _ _ _ _ a.0 a.1 b.0 b.1))
-      | inr b ↦ inl (inl (less_apart _ _ _ _ _ _ a.0 a.1 b.0 b.1))
-    ]
-    | inr a ↦ elim (scaled (s.y -ℤ r.y) (low.x -ℤ r.x) (p.x -ℤ r.x) (high.x -ℤ r.x) (from_place _ _ _ i.left) (from_place _ _ _ i.right)) [
-      inl b ↦ inl (inr (less_apart _ _ _ _ _ _ a.0 a.1 b.0 b.1))
-      | inr b ↦ inr (inr (less_apart _ _ _ _ _ _ a.0 a.1 b.0 b.1))
-    ]
+      | inl a ↦ elim (scaled (s.y -ℤ r.y) (low.x -ℤ r.x) (p.x -ℤ r.x) (high.x -ℤ r.x) (from_place _ _ _ i.left) (from_place _ _ _ i.right)) [
+        | inl b ↦ inr (inl (less_apart _ _ _ _ _ _ a.0 a.1 b.0 b.1))
+        | inr b ↦ inl (inl (less_apart _ _ _ _ _ _ a.0 a.1 b.0 b.1))
+      ]
+      | inr a ↦ elim (scaled (s.y -ℤ r.y) (low.x -ℤ r.x) (p.x -ℤ r.x) (high.x -ℤ r.x) (from_place _ _ _ i.left) (from_place _ _ _ i.right)) [
+        | inl b ↦ inl (inr (less_apart _ _ _ _ _ _ a.0 a.1 b.0 b.1))
+        | inr b ↦ inr (inr (less_apart _ _ _ _ _ _ a.0 a.1 b.0 b.1))
+      ]
     ]
 
 -- ---- so a point of a box beside a line lies on that side
@@ -76,8 +76,8 @@ sides : (m n : ℤ) → on_one_side m n ≡ true → ((pos 0 <ℤ m) × (pos 0 <
 unfolding on_one_side
 sides m n e =
     elim (or_cases (int_lt (pos 0) m && int_lt (pos 0) n) (int_lt m (pos 0) && int_lt n (pos 0)) e) [
-    inl a ↦ let both = and_parts (int_lt (pos 0) m) (int_lt (pos 0) n) a in inl ((below _ _).0 both.0, (below _ _).0 both.1)
-    | inr b ↦ let both = and_parts (int_lt m (pos 0)) (int_lt n (pos 0)) b in inr ((below _ _).0 both.0, (below _ _).0 both.1)
+      | inl a ↦ let both = and_parts (int_lt (pos 0) m) (int_lt (pos 0) n) a in inl ((below _ _).0 both.0, (below _ _).0 both.1)
+      | inr b ↦ let both = and_parts (int_lt m (pos 0)) (int_lt n (pos 0)) b in inr ((below _ _).0 both.0, (below _ _).0 both.1)
     ]
 
 or_right : (x : Bool) → (x || true) ≡ true
@@ -97,20 +97,20 @@ Corners low high r s =
 corners : (a b c d : ℤ) → on_one_side a b ≡ true → on_one_side a c ≡ true → on_one_side a d ≡ true → Above a b c d ⊎ Below a b c d
 corners a b c d e f g =
     elim (sides a b e) [
-    inl h ↦ elim (sides a c f) [
-      inl k ↦ elim (sides a d g) [
-        inl l ↦ inl (h.0, h.1, k.1, l.1)
-        | inr l ↦ absurd (omega (arith, ints))
+      | inl h ↦ elim (sides a c f) [
+        | inl k ↦ elim (sides a d g) [
+          | inl l ↦ inl (h.0, h.1, k.1, l.1)
+          | inr l ↦ absurd (omega (arith, ints))
+        ]
+        | inr k ↦ absurd (omega (arith, ints))
       ]
-      | inr k ↦ absurd (omega (arith, ints))
-    ]
-    | inr h ↦ elim (sides a c f) [
-      inl k ↦ absurd (omega (arith, ints))
-      | inr k ↦ elim (sides a d g) [
-        inl l ↦ absurd (omega (arith, ints))
-        | inr l ↦ inr (h.0, h.1, k.1, l.1)
+      | inr h ↦ elim (sides a c f) [
+        | inl k ↦ absurd (omega (arith, ints))
+        | inr k ↦ elim (sides a d g) [
+          | inl l ↦ absurd (omega (arith, ints))
+          | inr l ↦ inr (h.0, h.1, k.1, l.1)
+        ]
       ]
-    ]
     ]
 
 beside : (low high r s : Pt) → lies_beside low high r s ≡ true → Corners low high r s
@@ -138,15 +138,15 @@ below_between a b c d t h (inr (inr g)) = omega (arith, ints)
 both_beside : (low high r s p q : Pt) → lies_beside low high r s ≡ true → IsInBox low high p → IsInBox low high q → on_one_side (turn r s p) (turn r s q) ≡ true
 both_beside low high r s p q e i j =
     elim (beside low high r s e) [
-    inl h ↦ one_side _ _ (inl (above_between _ _ _ _ _ h (between_corners low high r s p i), above_between _ _ _ _ _ h (between_corners low high r s q j)))
-    | inr h ↦ one_side _ _ (inr (below_between _ _ _ _ _ h (between_corners low high r s p i), below_between _ _ _ _ _ h (between_corners low high r s q j)))
+      | inl h ↦ one_side _ _ (inl (above_between _ _ _ _ _ h (between_corners low high r s p i), above_between _ _ _ _ _ h (between_corners low high r s q j)))
+      | inr h ↦ one_side _ _ (inr (below_between _ _ _ _ _ h (between_corners low high r s p i), below_between _ _ _ _ _ h (between_corners low high r s q j)))
     ]
 
 and_none : (x : Bool) → (x && false) ≡ false
 and_none true = refl
 and_none false = refl
 
-untouched : (p q r s : Pt) → on_one_side (turn r s p) (turn r s q) ≡ true → touches p q r s ≡ false
+pub untouched : (p q r s : Pt) → on_one_side (turn r s p) (turn r s q) ≡ true → touches p q r s ≡ false
 unfolding touches
 untouched p q r s e = rw e (and_none _)
 
@@ -165,21 +165,21 @@ apart : (low high other_low other_high : Pt) → lies_apart low high other_low o
 unfolding lies_apart
 apart low high l h e =
     elim (or_cases (int_lt high.x l.x || int_lt h.x low.x) (int_lt high.y l.y || int_lt h.y low.y) e) [
-    inl f ↦ elim (or_cases (int_lt high.x l.x) (int_lt h.x low.x) f) [
-      inl g ↦ inl (inl ((below _ _).0 g))
-      | inr g ↦ inl (inr ((below _ _).0 g))
-    ]
-    | inr f ↦ elim (or_cases (int_lt high.y l.y) (int_lt h.y low.y) f) [
-      inl g ↦ inr (inl ((below _ _).0 g))
-      | inr g ↦ inr (inr ((below _ _).0 g))
-    ]
+      | inl f ↦ elim (or_cases (int_lt high.x l.x) (int_lt h.x low.x) f) [
+        | inl g ↦ inl (inl ((below _ _).0 g))
+        | inr g ↦ inl (inr ((below _ _).0 g))
+      ]
+      | inr f ↦ elim (or_cases (int_lt high.y l.y) (int_lt h.y low.y) f) [
+        | inl g ↦ inr (inl ((below _ _).0 g))
+        | inr g ↦ inr (inr ((below _ _).0 g))
+      ]
     ]
 
 unmet : (p q r s : Pt) → (BoxesMeet p q r s → ⊥) → boxes_meet p q r s ≡ false
 unmet p q r s f =
     elim (cases_Bool (boxes_meet p q r s)) [
-    inl t ↦ absurd (f ((boxes_told p q r s).0 t))
-    | inr e ↦ e
+      | inl t ↦ absurd (f ((boxes_told p q r s).0 t))
+      | inr e ↦ e
     ]
 
 -- no segment within a box touches one within a box apart from it
@@ -189,26 +189,26 @@ apart_untouched low high l h p q r s e i j k m =
     let on_x : Overlap p.x q.x r.x s.x = b.on_x in
     let on_y : Overlap p.y q.y r.y s.y = b.on_y in
     elim (apart low high l h e) [
-    inl f ↦ elim f [
-      inl g ↦ omega (arith, ints, clamps, i.right, j.right, k.left, m.left)
-      | inr g ↦ omega (arith, ints, clamps, i.left, j.left, k.right, m.right)
-    ]
-    | inr f ↦ elim f [
-      inl g ↦ omega (arith, ints, clamps, i.above, j.above, k.below, m.below)
-      | inr g ↦ omega (arith, ints, clamps, i.below, j.below, k.above, m.above)
-    ]
+      | inl f ↦ elim f [
+        | inl g ↦ omega (arith, ints, clamps, i.right, j.right, k.left, m.left)
+        | inr g ↦ omega (arith, ints, clamps, i.left, j.left, k.right, m.right)
+      ]
+      | inr f ↦ elim f [
+        | inl g ↦ omega (arith, ints, clamps, i.above, j.above, k.below, m.below)
+        | inr g ↦ omega (arith, ints, clamps, i.below, j.below, k.above, m.above)
+      ]
     ]))
 
 -- a point of one of them isn't one of the other
 pub apart_points : (low high other_low other_high p : Pt) → lies_apart low high other_low other_high ≡ true → IsInBox low high p → IsInBox other_low other_high p → ⊥
 apart_points low high l h p e i j =
     elim (apart low high l h e) [
-    inl f ↦ elim f [
-      inl g ↦ omega (arith, ints, i.right, j.left)
-      | inr g ↦ omega (arith, ints, i.left, j.right)
-    ]
-    | inr f ↦ elim f [
-      inl g ↦ omega (arith, ints, i.above, j.below)
-      | inr g ↦ omega (arith, ints, i.below, j.above)
-    ]
+      | inl f ↦ elim f [
+        | inl g ↦ omega (arith, ints, i.right, j.left)
+        | inr g ↦ omega (arith, ints, i.left, j.right)
+      ]
+      | inr f ↦ elim f [
+        | inl g ↦ omega (arith, ints, i.above, j.below)
+        | inr g ↦ omega (arith, ints, i.below, j.above)
+      ]
     ]

@@ -1,15 +1,15 @@
 -- A point outside of a box that holds all corners of a polygon isn't within the polygon.
-use Rattle.std.proofs.Common.{◌≡◌, ◌⊎◌, inl, inr, ℕ, zero, suc, ◌+◌, ◌*◌, ◌%◌, ◌<◌, ◌≤◌, ◌==◌, Bool, true, false, not, ◌&&◌, ◌||◌, cond, List, [], ◌∷◌, refl, sym, ◌∙◌, ap, arith, ℤ, pos, negsuc, ◌+ℤ◌, ◌-ℤ◌, ◌*ℤ◌, ◌<ℤ◌, ◌≤ℤ◌, int_lt, int_le}
+use Rattle.std.proofs.Common.{◌≡◌, ℕ, ◌+◌, ◌*◌, ◌%◌, ◌<◌, ◌≤◌, ◌==◌, Bool, true, false, not, ◌&&◌, ◌||◌, cond, List, [], ◌∷◌, refl, ◌∙◌, ap, arith, ℤ, pos, negsuc, ◌-ℤ◌, ◌*ℤ◌, ◌<ℤ◌, ◌≤ℤ◌, int_lt, int_le}
 use Rattle.std.proofs.Math.Nat.{one-le-mul}
 use Rattle.std.specs.List.{count_by, AllByRecursion}
 use Rattle.std.proofs.lemmas.Int.{by_lt_z}
 use Rattle.std.proofs.lemmas.List.Sums.{sum_by-cons}
-use Rattle.std.proofs.lemmas.Bool.{true≢false, both_ways, and_parts, and_from, cases_Bool}
-use borrow.Author.Differences.{up, down, ints}
+use Rattle.std.proofs.lemmas.Bool.{both_ways}
+use borrow.Author.Differences.{up, ints}
 use Rattle.plane_geom.specs.declared.pt.Pt.{Pt}
-use Rattle.plane_geom.specs.Polygons.{leans, rises, passes, edges_from, edges, is_within}
+use Rattle.plane_geom.specs.Polygons.{leans, rises, passes, edges_from, is_within}
 use Rattle.plane_geom.specs.Boxes.{IsInBox, AreInBox}
-use Rattle.plane_geom.proofs.Readings.{Reads, itself, minus, times}
+use Rattle.plane_geom.proofs.Readings.{Reads, times}
 use Rattle.plane_geom.proofs.Axes.{compared}
 use Rattle.plane_geom.proofs.Told.{below}
 

@@ -1,13 +1,12 @@
 -- The test of two segments is that they have a common point.
-use Rattle.std.proofs.Common.{◌≡◌, Bool, true, false, not, ◌&&◌, ◌||◌, IsTrue, ◌↔◌, inl, inr, refl, sym, ◌∙◌, arith, ℤ, pos, ◌<ℤ◌, ◌≤ℤ◌, int_lt, int_le, nat_eq, w8, of_z}
+use Rattle.std.proofs.Common.{◌≡◌, Bool, true, false, not, ◌&&◌, ◌||◌, IsTrue, ◌↔◌, inl, inr, refl, sym, ◌∙◌, arith, ℤ, pos, ◌<ℤ◌, int_lt, nat_eq, w8, of_z}
 use Rattle.std.specs.Int.{int_signum}
-use Rattle.std.proofs.lemmas.Int.{by_lt_z}
-use Rattle.std.proofs.lemmas.Bool.{true≢false, cases_Bool, and_parts, and_from, or_cases}
+use Rattle.std.proofs.lemmas.Bool.{true≢false, and_parts, and_from, or_cases}
 use borrow.Author.Differences.{ints}
 use Rattle.plane_geom.specs.declared.pt.Pt.{Pt}
 use Rattle.plane_geom.specs.Turns.{turn}
 use Rattle.plane_geom.specs.Segments.{Touch}
-use Rattle.plane_geom.specs.Tests.{Split, Overlap, BoxesMeet}
+use Rattle.plane_geom.specs.Tests.{Split, BoxesMeet}
 use Rattle.plane_geom.specs.Touches.{intervals_meet, boxes_meet, on_one_side, touches}
 use Rattle.plane_geom.proofs.Signs.{zero_splits, unequal_splits}
 use Rattle.plane_geom.proofs.Axes.{compared}
@@ -51,8 +50,8 @@ split_parts : (m n : ℤ) → Split m n → on_one_side m n ≡ true → ⊥
 unfolding on_one_side
 split_parts m n s e =
     elim (or_cases (int_lt (pos 0) m && int_lt (pos 0) n) (int_lt m (pos 0) && int_lt n (pos 0)) e) [
-    inl a ↦ let both = and_parts (int_lt (pos 0) m) (int_lt (pos 0) n) a in s.not_above ((below _ _).0 both.0) ((below _ _).0 both.1)
-    | inr b ↦ let both = and_parts (int_lt m (pos 0)) (int_lt n (pos 0)) b in s.not_below ((below _ _).0 both.0) ((below _ _).0 both.1)
+      | inl a ↦ let both = and_parts (int_lt (pos 0) m) (int_lt (pos 0) n) a in s.not_above ((below _ _).0 both.0) ((below _ _).0 both.1)
+      | inr b ↦ let both = and_parts (int_lt m (pos 0)) (int_lt n (pos 0)) b in s.not_below ((below _ _).0 both.0) ((below _ _).0 both.1)
     ]
 
 pub sides_told : (m n : ℤ) → IsTrue (not (on_one_side m n)) ↔ Split m n
@@ -70,8 +69,7 @@ pub told : (p q r s : Pt) → IsTrue (touches p q r s) ↔ Touch p q r s
 unfolding touches
 told p q r s =
     let at_first = sides_told (turn p q r) (turn p q s) in
-    let at_second = sides_told (turn r s p) (turn r s q) in
-    (
+    let at_second = sides_told (turn r s p) (turn r s q) in (
       λ t. let tests = and_parts (boxes_meet p q r s && not (on_one_side (turn p q r) (turn p q s))) _ t in
           let first = and_parts (boxes_meet p q r s) _ tests.0 in
           touching.touches p q r s ((boxes_told p q r s).0 first.0) (at_first.0 first.1) (at_second.0 tests.1),

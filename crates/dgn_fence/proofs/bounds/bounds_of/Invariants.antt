@@ -1,6 +1,6 @@
 use Rattle.std.proofs.Common.{◌≡◌, drop}
 use Rattle.std.specs.List.{fold}
-use Rattle.dgn_fence.specs.Limits.{at, grown}
+use Rattle.dgn_fence.specs.Limits.{grown}
 use Rattle.dgn_fence.proofs.bounds.bounds_of.Given as goal
 
 -- The bounds grown by what is left are those of all.

@@ -1,5 +1,5 @@
 -- A path begins with its first point.
-use Rattle.std.proofs.Common.{◌∙◌, ◌==◌}
+use Rattle.std.proofs.Common.{◌∙◌}
 use Rattle.dgn_fence.proofs.Segments.{path_begins}
 use Rattle.dgn_fence.proofs.extent.first_point.Goals as goal
 

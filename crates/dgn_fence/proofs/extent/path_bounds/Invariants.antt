@@ -1,7 +1,7 @@
 use Rattle.std.proofs.Common.{◌≡◌, map, drop}
 use Rattle.std.specs.List.{fold}
 use Rattle.dgn_fence.specs.Segments.{flat}
-use Rattle.dgn_fence.specs.Limits.{at, grown}
+use Rattle.dgn_fence.specs.Limits.{grown}
 use Rattle.dgn_fence.proofs.extent.path_bounds.Given as goal
 
 -- The bounds grown by what is left are those of all.

@@ -1,0 +1,13 @@
+-- The ends of segments by an edge. Contracts of private functions alone cite this.
+use Rattle.std.specs.Prelude.{◌≡◌}
+use Rattle.std.specs.Int.{int_signum}
+use Rattle.plane_geom.specs.declared.pt.Pt.{Pt}
+use Rattle.plane_geom.specs.Turns.{turn}
+use Rattle.dgn_fence.specs.declared.end.End.{End}
+
+-- the point p by the edge from r to s, with its side of it
+abbrev pub end_of : Pt → Pt → Pt → End
+end_of r s p = record { point = p; side = int_signum (turn r s p) }
+
+abbrev pub IsEnd : Pt → Pt → End → Type 0
+IsEnd r s end = end ≡ end_of r s end.point
