@@ -1,4 +1,4 @@
-ghost use Rattle.std.specs.Prelude.{◌≡◌, ◌+◌, ◌≤◌, [], length, map, IfOk, IfErr};
+ghost use Rattle.std.specs.Prelude.{◌≡◌, ◌+◌, ◌≤◌, [], ◌++◌, length, map, IfOk, IfErr, OnOk};
 ghost use Rattle.dgn_drawing.specs.Rows.{row_of};
 ghost use Rattle.elem_index.specs.Design.{elements, IsWhole};
 ghost use Rattle.edit_ops.specs.Applying.{apply};
@@ -12,7 +12,7 @@ use dgn_drawing::{Edit, FenceEdit, Shift, SymbChange};
 use elem_index::Design;
 use nest_tree::types::Nest;
 use patch_bytes::{ByteList, PatchList};
-use std::alloc::Global;
+use std::alloc::{AllocError, Global};
 
 /// What an edit of the trees of these roots comes to on the design `d`, of which `t` is the nesting. `roots` are the
 /// numbers of some of its roots, in file order.
@@ -70,9 +70,18 @@ fn join_plans(
 {
     'roots: for n in roots {
         let one = plan_root(alloc, d, t, *n, edit, all.append.len())?;
-        all.patches.push_all(&one.patches)?;
-        all.append.push_all(&one.append)?;
+        join_plan(all, &one)?;
     }
+    Ok(())
+}
+
+// Joins one more plan.
+fn join_plan(all: &mut Plan, one: &Plan) -> Result<(), AllocError>
+    ensures patches { OnOk result (all.new.patches ≡ all.old.patches ++ one.now.patches) }
+    ensures append { OnOk result (all.new.append ≡ all.old.append ++ one.now.append) }
+{
+    all.patches.push_all(&one.patches)?;
+    all.append.push_all(&one.append)?;
     Ok(())
 }
 

@@ -11,6 +11,13 @@ fn grows_and_is_cut(rt: HostRuntime) -> Result<(), Fail> {
         list.push(v)?;
     }
     assert_eq!(rt; list.as_slice(), [0x48, 0x69, 0x20].as_slice());
+    let mut twice = ByteList::new(rt.alloc());
+    twice.push_all(&list)?;
+    twice.push_all(&list)?;
+    assert_eq!(rt;
+        twice.as_slice(),
+        [0x48, 0x69, 0x20, 0x48, 0x69, 0x20].as_slice()
+    );
     for (i, byte) in [
         (0, Some(0x48)),
         (2, Some(0x20)),
@@ -55,6 +62,10 @@ fn patches_in_order(rt: HostRuntime) -> Result<(), Fail> {
         assert_eq!(rt; list.get(i), patch, "at {i}");
     }
     assert_eq!(rt; list.len(), 2);
+    let mut more = PatchList::new(rt.alloc());
+    more.push(TWO)?;
+    more.push_all(&list)?;
+    assert_eq!(rt; more.as_slice(), [TWO, FOUR, TWO].as_slice());
     list.set(0, TWO);
     assert_eq!(rt; list.as_slice(), [TWO, TWO].as_slice());
     Ok(())

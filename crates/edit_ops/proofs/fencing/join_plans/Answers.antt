@@ -17,8 +17,8 @@ pub roots-preserved : goal.roots-preserved
 roots-preserved c =
     let d = c.args.d.now in
     next_planned d.dim (elements d) (length d.tail.items) c.args.edit.now c.args.roots.now (d.body.items ++ d.tail.items) d.tail.items c.requires.whole.is_open.opens c.requires.fits
-    c.roots.n-index c.roots.all.patches c.roots.all.append c.roots-test.true c.len.result c.in_ok-one.one c.push_all.new.self c.push_all-in-roots.new.self
-    c.len.ensures c.roots.invariant c.in_ok-one.ensures.planned c.in_ok-push_all.ensures.ok c.in_ok-push_all-2.ensures.ok
+    c.roots.n-index c.roots.all.patches c.roots.all.append c.roots-test.true c.len.result c.in_ok-one.one c.join_plan.new.all.patches c.join_plan.new.all.append
+    c.len.ensures c.roots.invariant c.in_ok-one.ensures.planned c.in_ok-join_plan.ensures.patches c.in_ok-join_plan.ensures.append
 
 pub returns-clause-planned : goal.returns-clause-planned
 returns-clause-planned c =
