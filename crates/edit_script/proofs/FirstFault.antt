@@ -6,7 +6,7 @@ use Rattle.edit_script.specs.declared.command.Command.{Command}
 use Rattle.edit_script.specs.declared.fault.ScriptFault.{ScriptFault}
 use Rattle.edit_script.specs.declared.fault.ScriptFault.TheVariants as fault
 use Rattle.edit_script.specs.declared.reading.Reading.{Reading}
-use Rattle.edit_script.specs.declared.reading.Reading.TheVariants.{Nothing, Asks, Bad, Unbuilt}
+use Rattle.edit_script.specs.declared.reading.Reading.TheVariants.{Nothing, Asks, Bad}
 use Rattle.edit_script.specs.Grammar.{command_of}
 use Rattle.edit_script.specs.Script.{commands_from, with_first, joined}
 use Rattle.edit_script.specs.Laws.{IsRead, IsFirst, Means}
@@ -15,9 +15,9 @@ use Rattle.edit_script.specs.Laws.{IsRead, IsFirst, Means}
 all_read : (line : List ℕ) (lines : List (List ℕ)) → IsRead (command_of line) → All (λ l. IsRead (command_of l)) lines → All (λ l. IsRead (command_of l)) (line ∷ lines)
 all_read line lines = All-cons (λ l. IsRead (command_of l)) line lines
 
--- behind a line that is read the first that isn't stays the first
-later : (reading : Reading) (number from : ℕ) (line : List ℕ) (lines : List (List ℕ)) → IsRead (command_of line) → IsFirst reading number (from + 1) lines → IsFirst reading number from (line ∷ lines)
-later reading number from line lines is_read h = record {
+-- behind a line that is read the first bad one stays the first
+later : (number from : ℕ) (line : List ℕ) (lines : List (List ℕ)) → IsRead (command_of line) → IsFirst number (from + 1) lines → IsFirst number from (line ∷ lines)
+later number from line lines is_read h = record {
   before = line ∷ h.before;
   line = h.line;
   behind = h.behind;
@@ -30,27 +30,24 @@ later reading number from line lines is_read h = record {
 -- a line that says nothing
 passed : (from : ℕ) (line : List ℕ) (lines : List (List ℕ)) (rest : Result (List Command) ScriptFault) → command_of line ≡ Nothing → Means lines (from + 1) rest → Means (line ∷ lines) from rest
 passed from line lines (Ok commands) e h = (all_read line lines (rw e tt) h.0, rw e h.1)
-passed from line lines (Err (fault.Line number)) e h = later Bad number from line lines (rw e tt) h
-passed from line lines (Err (fault.Unbuilt number)) e h = later Unbuilt number from line lines (rw e tt) h
+passed from line lines (Err (fault.Line number)) e h = later number from line lines (rw e tt) h
 passed from line lines (Err fault.Memory) e h = h
 
 -- a line that says a command
 said : (from : ℕ) (c : Command) (line : List ℕ) (lines : List (List ℕ)) (rest : Result (List Command) ScriptFault) → command_of line ≡ Asks c → Means lines (from + 1) rest → Means (line ∷ lines) from (with_first c rest)
 said from c line lines (Ok commands) e h = (all_read line lines (rw e tt) h.0, rw e (ap (λ cs. c ∷ cs) h.1))
-said from c line lines (Err (fault.Line number)) e h = later Bad number from line lines (rw e tt) h
-said from c line lines (Err (fault.Unbuilt number)) e h = later Unbuilt number from line lines (rw e tt) h
+said from c line lines (Err (fault.Line number)) e h = later number from line lines (rw e tt) h
 said from c line lines (Err fault.Memory) e h = h
 
--- a line that isn't read
-here : (reading : Reading) (from : ℕ) (line : List ℕ) (lines : List (List ℕ)) → command_of line ≡ reading → IsFirst reading from from (line ∷ lines)
-here reading from line lines e = record { before = []; line = line; behind = lines; parts = refl; counted = omega arith; read = All-nil (λ l. IsRead (command_of l)); reads = e }
+-- a line that is bad
+here : (from : ℕ) (line : List ℕ) (lines : List (List ℕ)) → command_of line ≡ Bad → IsFirst from from (line ∷ lines)
+here from line lines e = record { before = []; line = line; behind = lines; parts = refl; counted = omega arith; read = All-nil (λ l. IsRead (command_of l)); reads = e }
 
 -- a line before others, by what it says
 joins : (from : ℕ) (line : List ℕ) (lines : List (List ℕ)) (reading : Reading) (rest : Result (List Command) ScriptFault) → command_of line ≡ reading → Means lines (from + 1) rest → Means (line ∷ lines) from (joined from reading rest)
 joins from line lines Nothing rest e h = passed from line lines rest e h
 joins from line lines (Asks c) rest e h = said from c line lines rest e h
-joins from line lines Bad rest e h = here Bad from line lines e
-joins from line lines Unbuilt rest e h = here Unbuilt from line lines e
+joins from line lines Bad rest e h = here from line lines e
 
 pub means : (lines : List (List ℕ)) (from : ℕ) → Means lines from (commands_from from lines)
 means [] from = (All-nil (λ l. IsRead (command_of l)), refl)

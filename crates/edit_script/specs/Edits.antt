@@ -87,7 +87,11 @@ abbrev pub copy_command : List (List ℕ) → Option Command
 copy_command [] = None
 copy_command (n ∷ words) = copy_of (element_named n) (shift_named words)
 
+-- N alone
+abbrev pub one_element : List (List ℕ) → Option ℕ
+one_element (n ∷ []) = element_named n
+one_element _ = None
+
 -- `delete N`, by its words behind `delete`
 abbrev pub delete_command : List (List ℕ) → Option Command
-delete_command (n ∷ []) = option_map (λ n. command.Edit (Delete n)) (element_named n)
-delete_command _ = None
+delete_command words = option_map (λ n. command.Edit (Delete n)) (one_element words)

@@ -1,4 +1,4 @@
--- The commands of a fence: setting and clearing it, listing what it chooses, and editing what it chooses.
+-- The commands of a fence: setting it, listing what it chooses, and editing what it chooses.
 use Rattle.std.specs.Prelude.{ℕ, ◌==◌, if◌then◌else◌, List, [], ◌∷◌, codes, Option, Some, None, option_map}
 use Rattle.std.specs.Str.{bytes_eq}
 use Rattle.range_code.specs.Ranges.{on_axis}
@@ -25,11 +25,6 @@ corner_named word = corner_of (point_named word)
 abbrev pub fence_command : List (List ℕ) → Option Command
 fence_command [] = None
 fence_command (word ∷ words) = option_map command.Fence (each_named corner_named (word ∷ words))
-
--- `nofence`, behind which no word stands
-abbrev pub nofence_command : List (List ℕ) → Option Command
-nofence_command [] = Some command.NoFence
-nofence_command _ = None
 
 -- how a fence chooses
 abbrev pub mode_named : List ℕ → Option Mode

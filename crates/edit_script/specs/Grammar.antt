@@ -1,62 +1,52 @@
 -- The grammar of a line of a script: a comment or a line of blanks says nothing, and any other line goes
 -- by its first word. A further command is a further case of one of the readings, beside a definition of its own.
-use Rattle.std.specs.Prelude.{ℕ, ◌==◌, Bool, ◌||◌, if◌then◌else◌, List, [], ◌∷◌, length, slice_index, codes, Option, Some, None, option_map}
-use Rattle.std.specs.List.{list_any}
+use Rattle.std.specs.Prelude.{ℕ, ◌==◌, Bool, ◌||◌, if◌then◌else◌, List, [], length, slice_index, codes, Option, Some, None, option_map}
 use Rattle.std.specs.Str.{bytes_eq}
 use Rattle.edit_script.specs.declared.command.Command.{Command}
 use Rattle.edit_script.specs.declared.command.Command.TheVariants as command
 use Rattle.edit_script.specs.declared.reading.Reading.{Reading}
-use Rattle.edit_script.specs.declared.reading.Reading.TheVariants.{Nothing, Asks, Bad, Unbuilt}
+use Rattle.edit_script.specs.declared.reading.Reading.TheVariants.{Nothing, Asks, Bad}
 use Rattle.edit_script.specs.Words.{from_word, first_word, behind_word, words_of}
 use Rattle.edit_script.specs.Levels.{mask_named}
 use Rattle.edit_script.specs.Appends.{line_command, string_command, shape_command, text_command}
-use Rattle.edit_script.specs.Edits.{element_named, color_command, move_command, copy_command, sym_command, delete_command}
-use Rattle.edit_script.specs.Fences.{fence_command, nofence_command, select_command, fmove_command, fcopy_command, fsym_command, fdelete_command}
+use Rattle.edit_script.specs.Edits.{one_element, color_command, move_command, copy_command, sym_command, delete_command}
+use Rattle.edit_script.specs.Fences.{fence_command, select_command, fmove_command, fcopy_command, fsym_command, fdelete_command}
 
--- `undo`, behind which no word stands
-abbrev pub undo_command : List (List ℕ) → Option Command
-undo_command [] = Some command.Undo
-undo_command _ = None
+-- a command behind whose name no word stands
+abbrev pub alone : Command → List (List ℕ) → Option Command
+alone c [] = Some c
+alone c _ = None
 
 -- `levels all`, `levels none`, `levels R ..`, by its words behind `levels`
 abbrev pub levels_command : List (List ℕ) → Option Command
 levels_command words = option_map (λ mask. command.Levels (record { 0 = mask })) (mask_named words)
-
--- `show`, behind which no word stands
-abbrev pub show_command : List (List ℕ) → Option Command
-show_command [] = Some command.Show
-show_command _ = None
-
--- `tree N`, by its words behind `tree`
-abbrev pub tree_command : List (List ℕ) → Option Command
-tree_command (n ∷ []) = option_map command.Tree (element_named n)
-tree_command _ = None
 
 -- a line whose name is known says its command, or is bad
 abbrev pub asking : Option Command → Reading
 asking (Some c) = Asks c
 asking None = Bad
 
--- the names of the commands that aren't read yet
-abbrev pub unbuilt_names : List (List ℕ)
-unbuilt_names = codes "elements" ∷ codes "refs" ∷ codes "links" ∷ []
-
--- whether a word is one of them
-abbrev pub is_unbuilt_name : List ℕ → Bool
-is_unbuilt_name name = list_any (λ known. bytes_eq known name) unbuilt_names
-
 -- what a line says that begins with one of the words that are left, and goes on with these bytes: it does something
--- with a fence, or isn't read
+-- with a fence, or is bad
 abbrev pub fence_reading : List ℕ → List ℕ → Reading
 fence_reading name rest =
-    if bytes_eq name (codes "nofence") then asking (nofence_command (words_of rest))
-    else if bytes_eq name (codes "select") then asking (select_command (words_of rest))
+    if bytes_eq name (codes "nofence") then asking (alone command.NoFence (words_of rest))
     else if bytes_eq name (codes "fmove") then asking (fmove_command (words_of rest))
     else if bytes_eq name (codes "fcopy") then asking (fcopy_command (words_of rest))
     else if bytes_eq name (codes "fsym") then asking (fsym_command (words_of rest))
     else if bytes_eq name (codes "fdelete") then asking (fdelete_command (words_of rest))
-    else if is_unbuilt_name name then Unbuilt
     else Bad
+
+-- the same of a word that names no edit of one element: it asks for a listing, or goes on so
+abbrev pub listing_reading : List ℕ → List ℕ → Reading
+listing_reading name rest =
+    if bytes_eq name (codes "show") then asking (alone command.Show (words_of rest))
+    else if bytes_eq name (codes "tree") then asking (option_map command.Tree (one_element (words_of rest)))
+    else if bytes_eq name (codes "elements") then asking (alone command.Elements (words_of rest))
+    else if bytes_eq name (codes "refs") then asking (alone command.Refs (words_of rest))
+    else if bytes_eq name (codes "links") then asking (option_map command.Links (one_element (words_of rest)))
+    else if bytes_eq name (codes "select") then asking (select_command (words_of rest))
+    else fence_reading name rest
 
 -- what a line says that begins with this word, which is no name of an append and not `fence`, and goes on with
 -- these bytes
@@ -67,11 +57,9 @@ other_reading name rest =
     else if bytes_eq name (codes "copy") then asking (copy_command (words_of rest))
     else if bytes_eq name (codes "sym") then asking (sym_command (words_of rest))
     else if bytes_eq name (codes "delete") then asking (delete_command (words_of rest))
-    else if bytes_eq name (codes "undo") then asking (undo_command (words_of rest))
+    else if bytes_eq name (codes "undo") then asking (alone command.Undo (words_of rest))
     else if bytes_eq name (codes "levels") then asking (levels_command (words_of rest))
-    else if bytes_eq name (codes "show") then asking (show_command (words_of rest))
-    else if bytes_eq name (codes "tree") then asking (tree_command (words_of rest))
-    else fence_reading name rest
+    else listing_reading name rest
 
 -- what a line says that begins with this word and goes on with these bytes
 abbrev pub reading_of : List ℕ → List ℕ → Reading

@@ -1,11 +1,11 @@
 -- What the answer of a script means, in words of its lines: every line is read and the commands stand in
--- their order, or some line isn't read, and it is the first.
+-- their order, or some line is bad, and it is the first.
 use Rattle.std.specs.Prelude.{ℕ, ◌+◌, ◌≡◌, List, [], ◌∷◌, ◌++◌, length, All, Result, Ok, Err}
 use Rattle.edit_script.specs.declared.command.Command.{Command}
 use Rattle.edit_script.specs.declared.fault.ScriptFault.{ScriptFault}
 use Rattle.edit_script.specs.declared.fault.ScriptFault.TheVariants as fault
 use Rattle.edit_script.specs.declared.reading.Reading.{Reading}
-use Rattle.edit_script.specs.declared.reading.Reading.TheVariants.{Nothing, Asks, Bad, Unbuilt}
+use Rattle.edit_script.specs.declared.reading.Reading.TheVariants.{Nothing, Asks, Bad}
 use Rattle.edit_script.specs.Lines.{lines_of}
 use Rattle.edit_script.specs.Grammar.{command_of}
 use Rattle.edit_script.specs.Script.{commands_of}
@@ -15,7 +15,6 @@ abbrev pub IsRead : Reading → Type 0
 IsRead Nothing = Unit {0}
 IsRead (Asks c) = Unit {0}
 IsRead Bad = ⊥
-IsRead Unbuilt = ⊥
 
 -- the command that a line says, where it says one, before some others
 abbrev pub asked : Reading → List Command → List Command
@@ -27,21 +26,20 @@ abbrev pub commands_in : List (List ℕ) → List Command
 commands_in [] = []
 commands_in (line ∷ lines) = asked (command_of line) (commands_in lines)
 
--- the line with this number, where the first has number `from`, is the first that isn't read, and reads so
-pub record IsFirst (reading : Reading) (number : ℕ) (from : ℕ) (lines : List (List ℕ)) : Type 0 where
+-- the line with this number, where the first has number `from`, is the first that is bad
+pub record IsFirst (number : ℕ) (from : ℕ) (lines : List (List ℕ)) : Type 0 where
   pub before : List (List ℕ)
   pub line : List ℕ
   pub behind : List (List ℕ)
   pub parts : lines ≡ before ++ line ∷ behind
   pub counted : number ≡ from + length before
   pub read : All (λ l. IsRead (command_of l)) before
-  pub reads : command_of line ≡ reading
+  pub reads : command_of line ≡ Bad
 
 -- what an answer means for these lines, of which the first has number `from`
 abbrev pub Means : List (List ℕ) → ℕ → Result (List Command) ScriptFault → Type 0
 Means lines from (Ok commands) = All (λ l. IsRead (command_of l)) lines × (commands ≡ commands_in lines)
-Means lines from (Err (fault.Line number)) = IsFirst Bad number from lines
-Means lines from (Err (fault.Unbuilt number)) = IsFirst Unbuilt number from lines
+Means lines from (Err (fault.Line number)) = IsFirst number from lines
 Means lines from (Err fault.Memory) = ⊥
 
 -- the answer of every script means what it says

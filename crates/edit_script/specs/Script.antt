@@ -1,11 +1,11 @@
 -- What a whole script says: the commands of its lines in their order, or the fault of the first line that
--- is bad or unbuilt. Lines are numbered from 1, and every line counts.
+-- is bad. Lines are numbered from 1, and every line counts.
 use Rattle.std.specs.Prelude.{ℕ, ◌+◌, ◌≡◌, List, [], ◌∷◌, Result, Ok, Err}
 use Rattle.edit_script.specs.declared.command.Command.{Command}
 use Rattle.edit_script.specs.declared.fault.ScriptFault.{ScriptFault}
 use Rattle.edit_script.specs.declared.fault.ScriptFault.TheVariants as fault
 use Rattle.edit_script.specs.declared.reading.Reading.{Reading}
-use Rattle.edit_script.specs.declared.reading.Reading.TheVariants.{Nothing, Asks, Bad, Unbuilt}
+use Rattle.edit_script.specs.declared.reading.Reading.TheVariants.{Nothing, Asks, Bad}
 use Rattle.edit_script.specs.Lines.{lines_of}
 use Rattle.edit_script.specs.Grammar.{command_of}
 
@@ -19,19 +19,17 @@ abbrev pub joined : ℕ → Reading → Result (List Command) ScriptFault → Re
 joined number Nothing more = more
 joined number (Asks c) more = with_first c more
 joined number Bad more = Err (fault.Line number)
-joined number Unbuilt more = Err (fault.Unbuilt number)
 
 -- the commands of these lines, of which the first has this number
 abbrev pub commands_from : ℕ → List (List ℕ) → Result (List Command) ScriptFault
 commands_from number [] = Ok []
 commands_from number (line ∷ lines) = joined number (command_of line) (commands_from (number + 1) lines)
 
--- the commands of a script, or its first line that is bad or unbuilt
+-- the commands of a script, or its first line that is bad
 abbrev pub commands_of : List ℕ → Result (List Command) ScriptFault
 commands_of text = commands_from 1 (lines_of text)
 
 -- what a fault says of a script: Memory says nothing
 abbrev pub Tells : List ℕ → ScriptFault → Type 0
 Tells text (fault.Line number) = commands_of text ≡ Err (fault.Line number)
-Tells text (fault.Unbuilt number) = commands_of text ≡ Err (fault.Unbuilt number)
 Tells text fault.Memory = Unit {0}

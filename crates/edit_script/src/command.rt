@@ -21,6 +21,12 @@ pub enum Command {
     Show,
     /// Says the elements of the tree of this one, it and all below it.
     Tree(u32),
+    /// Says all elements, and how many there are of each level and each type.
+    Elements,
+    /// Says the elements that may attach a reference file.
+    Refs,
+    /// Says the linkages of this element.
+    Links(u32),
     /// Says the numbers of the trees that the fence chooses so.
     Select(Mode),
 }

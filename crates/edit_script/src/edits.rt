@@ -1,7 +1,7 @@
 ghost use Rattle.std.specs.Prelude.{◌≡◌, ◌≤◌, pos, Some, IfSome};
 ghost use Rattle.range_code.specs.Plane.{IsDisplacement};
 ghost use Rattle.edit_script.specs.Words.{words_of};
-ghost use Rattle.edit_script.specs.Edits.{color_command, given_within, look_named, sym_command, distance_named, shift_of, shift_named, move_command, copy_command, delete_command};
+ghost use Rattle.edit_script.specs.Edits.{color_command, given_within, look_named, sym_command, distance_named, shift_of, shift_named, move_command, copy_command, delete_command, one_element};
 
 use crate::command::Command;
 use crate::numbers::{number, signed_number};
@@ -141,10 +141,17 @@ fn distance(word: &[u8]) -> Option<i64>
 pub fn read_delete(rest: &[u8]) -> Option<Command>
     ensures { result ≡ delete_command (words_of rest.now) }
 {
+    let n = one_element(rest)?;
+    Some(Command::Edit(Edit::Delete { n }))
+}
+
+// The number of an element that these bytes give, in one word.
+pub fn one_element(rest: &[u8]) -> Option<u32>
+    ensures { result ≡ one_element (words_of rest.now) }
+{
     let (element, behind) = next_word(rest)?;
     if next_word(behind).is_some() {
         return None;
     }
-    let n = number(element, u32::MAX)?;
-    Some(Command::Edit(Edit::Delete { n }))
+    number(element, u32::MAX)
 }

@@ -1,6 +1,6 @@
 ghost use Rattle.std.specs.Prelude.{◌≡◌, IfOk};
 ghost use Rattle.edit_script.specs.Words.{words_of, each_named};
-ghost use Rattle.edit_script.specs.Fences.{corner_named, fence_command, nofence_command, mode_named, select_command, fmove_command, fcopy_command, fsym_command, fdelete_command};
+ghost use Rattle.edit_script.specs.Fences.{corner_named, fence_command, mode_named, select_command, fmove_command, fcopy_command, fsym_command, fdelete_command};
 
 use crate::command::Command;
 use crate::edits::{read_look, read_shift};
@@ -49,16 +49,6 @@ fn corner(word: &[u8]) -> Option<Pt>
         })
     } else {
         None
-    }
-}
-
-// The command of `nofence` with these bytes behind it, of which none is part of a word.
-pub fn read_nofence(rest: &[u8]) -> Option<Command>
-    ensures { result ≡ nofence_command (words_of rest.now) }
-{
-    match next_word(rest) {
-        None => Some(Command::NoFence),
-        Some(_) => None,
     }
 }
 

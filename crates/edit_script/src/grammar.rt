@@ -1,23 +1,15 @@
 ghost use Rattle.std.specs.Prelude.{◌≡◌, IfOk};
-ghost use Rattle.std.specs.List.{list_any};
-ghost use Rattle.std.specs.Str.{bytes_eq};
 ghost use Rattle.edit_script.specs.Words.{words_of};
-ghost use Rattle.edit_script.specs.Grammar.{command_of, reading_of, other_reading, fence_reading, undo_command, show_command, tree_command, is_unbuilt_name};
+ghost use Rattle.edit_script.specs.Grammar.{command_of, reading_of, other_reading, listing_reading, fence_reading, alone};
 
 use crate::appends;
 use crate::command::Command;
-use crate::edits::{read_color, read_copy, read_delete, read_move, read_sym};
-use crate::fences::{
-    read_fcopy, read_fdelete, read_fence, read_fmove, read_fsym, read_nofence, read_select,
-};
+use crate::edits::{one_element, read_color, read_copy, read_delete, read_move, read_sym};
+use crate::fences::{read_fcopy, read_fdelete, read_fence, read_fmove, read_fsym, read_select};
 use crate::levels::read_levels;
-use crate::numbers::number;
 use crate::reading::Reading;
 use crate::words::{first_piece, next_word, strip_blanks};
 use std::alloc::{AllocError, Global};
-
-// The names of the commands that aren't read yet.
-const UNBUILT_NAMES: [&str; 3] = ["elements", "refs", "links"];
 
 // What a line says.
 pub fn read_line(alloc: Global, line: &[u8]) -> Result<Reading, AllocError>
@@ -67,13 +59,30 @@ fn other_command(name: &[u8], rest: &[u8]) -> Reading
     } else if name == b"delete".as_slice() {
         Reading::asking(read_delete(rest))
     } else if name == b"undo".as_slice() {
-        Reading::asking(read_undo(rest))
+        Reading::asking(alone(Command::Undo, rest))
     } else if name == b"levels".as_slice() {
         Reading::asking(read_levels(rest).map(Command::Levels))
-    } else if name == b"show".as_slice() {
-        Reading::asking(read_show(rest))
+    } else {
+        listing_command(name, rest)
+    }
+}
+
+// The same of a word that names no edit of one element.
+fn listing_command(name: &[u8], rest: &[u8]) -> Reading
+    ensures { result ≡ listing_reading name.now rest.now }
+{
+    if name == b"show".as_slice() {
+        Reading::asking(alone(Command::Show, rest))
     } else if name == b"tree".as_slice() {
-        Reading::asking(read_tree(rest))
+        Reading::asking(one_element(rest).map(Command::Tree))
+    } else if name == b"elements".as_slice() {
+        Reading::asking(alone(Command::Elements, rest))
+    } else if name == b"refs".as_slice() {
+        Reading::asking(alone(Command::Refs, rest))
+    } else if name == b"links".as_slice() {
+        Reading::asking(one_element(rest).map(Command::Links))
+    } else if name == b"select".as_slice() {
+        Reading::asking(read_select(rest))
     } else {
         fence_command(name, rest)
     }
@@ -84,9 +93,7 @@ fn fence_command(name: &[u8], rest: &[u8]) -> Reading
     ensures { result ≡ fence_reading name.now rest.now }
 {
     if name == b"nofence".as_slice() {
-        Reading::asking(read_nofence(rest))
-    } else if name == b"select".as_slice() {
-        Reading::asking(read_select(rest))
+        Reading::asking(alone(Command::NoFence, rest))
     } else if name == b"fmove".as_slice() {
         Reading::asking(read_fmove(rest))
     } else if name == b"fcopy".as_slice() {
@@ -95,55 +102,17 @@ fn fence_command(name: &[u8], rest: &[u8]) -> Reading
         Reading::asking(read_fsym(rest))
     } else if name == b"fdelete".as_slice() {
         Reading::asking(read_fdelete(rest))
-    } else if is_unbuilt(name) {
-        Reading::Unbuilt
     } else {
         Reading::Bad
     }
 }
 
-// Whether a word is the name of a command that isn't read yet.
-fn is_unbuilt(name: &[u8]) -> bool
-    ensures { result ≡ is_unbuilt_name name.now }
-{
-    is_among(name, &UNBUILT_NAMES)
-}
-
-// Whether a word is one of these names.
-fn is_among(word: &[u8], names: &[&str]) -> bool
-    ensures { result ≡ list_any (λ known. bytes_eq known.now word.now) names.now }
-{
-    names.iter().any(|known| known.as_bytes() == word)
-}
-
-// The command of `undo` with these bytes behind it, of which none is part of a word.
-fn read_undo(rest: &[u8]) -> Option<Command>
-    ensures { result ≡ undo_command (words_of rest.now) }
+// A command behind whose name no word stands.
+fn alone(command: Command, rest: &[u8]) -> Option<Command>
+    ensures { result ≡ alone command (words_of rest.now) }
 {
     match next_word(rest) {
-        None => Some(Command::Undo),
+        None => Some(command),
         Some(_) => None,
     }
-}
-
-// The command of `show` with these bytes behind it, of which none is part of a word.
-fn read_show(rest: &[u8]) -> Option<Command>
-    ensures { result ≡ show_command (words_of rest.now) }
-{
-    match next_word(rest) {
-        None => Some(Command::Show),
-        Some(_) => None,
-    }
-}
-
-// The command of `tree` with these bytes behind it: the number of an element.
-fn read_tree(rest: &[u8]) -> Option<Command>
-    ensures { result ≡ tree_command (words_of rest.now) }
-{
-    let (element, rest) = next_word(rest)?;
-    if next_word(rest).is_some() {
-        return None;
-    }
-    let n = number(element, u32::MAX)?;
-    Some(Command::Tree(n))
 }

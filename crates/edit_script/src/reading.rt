@@ -9,8 +9,6 @@ pub enum Reading {
     Asks(Command),
     /// No command of the language.
     Bad,
-    /// A command of the language that isn't read yet.
-    Unbuilt,
 }
 
 impl Reading {

@@ -10,8 +10,7 @@ use std::alloc::Global;
 
 /// The commands of a script of at most 1048576 bytes, in the order of its lines.
 ///
-/// `Line` and `Unbuilt` come exactly where the first line that isn't read is bad or unbuilt, and tell
-/// its number. `Memory` comes where there is no
+/// `Line` comes exactly where a line is bad, and tells the number of the first. `Memory` comes where there is no
 /// memory for the list of commands, or for the points or the characters of one of them.
 pub fn read_script(alloc: Global, bytes: &[u8]) -> Result<Vec<Command>, ScriptFault>
     requires { length bytes.now ≤ 1048576 }
@@ -29,7 +28,6 @@ pub fn read_script(alloc: Global, bytes: &[u8]) -> Result<Vec<Command>, ScriptFa
             Reading::Nothing => {}
             Reading::Asks(command) => commands.push(command).map_err(|_| ScriptFault::Memory)?,
             Reading::Bad => return Err(ScriptFault::Line { number }),
-            Reading::Unbuilt => return Err(ScriptFault::Unbuilt { number }),
         }
         rest = behind;
         number += 1;

@@ -51,7 +51,7 @@ fn scripts_that_are_read(rt: HostRuntime) -> Result<(), Fail> {
 #[test]
 fn scripts_that_are_not_read(rt: HostRuntime) -> Result<(), Fail> {
     let alloc = rt.alloc();
-    let bad: [(&[u8], u32); 32] = [
+    let bad: [(&[u8], u32); 38] = [
         (b"color 1 1\n\ncolour 1 1\n", 3),
         (b"# a\r\n\r\n   \r\n  # b\r\ncolor 1\r\n", 5),
         (b"\n\n\nx", 4),
@@ -76,6 +76,12 @@ fn scripts_that_are_not_read(rt: HostRuntime) -> Result<(), Fail> {
         (b"tree", 1),
         (b"tree 1 2", 1),
         (b"tree -1", 1),
+        (b"elements 1", 1),
+        (b"refs refs", 1),
+        (b"links", 1),
+        (b"links 1 2", 1),
+        (b"links -1", 1),
+        (b"element", 1),
         (b"levels", 1),
         (b"levels 64", 1),
         (b"levels 5-3", 1),
@@ -90,18 +96,15 @@ fn scripts_that_are_not_read(rt: HostRuntime) -> Result<(), Fail> {
         let fault = read_script(alloc, script).err();
         assert_eq!(rt; fault, Some(ScriptFault::Line { number: line }));
     }
-    let unbuilt: [(&[u8], u32); 6] = [
-        (b"show\nrefs\n\n# x\nmove 1 +1 2\n", 2),
-        (b"show\r\nrefs\r\n\r\n# x\r\nmove 1 +1 2\r\n", 2),
+    let mixed: [(&[u8], u32); 3] = [
+        (b"show\nrefs\n\n# x\nmove 1 +1 2\n", 5),
+        (b"show\r\nundo\r\n\r\n# x\r\nmove 1 +1 2", 5),
         (b"# x\n\nlinks +1\r\ncolour\n", 3),
-        (b"color 1 1\n elements 3 2 1\n", 2),
-        (b"links", 1),
-        (b"color 1 1\nrefs", 2),
     ];
-    for (script, line) in unbuilt {
+    for (script, line) in mixed {
         assert!(rt; script.len() <= 1048576);
         let fault = read_script(alloc, script).err();
-        assert_eq!(rt; fault, Some(ScriptFault::Unbuilt { number: line }));
+        assert_eq!(rt; fault, Some(ScriptFault::Line { number: line }));
     }
     Ok(())
 }
@@ -632,11 +635,8 @@ fn fences_that_are_bad(rt: HostRuntime) -> Result<(), Fail> {
     Ok(())
 }
 
-// The names of the commands that aren't read yet.
-const NAMES: [&str; 3] = ["elements", "refs", "links"];
-
 #[test]
-fn masks_and_listings(rt: HostRuntime) -> Result<(), Fail> {
+fn masks(rt: HostRuntime) -> Result<(), Fail> {
     let alloc = rt.alloc();
     let masks: [(&[u8], u64); 7] = [
         (b"levels all", 0xFFFF_FFFF_FFFF_FFFF),
@@ -655,32 +655,53 @@ fn masks_and_listings(rt: HostRuntime) -> Result<(), Fail> {
             assert!(rt; matches!(commands.as_slice(), [Command::Levels(mask)] if mask.0 == wanted));
         }
     }
-    let commands = read_script(alloc, b"show\ntree 0\n tree 4294967295 \n");
-    assert!(rt; commands.is_ok());
-    if let Ok(commands) = commands {
-        assert!(rt;
-            matches!(
-                commands.as_slice(),
-                [Command::Show, Command::Tree(0), Command::Tree(4294967295)]
-            )
-        );
+    Ok(())
+}
+
+// Which listing a command asks for, and of which element.
+fn listing(command: &Command) -> Option<(u8, u32)> {
+    match command {
+        Command::Show => Some((1, 0)),
+        Command::Tree(n) => Some((2, *n)),
+        Command::Elements => Some((3, 0)),
+        Command::Refs => Some((4, 0)),
+        Command::Links(n) => Some((5, *n)),
+        _ => None,
+    }
+}
+
+#[test]
+fn listings(rt: HostRuntime) -> Result<(), Fail> {
+    let alloc = rt.alloc();
+    let rows: [(&[u8], u8, u32); 7] = [
+        (b"show", 1, 0),
+        (b"tree 0\n", 2, 0),
+        (b" tree 4294967295 \n", 2, 4294967295),
+        (b"elements", 3, 0),
+        (b" refs \r\n", 4, 0),
+        (b"links 7", 5, 7),
+        (b"  links  4294967295", 5, 4294967295),
+    ];
+    for (script, what, n) in rows {
+        assert!(rt; script.len() <= 1048576);
+        let commands = read_script(alloc, script);
+        assert!(rt; commands.is_ok());
+        if let Ok(commands) = commands {
+            let [command] = commands.as_slice() else {
+                panic!(rt; "not one command");
+            };
+            assert_eq!(rt; listing(command), Some((what, n)));
+        }
     }
     Ok(())
 }
 
 #[test]
-fn names_and_texts(rt: HostRuntime) -> Result<(), Fail> {
+fn texts_of_faults(rt: HostRuntime) -> Result<(), Fail> {
     let alloc = rt.alloc();
-    for name in NAMES {
-        let script = name.as_bytes();
-        assert!(rt; script.len() <= 1048576);
-        let fault = read_script(alloc, script).err();
-        assert_eq!(rt; fault, Some(ScriptFault::Unbuilt { number: 1 }));
-    }
     let texts = [
         (ScriptFault::Line { number: 3 }, "line 3"),
         (ScriptFault::Memory, "no memory"),
-        (ScriptFault::Unbuilt { number: 3 }, "unbuilt"),
     ];
     for (fault, text) in texts {
         let shown = format!(in alloc; "{fault}")?;
