@@ -1,7 +1,7 @@
 -- Bytes that are said or written piece by piece: what is told after each piece, by the pieces together.
 use Rattle.std.proofs.Common.{◌≡◌, ℕ, ◌≤◌, ◌+◌, List, ◌++◌, length, take, drop, Option, Some, None, option_map, Result, Ok, Err, refl, sym, ap, ◌∙◌, inr, append_assoc, arith}
 use Rattle.std.proofs.Math.Seq.{take-append_seam, take-append-add}
-use Rattle.std.proofs.lemmas.List.{take-append-drop, length-append}
+use Rattle.std.proofs.lemmas.List.{take-append-drop, take-append-le, length-append}
 use Rattle.dgn_desk.specs.Content.{Content, filed, spoken, written, written_to, with_file, HasTarget}
 use Rattle.dgn_desk.specs.Desk.{SaysAll, AddsAll, FilesAll}
 use Rattle.dgn_desk.specs.declared.stop.Stop.{Stop}
@@ -52,6 +52,24 @@ filed_all (Err e) name body tail old new added =
       omega (arith, added.1, length-append body tail),
       added.2 ∙ ap (λ part. option_map (filed name part) old) (sym (take-append-add body tail added.0)),
     )
+
+-- where the first bytes were added in part, those and others were
+pub added_first : (e : Stop) (name so_far first second : List ℕ) (old new : Option Content) → AddsAll (Err e) name so_far first old new → AddsAll (Err e) name so_far (first ++ second) old new
+added_first e name so_far first second old new added =
+    let within = added.1 in (
+      added.0,
+      omega (arith, length-append first second),
+      added.2 ∙ ap (λ part. option_map (filed name (so_far ++ part)) old) (sym (take-append-le added.0 first second within)),
+    )
+
+-- and where they were added whole, and the others behind them as far as they came
+pub added_both : (result : Result (Unit {0}) Stop) (name so_far first second : List ℕ) (old new : Option Content) → AddsAll result name (so_far ++ first) second old new → AddsAll result name so_far (first ++ second) old new
+added_both (Ok x) name so_far first second old new added = added ∙ ap (λ bytes. option_map (filed name bytes) old) (append_assoc so_far first second)
+added_both (Err e) name so_far first second old new added = (
+  length first + added.0,
+  omega (arith, added.1, length-append first second),
+  added.2 ∙ ap (λ bytes. option_map (filed name bytes) old) (append_assoc so_far first (take added.0 second) ∙ ap (λ part. so_far ++ part) (sym (take-append-add first second added.0))),
+)
 
 -- writing keeps the name that writes go to
 written_target : (target : Option (List ℕ)) (bytes : List ℕ) (c : Content) → (written_to target bytes c).target ≡ c.target

@@ -18,11 +18,11 @@ fn host_desk_writes_reads_and_says(rt: HostRuntime) -> Result<(), Fail> {
     let mut buf = [0; 4];
     assert_eq!(rt; desk.read(&mut buf), Ok(0));
     assert_eq!(rt; desk.write(b"lost"), Err(Stop::Failed));
-    assert_eq!(rt; write_file(&mut desk, NAME, b"body ", b"tail"), Ok(()));
+    assert_eq!(rt; write_file(&mut desk, NAME, b"body ", b"ta", b"il"), Ok(()));
     assert_eq!(rt; read_all(alloc, &mut desk, NAME, 8), Err(ReadEnd::TooLong));
     let whole = Vec::from_slice(alloc, b"body tail")?;
     assert_eq!(rt; read_all(alloc, &mut desk, NAME, 9), Ok(whole));
-    assert_eq!(rt; write_file(&mut desk, NAME, b"", b""), Ok(()));
+    assert_eq!(rt; write_file(&mut desk, NAME, b"", b"", b""), Ok(()));
     assert_eq!(rt; read_all(alloc, &mut desk, NAME, 9), Ok(Vec::new(alloc)));
     fs::remove_file(&rt, NAME)?;
     assert_eq!(rt; read_all(alloc, &mut desk, NAME, 9), Err(ReadEnd::Fault));
@@ -69,9 +69,12 @@ fn sure_desk_in_pieces(rt: HostRuntime) -> Result<(), Fail> {
         assert_eq!(rt; say_all(&mut desk, b""), Ok(()));
         assert_eq!(rt; say_all(&mut desk, b"two"), Ok(()));
         assert_eq!(rt; desk.said(), b"one two".as_slice());
-        assert_eq!(rt; write_file(&mut desk, "out", b"body ", b"tail"), Ok(()));
+        assert_eq!(rt;
+            write_file(&mut desk, "out", b"body ", b"ta", b"il"),
+            Ok(())
+        );
         assert!(rt; holds(&desk, "out", b"body tail"));
-        assert_eq!(rt; write_file(&mut desk, "out", b"", b""), Ok(()));
+        assert_eq!(rt; write_file(&mut desk, "out", b"", b"", b""), Ok(()));
         assert!(rt; holds(&desk, "out", b""));
         assert!(rt; holds(&desk, "in", b"bytes"));
         assert_eq!(rt; desk.file("none"), None);
@@ -140,7 +143,7 @@ fn saying_and_writing_stop_in_mid_stream(rt: HostRuntime) -> Result<(), Fail> {
         for (at, file) in [(0, "bytes"), (1, ""), (2, "a"), (3, "ab"), (4, "abc")] {
             let mut desk = Stopping::new(alloc, stop, at)?;
             assert_eq!(rt;
-                write_file(&mut desk, "in", b"ab", b"cd"),
+                write_file(&mut desk, "in", b"ab", b"c", b"d"),
                 Err(stop),
                 "write {at}"
             );

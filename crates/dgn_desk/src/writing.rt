@@ -1,4 +1,4 @@
-ghost use Rattle.std.specs.Prelude.{◌≡◌, ◌++◌, ℕ, List, Option, option_map, IsTrue};
+ghost use Rattle.std.specs.Prelude.{◌≡◌, ◌++◌, ℕ, List, Option, option_map, OnOk, IsTrue};
 ghost use Rattle.dgn_desk.specs.Content.{Content, filed, HasTarget};
 ghost use Rattle.dgn_desk.specs.Desk.{Counts, SaysAll, FilesAll, AddsAll, StaysWilling, DoesNotFail};
 
@@ -23,19 +23,38 @@ pub fn say_all<D: Desk>(desk: &mut D, bytes: &[u8]) -> Result<(), Stop>
     Ok(())
 }
 
-/// Makes the named file hold the body and then the tail. Where the desk stops, the file wasn't begun
-/// and nothing changed, or it holds some first part of these bytes. A willing desk doesn't fail, and
-/// stays willing.
-pub fn write_file<D: Desk>(desk: &mut D, name: &str, body: &[u8], tail: &[u8]) -> Result<(), Stop>
+/// Makes the named file hold the body, then the tail, and then what fills it. Where the desk stops, the
+/// file wasn't begun and nothing changed, or it holds some first part of these bytes. A willing desk
+/// doesn't fail, and stays willing.
+pub fn write_file<D: Desk>(
+    desk: &mut D,
+    name: &str,
+    body: &[u8],
+    tail: &[u8],
+    filling: &[u8],
+) -> Result<(), Stop>
     ensures cause { Counts (D.write_faults desk.old) (D.write_faults desk.new) result }
     ensures other { D.read_faults desk.new ≡ D.read_faults desk.old }
-    ensures told { FilesAll result name.now (body.now ++ tail.now) (D.content desk.old) (D.content desk.new) }
+    ensures told { FilesAll result name.now (body.now ++ (tail.now ++ filling.now)) (D.content desk.old) (D.content desk.new) }
     ensures stays { StaysWilling (D.willing desk.old) (D.willing desk.new) }
     ensures able { IsTrue (D.willing desk.old) → DoesNotFail result }
 {
     desk.begin_write(name)?;
     write_more(desk, body)?;
-    write_more(desk, tail)
+    write_both(desk, tail, filling)
+}
+
+// Appends the first bytes and then the others to the file that was begun.
+fn write_both<D: Desk>(desk: &mut D, first: &[u8], second: &[u8]) -> Result<(), Stop>
+    ensures cause { Counts (D.write_faults desk.old) (D.write_faults desk.new) result }
+    ensures other { D.read_faults desk.new ≡ D.read_faults desk.old }
+    ensures told { (name so_far : List ℕ) (c : Option Content) → D.content desk.old ≡ option_map (filed name so_far) c
+        → AddsAll result name so_far (first.now ++ second.now) c (D.content desk.new) }
+    ensures stays { StaysWilling (D.willing desk.old) (D.willing desk.new) }
+    ensures able { IsTrue (D.willing desk.old) → HasTarget (D.content desk.old) → DoesNotFail result }
+{
+    write_more(desk, first)?;
+    write_more(desk, second)
 }
 
 // Appends all the bytes to the file that was begun, whose bytes so far are any.
@@ -45,6 +64,7 @@ fn write_more<D: Desk>(desk: &mut D, bytes: &[u8]) -> Result<(), Stop>
     ensures told { (name so_far : List ℕ) (c : Option Content) → D.content desk.old ≡ option_map (filed name so_far) c → AddsAll result name so_far bytes.now c (D.content desk.new) }
     ensures stays { StaysWilling (D.willing desk.old) (D.willing desk.new) }
     ensures able { IsTrue (D.willing desk.old) → HasTarget (D.content desk.old) → DoesNotFail result }
+    ensures target { OnOk result (HasTarget (D.content desk.old) → HasTarget (D.content desk.new)) }
 {
     let mut rest = bytes;
     'pieces: while !rest.is_empty() {

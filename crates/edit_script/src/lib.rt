@@ -22,6 +22,7 @@ mod words;
 
 pub use command::Command;
 pub use fault::ScriptFault;
+pub use numbers::number;
 pub use script::read_script;
 
 #[cfg(test)]
