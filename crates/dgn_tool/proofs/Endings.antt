@@ -15,7 +15,8 @@ use Rattle.edit_script.specs.Script.{commands_of}
 use Rattle.edit_script.specs.declared.command.Command.{Command}
 use Rattle.edit_script.specs.declared.fault.ScriptFault.{ScriptFault}
 use Rattle.dgn_tool.specs.Lines.{numbered}
-use Rattle.dgn_tool.specs.Outcome.{Outcome, ended, script_outcome, scripted, opened_outcome, input_outcome, checked, Leaves, Stops, ComesTo, ComesEarly, IsFrontOf, HoldsFront, IsStopped, OpensAs, IsEnding, comes_to_script, HasBoth}
+use Rattle.dgn_tool.specs.Ended.{Outcome, ended}
+use Rattle.dgn_tool.specs.Outcome.{script_outcome, scripted, opened_outcome, input_outcome, checked, Leaves, Stops, ComesTo, ComesEarly, IsFrontOf, HoldsFront, IsStopped, OpensAs, IsEnding, comes_to_script, HasBoth}
 use Rattle.dgn_tool.specs.Told.{told_fault}
 use Rattle.dgn_tool.specs.declared.status.Status.{Status}
 use Rattle.dgn_tool.specs.declared.status.Status.TheVariants as statuses
@@ -31,7 +32,6 @@ ends_only statuses.ReadFault ending stopped = stopped
 ends_only statuses.WriteFault ending stopped = ending
 ends_only statuses.Memory ending stopped = ending
 ends_only statuses.TooLong ending stopped = stopped
-ends_only statuses.Unbuilt ending stopped = stopped
 
 -- so many first bytes are a front
 pub is_taken : (bytes : List ℕ) (count : ℕ) → IsFrontOf bytes (take count bytes)

@@ -1,8 +1,13 @@
 mod Untouched
 mod Endings
 mod Ran
+mod Tallied
 mod Finished
-mod Answered
+mod Filled
+mod Undone
 mod TreeBytes
 mod Growing
 mod GeneratedFile
+mod Begun
+mod Links
+mod Tried

@@ -23,7 +23,9 @@ use Rattle.edit_ops.proofs.Fenced.{fenced_opens, fenced_changes}
 use Rattle.edit_script.specs.declared.command.Command.{Command}
 use Rattle.edit_script.specs.declared.command.Command.TheVariants as command
 use Rattle.dgn_tool.specs.Commands.{begun, fence_refused, after_command, after_all}
-use Rattle.dgn_tool.specs.Laws.{Alone, Fenced, Made, with_made, with_all_made, without_newest, with_command, with_commands, IsOutside, IsEditIn, IsEditedFile, UntouchedBytesStay}
+use Rattle.dgn_tool.specs.Filling.{filling}
+use Rattle.dgn_tool.proofs.Filled.{filled_opens, none_fills}
+use Rattle.dgn_tool.specs.Laws.{behind_after, Alone, Fenced, Made, with_made, with_all_made, without_newest, with_command, with_commands, IsOutside, IsEditIn, IsEditedFile, UntouchedBytesStay}
 
 -- elements that an edit made of others: no fewer bytes, and the same byte at each place that it doesn't write
 record IsGrown (dim : ℕ) (es now : List Element) (m : Made) : Type 0 where
@@ -125,6 +127,9 @@ command_step t base s left (command.Fence corners) fits chain =
 command_step t base s left command.NoFence fits chain = chain
 command_step t base s left command.Show fits chain = chain
 command_step t base s left (command.Tree n) fits chain = chain
+command_step t base s left command.Elements fits chain = chain
+command_step t base s left command.Refs fits chain = chain
+command_step t base s left (command.Links n) fits chain = chain
 command_step t base s left (command.Select mode) fits chain = chain
 
 -- all commands
@@ -155,6 +160,9 @@ command_dim s (command.Fence corners) = cond_both (fence_refused corners) s (wit
 command_dim s command.NoFence = refl
 command_dim s command.Show = refl
 command_dim s (command.Tree n) = refl
+command_dim s command.Elements = refl
+command_dim s command.Refs = refl
+command_dim s (command.Links n) = refl
 command_dim s (command.Select mode) = refl
 
 commands_dim : (cs : List Command) (s : State) → (after_all cs s).dim ≡ s.dim
@@ -177,10 +185,10 @@ edited_file t cs s none fits opens =
     let chain = subst (λ (k : ℕ). IsChain k t s.top end.top end.earlier left) (commands_dim cs s) (commands_step t s.top cs s [] fits start) in
     let long = chain_long s.dim t s.top end.top end.earlier left chain in
     record {
-      opens = chain_opens s.dim t s.top end.top end.earlier left chain;
+      opens = filled_opens s.dim end.top t (filling (length (spelling s.top)) t (length (spelling end.top))) (none_fills (length (spelling s.top)) t (length (spelling end.top))) (chain_opens s.dim t s.top end.top end.earlier left chain);
       long = long;
       stays = λ p below all.
-          get_or_append_left (spelling end.top) t 0 p (omega arith)
+          get_or_append_left (spelling end.top) (behind_after s t cs) 0 p (omega arith)
           ∙ chain_same s.dim t s.top end.top end.earlier left p chain below (all_back (IsOutside s.dim p) left all)
           ∙ sym (get_or_append_left (spelling s.top) t 0 p below);
     }

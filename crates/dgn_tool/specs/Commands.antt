@@ -1,12 +1,15 @@
 -- What commands do to the state of a session, and what they say.
-use Rattle.std.specs.Prelude.{ℕ, nat_lt, ◌+◌, Bool, true, false, not, ◌||◌, if◌then◌else◌, Option, Some, None, List, [], ◌∷◌, ◌++◌, length, codes}
+use Rattle.std.specs.Prelude.{ℕ, nat_lt, ◌+◌, Bool, true, false, not, ◌||◌, if◌then◌else◌, Option, Some, None, List, [], ◌∷◌, ◌++◌, length, slice_get, codes}
 use Rattle.std.specs.Int.{from_bool}
 use Rattle.dgn_drawing.specs.Element.{Element}
 use Rattle.dgn_drawing.specs.Shown.{shown}
 use Rattle.dgn_session.specs.State as machine
 use Rattle.dgn_session.specs.State.{State, applied, edited, selection, fence_applied, fence_edited, undone, undo_refused, with_mask, with_fence}
 use Rattle.dgn_listing.specs.CauseTexts.{cause_text}
+use Rattle.dgn_listing.specs.ElementTexts.{elements_text}
 use Rattle.dgn_listing.specs.ItemTexts.{items_text}
+use Rattle.dgn_listing.specs.LinkTexts.{links_text}
+use Rattle.dgn_listing.specs.RefTexts.{refs_text}
 use Rattle.dgn_listing.specs.SelectedTexts.{selected_text}
 use Rattle.dgn_listing.specs.TreeTexts.{tree_text}
 use Rattle.edit_ops.specs.Applying.{Applied, Done, Refused}
@@ -24,6 +27,14 @@ begun d = machine.begun d.dim d.elements (length d.tail)
 -- what `tree` says of element n
 abbrev pub tree_said : List Element → ℕ → List ℕ
 tree_said es n = if nat_lt n (length es) then tree_text es n else cause_text (causes.Unknown n)
+
+-- what `links` says of element n
+abbrev pub links_told : ℕ → Option Element → List ℕ
+links_told n None = cause_text (causes.Unknown n)
+links_told n (Some e) = links_text e
+
+abbrev pub links_said : List Element → ℕ → List ℕ
+links_said es n = links_told n (slice_get es n)
 
 -- what is said of what an edit came to
 abbrev pub edit_said : Applied → List ℕ
@@ -86,6 +97,9 @@ text_of s (command.Fence corners) = fence_said corners
 text_of s command.NoFence = codes "ok\n"
 text_of s command.Show = items_text (shown s.dim s.mask s.top)
 text_of s (command.Tree n) = tree_said s.top n
+text_of s command.Elements = elements_text s.top
+text_of s command.Refs = refs_text s.top
+text_of s (command.Links n) = links_said s.top n
 text_of s (command.Select mode) = selection_said (selection mode s)
 
 -- whether it is refused
@@ -98,6 +112,9 @@ is_refused s (command.Fence corners) = fence_refused corners
 is_refused s command.NoFence = false
 is_refused s command.Show = false
 is_refused s (command.Tree n) = not (nat_lt n (length s.top))
+is_refused s command.Elements = false
+is_refused s command.Refs = false
+is_refused s (command.Links n) = not (nat_lt n (length s.top))
 is_refused s (command.Select mode) = selection_refused (selection mode s)
 
 -- what a command leaves: one that is refused leaves all as it was, and so does a listing
@@ -110,6 +127,9 @@ after_command s (command.Fence corners) = fence_set corners s
 after_command s command.NoFence = with_fence None s
 after_command s command.Show = s
 after_command s (command.Tree n) = s
+after_command s command.Elements = s
+after_command s command.Refs = s
+after_command s (command.Links n) = s
 after_command s (command.Select mode) = s
 
 -- what all commands leave, the first one first
@@ -126,3 +146,17 @@ texts_of (c ∷ cs) s = text_of s c ++ texts_of cs (after_command s c)
 abbrev pub refused_count : List Command → State → ℕ
 refused_count [] s = 0
 refused_count (c ∷ cs) s = from_bool (is_refused s c) + refused_count cs (after_command s c)
+
+-- how many trees an edit of all that a fence chooses has changed or copied, where it is done
+abbrev pub trees_edited : Option Applied → Option (List ℕ) → ℕ
+trees_edited (Some (Done made)) (Some ns) = length ns
+trees_edited applied ns = 0
+
+abbrev pub trees_of : State → Command → ℕ
+trees_of s (command.Fenced mode e) = trees_edited (fence_applied mode e s) (selection mode s)
+trees_of s other = 0
+
+-- and how many each of all commands
+abbrev pub trees_of_all : List Command → State → List ℕ
+trees_of_all [] s = []
+trees_of_all (c ∷ cs) s = trees_of s c ∷ trees_of_all cs (after_command s c)

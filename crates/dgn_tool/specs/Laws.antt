@@ -1,6 +1,6 @@
 -- What holds of every drawing that opens and every list of commands, each the contract of a function in
 -- `laws`.
-use Rattle.std.specs.Prelude.{ℕ, ◌≡◌, ◌<◌, ◌≤◌, Bool, true, false, List, [], ◌∷◌, ◌++◌, length, drop, reverse, slice_index, Option, Some, None, All}
+use Rattle.std.specs.Prelude.{ℕ, ◌≡◌, ◌<◌, ◌≤◌, Bool, true, false, List, [], ◌∷◌, ◌++◌, length, drop, reverse, slice_index, Option, Some, All}
 use Rattle.dgn_drawing.specs.Element.{Element}
 use Rattle.dgn_drawing.specs.Spelling.{spelling}
 use Rattle.dgn_drawing.specs.Opening.{Opens}
@@ -14,6 +14,8 @@ use Rattle.edit_script.specs.declared.command.Command.{Command}
 use Rattle.edit_script.specs.declared.command.Command.TheVariants as command
 use Rattle.elem_index.specs.Opened.{Opened}
 use Rattle.dgn_tool.specs.Commands.{begun, after_command, after_all}
+use Rattle.dgn_tool.specs.Filling.{filling}
+use Rattle.dgn_tool.specs.Ended.{file_after}
 
 -- what was made of a drawing: an edit, or one of all that a fence chose, of these roots
 pub data Making : Type 0 where
@@ -52,6 +54,9 @@ with_command s (command.Fence corners) left = left
 with_command s command.NoFence left = left
 with_command s command.Show left = left
 with_command s (command.Tree n) left = left
+with_command s command.Elements left = left
+with_command s command.Refs left = left
+with_command s (command.Links n) left = left
 with_command s (command.Select mode) left = left
 
 -- and what all commands leave of them
@@ -78,14 +83,18 @@ IsEditIn (command.Edit e) = IsEdit e
 IsEditIn (command.Fenced mode e) = IsFenceEdit e
 IsEditIn other = Unit {0}
 
--- the file that the commands make of an opened one opens with the elements after them and the same tail; its elements
--- have no fewer bytes; and it has the file's byte at each place in the elements of the file that no edit that is left
--- writes
+-- what stands behind the elements in the file that the commands make: the tail, and what fills its last block
+abbrev pub behind_after : State → List ℕ → List Command → List ℕ
+behind_after s t cs = t ++ filling (length (spelling s.top)) t (length (spelling (after_all cs s).top))
+
+-- the file that the commands make of an opened one opens with the elements after them and the same tail, with what fills
+-- its last block behind; its elements have no fewer bytes; and it has the file's byte at each place in the elements of the
+-- file that no edit that is left writes
 pub record IsEditedFile (f : List ℕ) (s : State) (t : List ℕ) (cs : List Command) : Type 0 where
-  pub opens : Opens (spelling (after_all cs s).top ++ t) s.dim (after_all cs s).top t
+  pub opens : Opens (file_after s t cs) s.dim (after_all cs s).top (behind_after s t cs)
   pub long : length (spelling s.top) ≤ length (spelling (after_all cs s).top)
   pub stays : (p : ℕ) → p < length (spelling s.top) → All (IsOutside s.dim p) (remaining cs s)
-      → slice_index (spelling (after_all cs s).top ++ t) p ≡ slice_index f p
+      → slice_index (file_after s t cs) p ≡ slice_index f p
 
 abbrev pub UntouchedBytesStay : Type 0
 UntouchedBytesStay =

@@ -3,6 +3,9 @@ pub mod Request
 pub mod RequestView
 pub mod Lines
 pub mod Commands
+pub mod Filling
+pub mod Ended
+pub mod Generation
 pub mod Outcome
 pub mod Told
 pub mod Laws

@@ -4,7 +4,6 @@ use Rattle.std.specs.Prelude.{ℕ, ◌≡◌, ◌⊎◌, ◌≤◌, nat_lt, nat_
 use Rattle.std.specs.FinMap as maps
 use Rattle.std.specs.Result.{is_ok}
 use Rattle.dgn_desk.specs.Content.{Files, Content, bytes_of, with_file, spoken}
-use Rattle.dgn_drawing.specs.Spelling.{spelling}
 use Rattle.dgn_drawing.specs.Opening.{Fault, NotDesign, Cut, Short, Attr}
 use Rattle.dgn_session.specs.State.{State}
 use Rattle.elem_index.specs.Opened.{Opened, opening}
@@ -12,28 +11,20 @@ use Rattle.edit_script.specs.Script.{commands_of}
 use Rattle.edit_script.specs.declared.command.Command.{Command}
 use Rattle.edit_script.specs.declared.fault.ScriptFault.{ScriptFault}
 use Rattle.edit_script.specs.declared.fault.ScriptFault.TheVariants as faults
-use Rattle.dgn_tool.specs.Request.{Request, Edit, Check, request_of}
+use Rattle.dgn_tool.specs.Request.{Request, Edit, Check, Gen, request_of}
+use Rattle.dgn_tool.specs.Ended.{Outcome, ended, file_after}
+use Rattle.dgn_tool.specs.Generation.{generation}
 use Rattle.dgn_tool.specs.Lines.{numbered}
-use Rattle.dgn_tool.specs.Commands.{begun, after_all, texts_of, refused_count}
+use Rattle.dgn_tool.specs.Commands.{begun, texts_of, refused_count}
 use Rattle.dgn_tool.specs.declared.status.Status.{Status}
 use Rattle.dgn_tool.specs.declared.status.Status.TheVariants as statuses
-
--- the status, the text that is said, and the name and bytes of the file that is written
-pub record Outcome : Type 0 where
-  pub status : Status
-  pub text : List ℕ
-  pub file : Option (List ℕ × List ℕ)
-
--- an ending that says a line and writes nothing
-abbrev pub ended : Status → List ℕ → Outcome
-ended status line = record { status = status; text = line; file = None }
 
 -- what the commands come to in a state, with this tail: their texts, and the file of the drawing after them
 abbrev pub told_from : State → List ℕ → List Command → List ℕ → Outcome
 told_from s tail cs output = record {
   status = if nat_lt 0 (refused_count cs s) then statuses.SomeRefused else statuses.Done;
   text = texts_of cs s;
-  file = Some (output, spelling (after_all cs s).top ++ tail);
+  file = Some (output, file_after s tail cs);
 }
 
 -- and on a drawing
@@ -44,7 +35,6 @@ told d cs output = told_from (begun d) d.tail cs output
 abbrev pub script_outcome : Opened → Result (List Command) ScriptFault → List ℕ → Outcome
 script_outcome d (Ok cs) output = told d cs output
 script_outcome d (Err (faults.Line number)) output = ended statuses.BadScript (numbered (codes "bad script line ") number)
-script_outcome d (Err (faults.Unbuilt number)) output = ended statuses.Unbuilt (codes "unbuilt\n")
 script_outcome d (Err faults.Memory) output = ended statuses.Memory []
 
 -- what `edit` comes to on a drawing
@@ -80,6 +70,7 @@ abbrev pub outcome_of : Option Request → Files → Outcome
 outcome_of None files = ended statuses.Usage (codes "usage: dgnedit edit IN SCRIPT OUT, check IN, gen SEED COUNT OUT\n")
 outcome_of (Some (Edit input script output)) files = input_outcome (bytes_of files input) (λ d. scripted d (bytes_of files script) output)
 outcome_of (Some (Check input)) files = input_outcome (bytes_of files input) checked
+outcome_of (Some (Gen seed count output)) files = generation seed count output
 
 -- what a run with these words comes to
 abbrev pub outcome : List (List ℕ) → Files → Outcome
@@ -176,3 +167,11 @@ abbrev pub HasFiles : Option Request → Files → Type 0
 HasFiles None files = ⊤
 HasFiles (Some (Edit input script output)) files = HasBoth input script files
 HasFiles (Some (Check input)) files = IsSome (maps.get files input)
+HasFiles (Some (Gen seed count output)) files = ⊤
+
+-- a request that reads a file
+abbrev pub Reads : Option Request → Type 0
+Reads None = ⊥
+Reads (Some (Edit input script output)) = ⊤
+Reads (Some (Check input)) = ⊤
+Reads (Some (Gen seed count output)) = ⊥

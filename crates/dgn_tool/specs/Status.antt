@@ -14,4 +14,3 @@ number_of statuses.ReadFault = 5
 number_of statuses.WriteFault = 6
 number_of statuses.Memory = 7
 number_of statuses.TooLong = 8
-number_of statuses.Unbuilt = 9

@@ -2,7 +2,8 @@
 use Rattle.std.specs.Prelude.{[]}
 use Rattle.dgn_drawing.specs.Opening.{NotDesign, Cut, Short, Attr}
 use Rattle.elem_index.specs.declared.open_fault.OpenFault.{OpenFault}
-use Rattle.dgn_tool.specs.Outcome.{Outcome, ended, fault_line}
+use Rattle.dgn_tool.specs.Ended.{Outcome, ended}
+use Rattle.dgn_tool.specs.Outcome.{fault_line}
 use Rattle.dgn_tool.specs.declared.status.Status.TheVariants as statuses
 
 abbrev pub told_fault : OpenFault → Outcome

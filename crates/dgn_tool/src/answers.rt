@@ -1,18 +1,16 @@
-ghost use Rattle.std.specs.Prelude.{◌≡◌, ◌+◌, ◌≤◌, ◌++◌, codes, false, map, length, nat_lt, not, vec_len, vec_capacity, IfOk, OnOk, OnErr};
-ghost use Rattle.dgn_drawing.specs.Rows.{row_of};
-ghost use Rattle.elem_index.specs.Design.{elements, IsWhole};
+ghost use Rattle.std.specs.Prelude.{◌≡◌, ◌+◌, ◌≤◌, ◌++◌, codes, false, length, vec_len, vec_capacity, IfOk, OnOk, OnErr};
 ghost use Rattle.dgn_listing.specs.Lines.{AppendsFrontOf};
-ghost use Rattle.dgn_session.specs.State.{state_of, applied, edited, undone, undo_refused, is_refused as is_refusal};
-ghost use Rattle.dgn_tool.specs.Commands.{edit_said, undo_said, tree_said, text_of, is_refused, after_command};
+ghost use Rattle.dgn_session.specs.State.{state_of, applied, edited, undone, undo_refused, with_mask, is_refused as is_refusal};
+ghost use Rattle.dgn_tool.specs.Commands.{edit_said, undo_said, text_of, is_refused, after_command, trees_of};
 
-use crate::fences::{answer_fence, answer_fenced, answer_select};
-use dgn_drawing::Edit;
-use dgn_listing::{write_cause, write_items, write_tree};
+use crate::answered::Answered;
+use crate::fences::{answer_fence, answer_fenced, answer_no_fence, answer_select};
+use crate::listings::{answer_elements, answer_links, answer_refs, answer_show, answer_tree};
+use dgn_drawing::{Edit, Mask};
+use dgn_listing::write_cause;
 use dgn_session::Session;
-use edit_ops::{Cause, EditFault};
+use edit_ops::EditFault;
 use edit_script::Command;
-use elem_index::Design;
-use nest_tree::types::Nest;
 use std::alloc::{AllocError, Global};
 
 // The room that a command makes for its text before it changes the session. No line that it says then is longer.
@@ -35,27 +33,55 @@ pub fn answer(
     ensures kept { OnErr result (s.new ≡ s.old) }
     ensures front { OnErr result (AppendsFrontOf (text_of (state_of s.old) c.now) out.old.items out.new.items) }
 {
-    match c {
-        Command::Edit(edit) => answer_edit(alloc, s, edit, out),
-        Command::Fenced(mode, edit) => answer_fenced(alloc, s, *mode, edit, out),
-        Command::Undo => answer_undo(s, out),
-        Command::Levels(levels) => {
-            out.reserve(ROOM)?;
-            s.set_mask(*levels);
-            put_known(out, b"ok\n");
-            Ok(false)
-        }
-        Command::Fence(corners) => answer_fence(alloc, s, corners.as_slice(), out),
-        Command::NoFence => {
-            out.reserve(ROOM)?;
-            s.clear_fence();
-            put_known(out, b"ok\n");
-            Ok(false)
-        }
-        Command::Show => answer_show(alloc, s, out),
-        Command::Tree(n) => answer_tree(alloc, s.design(), s.nesting(), *n, out),
-        Command::Select(mode) => answer_select(alloc, s, *mode, out),
-    }
+    let answered = respond(alloc, s, c, out)?;
+    Ok(answered.refused)
+}
+
+// The same, with how many trees an edit of all that the fence chooses has changed or copied.
+pub(crate) fn respond(
+    alloc: Global,
+    s: &mut Session,
+    c: &Command,
+    out: &mut Vec<u8>,
+) -> Result<Answered, AllocError>
+    ensures text { OnOk result (out.new.items ≡ out.old.items ++ text_of (state_of s.old) c.now) }
+    ensures refused { IfOk result (λ a. a.refused ≡ is_refused (state_of s.old) c.now) }
+    ensures trees { IfOk result (λ a. a.trees ≡ trees_of (state_of s.old) c.now) }
+    ensures state { OnOk result (state_of s.new ≡ after_command (state_of s.old) c.now) }
+    ensures tail { s.new.tail ≡ s.old.tail }
+    ensures kept { OnErr result (s.new ≡ s.old) }
+    ensures front { OnErr result (AppendsFrontOf (text_of (state_of s.old) c.now) out.old.items out.new.items) }
+{
+    let refused = match c {
+        Command::Fenced(mode, edit) => return answer_fenced(alloc, s, *mode, edit, out),
+        Command::Edit(edit) => answer_edit(alloc, s, edit, out)?,
+        Command::Undo => answer_undo(s, out)?,
+        Command::Levels(levels) => answer_levels(s, *levels, out)?,
+        Command::Fence(corners) => answer_fence(alloc, s, corners.as_slice(), out)?,
+        Command::NoFence => answer_no_fence(s, out)?,
+        Command::Show => answer_show(alloc, s, out)?,
+        Command::Tree(n) => answer_tree(alloc, s.design(), s.nesting(), *n, out)?,
+        Command::Elements => answer_elements(alloc, s.design(), out)?,
+        Command::Refs => answer_refs(alloc, s.design(), out)?,
+        Command::Links(n) => answer_links(alloc, s.design(), *n, out)?,
+        Command::Select(mode) => answer_select(alloc, s, *mode, out)?,
+    };
+    Ok(Answered { refused, trees: 0 })
+}
+
+// Shows these levels from now on, says so, and answers that this is never refused.
+fn answer_levels(s: &mut Session, levels: Mask, out: &mut Vec<u8>) -> Result<bool, AllocError>
+    ensures text { OnOk result (out.new.items ≡ out.old.items ++ codes "ok\n") }
+    ensures refused { IfOk result (λ refused. refused ≡ false) }
+    ensures state { OnOk result (state_of s.new ≡ with_mask levels (state_of s.old)) }
+    ensures tail { s.new.tail ≡ s.old.tail }
+    ensures kept { OnErr result (s.new ≡ s.old) }
+    ensures bytes { OnErr result (out.new.items ≡ out.old.items) }
+{
+    out.reserve(ROOM)?;
+    s.set_mask(levels);
+    put_known(out, b"ok\n");
+    Ok(false)
 }
 
 // Makes an edit, appends what is said of it, and answers whether it was refused.
@@ -106,42 +132,6 @@ fn answer_undo(s: &mut Session, out: &mut Vec<u8>) -> Result<bool, AllocError>
             put_known(out, b"refused nothing\n");
             Ok(true)
         }
-    }
-}
-
-// Appends the items that are shown, and answers that this is never refused.
-fn answer_show(alloc: Global, s: &Session, out: &mut Vec<u8>) -> Result<bool, AllocError>
-    ensures text { OnOk result (out.new.items ≡ out.old.items ++ text_of (state_of s.now) Command.Show) }
-    ensures refused { IfOk result (λ refused. refused ≡ false) }
-    ensures front { OnErr result
-        (AppendsFrontOf (text_of (state_of s.now) Command.Show) out.old.items out.new.items) }
-{
-    let items = s.show()?;
-    write_items(alloc, out, &items)?;
-    Ok(false)
-}
-
-// Appends what `tree` says of element n, and answers whether there is none.
-fn answer_tree(
-    alloc: Global,
-    design: &Design,
-    nesting: &Nest,
-    n: u32,
-    out: &mut Vec<u8>,
-) -> Result<bool, AllocError>
-    requires whole { IsWhole design.now }
-    requires nesting { nesting.now.rows ≡ map row_of (elements design.now) }
-    ensures text { OnOk result (out.new.items ≡ out.old.items ++ tree_said (elements design.now) n) }
-    ensures refused { IfOk result (λ refused. refused ≡ not (nat_lt n (length (elements design.now)))) }
-    ensures front { OnErr result
-        (AppendsFrontOf (tree_said (elements design.now) n) out.old.items out.new.items) }
-{
-    if n < design.count() {
-        write_tree(alloc, out, design, nesting, n)?;
-        Ok(false)
-    } else {
-        write_cause(alloc, out, &Cause::Unknown(n))?;
-        Ok(true)
     }
 }
 

@@ -1,7 +1,8 @@
 ghost use Rattle.std.specs.Prelude.{◌≡◌, IsTrue};
 ghost use Rattle.dgn_desk.specs.Desk.{Rose};
 ghost use Rattle.dgn_tool.specs.Lines.{numbered};
-ghost use Rattle.dgn_tool.specs.Outcome.{ended, IsEnding, IsStopped, ComesTo, IsFaultless};
+ghost use Rattle.dgn_tool.specs.Ended.{ended};
+ghost use Rattle.dgn_tool.specs.Outcome.{IsEnding, IsStopped, ComesTo, IsFaultless};
 
 use crate::lines::push_numbered;
 use crate::status::Status;
@@ -43,7 +44,7 @@ pub fn end_numbered<D: Desk>(
     ensures able { IsTrue (D.willing desk.old) → IsFaultless result }
 {
     let mut line = Vec::new(alloc);
-    match push_numbered(alloc, &mut line, words, number) {
+    match push_numbered(alloc, &mut line, words, u64::from(number)) {
         Ok(()) => end(desk, &line, status),
         Err(_) => Status::Memory,
     }

@@ -1,11 +1,12 @@
 // What a session answers to the commands on its fence.
 
-ghost use Rattle.std.specs.Prelude.{◌≡◌, ◌+◌, ◌≤◌, ◌++◌, codes, length, vec_len, vec_capacity, IfOk, OnOk, OnErr};
+ghost use Rattle.std.specs.Prelude.{◌≡◌, ◌+◌, ◌≤◌, ◌++◌, codes, false, None, length, vec_len, vec_capacity, IfOk, OnOk, OnErr};
 ghost use Rattle.dgn_listing.specs.Lines.{AppendsFrontOf};
-ghost use Rattle.dgn_session.specs.State.{state_of, selection, fence_applied, fence_edited};
+ghost use Rattle.dgn_session.specs.State.{state_of, selection, fence_applied, fence_edited, with_fence};
 ghost use Rattle.dgn_tool.specs.Lines.{numbered};
-ghost use Rattle.dgn_tool.specs.Commands.{fenced_said, fenced_refused, selection_said, selection_refused, fence_said, fence_refused, fence_set};
+ghost use Rattle.dgn_tool.specs.Commands.{fenced_said, fenced_refused, trees_edited, selection_said, selection_refused, fence_said, fence_refused, fence_set};
 
+use crate::answered::Answered;
 use crate::answers::{ROOM, put_known};
 use dgn_drawing::{FenceEdit, Mode};
 use dgn_fence::{FenceFault, fence};
@@ -15,17 +16,19 @@ use itoa::Buffer;
 use plane_geom::Pt;
 use std::alloc::{AllocError, Global};
 
-// Makes an edit of all that the fence chooses, appends what is said of it, and answers whether it was refused.
+// Makes an edit of all that the fence chooses, appends what is said of it, and answers what it came to.
 pub(crate) fn answer_fenced(
     alloc: Global,
     s: &mut Session,
     mode: Mode,
     edit: &FenceEdit,
     out: &mut Vec<u8>,
-) -> Result<bool, AllocError>
+) -> Result<Answered, AllocError>
     ensures text { OnOk result (out.new.items ≡ out.old.items
         ++ fenced_said (fence_applied mode edit.now (state_of s.old)) (selection mode (state_of s.old))) }
-    ensures refused { IfOk result (λ refused. refused ≡ fenced_refused (fence_applied mode edit.now (state_of s.old))) }
+    ensures refused { IfOk result (λ a. a.refused ≡ fenced_refused (fence_applied mode edit.now (state_of s.old))) }
+    ensures trees { IfOk result (λ a. a.trees
+        ≡ trees_edited (fence_applied mode edit.now (state_of s.old)) (selection mode (state_of s.old))) }
     ensures state { OnOk result (state_of s.new ≡ fence_edited mode edit.now (state_of s.old)) }
     ensures tail { s.new.tail ≡ s.old.tail }
     ensures kept { OnErr result (s.new ≡ s.old) }
@@ -37,15 +40,18 @@ pub(crate) fn answer_fenced(
     match s.edit_fence(mode, edit) {
         Ok(count) => {
             put_count(out, count);
-            Ok(false)
+            Ok(Answered {
+                refused: false,
+                trees: count,
+            })
         }
         Err(FenceEditFault::NoFence) => {
             put_known(out, b"refused no-fence\n");
-            Ok(true)
+            Ok(Answered::REFUSED)
         }
         Err(FenceEditFault::Refused(cause)) => {
             write_cause(alloc, out, &cause)?;
-            Ok(true)
+            Ok(Answered::REFUSED)
         }
         Err(FenceEditFault::Memory) => Err(AllocError),
     }
@@ -93,6 +99,21 @@ pub(crate) fn answer_fence(
         }
         Err(FenceFault::Memory) => Err(AllocError),
     }
+}
+
+// Clears the fence, says so, and answers that this is never refused.
+pub(crate) fn answer_no_fence(s: &mut Session, out: &mut Vec<u8>) -> Result<bool, AllocError>
+    ensures text { OnOk result (out.new.items ≡ out.old.items ++ codes "ok\n") }
+    ensures refused { IfOk result (λ refused. refused ≡ false) }
+    ensures state { OnOk result (state_of s.new ≡ with_fence None (state_of s.old)) }
+    ensures tail { s.new.tail ≡ s.old.tail }
+    ensures kept { OnErr result (s.new ≡ s.old) }
+    ensures bytes { OnErr result (out.new.items ≡ out.old.items) }
+{
+    out.reserve(ROOM)?;
+    s.clear_fence();
+    put_known(out, b"ok\n");
+    Ok(false)
 }
 
 // Appends the numbers of the roots that the fence chooses, and answers whether there is no fence.

@@ -2,10 +2,12 @@
 
 ghost use Rattle.dgn_tool.specs.Laws.{UntouchedBytesStay};
 ghost use Rattle.dgn_tool.specs.Generator.{GeneratedDrawingsOpen};
+ghost use Rattle.dgn_tool.specs.Generation.{FixedScriptReads};
 
 /// The file that a run writes opens as the elements that the accepted commands make and the tail of the file that was
-/// read, and it has that file's byte at each place in the elements of that file that is in no field of an edit that is
-/// left: one that was accepted, and that no undo took back.
+/// read, with the zero bytes behind it that fill its last block where that file was of whole blocks. It has that file's
+/// byte at each place in the elements of that file that is in no field of an edit that is left: one that was accepted,
+/// and that no undo took back.
 pub fn untouched_bytes_stay()
     ensures { UntouchedBytesStay }
 {}
@@ -15,4 +17,9 @@ pub fn untouched_bytes_stay()
 /// it isn't too long for a design file.
 pub fn generated_drawings_open()
     ensures { GeneratedDrawingsOpen }
+{}
+
+/// The fixed script that is run on a generated drawing is read to its commands.
+pub fn fixed_script_reads()
+    ensures { FixedScriptReads }
 {}

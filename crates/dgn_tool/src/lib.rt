@@ -2,16 +2,21 @@
 //! `answer` runs one command in a session.
 #![tactic(auto)]
 
+mod answered;
 mod answers;
 mod commands;
 mod ending;
 mod fences;
+mod filling;
+mod generation;
 mod generator;
 pub mod laws;
 mod lines;
+mod listings;
 mod opening;
 mod request;
 mod status;
+mod tally;
 mod top;
 
 pub use answers::answer;

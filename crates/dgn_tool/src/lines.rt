@@ -8,7 +8,7 @@ pub fn push_numbered(
     alloc: Global,
     out: &mut Vec<u8>,
     words: &[u8],
-    number: u32,
+    number: u64,
 ) -> Result<(), AllocError>
     ensures { OnOk result (out.new.items ≡ out.old.items ++ numbered words.now number) }
 {

@@ -1,6 +1,9 @@
-ghost use Rattle.std.specs.Prelude.{◌≡◌, map, string_bytes, option_map};
-ghost use Rattle.dgn_tool.specs.Request.{request_of};
-ghost use Rattle.dgn_tool.specs.RequestView.{seen};
+ghost use Rattle.std.specs.Prelude.{◌≡◌, map, string_bytes, option_map, IfSome};
+ghost use Rattle.edit_script.specs.Numbers.{number_within};
+ghost use Rattle.dgn_tool.specs.Request.{request_of, check_of, four_words, generation_of};
+ghost use Rattle.dgn_tool.specs.RequestView.{seen, IsCounted};
+
+use edit_script::number;
 
 /// What the words of the command line ask for, by the names in them.
 pub enum Request<'a> {
@@ -14,25 +17,87 @@ pub enum Request<'a> {
     Check {
         input: &'a str,
     },
+    /// To generate the drawing of a seed with so many elements, 1 to 200000, and to write it.
+    Gen {
+        seed: u32,
+        count: u32,
+        output: &'a str,
+    },
 }
 
-/// The request that the words make: `edit IN SCRIPT OUT`, where IN and OUT are different, or
-/// `check IN`. None exactly where they are of neither form.
+// The most elements that are generated.
+const MOST_GENERATED: u32 = 200000;
+
+/// The request that the words make: `edit IN SCRIPT OUT`, where IN and OUT are different, `check IN`, or
+/// `gen SEED COUNT OUT`. None exactly where they are of no form.
 pub fn read_words(words: &[String]) -> Option<Request<'_>>
-    ensures { option_map seen result ≡ request_of (map string_bytes words.now) }
+    ensures asked { option_map seen result ≡ request_of (map string_bytes words.now) }
+    ensures counted { IfSome result IsCounted }
 {
     match words {
-        [command, input] if command.as_str() == "check" => Some(Request::Check {
-            input: input.as_str(),
-        }),
-        [command, input, script, output]
-            if command.as_str() == "edit" && input.as_str() != output.as_str() => Some(
-            Request::Edit {
-                input: input.as_str(),
-                script: script.as_str(),
-                output: output.as_str(),
-            },
+        [command, input] => read_two(command.as_str(), input.as_str()),
+        [command, second, third, fourth] => read_four(
+            command.as_str(),
+            second.as_str(),
+            third.as_str(),
+            fourth.as_str(),
         ),
         _ => None,
     }
+}
+
+// The request that two words make.
+fn read_two<'a>(command: &str, input: &'a str) -> Option<Request<'a>>
+    ensures asked { option_map seen result ≡ check_of command.now input.now }
+    ensures counted { IfSome result IsCounted }
+{
+    if command == "check" {
+        Some(Request::Check { input })
+    } else {
+        None
+    }
+}
+
+// The request that four words make.
+fn read_four<'a>(
+    command: &str,
+    second: &'a str,
+    third: &'a str,
+    fourth: &'a str,
+) -> Option<Request<'a>>
+    ensures asked { option_map seen result ≡ four_words command.now second.now third.now fourth.now }
+    ensures counted { IfSome result IsCounted }
+{
+    if command == "edit" {
+        if second == fourth {
+            return None;
+        }
+        return Some(Request::Edit {
+            input: second,
+            script: third,
+            output: fourth,
+        });
+    }
+    if command == "gen" {
+        return read_generation(second, third, fourth);
+    }
+    None
+}
+
+// The request to generate a drawing, where the words are a seed and a count.
+fn read_generation<'a>(seed: &str, count: &str, output: &'a str) -> Option<Request<'a>>
+    ensures asked { option_map seen result
+        ≡ generation_of (number_within 4294967295 seed.now) (number_within 4294967295 count.now) output.now }
+    ensures counted { IfSome result IsCounted }
+{
+    let seed = number(seed.as_bytes(), u32::MAX)?;
+    let count = number(count.as_bytes(), u32::MAX)?;
+    if 1 <= count && count <= MOST_GENERATED {
+        return Some(Request::Gen {
+            seed,
+            count,
+            output,
+        });
+    }
+    None
 }

@@ -4,13 +4,13 @@ ghost use Rattle.dgn_tool.specs.Status.{number_of};
 /// How a run ended. The numbers, from 0 in this order, are the exit status of the program.
 #[derive(Clone, Copy, Debug, PartialEq, Eq, Drop)]
 pub enum Status {
-    /// Every command was done, and OUT was written; or IN was checked.
+    /// Every command was done, and OUT was written; or IN was checked, or a drawing generated.
     Done,
     /// OUT was written, and at least one command was refused.
     SomeRefused,
     /// The words are of no form.
     Usage,
-    /// The first line of the script that isn't read is bad: it is no command of the language.
+    /// A line of the script is bad: it is no command of the language.
     BadScript,
     /// IN is no design file: an element or its beginning is at fault.
     BadDesign,
@@ -22,8 +22,6 @@ pub enum Status {
     Memory,
     /// IN has more than 67108864 bytes, or SCRIPT more than 1048576.
     TooLong,
-    /// The first line of SCRIPT that isn't read has a command that isn't built yet.
-    Unbuilt,
 }
 
 impl Status {
@@ -41,7 +39,6 @@ impl Status {
             Status::WriteFault => 6,
             Status::Memory => 7,
             Status::TooLong => 8,
-            Status::Unbuilt => 9,
         }
     }
 }

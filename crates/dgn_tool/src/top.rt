@@ -1,19 +1,23 @@
-ghost use Rattle.std.specs.Prelude.{◌≡◌, map, string_bytes, Ok, IfOk, IsNone, IsSome, IfSome, IsTrue};
+ghost use Rattle.std.specs.Prelude.{◌≡◌, ◌≤◌, map, string_bytes, Ok, IfOk, IsNone, IfSome, IsTrue};
 ghost use Rattle.dgn_desk.specs.Content.{bytes_of, OnlyLeftDiffers, HasFile};
-ghost use Rattle.dgn_desk.specs.Desk.{Rose};
+ghost use Rattle.dgn_desk.specs.Desk.{Rose, Counts, FilesAll, StaysWilling, DoesNotFail};
+ghost use Rattle.dgn_drawing.specs.Spelling.{spelling};
 ghost use Rattle.elem_index.specs.Design.{IsWhole};
 ghost use Rattle.elem_index.specs.Answers.{opened_of};
 ghost use Rattle.dgn_session.specs.State.{state_of};
+ghost use Rattle.dgn_tool.specs.Filling.{file_made};
 ghost use Rattle.dgn_tool.specs.Request.{request_of};
 ghost use Rattle.dgn_tool.specs.Outcome.{outcome, input_outcome, scripted, script_outcome, told_from, checked};
-ghost use Rattle.dgn_tool.specs.Outcome.{IsEnding, EndsAs, StoppedAs, ComesTo, IsFaultless, HasBoth, HasFiles};
+ghost use Rattle.dgn_tool.specs.Outcome.{IsEnding, EndsAs, StoppedAs, ComesTo, IsFaultless, HasBoth, HasFiles, Reads};
 
 use crate::commands::run_all;
 use crate::ending::{end, end_numbered, stopped};
+use crate::filling::filling_len;
+use crate::generation::generate_file;
 use crate::opening::{end_bad_design, open_design, read_input};
 use crate::request::{Request, read_words};
 use crate::status::Status;
-use dgn_desk::{Desk, ReadEnd, read_all, write_file};
+use dgn_desk::{Desk, ReadEnd, Stop, read_all, write_file};
 use dgn_session::Session;
 use edit_script::{Command, ScriptFault, read_script};
 use elem_index::{Design, count_elements};
@@ -26,8 +30,9 @@ const MOST_SCRIPT: usize = 1048576;
 /// desk, and answers how it ended.
 ///
 /// `edit IN SCRIPT OUT` reads the design file IN and the script SCRIPT whole, runs the commands of the
-/// script and writes OUT. `check IN` reads IN and says how many elements it has. The files, the texts
-/// and the status are those of `outcome`; `Status` says when each status comes. Where the desk fails, or
+/// script and writes OUT. `check IN` reads IN and says how many elements it has. `gen SEED COUNT OUT`
+/// generates a drawing, runs a fixed script on it, writes OUT and says a summary; it reads nothing. The
+/// files, the texts and the status are those of `outcome`; `Status` says when each status comes. Where the desk fails, or
 /// there is no memory, the run ends at once and says nothing more: after WriteFault or Memory some first
 /// part of the outcome's text was said, the file that the outcome writes is as before or holds some first
 /// part of its bytes, and no other file changed. No fault is passed over: an ending comes only where neither
@@ -43,7 +48,7 @@ pub fn run<D: Desk>(alloc: Global, words: &[String], desk: &mut D) -> Status
     ensures usage { result ≡ Status.Usage → IsNone (request_of (map string_bytes words.now)) }
     ensures improper { IsNone (request_of (map string_bytes words.now)) → IsEnding result
         → result ≡ Status.Usage }
-    ensures read_fault { result ≡ Status.ReadFault → IsSome (request_of (map string_bytes words.now))
+    ensures read_fault { result ≡ Status.ReadFault → Reads (request_of (map string_bytes words.now))
         × Rose (D.read_faults desk.old) (D.read_faults desk.new)
         × OnlyLeftDiffers (D.content desk.old) (D.content desk.new) }
     ensures write_fault { result ≡ Status.WriteFault
@@ -63,6 +68,13 @@ pub fn run<D: Desk>(alloc: Global, words: &[String], desk: &mut D) -> Status
             },
         ) => edit(alloc, desk, input, script, output),
         Some(Request::Check { input }) => check(alloc, desk, input),
+        Some(
+            Request::Gen {
+                seed,
+                count,
+                output,
+            },
+        ) => generate_file(alloc, desk, seed, count, output),
         None => end(
             desk,
             b"usage: dgnedit edit IN SCRIPT OUT, check IN, gen SEED COUNT OUT\n",
@@ -149,7 +161,6 @@ fn edit_design<D: Desk>(
             number,
             Status::BadScript,
         ),
-        Err(ScriptFault::Unbuilt { .. }) => end(desk, b"unbuilt\n", Status::Unbuilt),
         Err(ScriptFault::Memory) => Status::Memory,
     }
 }
@@ -179,6 +190,34 @@ fn run_script<D: Desk>(
     }
 }
 
+// Writes the drawing of a session, whose elements had `before` bytes when it was opened, and what fills its last block.
+pub(crate) fn write_drawing<D: Desk>(
+    desk: &mut D,
+    output: &str,
+    before: usize,
+    session: &Session,
+) -> Result<(), Stop>
+    requires { before ≤ 67108864 }
+    ensures cause { Counts (D.write_faults desk.old) (D.write_faults desk.new) result }
+    ensures other { D.read_faults desk.new ≡ D.read_faults desk.old }
+    ensures told { FilesAll result output.now
+        (file_made before session.now.tail (spelling (state_of session.now).top))
+        (D.content desk.old) (D.content desk.new) }
+    ensures stays { StaysWilling (D.willing desk.old) (D.willing desk.new) }
+    ensures able { IsTrue (D.willing desk.old) → DoesNotFail result }
+{
+    let zeros = [0; 512];
+    let design = session.design();
+    let count = filling_len(before, &design.tail, design.body.len());
+    write_file(
+        desk,
+        output,
+        session.body(),
+        session.tail(),
+        &zeros[..count],
+    )
+}
+
 // Runs the commands and writes OUT.
 fn finish<D: Desk>(
     alloc: Global,
@@ -197,11 +236,12 @@ fn finish<D: Desk>(
     ensures write { result ≡ Status.WriteFault → Rose (D.write_faults desk.old) (D.write_faults desk.new) }
     ensures able { IsTrue (D.willing desk.old) → IsFaultless result }
 {
+    let before = session.design().body.len();
     let refused = match run_all(alloc, desk, session, commands) {
         Ok(refused) => refused,
         Err(stop) => return stopped(stop),
     };
-    match write_file(desk, output, session.body(), session.tail()) {
+    match write_drawing(desk, output, before, session) {
         Ok(()) if refused > 0 => Status::SomeRefused,
         Ok(()) => Status::Done,
         Err(stop) => stopped(stop),

@@ -3,7 +3,8 @@ ghost use Rattle.std.specs.List.{list_all};
 ghost use Rattle.std.specs.Char.{is_ascii_digit};
 ghost use Rattle.edit_script.specs.Numbers.{is_number_word, number_within, signed_within};
 
-// The number that a word spells, where it is at most so much.
+/// The number that a word spells, a decimal without sign and without leading zeros, where it is at most `most`. None
+/// exactly where it spells no such number.
 pub fn number(word: &[u8], most: u32) -> Option<u32>
     ensures { result ≡ number_within most word.now }
 {

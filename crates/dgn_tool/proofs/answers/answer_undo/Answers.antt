@@ -1,6 +1,6 @@
 use Rattle.std.proofs.Common.{◌≡◌, ◌++◌, List, ℕ, Bool, codes, ap, ◌∙◌, sym, subst}
 use Rattle.dgn_tool.specs.Commands.{undo_said}
-use Rattle.dgn_tool.proofs.Answered.{not_refused}
+use Rattle.dgn_tool.proofs.Undone.{not_refused}
 use Rattle.dgn_tool.proofs.answers.answer_undo.Goals as goal
 
 pub returns-in-Ok-clause-text : goal.returns-in-Ok-clause-text

@@ -1,5 +1,5 @@
 use Rattle.dgn_tool.specs.Lines.{numbered}
-use Rattle.dgn_tool.specs.Outcome.{ended}
+use Rattle.dgn_tool.specs.Ended.{ended}
 use Rattle.dgn_tool.proofs.Endings.{wants, nothing_done}
 use Rattle.dgn_tool.proofs.ending.end_numbered.Goals as goal
 

@@ -4,7 +4,8 @@ use Rattle.dgn_desk.specs.Content.{bytes_of}
 use Rattle.elem_index.specs.Answers.{HasCount, TellsFault}
 use Rattle.elem_index.specs.Opened.{opening}
 use Rattle.dgn_tool.specs.Lines.{numbered}
-use Rattle.dgn_tool.specs.Outcome.{ended, input_outcome, checked}
+use Rattle.dgn_tool.specs.Ended.{ended}
+use Rattle.dgn_tool.specs.Outcome.{input_outcome, checked}
 use Rattle.dgn_tool.specs.declared.status.Status.TheVariants as statuses
 use Rattle.dgn_tool.proofs.Endings.{through, counts, ends_at_fault, items_within}
 use Rattle.dgn_tool.proofs.top.check.Goals as goal

@@ -5,7 +5,8 @@ use Rattle.elem_index.specs.Answers.{opened_of}
 use Rattle.edit_script.specs.Script.{commands_of, Tells}
 use Rattle.edit_script.specs.declared.fault.ScriptFault.TheVariants as faults
 use Rattle.dgn_tool.specs.Lines.{numbered}
-use Rattle.dgn_tool.specs.Outcome.{ended, scripted, script_outcome}
+use Rattle.dgn_tool.specs.Ended.{ended}
+use Rattle.dgn_tool.specs.Outcome.{scripted, script_outcome}
 use Rattle.dgn_tool.specs.declared.status.Status.TheVariants as statuses
 use Rattle.dgn_tool.proofs.Endings.{wants, through, overruns_script, reads_script, items_within}
 use Rattle.dgn_tool.proofs.top.edit_design.Goals as goal
@@ -34,15 +35,6 @@ returns-in-Err-Line-clause-outcome g c =
     through (λ fs. scripted (opened_of c.args.design) (bytes_of fs c.args.script.now) c.args.output.now) (λ _. ended statuses.BadScript (numbered (codes "bad script line ") c.in-Err-Line.number)) c.end_numbered.result (g.D.Desk.content c.args.desk.now) (g.D.Desk.content c.read_all.new.desk) (g.D.Desk.content c.end_numbered.new.desk) read.told
     (reads_script (opened_of c.args.design) c.args.script.now c.in-Ok.text.items c.args.output.now (Err (faults.Line c.in-Err-Line.number)) (g.D.Desk.content c.args.desk.now) read.whole (items_within c.in-Ok.text 1048576 read.within) found)
     c.end_numbered.ensures.outcome
-
-pub returns-in-Err-Unbuilt-clause-outcome : goal.returns-in-Err-Unbuilt-clause-outcome
-returns-in-Err-Unbuilt-clause-outcome g c =
-    let read = c.in-Ok.ensures in
-    let told_line : commands_of c.deref.result.now ≡ Err (faults.Unbuilt c.in-Err-Unbuilt.field-0-0) = subst (Tells c.deref.result.now) c.in-Err-Unbuilt.field-0-is c.in-Err-Unbuilt.ensures.fault in
-    let found : commands_of c.in-Ok.text.items ≡ Err (faults.Unbuilt c.in-Err-Unbuilt.field-0-0) = ap commands_of (sym c.deref.ensures.value) ∙ told_line in
-    through (λ fs. scripted (opened_of c.args.design) (bytes_of fs c.args.script.now) c.args.output.now) (λ _. ended statuses.Unbuilt (codes "unbuilt\n")) c.end-in-Err-Unbuilt.result (g.D.Desk.content c.args.desk.now) (g.D.Desk.content c.read_all.new.desk) (g.D.Desk.content c.end-in-Err-Unbuilt.new.desk) read.told
-    (reads_script (opened_of c.args.design) c.args.script.now c.in-Ok.text.items c.args.output.now (Err (faults.Unbuilt c.in-Err-Unbuilt.field-0-0)) (g.D.Desk.content c.args.desk.now) read.whole (items_within c.in-Ok.text 1048576 read.within) found)
-    c.end-in-Err-Unbuilt.ensures.outcome
 
 pub returns-in-Err-Memory-clause-outcome : goal.returns-in-Err-Memory-clause-outcome
 returns-in-Err-Memory-clause-outcome g c = wants (λ fs. scripted (opened_of c.args.design) (bytes_of fs c.args.script.now) c.args.output.now) (g.D.Desk.content c.args.desk.now) (g.D.Desk.content c.read_all.new.desk) c.in-Err-Memory.ensures.told

@@ -1,0 +1,42 @@
+// Running commands of which nothing is said.
+
+ghost use Rattle.std.specs.Prelude.{◌≡◌, IfOk, OnOk};
+ghost use Rattle.dgn_session.specs.State.{state_of};
+ghost use Rattle.dgn_tool.specs.Commands.{after_all, refused_count, trees_of_all};
+
+use crate::answers::respond;
+use dgn_session::Session;
+use edit_script::Command;
+use std::alloc::{AllocError, Global};
+
+// What commands came to.
+#[derive(Drop)]
+pub(crate) struct Tally {
+    // How many were refused.
+    pub(crate) refused: u64,
+    // How many trees each of them changed or copied, as an edit of all that the fence chooses.
+    pub(crate) trees: Vec<u32>,
+}
+
+// Runs the commands in order in a session.
+pub(crate) fn run_unsaid(
+    alloc: Global,
+    session: &mut Session,
+    commands: &[Command],
+) -> Result<Tally, AllocError>
+    ensures refused { IfOk result (λ t. t.refused ≡ refused_count commands.now (state_of session.old)) }
+    ensures trees { IfOk result (λ t. t.trees.items ≡ trees_of_all commands.now (state_of session.old)) }
+    ensures state { OnOk result (state_of session.new ≡ after_all commands.now (state_of session.old)) }
+    ensures tail { session.new.tail ≡ session.old.tail }
+{
+    let mut out = Vec::new(alloc);
+    let mut trees = Vec::new(alloc);
+    let mut refused = 0;
+    'commands: for command in commands {
+        out.clear();
+        let answered = respond(alloc, session, command, &mut out)?;
+        refused += u64::from(answered.refused);
+        trees.push(answered.trees)?;
+    }
+    Ok(Tally { refused, trees })
+}
