@@ -5,8 +5,7 @@ ghost use Rattle.dgn_drawing.specs.Rows.{row_of};
 ghost use Rattle.elem_index.specs.Design.{elements, IsWhole};
 
 use super::*;
-use dgn_drawing::{Edit, FenceEdit, Mask, Mode, New, NewShape, Shift};
-use dgn_fence::fence;
+use dgn_drawing::{Edit, Mask, New, NewShape, Shift};
 use dgn_fence::types::Fence;
 use edit_ops::{Cause, EditFault};
 use elem_head::types::Symb;
@@ -14,7 +13,7 @@ use elem_index::{Design, read_design};
 use nest_tree::nest;
 use nest_tree::types::Nest;
 use patch_bytes::Patch;
-use plane_geom::{PointList, Pt};
+use plane_geom::PointList;
 use std::alloc::{AllocError, Global};
 use std::process::Abort;
 use std::test::Fail;
@@ -226,46 +225,6 @@ fn levels_stay(rt: HostRuntime) -> Result<(), Fail> {
     assert!(rt; session.show()?.is_empty());
     session.set_mask(Mask(2));
     assert_eq!(rt; session.show()?.len(), 2);
-    Ok(())
-}
-
-// A fence with the corners 0,0 and 100,100.
-fn square(rt: &(impl AllocGlobal + Abort)) -> Result<Fence, Fail> {
-    let at = |x, y| Pt { x, y };
-    let corners = [at(0, 0), at(100, 0), at(100, 100), at(0, 100)];
-    match fence(rt.alloc(), &corners) {
-        Ok(square) => Ok(square),
-        Err(fault) => panic!(rt; "{fault:?}"),
-    }
-}
-
-// Trees chosen by a fence: their numbers, an edit of them, one that is refused, and the undoing of the first.
-#[test]
-fn a_fence(rt: HostRuntime) -> Result<(), Fail> {
-    let mut session = begun(&rt, 53)?;
-    let overlap = Mode::Overlap;
-    let far = FenceEdit::Move(along(i32::MAX, 0));
-    assert_eq!(rt; session.select(overlap).err(), Some(SelectFault::NoFence));
-    assert_eq!(rt;
-        session.edit_fence(overlap, &far),
-        Err(FenceEditFault::NoFence)
-    );
-
-    session.set_fence(square(&rt)?);
-    assert_eq!(rt;
-        session.select(overlap).ok().map(|found| found.len()),
-        Some(1)
-    );
-    let opened = session.body().to_vec(rt.alloc())?;
-    let refused = FenceEditFault::Refused(Cause::OffPlane(2));
-    assert_eq!(rt; session.edit_fence(overlap, &far), Err(refused));
-    assert_eq!(rt; session.body(), opened.as_slice());
-    let near = FenceEdit::Copy(along(5, 7));
-    assert_eq!(rt; session.edit_fence(overlap, &near), Ok(1));
-    assert_eq!(rt; session.body().len(), 1824);
-    is_fresh(&rt, &session)?;
-    undoes(&rt, &mut session)?;
-    assert_eq!(rt; session.body(), opened.as_slice());
     Ok(())
 }
 
