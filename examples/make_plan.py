@@ -3,9 +3,9 @@
 
     python3 examples/make_plan.py [FOLDER]
 
-The first is a plot of land with a house, lines alone: the border (elements 1 to 4), the walls (5 to 10),
-the door (11) and a pipe that crosses the plot in three pieces (12 to 14). The second is a pipe (element 1)
-with a valve on it, a cell (2) of two lines that cross (3 and 4). docs/FORMAT.md has the rules."""
+plan.dgn is a plot of land: its border (element 1), which is locked; the walls, the door and the name of a house
+(2 to 4); a pipe (5), and on it two valves, cells (6 and 9) of two lines that cross. valve.dgn is a pipe (1) with one
+such valve on it (2, of the lines 3 and 4). docs/FORMAT.md has the rules."""
 
 import os
 import struct
@@ -15,6 +15,7 @@ BORDER = [(0, 0), (4000, 0), (4000, 3000), (0, 3000), (0, 0)]
 WALLS = [(800, 900), (2600, 900), (2600, 1500), (2000, 1500), (2000, 2200), (800, 2200), (800, 900)]
 DOOR = [(1200, 900), (1500, 1200)]
 PIPE = [(0, 600), (1000, 500), (3000, 650), (4000, 400)]
+LOCKED = 0x0100
 
 
 def long(value):
@@ -28,20 +29,36 @@ def range_number(value):
     return long(value + 0x80000000)
 
 
-def display(kind, level, low, high, behind, member=False):
+def display(kind, level, low, high, behind, member=False, properties=0):
     """An element with a display header, and what stands behind it."""
     size = 36 + len(behind)
     head = bytes([level + 128 * member, kind]) + struct.pack('<H', (size - 4) // 2)
     ranges = b''.join(range_number(v) for v in [*low, 0, *high, 0])
-    # no group; attribute data would begin at the end; no properties; style, weight and colour 0
-    return head + ranges + struct.pack('<HHH', 0, (size - 32) // 2, 0) + bytes([0, 0]) + behind
+    # no group; attribute data would begin at the end; style, weight and colour 0
+    return head + ranges + struct.pack('<HHH', 0, (size - 32) // 2, properties) + bytes([0, 0]) + behind
+
+
+def bounds(points):
+    """The low and the high corner of points."""
+    return [min(axis) for axis in zip(*points)], [max(axis) for axis in zip(*points)]
 
 
 def line(level, start, end, member=False):
     """An element of type 3, from start to end."""
-    low = [min(a, b) for a, b in zip(start, end)]
-    high = [max(a, b) for a, b in zip(start, end)]
-    return display(3, level, low, high, b''.join(long(v) for v in start + end), member)
+    return display(3, level, *bounds([start, end]), b''.join(long(v) for v in start + end), member)
+
+
+def path(kind, level, points, properties=0):
+    """A line string, type 4, or a shape, type 6, through points."""
+    behind = struct.pack('<H', len(points)) + b''.join(long(v) for point in points for v in point)
+    return display(kind, level, *bounds(points), behind, properties=properties)
+
+
+def text(level, origin, characters):
+    """A text of font 1, whose range is its origin, and a byte behind it where that makes its size even."""
+    behind = bytes([1, 0]) + long(20000) + long(20000) + bytes(4) + long(origin[0]) + long(origin[1])
+    behind += bytes([len(characters), 0]) + characters + bytes(len(characters) % 2)
+    return display(17, level, origin, origin, behind)
 
 
 def radix(signs):
@@ -60,22 +77,28 @@ def cell(level, name, origin, low, high, members):
     return display(2, level, low, high, behind + long(origin[0]) + long(origin[1])) + members
 
 
-def lines(level, points):
-    return b''.join(line(level, a, b) for a, b in zip(points, points[1:]))
+def valve(level, x, y, reach):
+    """A cell VLV at x,y, of two lines on the next level that cross there."""
+    low, high = (x - reach, y - reach), (x + reach, y + reach)
+    cross = line(level + 1, low, high, True) + line(level + 1, (low[0], high[1]), (high[0], low[1]), True)
+    return cell(level, 'VLV', (x, y), low, high, cross)
 
 
-def write(path, elements):
+def house(level):
+    return path(6, level, WALLS) + line(level, *DOOR) + text(level + 1, (1000, 1700), b'HOUSE 7')
+
+
+def write(file, elements):
     tcb = bytes([8, 9, 0xFE, 2]) + bytes(1532)
-    with open(path, 'wb') as out:
+    with open(file, 'wb') as out:
         out.write(tcb + elements + b'\xff\xff')
 
 
 def main():
     folder = sys.argv[1] if len(sys.argv) > 1 else os.path.dirname(os.path.abspath(__file__))
-    write(os.path.join(folder, 'plan.dgn'), lines(1, BORDER) + lines(2, WALLS) + lines(2, DOOR) + lines(10, PIPE))
-    cross = line(11, (480, -20), (520, 20), True) + line(11, (480, 20), (520, -20), True)
-    valve = cell(10, 'VLV', (500, 0), (480, -20), (520, 20), cross)
-    write(os.path.join(folder, 'valve.dgn'), line(10, (0, 0), (1000, 0)) + valve)
+    water = path(4, 10, PIPE) + valve(10, 1000, 500, 80) + valve(10, 3000, 650, 80)
+    write(os.path.join(folder, 'plan.dgn'), path(6, 1, BORDER, LOCKED) + house(2) + water)
+    write(os.path.join(folder, 'valve.dgn'), line(10, (0, 0), (1000, 0)) + valve(10, 500, 0, 20))
 
 
 if __name__ == '__main__':
