@@ -4,15 +4,12 @@ mod listings;
 mod selected;
 mod trees;
 
+use sample_elements::{END, drawing};
 use std::alloc::{AllocError, Global};
 
 // A file of two dimensions: a TCB, these elements, and the mark that ends them.
 fn file(alloc: Global, elements: &[&[u8]]) -> Result<Vec<u8>, AllocError> {
-    let mut bytes = Vec::from_slice(alloc, &[0x08, 0x09, 0xFE, 0x02])?;
-    bytes.resize(1536, 0)?;
-    for element in elements {
-        bytes.extend_from_slice(element)?;
-    }
-    bytes.extend_from_slice(&[0xFF, 0xFF])?;
+    let mut bytes = drawing(alloc, 0x08, 0, elements)?;
+    bytes.extend_from_slice(&END)?;
     Ok(bytes)
 }

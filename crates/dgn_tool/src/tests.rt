@@ -1,15 +1,24 @@
 // Runs over a desk of memory, by the rows of the format's examples.
 
-mod elements;
 mod fences;
+mod hostile;
 mod made;
 
 use super::*;
 use dgn_desk::SureDesk;
-use elements::*;
+use sample_elements::{
+    ARC, ATTRIBUTED_LINE, CELL, CELL_OF_52, CELL_OF_81, CHAIN_HEADER, CHAIN_OF_THREE, DASHED_LINE,
+    DATA, DELETED_LINE, END, FIRST_LINE, FREED_COPY, LAST_LINE, LINE, LINE_WITH_ATTRIBUTES,
+    LOCKED_MEMBER, MEMBER, MEMBER_ON_2, MOVED_CELL, MOVED_LOCKED_MEMBER, NEARLY_END, NEW_CHAIN,
+    NEW_LINE, REFERENCE, RESERVED_LINE, SHARED_CELL, SHORT_LINE, SHORT_MEMBER, SMALL_HEADER,
+    SPACE_CHAIN, SPACE_CHAIN_OF_THREE, SPACE_LINE, SPLINE, SPLINE_PART, TEXT, drawing,
+};
 use std::alloc::{AllocError, Global};
 use std::process::Abort;
 use std::test::Fail;
+
+// What may stand behind the mark.
+const REST: [u8; 8] = [0; 8];
 
 // So many bytes, all 0.
 fn zeros(alloc: Global, count: usize) -> Result<Vec<u8>, AllocError> {
@@ -18,22 +27,8 @@ fn zeros(alloc: Global, count: usize) -> Result<Vec<u8>, AllocError> {
 
 // A TCB whose byte 1214 is given, of a file in space where that isn't 0, and pieces behind it.
 fn design(alloc: Global, mark: u8, behind: &[&[u8]]) -> Result<Vec<u8>, AllocError> {
-    let mut bytes = Vec::new(alloc);
-    for place in 0..1536 {
-        bytes.push(match place {
-            0 if mark == 0 => 0x08,
-            0 => 0xC8,
-            1 => 0x09,
-            2 => 0xFE,
-            3 => 0x02,
-            1214 => mark,
-            _ => 0,
-        })?;
-    }
-    for piece in behind {
-        bytes.extend_from_slice(piece)?;
-    }
-    Ok(bytes)
+    let first = if mark == 0 { 0x08 } else { 0xC8 };
+    drawing(alloc, first, mark, behind)
 }
 
 // The design with these words of four bytes at their places.
@@ -117,7 +112,7 @@ fn colours(rt: HostRuntime) -> Result<(), Fail> {
         (
             65536,
             0,
-            &[&SILENT, &LINE, &END],
+            &[&REFERENCE, &LINE, &END],
             b"color 1 2\ncolor 2 2\ncolor 3 2\n",
             none,
             b"refused opaque 1\nok\nrefused unknown 3\n",
@@ -126,7 +121,7 @@ fn colours(rt: HostRuntime) -> Result<(), Fail> {
         (
             64,
             0,
-            &[&DELETED, &END],
+            &[&DELETED_LINE, &END],
             b"color 1 2\ncolor 0 2\ncolor 4294967295 2\n",
             none,
             b"refused deleted 1\nrefused opaque 0\nrefused unknown 4294967295\n",
@@ -144,7 +139,7 @@ fn colours(rt: HostRuntime) -> Result<(), Fail> {
         (
             64,
             0,
-            &[&LINE, &MARKED, &END, &LINE],
+            &[&LINE, &RESERVED_LINE, &END, &LINE],
             b"color 2 8\n",
             Status::Done,
             b"ok\n",
@@ -153,7 +148,7 @@ fn colours(rt: HostRuntime) -> Result<(), Fail> {
         (
             64,
             0,
-            &[&ATTRIBUTED, &DATA, &END],
+            &[&ATTRIBUTED_LINE, &DATA, &END],
             b"color 1 5\n",
             Status::Done,
             b"ok\n",
@@ -162,7 +157,7 @@ fn colours(rt: HostRuntime) -> Result<(), Fail> {
         (
             64,
             0,
-            &[&DASHED, &END],
+            &[&DASHED_LINE, &END],
             b"color 1 4\n",
             Status::Done,
             b"ok\n",
@@ -423,7 +418,7 @@ fn sessions(rt: HostRuntime) -> Result<(), Fail> {
             b"text 1 0 0 0 3 0 1000 1000 5,6 Hi there\nshow\ncopy 1 -5 -6\nundo\n",
             Status::Done,
             b"ok\n1 0 17 1 0 0 0 text 5,6 Hi there\nshown 1\nok\nok\n",
-            &[&NEW_TEXT, &END],
+            &[&TEXT, &END],
             &[],
         ),
         (
@@ -462,7 +457,13 @@ fn sessions(rt: HostRuntime) -> Result<(), Fail> {
             b"move 1 1 1\nsym 2 1 - -\ndelete 1\ncopy 1 1 1\ndelete 3\n",
             none,
             b"refused locked 2\nrefused locked 2\nrefused locked 2\nok\nrefused locked 4\n",
-            &[&CELL, &LOCKED_MEMBER, &MOVED_CELL, &MOVED_MEMBER, &END],
+            &[
+                &CELL,
+                &LOCKED_MEMBER,
+                &MOVED_CELL,
+                &MOVED_LOCKED_MEMBER,
+                &END,
+            ],
             &[],
         ),
     ];
@@ -480,7 +481,7 @@ fn checked_designs(rt: HostRuntime) -> Result<(), Fail> {
     // What stands behind the TCB, and what is said.
     let rows: [(&[&[u8]], &[u8]); 4] = [
         (&[&END], b"elements 1\n"),
-        (&[&SILENT, &MEMBER, &END], b"elements 3\n"),
+        (&[&REFERENCE, &MEMBER, &END], b"elements 3\n"),
         (&[&CHAIN_HEADER, &LINE], b"elements 3\n"),
         (&[&LINE, &END, &CHAIN_HEADER], b"elements 2\n"),
     ];
@@ -498,7 +499,7 @@ fn listings(rt: HostRuntime) -> Result<(), Fail> {
     // What stands behind the TCB, the script, the status and what is said; OUT is IN.
     let rows: [(&[&[u8]], &[u8], Status, &[u8]); 6] = [
         (
-            &[&SILENT, &SHORT_LINE, &END],
+            &[&REFERENCE, &SHORT_LINE, &END],
             b"elements\nrefs\nlinks 1\nlinks 7\n",
             none,
             b"0 0 1536 9 8 --\n1 1536 10 5 9 --\n2 1546 52 3 1 --\nlevel 8 1\nlevel 9 1\nlevel 1 1\ntype 9 1\ntype 5 1\ntype 3 1\nelements 3\n1 1536 10 live\nrefs 1\nlinks 0\nrefused unknown 7\n",
@@ -522,13 +523,13 @@ fn listings(rt: HostRuntime) -> Result<(), Fail> {
             b"1 0 2 1 loose live\ntree 1\n2 0 3 1 leaf live orphan\ntree 1\n2 0 3 1 0 0 0 path 0,0 100,50\nshown 1\nrefused unknown 5\n",
         ),
         (
-            &[&SPLINE, &SPLINE_PART, &SHARED_CELL, &SHARED_PART, &END],
+            &[&SPLINE, &SPLINE_PART, &SHARED_CELL, &SHORT_MEMBER, &END],
             b"show\ntree 1\ntree 3\n",
             Status::Done,
             b"1 0 27 1 0 0 0 box 0,0 9,9\nshown 1\n1 0 27 1 run live\n2 1 26 1 leaf live\ntree 2\n3 0 34 1 run live\n4 1 3 1 leaf live\ntree 2\n",
         ),
         (
-            &[&LINE, &DELETED, &END],
+            &[&LINE, &DELETED_LINE, &END],
             b"tree 0\ntree 2\nlevels none\nshow\n",
             Status::Done,
             b"0 0 9 8 leaf live\ntree 1\n2 0 3 1 leaf deleted\ntree 1\nok\nshown 0\n",

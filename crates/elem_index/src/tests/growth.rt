@@ -3,8 +3,9 @@
 ghost use Rattle.std.specs.Prelude.{true, IfOk, IfSome, ◌≡◌};
 ghost use Rattle.elem_index.specs.Design.{IsWhole};
 
-use super::{LINE, SILENT, file};
+use super::file;
 use crate::{Design, read_design};
+use sample_elements::{LINE, REFERENCE};
 use std::alloc::{AllocError, Global};
 
 // A TCB, a line, the piece and a tail, opened.
@@ -84,11 +85,11 @@ fn a_design_grows_and_shrinks(rt: HostRuntime) -> Result<(), AllocError> {
     match (
         opened(alloc, &nothing)?,
         opened(alloc, &nothing)?,
-        opened(alloc, &SILENT)?,
+        opened(alloc, &REFERENCE)?,
     ) {
         (Some(mut design), Some(short), Some(long)) => {
             assert_eq!(rt; design.offsets(), [0, 1536].as_slice());
-            assert!(rt; grown(&mut design, &SILENT, &long)?);
+            assert!(rt; grown(&mut design, &REFERENCE, &long)?);
             assert_eq!(rt; design.offsets(), [0, 1536, 1588].as_slice());
             assert!(rt; shrunk(&mut design, &short));
             assert_eq!(rt; design.offsets(), [0, 1536].as_slice());
