@@ -4,12 +4,18 @@ use Rattle.dgn_layout.specs.declared.spot.Spot.{Spot}
 use Rattle.dgn_layout.specs.declared.types.Class.TheVariants.{Run, Floating, Boxed, Silent}
 use Rattle.dgn_layout.specs.Classes.{class_of}
 use Rattle.dgn_layout.specs.Spots.{spots_of, HoldsPoints, Rise}
+use Rattle.dgn_layout.specs.Ends.{body_end}
 
 -- the spots of an element that holds its points rise from byte 4 to the end of the element
 abbrev pub SpotsRise : Type 0
 SpotsRise =
     (dim kind size : ℕ) (b : List ℕ) →
     (dim ≡ 2) ⊎ (dim ≡ 3) → HoldsPoints dim kind b size → Rise 4 (spots_of dim kind b) size
+
+-- an element that doesn't end before its body does holds its points
+abbrev pub BodiesHoldPoints : Type 0
+BodiesHoldPoints =
+    (dim kind size : ℕ) (b : List ℕ) → (dim ≡ 2) ⊎ (dim ≡ 3) → body_end dim kind b ≤ size → HoldsPoints dim kind b size
 
 -- the four bytes of a spot lie between these places
 pub record LiesIn (p end : ℕ) (s : Spot) : Type 0 where

@@ -1,7 +1,12 @@
 //! Laws over the definitions that the contracts cite. Each function does nothing; it states one law and
 //! is proved.
 
-ghost use Rattle.dgn_layout.specs.Laws.{SpotsRise, RisingAreApart, NoSpotsElsewhere};
+ghost use Rattle.dgn_layout.specs.Laws.{BodiesHoldPoints, SpotsRise, RisingAreApart, NoSpotsElsewhere};
+
+/// An element that doesn't end before its body does holds its points.
+pub fn bodies_hold_points()
+    ensures { BodiesHoldPoints }
+{}
 
 /// The coordinate fields of an element that holds its points rise from byte 4 on: each begins where the
 /// one before it ends or behind, and the last one ends where the element does or before.

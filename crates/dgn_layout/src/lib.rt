@@ -1,21 +1,26 @@
 //! What the body of an element holds, by its type, and where its coordinate fields stand.
 #![tactic(auto)]
 
-ghost use Rattle.std.specs.Prelude.{◌≡◌, ◌⊎◌, ◌<◌, length};
+ghost use Rattle.std.specs.Prelude.{◌≡◌, ◌⊎◌, ◌<◌, ◌≤◌, length, IsFalse, SomeIff};
 ghost use Rattle.dgn_layout.specs.Classes.{class_of, is_silent};
+ghost use Rattle.dgn_layout.specs.Ends.{body_end, count_end};
 ghost use Rattle.dgn_layout.specs.Spots.{spots_of, HoldsPoints};
 ghost use Rattle.dgn_layout.specs.SpotsLeft.{spots_left};
 
-use points::points_of;
+use dgn_words::word;
+use ends::COUNT;
 use types::Class::{Boxed, Counted, Floating, Run, Silent, Vertices, Words};
-use types::Spots;
+use types::{Points, Spots};
 
+mod ends;
 pub mod laws;
-mod points;
 mod spot;
+mod table;
+mod tables;
 pub mod types;
 
 pub use spot::Spot;
+pub use table::Table;
 
 /// The class of the element type `kind`. A type that no class names is silent.
 pub fn class(kind: u8) -> types::Class
@@ -64,6 +69,60 @@ pub fn is_silent(kind: u8) -> bool
     }
 }
 
+// The arms of `spots` and of `body_end`, in DIM axes: by the type, the table of an element's fixed fields and where its
+// body ends. Characters begin at a place, and the byte two before it says how many they are; points begin at a place,
+// each is a stride behind the one before it, and the word at byte 36 says how many they are.
+macro_rules! arms {
+    ($call:ident, $kind:ident, $b:ident) => {
+        match $kind {
+            2 if DIM == 2 => arms!($call fixed cell_2d, 92),
+            2 => arms!($call fixed cell_3d, 124),
+            3 if DIM == 2 => arms!($call fixed line_2d, 52),
+            3 => arms!($call fixed line_3d, 60),
+            7 if DIM == 2 => arms!($call fixed node_2d, 70),
+            7 => arms!($call fixed node_3d, 86),
+            17 if DIM == 2 => arms!($call characters text_2d, 60, $b),
+            17 => arms!($call characters text_3d, 76, $b),
+            4 | 6 | 11 if DIM == 2 => arms!($call points range_2d, 38, 8, $b),
+            4 | 6 | 11 => arms!($call points range_3d, 38, 12, $b),
+            12 | 14 | 18 | 19 if DIM == 2 => arms!($call fixed range_2d, 40),
+            12 | 14 | 18 | 19 => arms!($call fixed range_3d, 40),
+            15 | 16 | 22 | 23 | 24 | 27 | 33 | 34 | 35 => arms!($call unread 36),
+            _ => arms!($call silent),
+        }
+    };
+    (spots fixed $table:ident, $end:literal) => {
+        Spots::new(tables::$table(), Points::none())
+    };
+    (spots characters $table:ident, $start:literal, $b:ident) => {
+        Spots::new(tables::$table(), Points::none())
+    };
+    (spots points $table:ident, $start:literal, $stride:literal, $b:ident) => {
+        Spots::new(tables::$table(), Points::new(word($b, COUNT), $start, $stride))
+    };
+    (spots unread $end:literal) => {
+        Spots::new(&[], Points::none())
+    };
+    (spots silent) => {
+        Spots::new(&[], Points::none())
+    };
+    (body_end fixed $table:ident, $end:literal) => {
+        Some($end)
+    };
+    (body_end characters $table:ident, $start:literal, $b:ident) => {
+        ends::characters_end($b, $start)
+    };
+    (body_end points $table:ident, $start:literal, $stride:literal, $b:ident) => {
+        ends::points_end($b, $start, $stride)
+    };
+    (body_end unread $end:literal) => {
+        Some($end)
+    };
+    (body_end silent) => {
+        unreachable!()
+    };
+}
+
 /// The coordinate fields of an element of type `kind` in a file of `DIM` axes, whose bytes are `b`, in the
 /// order of its bytes. Nothing is copied and nothing allocated.
 ///
@@ -87,11 +146,28 @@ pub fn spots<const DIM: usize>(kind: u8, b: &[u8]) -> types::Spots<'_>
     requires holds { HoldsPoints DIM kind b.now (length b.now) }
     ensures { spots_left result ≡ spots_of DIM kind b.now }
 {
-    let class = class(kind);
-    match class {
-        Vertices | Words | Counted => Spots::new(DIM as u8, points_of::<DIM>(class, kind, b)),
-        Run | Floating | Boxed | Silent => Spots::none(),
-    }
+    arms!(spots, kind, b)
+}
+
+/// Where the body of an element of type `kind` ends in a file of `DIM` axes, as the byte behind it; `b` is the bytes
+/// of the element. The element may end before that.
+///
+/// - A line (type 3) ends behind its two points, at byte 52, or 60 in 3D; a cell header (2) and a text node (7) behind
+///   their origins, at 92 or 124 and at 70 or 86.
+/// - A line string, a shape or a curve (4, 6, 11) ends behind its points, of 8 or 12 bytes each, from byte 38 on.
+/// - A text (17) ends behind its characters, from byte 60 on, or 76 in 3D; the byte two before says how many.
+/// - The other headers that count their words end at byte 40, and those of which nothing is read but the display
+///   header at byte 36.
+///
+/// None comes exactly where the count can't be read: of the types 4, 6 and 11 where the element has fewer than 38
+/// bytes, of a text where it has fewer than 60, or 76 in 3D. Nothing is allocated.
+pub fn body_end<const DIM: usize>(kind: u8, b: &[u8]) -> Option<usize>
+    requires dimension { (DIM ≡ 2) ⊎ (DIM ≡ 3) }
+    requires kind { kind < 128 }
+    requires read { IsFalse (is_silent (class_of kind)) }
+    ensures { SomeIff result (count_end DIM kind ≤ length b.now) (body_end DIM kind b.now) }
+{
+    arms!(body_end, kind, b)
 }
 
 #[cfg(test)]

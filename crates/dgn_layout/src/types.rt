@@ -1,7 +1,9 @@
 //! What is said of an element type, and the iterator over the coordinate fields of an element.
 
+mod points;
 mod spots;
 
+pub(crate) use points::Points;
 pub use spots::Spots;
 
 /// What the body of an element holds, by its type.
