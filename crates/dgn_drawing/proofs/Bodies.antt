@@ -15,9 +15,10 @@ use Rattle.dgn_drawing.specs.Forms.{form_of}
 use Rattle.dgn_drawing.specs.Element.{Parts, Line, Points, Text, Node, Cell, Header, Plain, form_of_parts}
 use Rattle.dgn_drawing.specs.Spelling.{parts_bytes, point_bytes}
 use Rattle.dgn_drawing.specs.WellFormed.{IsDimension, IsBytes, IsRun, IsPoint, IsText, IsNode, IsCell, HasParts, text_run, node_run, cell_run}
-use Rattle.dgn_drawing.specs.Reading.{parts_at, end_in, number_at}
+use Rattle.dgn_drawing.specs.Reading.{parts_at, number_at}
 use Rattle.dgn_drawing.proofs.Has.{Has, has_then, has_first, has_none, has_same, has_run, has_byte, run_is, index_is}
 use Rattle.dgn_drawing.proofs.Fields.{byte_at, has_word, word_is, word_below, has_longs, longs_are, longs_on_plane, length-point_bytes, has_points, points_are, points_on_plane, length-points_bytes}
+use Rattle.dgn_drawing.proofs.FormEnds.{end_in}
 use Rattle.dgn_drawing.proofs.Places.{text_origin, text_count, text_chars, node_origin, node_end_is, cell_origin, cell_end_is, line_points, line_end, row_points, row_end, is_line, is_points}
 
 -- a run that stands within bytes

@@ -1,64 +1,35 @@
--- The end of each form's body, as the numbers that code computes.
-use Rattle.std.proofs.Common.{◌≡◌, ℕ, ◌+◌, ◌*◌, ◌≤◌, List, length, ap, sym, ◌∙◌, refl, Bool, true, false, cond, ◌⊎◌, inl, inr, ◌<◌, Option, Some, None, arith}
-use Rattle.std.specs.Prelude.{◌==◌, SomeIff, IfSome, IfNone}
+-- Where a body ends: by its form, of a header, of an element without a fault and of a silent one.
+use Rattle.std.proofs.Common.{◌≡◌, ℕ, ◌≤◌, List, length, ap, sym, ◌∙◌, refl, Bool, true, false, cond, ◌⊎◌, inl, inr, arith}
+use Rattle.std.specs.Prelude.{◌==◌}
 use Rattle.std.specs.declared.result.Result.TheVariants.{Ok, Err}
 use Rattle.std.proofs.lemmas.Bool.{cases_Bool, ltb-false}
 use Rattle.std.proofs.lemmas.Bool.Decides.{nat_tests}
 use Rattle.dgn_layout.specs.declared.types.Class.{Class}
-use Rattle.dgn_layout.specs.Classes.{class_of}
+use Rattle.dgn_layout.specs.Classes.{class_of, is_silent}
 use Rattle.dgn_drawing.specs.declared.body_fault.BodyFault.{BodyFault}
 use Rattle.dgn_drawing.specs.WellFormed.{IsDimension}
 use Rattle.dgn_drawing.specs.Faults.{is_short, is_shown, element_fault, IsSoundIn, IsSound}
-use Rattle.dgn_words.specs.Numbers.{word_at}
 use Rattle.elem_head.specs.Head.{kind_of}
 use Rattle.body_text.specs.Texts.{text_end, node_end}
 use Rattle.group_head.specs.Headers.{cell_end}
 use Rattle.dgn_drawing.specs.declared.form.Form.{Form}
 use Rattle.dgn_drawing.specs.Forms.{form_in, form_of}
-use Rattle.dgn_drawing.specs.Reading.{end_in, end_at, form_at}
-use Rattle.dgn_drawing.proofs.Places.{is_line, is_points, line_end, row_end, in_both}
+use Rattle.dgn_drawing.specs.Reading.{end_at, form_at}
+use Rattle.dgn_drawing.proofs.Places.{in_both}
+use Rattle.dgn_drawing.proofs.FormEnds.{end_in, end_by_form, end_of_form}
 
-module _ (form : Form) (dim : ℕ) (b : List ℕ) (these : form ≡ form_at b) where
-  pub end-line : form ≡ Form.Line → end_in form dim b ≡ 36 + 4 * dim * 2
+module _ (form : Form) (dim : ℕ) (b : List ℕ) (axes : IsDimension dim) (these : form ≡ form_at b) where
+  pub end-text : form ≡ Form.Text → end_at dim b ≡ text_end dim b
   unfolding end_in
-  end-line is = ap (λ (f : Form). end_in f dim b) is ∙ line_end (kind_of b) dim b (is_line (kind_of b) (sym these ∙ is))
+  end-text is = end_of_form b axes Form.Text (sym these ∙ is)
 
-  pub end-points : form ≡ Form.Points → end_in form dim b ≡ 38 + 4 * dim * word_at b 36
+  pub end-node : form ≡ Form.Node → end_at dim b ≡ node_end dim
   unfolding end_in
-  end-points is = ap (λ (f : Form). end_in f dim b) is ∙ row_end (kind_of b) dim b (is_points (kind_of b) (sym these ∙ is))
+  end-node is = end_of_form b axes Form.Node (sym these ∙ is)
 
-  pub end-text : form ≡ Form.Text → end_in form dim b ≡ text_end dim b
+  pub end-cell : form ≡ Form.Cell → end_at dim b ≡ cell_end dim
   unfolding end_in
-  end-text is = ap (λ (f : Form). end_in f dim b) is
-
-  pub end-node : form ≡ Form.Node → end_in form dim b ≡ node_end dim
-  unfolding end_in
-  end-node is = ap (λ (f : Form). end_in f dim b) is
-
-  pub end-cell : form ≡ Form.Cell → end_in form dim b ≡ cell_end dim
-  unfolding end_in
-  end-cell is = ap (λ (f : Form). end_in f dim b) is
-
-  pub end-header : form ≡ Form.Header → end_in form dim b ≡ 40
-  unfolding end_in
-  end-header is = ap (λ (f : Form). end_in f dim b) is
-
-  pub end-plain : form ≡ Form.Plain → end_in form dim b ≡ 36
-  unfolding end_in
-  end-plain is = ap (λ (f : Form). end_in f dim b) is
-
-  pub end-silent : form ≡ Form.Silent → end_in form dim b ≡ 4
-  unfolding end_in
-  end-silent is = ap (λ (f : Form). end_in f dim b) is
-
--- an end that was found is the end, and one that wasn't found lies past the element's end
-pub found-end : (r : Option ℕ) (P : Type 0) (v e : ℕ) → SomeIff r P v → e ≡ v → IfSome r (λ x. x ≡ e)
-found-end None P v e says same = tt
-found-end (Some x) P v e says same = says.1 ∙ sym same
-
-pub none-end : (r : Option ℕ) (m n v e : ℕ) → SomeIff r (m ≤ n) v → m ≤ e → IfNone r (n < e)
-none-end None m n v e says past = grind arith
-none-end (Some x) m n v e says past = tt
+  end-cell is = end_of_form b axes Form.Cell (sym these ∙ is)
 
 -- a header's body holds its total
 abbrev pub counted_form : Form → Bool
@@ -98,8 +69,8 @@ sound_end dim b sound = elim (cases_Bool (is_short dim b)) [
 ]
 
 pub total_within : (b : List ℕ) → IsSound b → class_of (kind_of b) ≡ Class.Counted → 40 ≤ length b
-total_within b (inl sound) is = let e = sound_end 2 b sound in let h = header_end (form_at b) 2 b (inl refl) (counted_form_of (kind_of b) is) in omega arith
-total_within b (inr sound) is = let e = sound_end 3 b sound in let h = header_end (form_at b) 3 b (inr refl) (counted_form_of (kind_of b) is) in omega arith
+total_within b (inl sound) is = let e = sound_end 2 b sound in let h = header_end (form_at b) 2 b (inl refl) (counted_form_of (kind_of b) is) in let same = end_by_form b {dim = 2} (inl refl) in omega arith
+total_within b (inr sound) is = let e = sound_end 3 b sound in let h = header_end (form_at b) 3 b (inr refl) (counted_form_of (kind_of b) is) in let same = end_by_form b {dim = 3} (inr refl) in omega arith
 
 -- an element is silent or has a display part
 pub shown_cases : (f : Form) → (is_shown f ≡ true) ⊎ (f ≡ Form.Silent)
@@ -122,7 +93,31 @@ silent_form b silent = ap (λ (c : Class). form_in c (kind_of b)) silent
 
 pub silent_sound : (dim : ℕ) (b : List ℕ) → class_of (kind_of b) ≡ Class.Silent → 4 ≤ length b → element_fault dim b ≡ Ok tt
 silent_sound dim b silent long =
-    let end : end_at dim b ≡ 4 = end-silent (form_at b) dim b refl (silent_form b silent) in
+    let end : end_at dim b ≡ 4 = rw silent (omega arith) in
     let short : is_short dim b ≡ false = grind (arith, nat_tests) in
     let shown : is_shown (form_at b) ≡ false = ap is_shown (silent_form b silent) in
     rw (short, shown) refl
+
+-- a class that isn't silent has a display part, and one that is is the silent one
+form_shown : (c : Class) (kind : ℕ) → is_silent c ≡ false → is_shown (form_in c kind) ≡ true
+form_shown Class.Vertices kind read = elim (cases_Bool (kind == 3)) [ inl e ↦ rw e refl | inr e ↦ rw e refl ]
+form_shown Class.Words kind read = refl
+form_shown Class.Counted kind read =
+    elim (cases_Bool (kind == 2)) [ inl e ↦ rw e refl | inr e ↦ elim (cases_Bool (kind == 7)) [ inl f ↦ rw (e, f) refl | inr f ↦ rw (e, f) refl ] ]
+form_shown Class.Run kind read = refl
+form_shown Class.Floating kind read = refl
+form_shown Class.Boxed kind read = refl
+form_shown Class.Silent kind read = absurd (cc)
+
+pub read_shown : (b : List ℕ) → is_silent (class_of (kind_of b)) ≡ false → is_shown (form_at b) ≡ true
+unfolding form_of
+read_shown b read = form_shown (class_of (kind_of b)) (kind_of b) read
+
+pub silent_class : (c : Class) → is_silent c ≡ true → c ≡ Class.Silent
+silent_class Class.Vertices e = absurd (cc)
+silent_class Class.Words e = absurd (cc)
+silent_class Class.Counted e = absurd (cc)
+silent_class Class.Run e = absurd (cc)
+silent_class Class.Floating e = absurd (cc)
+silent_class Class.Boxed e = absurd (cc)
+silent_class Class.Silent e = refl

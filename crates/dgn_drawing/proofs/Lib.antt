@@ -1,6 +1,7 @@
 pub mod Has
 pub mod Fields
 pub mod Places
+pub mod FormEnds
 pub mod Displays
 pub mod Bodies
 pub mod Written

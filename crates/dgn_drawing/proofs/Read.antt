@@ -11,12 +11,13 @@ use Rattle.dgn_drawing.specs.Forms.{form_of}
 use Rattle.dgn_drawing.specs.Element.{Display, Parts, Line, Points, Text, Node, Cell, Header, Plain, Body, Silent, Shown, Element, form_of_parts, form_of_body, rest_of}
 use Rattle.dgn_drawing.specs.Spelling.{bit, body_bytes, display_bytes, parts_bytes, spell, size_of, body_end}
 use Rattle.dgn_drawing.specs.WellFormed.{IsDimension, HasBody, IsWellFormed, HasAttributesInPlace, says_attributes}
-use Rattle.dgn_drawing.specs.Reading.{has_bit_6, display_at, parts_at, end_in, body_in, form_at, end_at, element_at, index_of}
+use Rattle.dgn_drawing.specs.Reading.{has_bit_6, display_at, parts_at, body_in, form_at, end_at, element_at, index_of}
 use Rattle.dgn_drawing.specs.declared.body_fault.BodyFault.{BodyFault}
 use Rattle.std.specs.declared.result.Result.{Result}
 use Rattle.std.specs.declared.result.Result.TheVariants.{Ok}
 use Rattle.dgn_drawing.specs.Faults.{is_short, is_shown, breaks_attribute_rule, element_fault}
 use Rattle.dgn_drawing.proofs.Has.{Has, has_first, has_rest, rest_is}
+use Rattle.dgn_drawing.proofs.FormEnds.{end_in, end_of_form}
 use Rattle.dgn_drawing.proofs.Displays.{display_is, length-display}
 use Rattle.dgn_drawing.proofs.Bodies.{parts_read}
 
@@ -48,7 +49,7 @@ deleted_back k true small = grind (arith, nat_tests)
 deleted_back k false small = grind (arith, nat_tests)
 
 -- a body with a display part, by its form
-body_shown : (dim : ℕ) (b : List ℕ) (parts : Parts) → body_in (form_of_parts parts) dim b ≡ Shown (display_at b) (parts_at (form_of_parts parts) dim b) (drop (end_in (form_of_parts parts) dim b) b)
+body_shown : (dim : ℕ) (b : List ℕ) (parts : Parts) → body_in (form_of_parts parts) dim b ≡ Shown (display_at b) (parts_at (form_of_parts parts) dim b) (drop (end_at dim b) b)
 unfolding body_in
 body_shown dim b (Line points) = refl
 body_shown dim b (Points points) = refl
@@ -62,11 +63,11 @@ body_shown dim b Plain = refl
 module _ (dim : ℕ) (b : List ℕ) (axes : IsDimension dim) where
   pub record IsRead (body : Body) : Type 0 where
     pub same : body_in (form_of_body body) dim b ≡ body
-    pub ends : end_in (form_of_body body) dim b + length (rest_of body) ≡ 4 + length (body_bytes body)
+    pub ends : end_at dim b + length (rest_of body) ≡ 4 + length (body_bytes body)
 
   pub body_read : (body : Body) → HasBody dim body → form_of (kind_of b) ≡ form_of_body body → Has b 4 (body_bytes body) (length b) → IsRead body
   unfolding body_bytes body_in end_in
-  body_read (Silent rest) good f h = record { same = ap Silent (rest_is h); ends = refl }
+  body_read (Silent rest) good f h = record { same = ap Silent (rest_is h); ends = ap (λ (n : ℕ). n + length rest) (end_of_form b axes Form.Silent f) }
   body_read (Shown d parts rest) good f h =
       let long = length-display d good.0 in
       let one = has_first {b = b} {x = display_bytes d} 36 (omega arith) h in
@@ -75,9 +76,9 @@ module _ (dim : ℕ) (b : List ℕ) (axes : IsDimension dim) where
       let read = parts_read dim b q axes parts good.1 f refl two.0 in
       let e1 : display_at b ≡ d = display_is d good.0 one.0 in
       let e2 = read.same in
-      let e3 : drop (end_in (form_of_parts parts) dim b) b ≡ rest = ap (λ (k : ℕ). drop k b) read.ends ∙ rest_is two.1 in
+      let ends : end_at dim b ≡ q = end_of_form b axes (form_of_parts parts) f ∙ read.ends in
+      let e3 : drop (end_at dim b) b ≡ rest = ap (λ (k : ℕ). drop k b) ends ∙ rest_is two.1 in
       let e4 = body_shown dim b parts in
-      let e5 = read.ends in
       let size = length-append (display_bytes d) (parts_bytes parts ++ rest) in
       let size2 = length-append (parts_bytes parts) rest in
       record { same = cc; ends = omega arith }
@@ -146,7 +147,6 @@ module _ (dim : ℕ) (e : Element) (axes : IsDimension dim) (good : IsWellFormed
   -- the body's end by the tables is the size without the rest
   pub end_at-spell : end_at dim (spell e) ≡ body_end e
   end_at-spell =
-      let f = ap (λ (f : Form). end_in f dim (spell e)) form-spell in
       let ends = read.ends in
       let size = size-spell in
       omega arith
@@ -160,7 +160,7 @@ module _ (dim : ℕ) (e : Element) (axes : IsDimension dim) (good : IsWellFormed
 
   -- each piece of a body with a display part is read from the spelling
   pub shown-spell : (d : Display) (parts : Parts) (rest : List ℕ) → e.body ≡ Shown d parts rest
-      → (display_at (spell e) ≡ d) × (parts_at (form_of_parts parts) dim (spell e) ≡ parts) × (drop (end_in (form_of_parts parts) dim (spell e)) (spell e) ≡ rest)
+      → (display_at (spell e) ≡ d) × (parts_at (form_of_parts parts) dim (spell e) ≡ parts) × (drop (end_at dim (spell e)) (spell e) ≡ rest)
   shown-spell d parts rest is =
       let e1 : body_in (form_of_parts parts) dim (spell e) ≡ Shown d parts rest =
       ap (λ (body : Body). body_in (form_of_body body) dim (spell e)) (sym is) ∙ read.same ∙ is in

@@ -15,7 +15,9 @@ use Rattle.dgn_drawing.specs.declared.form.Form.{Form}
 use Rattle.dgn_drawing.specs.declared.types.item.Item.{Item}
 use Rattle.dgn_drawing.specs.declared.types.item_body.ItemBody.{ItemBody}
 use Rattle.dgn_drawing.specs.Forms.{form_in, form_of}
-use Rattle.dgn_drawing.specs.Reading.{form_at, end_in, parts_at, display_at, body_in, element_at}
+use Rattle.dgn_drawing.specs.WellFormed.{IsDimension}
+use Rattle.dgn_drawing.proofs.FormEnds.{end_in, end_of_form}
+use Rattle.dgn_drawing.specs.Reading.{form_at, end_at, parts_at, display_at, body_in, element_at}
 use Rattle.dgn_drawing.specs.Faults.{is_shown}
 use Rattle.dgn_drawing.specs.Items.{in_space, item_body_of, shown_item, item_in, item_of}
 
@@ -77,10 +79,10 @@ path_kind kind f these is = vertices_kind kind (points_class (class_of kind) kin
 
 -- each form's end and what is shown of it
 module _ (f : Form) (dim : ℕ) (b : List ℕ) where
-  pub path_fits : (f ≡ Form.Line) ⊎ (f ≡ Form.Points) → end_in f dim b ≡ points_end dim (kind_of b) b
+  pub path_fits : IsDimension dim → f ≡ form_at b → (f ≡ Form.Line) ⊎ (f ≡ Form.Points) → end_at dim b ≡ points_end dim (kind_of b) b
   unfolding end_in
-  path_fits (inl e) = ap (λ (g : Form). end_in g dim b) e
-  path_fits (inr e) = ap (λ (g : Form). end_in g dim b) e
+  path_fits axes these (inl e) = end_of_form b axes Form.Line (sym these ∙ e)
+  path_fits axes these (inr e) = end_of_form b axes Form.Points (sym these ∙ e)
 
   pub path_shown : (f ≡ Form.Line) ⊎ (f ≡ Form.Points) → item_body_of (parts_at f dim b) ≡ ItemBody.Path (map in_space (points_of dim (kind_of b) b))
   unfolding parts_at

@@ -16,9 +16,10 @@ use Rattle.dgn_drawing.specs.declared.form.Form.{Form}
 use Rattle.dgn_drawing.specs.Element.{Display, Parts, Line, Points, Text, Node, Cell, Header, Plain, Body, Silent, Shown, Element, form_of_parts, form_of_body}
 use Rattle.dgn_drawing.specs.Spelling.{bit, first_byte, second_byte, point_bytes, body_bytes, display_bytes, parts_bytes, spell, size_of, body_end}
 use Rattle.dgn_drawing.specs.WellFormed.{IsDimension, IsBytes, HasBody, HasParts, IsDisplay, IsWellFormed}
-use Rattle.dgn_drawing.specs.Reading.{display_at, parts_at, end_in, body_in, form_at, end_at, element_at}
+use Rattle.dgn_drawing.specs.Reading.{display_at, parts_at, body_in, form_at, end_at, element_at}
 use Rattle.dgn_drawing.specs.Faults.{IsWhole}
 use Rattle.dgn_drawing.specs.Laws.{HeadSits, DisplaySits, PartsSit, BodySits}
+use Rattle.dgn_drawing.proofs.FormEnds.{end_in, end_of_form}
 use Rattle.dgn_drawing.proofs.Read.{kind-spell, form-spell, size_said-spell, element_at-spell, end_at-spell, shown-spell, not_short}
 
 -- a list of bytes
@@ -137,7 +138,7 @@ module _ (dim : ℕ) (e : Element) (axes : IsDimension dim) (good : IsWellFormed
   unfolding end_in
   text-count is =
       let within = ltb-false (length (spell e)) (end_at dim (spell e)) (not_short dim e axes good) in
-      let ends = ap (λ (f : Form). end_in f dim (spell e)) is in
+      let ends = end_of_form (spell e) axes Form.Text is in
       length-take-le (chars_count dim (spell e)) (drop (chars_start dim) (spell e)) (omega (arith, length-drop (chars_start dim) (spell e)))
 
   parts-sit : (parts : Parts) → form_at (spell e) ≡ form_of_parts parts → parts_at (form_of_parts parts) dim (spell e) ≡ parts → PartsSit dim (kind_of (spell e)) (spell e) parts
@@ -162,7 +163,7 @@ module _ (dim : ℕ) (e : Element) (axes : IsDimension dim) (good : IsWellFormed
   body-sits (Shown d parts rest) is =
       let three = shown-spell dim e axes good d parts rest is in
       let form : form_at (spell e) ≡ form_of_parts parts = form-spell dim e axes good ∙ ap form_of_body is in
-      let ends : end_in (form_of_parts parts) dim (spell e) ≡ body_end e = ap (λ (f : Form). end_in f dim (spell e)) (sym form) ∙ end_at-spell dim e axes good in (
+      let ends : end_at dim (spell e) ≡ body_end e = end_at-spell dim e axes good in (
         display-sits d three.0,
         subst (λ (k : ℕ). PartsSit dim k (spell e) parts) (kind-spell dim e axes good) (parts-sit parts form three.1),
         ap (λ (k : ℕ). drop k (spell e)) (sym ends) ∙ three.2,

@@ -10,7 +10,7 @@ use Rattle.dgn_drawing.specs.Forms.{form_of}
 use Rattle.dgn_drawing.specs.Spelling.{display_bytes, parts_bytes, body_bytes, spell}
 use Rattle.dgn_drawing.specs.Faults.{element_fault}
 use Rattle.dgn_drawing.proofs.Read.{no_fault}
-use Rattle.dgn_drawing.specs.Reading.{display_at, parts_at, end_in, end_at, body_in, element_at}
+use Rattle.dgn_drawing.specs.Reading.{display_at, parts_at, end_at, body_in, element_at}
 
 abbrev short : Result (Unit {0}) BodyFault
 short = Err BodyFault.Short
@@ -58,11 +58,11 @@ unfolding spell body_bytes parts_bytes display_bytes
 spell-line = refl
 
 element_at-line : element_at 2 line_bytes ≡ line
-unfolding element_at body_in parts_at display_at form_of end_in
+unfolding element_at body_in parts_at display_at form_of
 element_at-line = refl
 
 element_fault-line : element_fault 2 line_bytes ≡ no_fault
-unfolding form_of end_in
+unfolding form_of
 element_fault-line = refl
 
 -- a line from 0,0 to 10,10 on level 2 with colour 3 and weight 1
@@ -81,11 +81,11 @@ unfolding spell body_bytes parts_bytes display_bytes
 spell-heavy_line = refl
 
 element_at-heavy_line : element_at 2 heavy_line_bytes ≡ heavy_line
-unfolding element_at body_in parts_at display_at form_of end_in
+unfolding element_at body_in parts_at display_at form_of
 element_at-heavy_line = refl
 
 element_fault-heavy_line : element_fault 2 heavy_line_bytes ≡ no_fault
-unfolding form_of end_in
+unfolding form_of
 element_fault-heavy_line = refl
 
 -- a chain from 0,0 to 1,1
@@ -104,11 +104,11 @@ unfolding spell body_bytes parts_bytes display_bytes
 spell-chain = refl
 
 element_at-chain : element_at 2 chain_bytes ≡ chain
-unfolding element_at body_in parts_at display_at form_of end_in
+unfolding element_at body_in parts_at display_at form_of
 element_at-chain = refl
 
 element_fault-chain : element_fault 2 chain_bytes ≡ no_fault
-unfolding form_of end_in
+unfolding form_of
 element_fault-chain = refl
 
 -- a chain in space, from 1,2,3 to 4,5,6
@@ -127,11 +127,11 @@ unfolding spell body_bytes parts_bytes display_bytes
 spell-space_chain = refl
 
 element_at-space_chain : element_at 3 space_chain_bytes ≡ space_chain
-unfolding element_at body_in parts_at display_at form_of end_in
+unfolding element_at body_in parts_at display_at form_of
 element_at-space_chain = refl
 
 element_fault-space_chain : element_fault 3 space_chain_bytes ≡ no_fault
-unfolding form_of end_in
+unfolding form_of
 element_fault-space_chain = refl
 
 -- a shape whose eight attribute bytes are its rest, in a cell
@@ -151,11 +151,11 @@ unfolding spell body_bytes parts_bytes display_bytes
 spell-shape = refl
 
 element_at-shape : element_at 2 shape_bytes ≡ shape
-unfolding element_at body_in parts_at display_at form_of end_in
+unfolding element_at body_in parts_at display_at form_of
 element_at-shape = refl
 
 element_fault-shape : element_fault 2 shape_bytes ≡ no_fault
-unfolding form_of end_in
+unfolding form_of
 element_fault-shape = refl
 
 -- the header of a cell ABC, with 32 bytes that aren't read set to AA
@@ -176,11 +176,11 @@ unfolding spell body_bytes parts_bytes display_bytes
 spell-cell = refl
 
 element_at-cell : element_at 2 cell_bytes ≡ cell
-unfolding element_at body_in parts_at display_at form_of end_in
+unfolding element_at body_in parts_at display_at form_of
 element_at-cell = refl
 
 element_fault-cell : element_fault 2 cell_bytes ≡ no_fault
-unfolding form_of end_in
+unfolding form_of
 element_fault-cell = refl
 
 -- the text 'Hi there' at 5,6
@@ -200,11 +200,11 @@ unfolding spell body_bytes parts_bytes display_bytes
 spell-text = refl
 
 element_at-text : element_at 2 text_bytes ≡ text
-unfolding element_at body_in parts_at display_at form_of end_in
+unfolding element_at body_in parts_at display_at form_of
 element_at-text = refl
 
 element_fault-text : element_fault 2 text_bytes ≡ no_fault
-unfolding form_of end_in
+unfolding form_of
 element_fault-text = refl
 
 -- a text node of two strings at 0,0 with the total 80, on level 3
@@ -224,11 +224,11 @@ unfolding spell body_bytes parts_bytes display_bytes
 spell-node = refl
 
 element_at-node : element_at 2 node_bytes ≡ node
-unfolding element_at body_in parts_at display_at form_of end_in
+unfolding element_at body_in parts_at display_at form_of
 element_at-node = refl
 
 element_fault-node : element_fault 2 node_bytes ≡ no_fault
-unfolding form_of end_in
+unfolding form_of
 element_fault-node = refl
 
 -- the header of a complex shape of one element with eight attribute bytes, on level 4
@@ -246,11 +246,11 @@ unfolding spell body_bytes parts_bytes display_bytes
 spell-header = refl
 
 element_at-header : element_at 2 header_bytes ≡ header
-unfolding element_at body_in parts_at display_at form_of end_in
+unfolding element_at body_in parts_at display_at form_of
 element_at-header = refl
 
 element_fault-header : element_fault 2 header_bytes ≡ no_fault
-unfolding form_of end_in
+unfolding form_of
 element_fault-header = refl
 
 -- damaged: the chain's count word says 3
@@ -258,7 +258,7 @@ abbrev pub chain_of_three : List ℕ
 chain_of_three = take 36 chain_bytes ++ (3 ∷ drop 37 chain_bytes)
 
 element_fault-chain_of_three : element_fault 2 chain_of_three ≡ short
-unfolding form_of end_in
+unfolding form_of
 element_fault-chain_of_three = refl
 
 -- damaged: the line's attribute data are said to begin at byte 50, before its body's end at 52
@@ -266,7 +266,7 @@ abbrev pub line_with_attributes : List ℕ
 line_with_attributes = take 30 line_bytes ++ (9 ∷ 0 ∷ 0x00 ∷ 0x08 ∷ drop 34 line_bytes)
 
 element_fault-line_with_attributes : element_fault 2 line_with_attributes ≡ misplaced
-unfolding form_of end_in
+unfolding form_of
 element_fault-line_with_attributes = refl
 
 -- an element of a type whose other bytes are 0
@@ -276,15 +276,15 @@ blank kind = 0 ∷ kind ∷ replicate 130 0
 -- where each type's body ends, in the plane and in space
 ends-blank : (end_at 2 (blank 3) ∷ end_at 3 (blank 3) ∷ end_at 2 (blank 4) ∷ end_at 3 (blank 6) ∷ end_at 3 (blank 11) ∷ end_at 2 (blank 17) ∷ end_at 3 (blank 17) ∷ [])
     ≡ (52 ∷ 60 ∷ 38 ∷ 38 ∷ 38 ∷ 60 ∷ 76 ∷ [])
-unfolding form_of end_in
+unfolding form_of
 ends-blank = refl
 
 ends-headers : (end_at 2 (blank 7) ∷ end_at 3 (blank 7) ∷ end_at 2 (blank 2) ∷ end_at 3 (blank 2) ∷ end_at 2 (blank 12) ∷ end_at 3 (blank 14) ∷ end_at 2 (blank 18) ∷ end_at 3 (blank 19) ∷ [])
     ≡ (70 ∷ 86 ∷ 92 ∷ 124 ∷ 40 ∷ 40 ∷ 40 ∷ 40 ∷ [])
-unfolding form_of end_in
+unfolding form_of
 ends-headers = refl
 
 ends-plain : (end_at 2 (blank 15) ∷ end_at 3 (blank 16) ∷ end_at 2 (blank 22) ∷ end_at 3 (blank 23) ∷ end_at 2 (blank 24) ∷ end_at 3 (blank 27) ∷ end_at 2 (blank 33) ∷ end_at 3 (blank 34) ∷ end_at 2 (blank 35) ∷ end_at 2 (blank 5) ∷ [])
     ≡ (36 ∷ 36 ∷ 36 ∷ 36 ∷ 36 ∷ 36 ∷ 36 ∷ 36 ∷ 36 ∷ 4 ∷ [])
-unfolding form_of end_in
+unfolding form_of
 ends-plain = refl

@@ -3,7 +3,6 @@ use Rattle.std.proofs.Common.{◌≡◌, ℕ, List, [], ◌∷◌, ◌++◌, ref
 use Rattle.std.specs.declared.result.Result.{Result}
 use Rattle.std.specs.declared.result.Result.TheVariants.{Ok, Err}
 use Rattle.dgn_drawing.specs.Forms.{form_of}
-use Rattle.dgn_drawing.specs.Reading.{end_in}
 use Rattle.dgn_drawing.specs.Opening.{Fault, NotDesign, Cut, Short, Attr, ending_within, ending_of}
 use Rattle.dgn_drawing.proofs.Worked.{line_bytes, line_with_attributes, chain_of_three, space_chain_bytes}
 
@@ -34,35 +33,35 @@ unfolding ending_within
 ending-half_tcb = refl
 
 ending-tcb : ending_of tcb ≡ end_at_byte 1536
-unfolding ending_within form_of end_in
+unfolding ending_within form_of
 ending-tcb = refl
 
 ending-line : ending_of (tcb ++ (line_bytes ++ (0xFF ∷ 0xFF ∷ []))) ≡ end_at_byte 1588
-unfolding ending_within form_of end_in
+unfolding ending_within form_of
 ending-line = refl
 
 ending-cut_line : ending_of (tcb ++ take 51 line_bytes) ≡ faulty (Cut 1536)
-unfolding ending_within form_of end_in
+unfolding ending_within form_of
 ending-cut_line = refl
 
 ending-short_chain : ending_of (tcb ++ chain_of_three) ≡ faulty (Short 1536)
-unfolding ending_within form_of end_in
+unfolding ending_within form_of
 ending-short_chain = refl
 
 ending-misplaced : ending_of (tcb ++ line_with_attributes) ≡ faulty (Attr 1536)
-unfolding ending_within form_of end_in
+unfolding ending_within form_of
 ending-misplaced = refl
 
 -- a chain in space that is cut by its count
 ending-space_chain : ending_of (space_tcb ++ space_chain_bytes) ≡ end_at_byte 1598
-unfolding ending_within form_of end_in
+unfolding ending_within form_of
 ending-space_chain = refl
 
 ending-short_space_chain : ending_of (space_tcb ++ (take 36 space_chain_bytes ++ (3 ∷ drop 37 space_chain_bytes))) ≡ faulty (Short 1536)
-unfolding ending_within form_of end_in
+unfolding ending_within form_of
 ending-short_space_chain = refl
 
 -- a lone FF behind the elements is no tail
 ending-lone_mark : ending_of (tcb ++ (0xFF ∷ [])) ≡ faulty (Cut 1536)
-unfolding ending_within form_of end_in
+unfolding ending_within form_of
 ending-lone_mark = refl

@@ -1,5 +1,5 @@
 -- Bytes of one whole element without a fault spell the record that is read there, which is well formed.
-use Rattle.std.proofs.Common.{◌≡◌, ℕ, ◌+◌, ◌-◌, ◌/◌, ◌%◌, ◌<◌, ◌≤◌, List, [], ◌∷◌, length, drop, get_or, refl, sym, ap, arith, Bool, true, false, length-drop}
+use Rattle.std.proofs.Common.{◌≡◌, ℕ, ◌+◌, ◌-◌, ◌/◌, ◌%◌, ◌<◌, ◌≤◌, List, [], ◌∷◌, length, drop, get_or, refl, sym, ap, ◌∙◌, subst, arith, Bool, true, false, length-drop}
 use Rattle.std.proofs.lemmas.List.Elements.{All-drop}
 use Rattle.std.proofs.lemmas.Bool.{ltb-false, or_parts}
 use Rattle.std.proofs.lemmas.Bool.Decides.{nat_tests}
@@ -10,12 +10,13 @@ use Rattle.body_text.specs.Texts.{text_end, node_end}
 use Rattle.group_head.specs.Headers.{cell_end}
 use Rattle.dgn_drawing.specs.declared.form.Form.{Form}
 use Rattle.dgn_drawing.specs.Element.{Body, Shown, Element, form_of_body, rest_of}
-use Rattle.dgn_drawing.specs.Spelling.{body_bytes, spell, size_of, body_end}
+use Rattle.dgn_drawing.specs.Spelling.{parts_bytes, body_bytes, spell, size_of, body_end}
 use Rattle.dgn_drawing.specs.WellFormed.{IsDimension, IsBytes, HasBody, IsWellFormed, HasAttributesInPlace, begins_with_mark}
-use Rattle.dgn_drawing.specs.Reading.{display_at, parts_at, end_in, body_in, form_at, end_at, element_at}
+use Rattle.dgn_drawing.specs.Reading.{display_at, parts_at, body_in, form_at, end_at, element_at}
 use Rattle.dgn_drawing.specs.Faults.{IsWhole, is_short, is_shown, breaks_attribute_rule}
 use Rattle.dgn_drawing.proofs.Has.{Has, has_then, has_same, has_rest, has_byte, rest_is, has_length}
 use Rattle.dgn_drawing.proofs.Places.{in_both}
+use Rattle.dgn_drawing.proofs.FormEnds.{end_in, end_by_form, end_of_form}
 use Rattle.dgn_drawing.proofs.Fields.{byte_at, has_word, word_below}
 use Rattle.dgn_drawing.proofs.Displays.{has_display, display_at_good}
 use Rattle.dgn_drawing.proofs.Bodies.{AreSpelled, line_spelled, points_spelled, text_spelled, node_spelled, cell_spelled, header_spelled, plain_spelled}
@@ -36,12 +37,18 @@ shown_end Form.Header dim b axes shown = omega arith
 shown_end Form.Plain dim b axes shown = omega arith
 shown_end Form.Silent dim b axes shown = absurd (cc)
 
+pub shown_after : (dim : ℕ) (b : List ℕ) → IsDimension dim → is_shown (form_at b) ≡ true → 36 ≤ end_at dim b
+shown_after dim b axes shown =
+    let same = end_by_form b axes in
+    let after = shown_end (form_at b) dim b axes shown in
+    omega arith
+
 -- the body is spelled from byte 4 to the end, holds its values, and has its form
 pub record IsSpelled (f : Form) (dim : ℕ) (b : List ℕ) (body : Body) : Type 0 where
   pub bytes : Has b 4 (body_bytes body) (length b)
   pub good : HasBody dim body
   pub form : form_of_body body ≡ f
-  pub rest : length (rest_of body) ≡ length b - end_in f dim b
+  pub rest : length (rest_of body) ≡ length b - end_at dim b
 
 -- the two bytes in front, from their parts
 first_back : (x : ℕ) → x < 256 → x ≡ x % 64 + cond (x / 64 % 2 == 1) 64 0 + cond (x / 128 % 2 == 1) 128 0
@@ -56,44 +63,50 @@ kept_rule true before past e has = or_parts before past e
 kept_rule false before past e has = cc
 
 module _ (dim : ℕ) (b : List ℕ) (axes : IsDimension dim) (bytes : IsBytes b) where
-  shown_spelled : (f : Form) → AreSpelled f dim b (parts_at f dim b) → 36 ≤ end_in f dim b → end_in f dim b ≤ length b → IsSpelled f dim b (Shown (display_at b) (parts_at f dim b) (drop (end_in f dim b) b))
+  shown_spelled : (f : Form) → form_at b ≡ f → AreSpelled f dim b (parts_at f dim b) → 36 ≤ end_in f dim b → end_at dim b ≤ length b → IsSpelled f dim b (Shown (display_at b) (parts_at f dim b) (drop (end_at dim b) b))
   unfolding body_bytes
-  shown_spelled f parts after within = record {
-    bytes = has_then (has_display b bytes (omega arith)) (has_then parts.bytes (has_rest b (end_in f dim b)));
-    good = (display_at_good b bytes, parts.good, All-drop (λ x. x < 256) (end_in f dim b) b bytes);
-    form = parts.form;
-    rest = length-drop (end_in f dim b) b;
-  }
+  shown_spelled f e parts after within =
+      let ends = end_of_form b axes f e in
+      record {
+        bytes = has_then (has_display b bytes (omega arith)) (has_then (subst (λ (q : ℕ). Has b 36 (parts_bytes (parts_at f dim b)) q) (sym ends) parts.bytes) (has_rest b (end_at dim b)));
+        good = (display_at_good b bytes, parts.good, All-drop (λ x. x < 256) (end_at dim b) b bytes);
+        form = parts.form;
+        rest = length-drop (end_at dim b) b;
+      }
 
-  pub body_spelled : (f : Form) → form_at b ≡ f → end_in f dim b ≤ length b → IsSpelled f dim b (body_in f dim b)
+  -- the end by the form is within too
+  form_within : (f : Form) → form_at b ≡ f → end_at dim b ≤ length b → end_in f dim b ≤ length b
+  form_within f e within = let ends = end_of_form b axes f e in omega arith
+
+  pub body_spelled : (f : Form) → form_at b ≡ f → end_at dim b ≤ length b → IsSpelled f dim b (body_in f dim b)
   unfolding body_in body_bytes end_in
-  body_spelled Form.Line e within = shown_spelled Form.Line (line_spelled dim b axes bytes e within) (shown_end Form.Line dim b axes refl) within
-  body_spelled Form.Points e within = shown_spelled Form.Points (points_spelled dim b axes bytes e within) (shown_end Form.Points dim b axes refl) within
-  body_spelled Form.Text e within = shown_spelled Form.Text (text_spelled dim b axes bytes within) (shown_end Form.Text dim b axes refl) within
-  body_spelled Form.Node e within = shown_spelled Form.Node (node_spelled dim b axes bytes within) (shown_end Form.Node dim b axes refl) within
-  body_spelled Form.Cell e within = shown_spelled Form.Cell (cell_spelled dim b axes bytes within) (shown_end Form.Cell dim b axes refl) within
-  body_spelled Form.Header e within = shown_spelled Form.Header (header_spelled dim b axes bytes within) (shown_end Form.Header dim b axes refl) within
-  body_spelled Form.Plain e within = shown_spelled Form.Plain (plain_spelled dim b axes bytes) (shown_end Form.Plain dim b axes refl) within
+  body_spelled Form.Line e within = shown_spelled Form.Line e (line_spelled dim b axes bytes e (form_within Form.Line e within)) (shown_end Form.Line dim b axes refl) within
+  body_spelled Form.Points e within = shown_spelled Form.Points e (points_spelled dim b axes bytes e (form_within Form.Points e within)) (shown_end Form.Points dim b axes refl) within
+  body_spelled Form.Text e within = shown_spelled Form.Text e (text_spelled dim b axes bytes (form_within Form.Text e within)) (shown_end Form.Text dim b axes refl) within
+  body_spelled Form.Node e within = shown_spelled Form.Node e (node_spelled dim b axes bytes (form_within Form.Node e within)) (shown_end Form.Node dim b axes refl) within
+  body_spelled Form.Cell e within = shown_spelled Form.Cell e (cell_spelled dim b axes bytes (form_within Form.Cell e within)) (shown_end Form.Cell dim b axes refl) within
+  body_spelled Form.Header e within = shown_spelled Form.Header e (header_spelled dim b axes bytes (form_within Form.Header e within)) (shown_end Form.Header dim b axes refl) within
+  body_spelled Form.Plain e within = shown_spelled Form.Plain e (plain_spelled dim b axes bytes) (shown_end Form.Plain dim b axes refl) within
   body_spelled Form.Silent e within = record {
     bytes = has_rest b 4;
     good = All-drop (λ x. x < 256) 4 b bytes;
     form = refl;
-    rest = length-drop 4 b;
+    rest = length-drop 4 b ∙ ap (λ (n : ℕ). length b - n) (sym (end_of_form b axes Form.Silent e));
   }
 
   -- where the rule isn't broken, a record with that body keeps it
-  shown_placed : (e : Element) (f : Form) → size_of e ≡ length b → body_end e ≡ end_in f dim b
-      → (has_attributes b && (nat_lt (attributes_start b) (end_in f dim b) || nat_lt (length b) (attributes_start b))) ≡ false
-      → HasAttributesInPlace e (Shown (display_at b) (parts_at f dim b) (drop (end_in f dim b) b))
+  shown_placed : (e : Element) (f : Form) → size_of e ≡ length b → body_end e ≡ end_at dim b
+      → (has_attributes b && (nat_lt (attributes_start b) (end_at dim b) || nat_lt (length b) (attributes_start b))) ≡ false
+      → HasAttributesInPlace e (Shown (display_at b) (parts_at f dim b) (drop (end_at dim b) b))
   unfolding display_at
   shown_placed e f size ends kept has =
-      let two = kept_rule (has_attributes b) (nat_lt (attributes_start b) (end_in f dim b)) (nat_lt (length b) (attributes_start b)) kept has in
-      let after : end_in f dim b ≤ attributes_start b = ltb-false (attributes_start b) (end_in f dim b) two.0 in
+      let two = kept_rule (has_attributes b) (nat_lt (attributes_start b) (end_at dim b)) (nat_lt (length b) (attributes_start b)) kept has in
+      let after : end_at dim b ≤ attributes_start b = ltb-false (attributes_start b) (end_at dim b) two.0 in
       let before : attributes_start b ≤ length b = ltb-false (length b) (attributes_start b) two.1 in
       (rw ends after, rw size before)
 
-  pub placed : (e : Element) (f : Form) → size_of e ≡ length b → body_end e ≡ end_in f dim b
-      → (is_shown f && has_attributes b && (nat_lt (attributes_start b) (end_in f dim b) || nat_lt (length b) (attributes_start b))) ≡ false
+  pub placed : (e : Element) (f : Form) → size_of e ≡ length b → body_end e ≡ end_at dim b
+      → (is_shown f && has_attributes b && (nat_lt (attributes_start b) (end_at dim b) || nat_lt (length b) (attributes_start b))) ≡ false
       → HasAttributesInPlace e (body_in f dim b)
   unfolding body_in
   placed e Form.Silent size ends kept = tt

@@ -4,9 +4,10 @@ use Rattle.std.specs.Prelude.{ℕ, ◌+◌, ◌-◌, ◌/◌, ◌%◌, ◌==◌,
 use Rattle.dgn_words.specs.Numbers.{word_at}
 use Rattle.elem_head.specs.Head.{level_of, has_bit_c, kind_of, is_deleted, style_of, weight_of, colour_of, properties_of}
 use Rattle.range_code.specs.Ranges.{range_of}
-use Rattle.body_vertex.specs.Points.{points_of, points_end}
-use Rattle.body_text.specs.Texts.{origin_start, origin_of, chars_count_place, chars_of, text_end, node_origin_start, node_origin_of, node_end}
-use Rattle.group_head.specs.Headers.{total_at, name_at, origin_at, cell_end}
+use Rattle.dgn_layout.specs.Ends.{body_end as end_of}
+use Rattle.body_vertex.specs.Points.{points_of}
+use Rattle.body_text.specs.Texts.{origin_start, origin_of, chars_count_place, chars_of, node_origin_start, node_origin_of}
+use Rattle.group_head.specs.Headers.{total_at, name_at, origin_at}
 use Rattle.dgn_drawing.specs.declared.form.Form.{Form}
 use Rattle.dgn_drawing.specs.Element.{Display, Parts, Line, Points, Text, Node, Cell, Header, Plain, Body, Silent, Shown, Element}
 use Rattle.dgn_drawing.specs.Forms.{form_of}
@@ -53,29 +54,18 @@ parts_at Form.Header dim b = Header (total_at b) (number_at b)
 parts_at Form.Plain dim b = Plain
 parts_at Form.Silent dim b = Plain
 
--- where the body ends, by the element's form
-unfoldable pub end_in : Form → ℕ → List ℕ → ℕ
-end_in Form.Line dim b = points_end dim (kind_of b) b
-end_in Form.Points dim b = points_end dim (kind_of b) b
-end_in Form.Text dim b = text_end dim b
-end_in Form.Node dim b = node_end dim
-end_in Form.Cell dim b = cell_end dim
-end_in Form.Header dim b = 40
-end_in Form.Plain dim b = 36
-end_in Form.Silent dim b = 4
+-- where the body ends, by the element's type
+abbrev pub end_at : ℕ → List ℕ → ℕ
+end_at dim b = end_of dim (kind_of b) b
 
 -- the body of an element, by its form
 unfoldable pub body_in : Form → ℕ → List ℕ → Body
 body_in Form.Silent dim b = Silent (drop 4 b)
-body_in form dim b = Shown (display_at b) (parts_at form dim b) (drop (end_in form dim b) b)
+body_in form dim b = Shown (display_at b) (parts_at form dim b) (drop (end_at dim b) b)
 
 -- the form of the element
 abbrev pub form_at : List ℕ → Form
 form_at b = form_of (kind_of b)
-
--- where the body ends
-abbrev pub end_at : ℕ → List ℕ → ℕ
-end_at dim b = end_in (form_at b) dim b
 
 -- the element
 unfoldable pub element_at : ℕ → List ℕ → Element

@@ -7,13 +7,12 @@ ghost use Rattle.body_text.specs.Texts.{origin_of, chars_of, TextFits, node_orig
 ghost use Rattle.group_head.specs.Headers.{name_at, origin_at, cell_end};
 ghost use Rattle.dgn_drawing.specs.declared.types.item_body.ItemBody.{ItemBody};
 ghost use Rattle.dgn_drawing.specs.declared.form.Form.{Form};
-ghost use Rattle.dgn_drawing.specs.Reading.{form_at, end_in, parts_at, element_at};
+ghost use Rattle.dgn_drawing.specs.Reading.{form_at, end_at, parts_at, element_at};
 ghost use Rattle.dgn_drawing.specs.Faults.{is_shown, IsSoundIn};
 ghost use Rattle.dgn_drawing.specs.Items.{in_space, item_body_of, item_of};
 ghost use Rattle.dgn_drawing.specs.WellFormed.{IsDimension};
 
-use crate::check::form_of;
-use crate::form::Form;
+use crate::form::{Form, form_of};
 use crate::types::{Item, ItemBody};
 use body_text::{node, text};
 use body_vertex::path;
@@ -75,7 +74,7 @@ fn shown_body(
     requires dimension { IsDimension dim }
     requires form { form ≡ form_at b.now }
     requires kind { kind ≡ kind_of b.now }
-    requires fits { end_in form dim b.now ≤ length b.now }
+    requires fits { end_at dim b.now ≤ length b.now }
     ensures { IfOk result (λ body. body ≡ item_body_of (parts_at form dim b.now)) }
 {
     if dim == 2 {
@@ -95,7 +94,7 @@ fn item_body<const DIM: usize>(
     requires dimension { (DIM ≡ 2) ⊎ (DIM ≡ 3) }
     requires form { form ≡ form_at b.now }
     requires kind { kind ≡ kind_of b.now }
-    requires fits { end_in form DIM b.now ≤ length b.now }
+    requires fits { end_at DIM b.now ≤ length b.now }
     ensures { IfOk result (λ body. body ≡ item_body_of (parts_at form DIM b.now)) }
 {
     match form {

@@ -19,7 +19,7 @@ use Rattle.dgn_drawing.specs.Reading.{form_at, end_at, index_of}
 use Rattle.dgn_drawing.specs.Faults.{IsSoundIn, IsSound, is_shown, is_short, breaks_attribute_rule, element_fault}
 use Rattle.dgn_drawing.specs.Laws.{BodySits}
 use Rattle.dgn_drawing.proofs.Ends.{sound_end}
-use Rattle.dgn_drawing.proofs.Written.{shown_end}
+use Rattle.dgn_drawing.proofs.Written.{shown_after}
 use Rattle.dgn_drawing.proofs.Read.{form-spell}
 use Rattle.dgn_drawing.proofs.Sits.{all-sits}
 use Rattle.dgn_listing.specs.LinkTexts.{data_start, data_start_in, data_text, links_text, links_text_in}
@@ -57,7 +57,7 @@ or_true false = refl
 loud_in : (dim : ℕ) (b : List ℕ) → IsDimension dim → IsSoundIn dim b → is_shown (form_at b) ≡ true → IsLoud b
 loud_in dim b axes sound shown =
     let end = sound_end dim b sound in
-    let after = shown_end (form_at b) dim b axes shown in
+    let after = shown_after dim b axes shown in
     record {
       long = omega arith;
       within = λ has. elim (cases_Bool (nat_lt (length b) (attributes_start b))) [

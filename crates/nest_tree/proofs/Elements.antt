@@ -14,7 +14,7 @@ use Rattle.dgn_drawing.specs.Reading.{form_at}
 use Rattle.dgn_drawing.specs.Faults.{is_shown, IsSoundIn, IsSound}
 use Rattle.dgn_drawing.specs.Rows.{total_of}
 use Rattle.dgn_drawing.proofs.Read.{kind-spell, size-spell, form-spell, size_said-spell, end_at-spell, element_fault-spell}
-use Rattle.dgn_drawing.proofs.Written.{shown_end}
+use Rattle.dgn_drawing.proofs.Written.{shown_after}
 use Rattle.dgn_drawing.proofs.Ends.{total_within}
 use Rattle.nest_tree.specs.Depths.{least_size}
 use Rattle.nest_tree.specs.Laws.{HasElementRow}
@@ -56,7 +56,7 @@ module _ (dim : ℕ) (e : Element) (axes : IsDimension dim) (good : IsWellFormed
   unfolding form_of
   shown c is some =
       let form : form_at (spell e) ≡ form_in c e.kind = form-spell dim e axes good ∙ sym good.form ∙ ap (λ (k : Class). form_in k e.kind) is in
-      let begins = shown_end (form_at (spell e)) dim (spell e) axes (ap is_shown form ∙ shown_in c e.kind some) in
+      let begins = shown_after dim (spell e) axes (ap is_shown form ∙ shown_in c e.kind some) in
       omega (arith, end_at-spell dim e axes good)
 
   counted : class_of e.kind ≡ Class.Counted → 40 ≤ size_of e

@@ -9,7 +9,7 @@ use Rattle.dgn_drawing.specs.Items.{item_body_of}
 use Rattle.dgn_drawing.specs.Reading.{form_at, parts_at}
 use Rattle.dgn_drawing.specs.Faults.{is_shown}
 use Rattle.dgn_drawing.proofs.Ends.{shown_from, sound_end}
-use Rattle.dgn_drawing.proofs.Written.{shown_end}
+use Rattle.dgn_drawing.proofs.Written.{shown_after}
 use Rattle.dgn_drawing.proofs.Shown.{silent_item, shared_item, made_item}
 use Rattle.dgn_drawing.proofs.items.item.Goals as goal
 
@@ -31,7 +31,7 @@ symb-requires c =
     let shown : is_shown c.form_of-form.result ≡ true = shown_from _ (λ silent. let h = rw silent at c.if-eq.ensures in cc h) in
     let form : c.form_of-form.result ≡ form_at c.args.b.now = c.form_of-form.ensures ∙ ap (λ (h : Head). form_of h.kind) c.head-head.ensures in
     let long = sound_end c.args.dim c.args.b.now c.requires.element in
-    let after = shown_end (form_at c.args.b.now) c.args.dim c.args.b.now c.requires.dimension (sym (ap is_shown form) ∙ shown) in
+    let after = shown_after c.args.dim c.args.b.now c.requires.dimension (sym (ap is_shown form) ∙ shown) in
     omega arith
 
 pub range-requires : goal.range-requires
@@ -39,7 +39,7 @@ range-requires c =
     let shown : is_shown c.form_of-form.result ≡ true = shown_from _ (λ silent. let h = rw silent at c.if-eq.ensures in cc h) in
     let form : c.form_of-form.result ≡ form_at c.args.b.now = c.form_of-form.ensures ∙ ap (λ (h : Head). form_of h.kind) c.head-head.ensures in
     let long = sound_end c.args.dim c.args.b.now c.requires.element in
-    let after = shown_end (form_at c.args.b.now) c.args.dim c.args.b.now c.requires.dimension (sym (ap is_shown form) ∙ shown) in
+    let after = shown_after c.args.dim c.args.b.now c.requires.dimension (sym (ap is_shown form) ∙ shown) in
     omega arith
 
 pub returns : goal.returns

@@ -13,26 +13,26 @@ points-requires-clause-kind g c = path_kind c.args.kind c.args.form (c.requires.
 
 pub points-requires-clause-fits : goal.points-requires-clause-fits
 points-requires-clause-fits g c =
-    let ends = path_fits c.args.form g.row.DIM c.args.b.now c.in-Line.is in
+    let ends = path_fits c.args.form g.row.DIM c.args.b.now c.requires.dimension c.requires.form c.in-Line.is in
     let same = ap (λ (k : ℕ). points_end g.row.DIM k c.args.b.now) c.requires.kind in
     let fits = c.requires.fits in
     omega arith
 
 pub text_body-requires-clause-fits : goal.text_body-requires-clause-fits
 text_body-requires-clause-fits g c =
-    let ends = end-text c.args.form g.row.DIM c.args.b.now c.requires.form c.in-Text.is in
+    let ends = end-text c.args.form g.row.DIM c.args.b.now c.requires.dimension c.requires.form c.in-Text.is in
     let fits = c.requires.fits in
     omega arith
 
 pub node_body-requires-clause-fits : goal.node_body-requires-clause-fits
 node_body-requires-clause-fits g c =
-    let ends = end-node c.args.form g.row.DIM c.args.b.now c.requires.form c.in-Node.is in
+    let ends = end-node c.args.form g.row.DIM c.args.b.now c.requires.dimension c.requires.form c.in-Node.is in
     let fits = c.requires.fits in
     omega arith
 
 pub cell_body-requires-clause-fits : goal.cell_body-requires-clause-fits
 cell_body-requires-clause-fits g c =
-    let ends = end-cell c.args.form g.row.DIM c.args.b.now c.requires.form c.in-Cell.is in
+    let ends = end-cell c.args.form g.row.DIM c.args.b.now c.requires.dimension c.requires.form c.in-Cell.is in
     let fits = c.requires.fits in
     omega arith
 
