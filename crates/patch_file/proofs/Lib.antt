@@ -10,3 +10,4 @@ pub mod Puts
 pub mod Rules
 pub mod Same
 pub mod Takes
+pub mod Worked

@@ -202,3 +202,23 @@ all_taken_give_the_same b (e ∷ es) may =
       stand_more start before (taken_of b e) rest.0 (subst (λ (x : List ℕ). Stands x (taken_of b e)) (sym rest.1) one.0),
       put_more start before (taken_of b e) ∙ ap (λ (x : List ℕ). put_on x (taken_of b e)) rest.1 ∙ one.1,
     )
+
+-- what stood where patches rise rises too
+olds_rise : (b : List ℕ) (n : ℕ) (ps : List Put) → n ≤ length b → Span n ps (length b) → Span n (map (old_of b) ps) (length b)
+olds_rise b n [] le s = le
+olds_rise b n (p ∷ ps) le s =
+    let w : IsWithin (length b) p = (span_within (length b) (p ∷ ps) n s).0 in
+    let ends : p.at + length p.bytes ≡ (old_of b p).at + length (old_of b p).bytes =
+    ap (λ (k : ℕ). p.at + k) (long-old_of b p w) ∙ ap (λ (k : ℕ). k + length (old_of b p).bytes) (at-old_of b p) in (
+      subst (λ (k : ℕ). n ≤ k) (at-old_of b p) s.0,
+      subst (λ (k : ℕ). Span k (map (old_of b) ps) (length b)) ends (olds_rise b (p.at + length p.bytes) ps w.ends s.1),
+    )
+
+pub edits_may_be_taken : (b : List ℕ) (c : Change) → Span 0 c.patches (length b) → MayTake (changed b c) (entry_of b c.patches)
+edits_may_be_taken b c s =
+    let ps : List Put = c.patches in
+    let same : length (write b ps) ≡ length b = length-write b ps (span_within (length b) ps 0 s) in
+    record {
+      long = omega (arith, length-append (write b ps) c.append);
+      rising = olds_rise b 0 ps (omega arith) s;
+    }

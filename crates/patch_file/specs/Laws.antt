@@ -1,6 +1,6 @@
 -- What holds of all patch files, and of all entries that are taken off and put on.
 use Rattle.std.specs.Prelude.{ℕ, ◌≡◌, List, map, length, Ok}
-use Rattle.patch_bytes.specs.Puts.{Put, old_of}
+use Rattle.patch_bytes.specs.Puts.{Put, Span, old_of}
 use Rattle.undo_log.specs.declared.entry.Entry.{Entry}
 use Rattle.undo_log.specs.Entries.{entry_of, back, back_by}
 use Rattle.undo_log.specs.Commits.{Change, changed, MayCommit}
@@ -42,3 +42,8 @@ TakenIsTheEdit =
     (b : List ℕ) (c : Change) → MayCommit b c
     → taken_of (changed b c) (entry_of b c.patches)
     ≡ record { len = length b; fields = map (edited b) c.patches; append = c.append }
+
+-- it can be taken off there, where the edit's patches rise within the body
+abbrev pub EditsMayBeTaken : Type 0
+EditsMayBeTaken =
+    (b : List ℕ) (c : Change) → Span 0 c.patches (length b) → MayTake (changed b c) (entry_of b c.patches)

@@ -1,7 +1,7 @@
 //! What holds of all patch files and of all entries. Each call does nothing; its contract is the law.
 
 ghost use Rattle.patch_file.specs.FieldView.{ExchangesTell};
-ghost use Rattle.patch_file.specs.Laws.{SpelledIsRead, OneSpelling, TakenGivesTheSame, AllTakenGiveTheSame, TakenIsTheEdit};
+ghost use Rattle.patch_file.specs.Laws.{SpelledIsRead, OneSpelling, TakenGivesTheSame, AllTakenGiveTheSame, TakenIsTheEdit, EditsMayBeTaken};
 
 use crate::Field;
 
@@ -28,7 +28,8 @@ pub fn applied_gives_the_same()
 {}
 
 /// What is taken off the body that an edit left is what the edit wrote, over what stood there, and
-/// what it appended.
+/// what it appended. It can be taken off where the edit's patches rise within the body.
 pub fn taken_is_the_edit()
-    ensures { TakenIsTheEdit }
+    ensures edit { TakenIsTheEdit }
+    ensures may { EditsMayBeTaken }
 {}

@@ -88,7 +88,7 @@ fn patch_of(alloc: Global, bytes: &[u8]) -> Result<Vec<PatchEntry>, Stop>
     Ok(entries)
 }
 
-/// The entries of a patch file, in order.
+/// The entries of a patch file of at most 134217728 bytes, in order.
 ///
 /// The file is the mark `DGNPAT01`, the number of entries, and the entries, each with its head, its
 /// fields and its appended bytes. At is the answer exactly where a piece is cut off or breaks its
