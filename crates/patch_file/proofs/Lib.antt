@@ -1,0 +1,13 @@
+pub mod Again
+pub mod Answering
+pub mod Binding
+pub mod Fronts
+pub mod Holding
+pub mod Left
+pub mod Lengths
+pub mod Loops
+pub mod Puts
+pub mod Rules
+pub mod Same
+pub mod Takes
+pub mod Worked

@@ -1,0 +1,10 @@
+pub mod Answers
+pub mod Exchanges
+pub mod FieldView
+pub mod Fronts
+pub mod Laws
+pub mod PatchView
+pub mod Reading
+pub mod RulesAreFacts
+pub mod Spelling
+pub mod Standing
