@@ -10,12 +10,12 @@ ghost use Rattle.elem_index.specs.Design.{elements, IsWhole};
 use dgn_drawing::{Mask, Mode};
 use dgn_fence::types::Fence;
 use elem_index::Design;
-use level_view::tree_items;
+use level_view::tree_items_into;
 use nest_tree::types::Nest;
 use std::alloc::{AllocError, Global};
 
 // The numbers of the roots, in file order, whose items under the mask the fence takes. The items of one root at a time
-// are made.
+// are made, in one list for all.
 pub(crate) fn select(
     alloc: Global,
     design: &Design,
@@ -29,10 +29,11 @@ pub(crate) fn select(
     ensures { IfOk result (λ found. found.items ≡ selected design.now.dim mask fence.now mode (elements design.now)) }
 {
     let mut found = Vec::new(alloc);
+    let mut items = Vec::new(alloc);
     let count = design.count();
     let mut root = 0;
     'roots: while root < count {
-        let items = tree_items(alloc, design, nest, root, mask)?;
+        tree_items_into(alloc, design, nest, root, mask, &mut items)?;
         if fence.takes(mode, &items) {
             found.push(root)?;
         }

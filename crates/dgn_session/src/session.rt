@@ -23,7 +23,7 @@ use dgn_drawing::{Edit, FenceEdit, Mask, Mode};
 use dgn_fence::types::Fence;
 use edit_ops::{EditFault, plan, plan_all};
 use elem_index::Design;
-use level_view::show;
+use level_view::{count_shown, show};
 use nest_tree::nest;
 use nest_tree::types::Nest;
 use std::alloc::{AllocError, Global};
@@ -162,6 +162,14 @@ impl Session {
         ensures { IfOk result (λ found. found.items ≡ shown self.now.dim self.now.mask (state_of self.now).top) }
     {
         show(self.alloc, &self.design, &self.nest, self.mask)
+    }
+
+    /// How many items `show` gives. No item is made for it. There is an error exactly where there is no memory.
+    pub fn count_shown(&self) -> Result<usize, AllocError>
+        ensures { IfOk result
+            (λ count. count ≡ length (shown self.now.dim self.now.mask (state_of self.now).top)) }
+    {
+        count_shown(self.alloc, &self.design, &self.nest, self.mask)
     }
 
     /// The numbers of the roots, in file order, whose items under the levels that are shown the fence takes in this mode

@@ -196,8 +196,9 @@ fn levels_stay(rt: HostRuntime) -> Result<(), Fail> {
     assert!(rt; session.show()?.is_empty());
     session.set_mask(Mask(1));
     undoes(&rt, &mut session)?;
-    assert!(rt; session.show()?.is_empty());
+    assert_eq!(rt; session.count_shown()?, 0);
     session.set_mask(Mask(2));
+    assert_eq!(rt; session.count_shown()?, 2);
     assert_eq!(rt; session.show()?.len(), 2);
     Ok(())
 }

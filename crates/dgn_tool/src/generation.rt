@@ -139,10 +139,10 @@ fn push_sizes(
     let design = session.design();
     let zeros = filling_len(before, &design.tail, design.body.len());
     let bytes = design.body.len() + design.tail.len() + zeros;
-    let shown = session.show()?;
+    let shown = session.count_shown()?;
     push_numbered(alloc, text, b"elements ", u64::from(design.count()))?;
     push_numbered(alloc, text, b"bytes ", bytes as u64)?;
-    push_numbered(alloc, text, b"shown ", shown.len() as u64)
+    push_numbered(alloc, text, b"shown ", shown as u64)
 }
 
 // Appends how many trees the fifth and the sixth of so many commands edited, how many commands were accepted, and how

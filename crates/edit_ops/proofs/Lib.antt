@@ -38,4 +38,5 @@ pub mod Copies
 pub mod Together
 pub mod Fenced
 pub mod Joined
+pub mod Behind
 pub mod Choosing

@@ -1,5 +1,5 @@
 -- What the answer of a plan says.
-use Rattle.std.specs.Prelude.{ℕ, ◌≡◌, List, length, drop}
+use Rattle.std.specs.Prelude.{ℕ, ◌≡◌, List, ◌++◌, length, drop}
 use Rattle.dgn_drawing.specs.declared.edit.Edit.{Edit}
 use Rattle.dgn_drawing.specs.declared.fence_edit.FenceEdit.{FenceEdit}
 use Rattle.dgn_drawing.specs.Element.{Element}
@@ -18,6 +18,13 @@ pub record IsPlan (dim : ℕ) (es : List Element) (rest : ℕ) (e : Edit) (p : P
   pub done : apply dim es rest e ≡ Done made
   pub patches : p.patches ≡ filled (spelling made) (edited_fields dim es e)
   pub append : p.append ≡ drop (length (spelling es)) (spelling made)
+
+-- it stands behind another plan: the patches and the bytes to append of that one come before its own
+pub record IsPlanBehind (dim : ℕ) (es : List Element) (rest : ℕ) (e : Edit) (before after : Plan) : Type 0 where
+  pub own : Plan
+  pub is : IsPlan dim es rest e own
+  pub patches : after.patches ≡ before.patches ++ own.patches
+  pub append : after.append ≡ before.append ++ own.append
 
 -- the same of an edit of these roots
 pub record IsFencePlan (dim : ℕ) (es : List Element) (rest : ℕ) (e : FenceEdit) (ns : List ℕ) (p : Plan) : Type 0 where

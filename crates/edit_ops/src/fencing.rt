@@ -1,18 +1,18 @@
-ghost use Rattle.std.specs.Prelude.{◌≡◌, ◌+◌, ◌≤◌, [], ◌++◌, length, map, IfOk, IfErr, OnOk};
+ghost use Rattle.std.specs.Prelude.{◌≡◌, ◌+◌, ◌≤◌, [], length, map, IfOk, IfErr};
 ghost use Rattle.dgn_drawing.specs.Rows.{row_of};
 ghost use Rattle.elem_index.specs.Design.{elements, IsWhole};
 ghost use Rattle.edit_ops.specs.Applying.{apply};
 ghost use Rattle.edit_ops.specs.Fenced.{edit_at, apply_all, AreRoots, IsFenceEdit};
-ghost use Rattle.edit_ops.specs.Planned.{IsPlan, IsFencePlan, IsRefused};
+ghost use Rattle.edit_ops.specs.Planned.{IsPlanBehind, IsFencePlan, IsRefused};
 
 use crate::edit_fault::EditFault;
-use crate::planning::plan;
+use crate::planning::plan_behind;
 use crate::types::Plan;
 use dgn_drawing::{Edit, FenceEdit, Shift, SymbChange};
 use elem_index::Design;
 use nest_tree::types::Nest;
 use patch_bytes::{ByteList, PatchList};
-use std::alloc::{AllocError, Global};
+use std::alloc::Global;
 
 /// What an edit of the trees of these roots comes to on the design `d`, of which `t` is the nesting. `roots` are the
 /// numbers of some of its roots, in file order.
@@ -69,40 +69,30 @@ fn join_plans(
         (IsRefused (apply_all d.now.dim (elements d.now) (length d.now.tail.items) edit.now roots.now)) }
 {
     'roots: for n in roots {
-        let one = plan_root(alloc, d, t, *n, edit, all.append.len())?;
-        join_plan(all, &one)?;
+        join_root(alloc, d, t, *n, edit, all)?;
     }
     Ok(())
 }
 
-// Joins one more plan.
-fn join_plan(all: &mut Plan, one: &Plan) -> Result<(), AllocError>
-    ensures patches { OnOk result (all.new.patches ≡ all.old.patches ++ one.now.patches) }
-    ensures append { OnOk result (all.new.append ≡ all.old.append ++ one.now.append) }
-{
-    all.patches.push_all(&one.patches)?;
-    all.append.push_all(&one.append)?;
-    Ok(())
-}
-
-// The plan of root n, where so many bytes are pending.
-fn plan_root(
+// Joins the plan of root n, for which the bytes that `all` appends are pending.
+fn join_root(
     alloc: Global,
     d: &Design,
     t: &Nest,
     n: u32,
     edit: &FenceEdit,
-    pending: usize,
-) -> Result<Plan, EditFault>
+    all: &mut Plan,
+) -> Result<(), EditFault>
     requires whole { IsWhole d.now }
     requires nesting { t.now.rows ≡ map row_of (elements d.now) }
-    requires room { length d.now.body.items + (length d.now.tail.items + pending) ≤ 67108864 }
+    requires room { length d.now.body.items + (length d.now.tail.items + length all.old.append) ≤ 67108864 }
     ensures planned { IfOk result
-        (IsPlan d.now.dim (elements d.now) (length d.now.tail.items + pending) (edit_at edit.now n)) }
+        (λ _. IsPlanBehind d.now.dim (elements d.now) (length d.now.tail.items + length all.old.append) (edit_at edit.now n) all.old all.new) }
     ensures refused { IfErr result
-        (IsRefused (apply d.now.dim (elements d.now) (length d.now.tail.items + pending) (edit_at edit.now n))) }
+        (IsRefused (apply d.now.dim (elements d.now) (length d.now.tail.items + length all.old.append) (edit_at edit.now n))) }
 {
-    plan(alloc, d, t, &root_edit(edit, n), pending)
+    let pending = all.append.len();
+    plan_behind(alloc, d, t, &root_edit(edit, n), pending, all)
 }
 
 // The edit of root n.

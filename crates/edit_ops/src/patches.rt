@@ -14,7 +14,6 @@ ghost use Rattle.patch_bytes.specs.PatchView.{put_of};
 ghost use Rattle.range_code.specs.Plane.{is_on_plane};
 ghost use Rattle.dgn_drawing.specs.SpotNumbers.{sum_at};
 ghost use Rattle.edit_ops.specs.Trees.{found_at, above_tree, live_tree};
-ghost use Rattle.edit_ops.specs.Causes.{target_of};
 ghost use Rattle.edit_ops.specs.Written.{found, live_puts, above_puts, part_puts, corner_puts, wider_puts, sum_put, new_look, IsReady};
 
 use crate::finding::{Found, find};
@@ -26,34 +25,31 @@ use elem_head::symb;
 use elem_index::Design;
 use patch_bytes::{Patch, PatchList};
 use range_code::{Box3, join, range};
-use std::alloc::{AllocError, Global};
+use std::alloc::AllocError;
 
 // The bit of an element's second byte that marks it deleted.
 const DELETED: u8 = 0x80;
 
-// What an edit of the part of element n puts into the headers above it and into its live elements, of which
+// Appends what an edit of the part of element n puts into the headers above it and into its live elements, of which
 // `above` and `live` have the numbers.
-pub fn patches_of(
-    alloc: Global,
+pub fn push_part(
+    patches: &mut PatchList,
     d: &Design,
     n: u32,
     above: &[u32],
     live: &[u32],
     edit: &Edit,
-) -> Result<PatchList, AllocError>
+) -> Result<(), AllocError>
     requires whole { IsWhole d.now }
-    requires target { target_of edit.now ≡ Some n }
     requires above { found (elements d.now) above.now ≡ above_tree (elements d.now) n }
     requires live { found (elements d.now) live.now ≡ live_tree (elements d.now) n }
     requires head { IfSome (slice_get (elements d.now) n) (IsReady d.now.dim edit.now) }
     requires shown { AllByRecursion (λ v. IsFalse (is_silent (class_of v.element.kind))) (above_tree (elements d.now) n) }
     requires ready { AllByRecursion (λ v. IsReady d.now.dim edit.now v.element) (live_tree (elements d.now) n) }
-    ensures { IfOk result (λ patches. patches ≡ part_puts d.now.dim (elements d.now) edit.now n) }
+    ensures { OnOk result (patches.new ≡ patches.old ++ part_puts d.now.dim (elements d.now) edit.now n) }
 {
-    let mut patches = PatchList::new(alloc);
-    push_above(&mut patches, d, n, above, edit)?;
-    push_live(&mut patches, d, live, edit)?;
-    Ok(patches)
+    push_above(patches, d, n, above, edit)?;
+    push_live(patches, d, live, edit)
 }
 
 // Appends what an edit of the part of element n puts into the headers above it, of which `above` has the numbers.

@@ -1,7 +1,6 @@
-ghost use Rattle.std.specs.Prelude.{◌≡◌, ◌+◌, ◌<◌, ◌≤◌, [], length, map, slice_get, Some, None, IfOk, IfErr, IfSome, IsFalse};
+ghost use Rattle.std.specs.Prelude.{◌≡◌, ◌+◌, ◌<◌, ◌≤◌, ◌++◌, length, map, Some, None, IfOk, IfErr, OnOk};
 ghost use Rattle.std.specs.List.{AllByRecursion};
 ghost use Rattle.std.specs.Option.{option_or};
-ghost use Rattle.dgn_layout.specs.Classes.{class_of, is_silent};
 ghost use Rattle.dgn_drawing.specs.Spelling.{spelling};
 ghost use Rattle.dgn_drawing.specs.Rows.{row_of};
 ghost use Rattle.dgn_drawing.specs.Nesting.{flat};
@@ -9,8 +8,8 @@ ghost use Rattle.elem_index.specs.Design.{elements, IsWhole};
 ghost use Rattle.edit_ops.specs.Trees.{above_tree, live_tree};
 ghost use Rattle.edit_ops.specs.Applying.{apply, copied, IsEdit};
 ghost use Rattle.edit_ops.specs.Causes.{target_of, part_cause, causes_of, first_of, bytes_appended};
-ghost use Rattle.edit_ops.specs.Planned.{IsPlan, IsRefused};
-ghost use Rattle.edit_ops.specs.Written.{found, part_puts, IsReady};
+ghost use Rattle.edit_ops.specs.Planned.{IsPlan, IsPlanBehind, IsRefused};
+ghost use Rattle.edit_ops.specs.Written.{found, IsReady};
 
 use crate::above::numbers_above;
 use crate::asking::edit_cause;
@@ -20,7 +19,7 @@ use crate::copying::{copy_of, part_len};
 use crate::edit_fault::EditFault;
 use crate::live::live_numbers;
 use crate::making::{size_made, spelled};
-use crate::patches::patches_of;
+use crate::patches::push_part;
 use crate::types::Plan;
 use dgn_drawing::Edit;
 use elem_index::Design;
@@ -65,9 +64,36 @@ pub fn plan(
     ensures refused { IfErr result
         (IsRefused (apply d.now.dim (elements d.now) (length d.now.tail.items + pending) edit.now)) }
 {
+    let mut plan = Plan {
+        patches: PatchList::new(alloc),
+        append: ByteList::new(alloc),
+    };
+    plan_behind(alloc, d, t, edit, pending, &mut plan)?;
+    Ok(plan)
+}
+
+// Puts what an edit comes to behind what `all` has already, in the same way. Where it is refused, or there is no memory,
+// `all` may have some of it.
+pub(crate) fn plan_behind(
+    alloc: Global,
+    d: &Design,
+    t: &Nest,
+    edit: &Edit,
+    pending: usize,
+    all: &mut Plan,
+) -> Result<(), EditFault>
+    requires whole { IsWhole d.now }
+    requires nesting { t.now.rows ≡ map row_of (elements d.now) }
+    requires room { length d.now.body.items + (length d.now.tail.items + pending) ≤ 67108864 }
+    ensures planned { IfOk result
+        (λ _. IsPlanBehind d.now.dim (elements d.now) (length d.now.tail.items + pending) edit.now all.old all.new) }
+    ensures kept { IfOk result (λ _. IsEdit edit.now) }
+    ensures refused { IfErr result
+        (IsRefused (apply d.now.dim (elements d.now) (length d.now.tail.items + pending) edit.now)) }
+{
     match target(edit) {
-        Some(n) => plan_part(alloc, d, t, n, edit, pending),
-        None => plan_append(alloc, d, edit, pending),
+        Some(n) => plan_part(alloc, d, t, n, edit, pending, all),
+        None => plan_append(alloc, d, edit, pending, all),
     }
 }
 
@@ -79,20 +105,21 @@ fn plan_part(
     n: u32,
     edit: &Edit,
     pending: usize,
-) -> Result<Plan, EditFault>
+    all: &mut Plan,
+) -> Result<(), EditFault>
     requires whole { IsWhole d.now }
     requires nesting { t.now.rows ≡ map row_of (elements d.now) }
     requires room { length d.now.body.items + (length d.now.tail.items + pending) ≤ 67108864 }
     requires target { target_of edit.now ≡ Some n }
     requires fits { IsEdit edit.now }
     ensures planned { IfOk result
-        (IsPlan d.now.dim (elements d.now) (length d.now.tail.items + pending) edit.now) }
+        (λ _. IsPlanBehind d.now.dim (elements d.now) (length d.now.tail.items + pending) edit.now all.old all.new) }
     ensures refused { IfErr result
         (IsRefused (apply d.now.dim (elements d.now) (length d.now.tail.items + pending) edit.now)) }
 {
     match unknown(d, n) {
         Some(cause) => Err(EditFault::Refused(cause)),
-        None => plan_known(alloc, d, t, n, edit, pending),
+        None => plan_known(alloc, d, t, n, edit, pending, all),
     }
 }
 
@@ -104,7 +131,8 @@ fn plan_known(
     n: u32,
     edit: &Edit,
     pending: usize,
-) -> Result<Plan, EditFault>
+    all: &mut Plan,
+) -> Result<(), EditFault>
     requires whole { IsWhole d.now }
     requires nesting { t.now.rows ≡ map row_of (elements d.now) }
     requires room { length d.now.body.items + (length d.now.tail.items + pending) ≤ 67108864 }
@@ -112,7 +140,7 @@ fn plan_known(
     requires target { target_of edit.now ≡ Some n }
     requires fits { IsEdit edit.now }
     ensures planned { IfOk result
-        (IsPlan d.now.dim (elements d.now) (length d.now.tail.items + pending) edit.now) }
+        (λ _. IsPlanBehind d.now.dim (elements d.now) (length d.now.tail.items + pending) edit.now all.old all.new) }
     ensures refused { IfErr result
         (IsRefused (apply d.now.dim (elements d.now) (length d.now.tail.items + pending) edit.now)) }
 {
@@ -122,61 +150,33 @@ fn plan_known(
         return Err(EditFault::Refused(cause));
     }
     if let Edit::Copy { .. } = edit {
-        Ok(plan_copy(alloc, d, t, n, &live, edit)?)
-    } else {
-        Ok(plan_change(alloc, d, n, &above, &live, edit)?)
+        push_copy(alloc, d, t, n, &live, edit, &mut all.append)?;
+        return Ok(());
     }
+    push_part(&mut all.patches, d, n, &above, &live, edit)?;
+    Ok(())
 }
 
-// The plan of a copy of the part of element n, which nothing refuses.
-fn plan_copy(
+// Appends the bytes of a copy of the part of element n, which nothing refuses.
+fn push_copy(
     alloc: Global,
     d: &Design,
     t: &Nest,
     n: u32,
     live: &[u32],
     edit: &Edit,
-) -> Result<Plan, AllocError>
+    append: &mut ByteList,
+) -> Result<(), AllocError>
     requires whole { IsWhole d.now }
     requires nesting { t.now.rows ≡ map row_of (elements d.now) }
     requires known { n < length (elements d.now) }
     requires fits { IsEdit edit.now }
     requires live { found (elements d.now) live.now ≡ live_tree (elements d.now) n }
     requires ready { AllByRecursion (λ v. IsReady d.now.dim edit.now v.element) (live_tree (elements d.now) n) }
-    ensures patches { IfOk result (λ plan. plan.patches ≡ []) }
-    ensures append { IfOk result (λ plan. plan.append ≡ spelling (flat (copied d.now.dim (elements d.now) edit.now n))) }
+    ensures { OnOk result (append.new ≡ append.old ++ spelling (flat (copied d.now.dim (elements d.now) edit.now n))) }
 {
-    let append = copy_of(alloc, d, t, n, live, edit)?;
-    Ok(Plan {
-        patches: PatchList::new(alloc),
-        append,
-    })
-}
-
-// The plan of another edit of the part of element n, which nothing refuses.
-fn plan_change(
-    alloc: Global,
-    d: &Design,
-    n: u32,
-    above: &[u32],
-    live: &[u32],
-    edit: &Edit,
-) -> Result<Plan, AllocError>
-    requires whole { IsWhole d.now }
-    requires target { target_of edit.now ≡ Some n }
-    requires above { found (elements d.now) above.now ≡ above_tree (elements d.now) n }
-    requires live { found (elements d.now) live.now ≡ live_tree (elements d.now) n }
-    requires head { IfSome (slice_get (elements d.now) n) (IsReady d.now.dim edit.now) }
-    requires shown { AllByRecursion (λ v. IsFalse (is_silent (class_of v.element.kind))) (above_tree (elements d.now) n) }
-    requires ready { AllByRecursion (λ v. IsReady d.now.dim edit.now v.element) (live_tree (elements d.now) n) }
-    ensures patches { IfOk result (λ plan. plan.patches ≡ part_puts d.now.dim (elements d.now) edit.now n) }
-    ensures append { IfOk result (λ plan. plan.append ≡ []) }
-{
-    let patches = patches_of(alloc, d, n, above, live, edit)?;
-    Ok(Plan {
-        patches,
-        append: ByteList::new(alloc),
-    })
+    let copy = copy_of(alloc, d, t, n, live, edit)?;
+    append.push_all(&copy)
 }
 
 // What refuses an edit of the part of element n, which there is.
@@ -219,13 +219,19 @@ fn appended_by(d: &Design, t: &Nest, n: u32, edit: &Edit) -> usize
 }
 
 // What an appended element comes to.
-fn plan_append(alloc: Global, d: &Design, edit: &Edit, pending: usize) -> Result<Plan, EditFault>
+fn plan_append(
+    alloc: Global,
+    d: &Design,
+    edit: &Edit,
+    pending: usize,
+    all: &mut Plan,
+) -> Result<(), EditFault>
     requires whole { IsWhole d.now }
     requires room { length d.now.body.items + (length d.now.tail.items + pending) ≤ 67108864 }
     requires target { target_of edit.now ≡ None }
     requires fits { IsEdit edit.now }
     ensures planned { IfOk result
-        (IsPlan d.now.dim (elements d.now) (length d.now.tail.items + pending) edit.now) }
+        (λ _. IsPlanBehind d.now.dim (elements d.now) (length d.now.tail.items + pending) edit.now all.old all.new) }
     ensures refused { IfErr result
         (IsRefused (apply d.now.dim (elements d.now) (length d.now.tail.items + pending) edit.now)) }
 {
@@ -235,11 +241,9 @@ fn plan_append(alloc: Global, d: &Design, edit: &Edit, pending: usize) -> Result
     if let Some(cause) = edit_cause(d, edit, &[], &[], size_made(new), pending) {
         return Err(EditFault::Refused(cause));
     }
-    let append = spelled(alloc, new)?;
-    Ok(Plan {
-        patches: PatchList::new(alloc),
-        append,
-    })
+    let bytes = spelled(alloc, new)?;
+    all.append.push_all(&bytes)?;
+    Ok(())
 }
 
 // The element whose part an edit changes or copies, where it names one.

@@ -9,3 +9,4 @@ pub mod Trees
 pub mod Onward
 pub mod Places
 pub mod Rows
+pub mod Counted

@@ -17,7 +17,7 @@ use nest_tree::Knot;
 use std::alloc::{AllocError, Global};
 
 // The type of a shared cell definition.
-const SHARED_CELL: u8 = 34;
+pub(crate) const SHARED_CELL: u8 = 34;
 
 // Whether the item of the least number has one below `end`.
 fn begins_below(items: &[Item], end: u32) -> bool

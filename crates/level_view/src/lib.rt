@@ -3,11 +3,14 @@
 
 mod alone;
 mod back;
+mod counting;
 pub mod laws;
+mod numbering;
 mod place;
 mod view;
 
-pub use view::{show, tree_items};
+pub use counting::count_shown;
+pub use view::{show, tree_items, tree_items_into};
 
 #[cfg(test)]
 mod tests;

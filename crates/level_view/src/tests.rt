@@ -91,7 +91,12 @@ fn answer(
 {
     let t = nested(rt.alloc(), d)?;
     match asked {
-        Asked::Show => Ok(show(rt.alloc(), d, &t, Mask(mask))?),
+        Asked::Show => {
+            let items = show(rt.alloc(), d, &t, Mask(mask))?;
+            let count = count_shown(rt.alloc(), d, &t, Mask(mask))?;
+            assert_eq!(rt; count, items.len());
+            Ok(items)
+        }
         Asked::Tree(n) => {
             assert!(rt; t.parent(n) == Some(None));
             Ok(tree_items(rt.alloc(), d, &t, n, Mask(mask))?)

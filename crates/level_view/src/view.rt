@@ -1,6 +1,6 @@
 // The items of all trees, and of one.
 
-ghost use Rattle.std.specs.Prelude.{◌≡◌, ◌-◌, ◌≤◌, length, map, reverse, IfOk};
+ghost use Rattle.std.specs.Prelude.{◌≡◌, ◌-◌, ◌≤◌, length, map, IfOk, OnOk};
 ghost use Rattle.dgn_drawing.specs.Nesting.{itself};
 ghost use Rattle.dgn_drawing.specs.Rows.{row_of};
 ghost use Rattle.dgn_drawing.specs.Shown.{shown, tree_shown, IsRoot};
@@ -29,7 +29,9 @@ pub fn show(alloc: Global, d: &Design, t: &Nest, mask: Mask) -> Result<Vec<Item>
     requires nesting { t.now.rows ≡ map row_of (elements d.now) }
     ensures { IfOk result (λ found. found.items ≡ shown d.now.dim mask (elements d.now)) }
 {
-    items_between(alloc, d, t, 0, d.count(), mask)
+    let mut items = Vec::new(alloc);
+    put_between(alloc, d, t, 0, d.count(), mask, &mut items)?;
+    Ok(items)
 }
 
 /// The items that the display shows of the tree of the root `n` under `mask`, by the rules of `show`.
@@ -46,34 +48,56 @@ pub fn tree_items(
     requires root { IsRoot itself t.now.rows n }
     ensures { IfOk result (λ found. found.items ≡ tree_shown d.now.dim mask (elements d.now) n) }
 {
+    let mut items = Vec::new(alloc);
+    tree_items_into(alloc, d, t, n, mask, &mut items)?;
+    Ok(items)
+}
+
+/// Puts the items of `tree_items` into `items`, in the place of what stands there. The list keeps its memory, so one list
+/// serves the trees of many roots. Where there is no memory, some items or none stand there.
+pub fn tree_items_into(
+    alloc: Global,
+    d: &Design,
+    t: &Nest,
+    n: u32,
+    mask: Mask,
+    items: &mut Vec<Item>,
+) -> Result<(), AllocError>
+    requires whole { IsWhole d.now }
+    requires nesting { t.now.rows ≡ map row_of (elements d.now) }
+    requires root { IsRoot itself t.now.rows n }
+    ensures { OnOk result (items.new.items ≡ tree_shown d.now.dim mask (elements d.now) n) }
+{
     let Some((first, end)) = t.span(n) else {
         unreachable!()
     };
-    items_between(alloc, d, t, first, end, mask)
+    put_between(alloc, d, t, first, end, mask, items)
 }
 
-// What the elements from number `first` on and before number `end` show.
+// Puts what the elements from number `first` on and before number `end` show into `items`, in the place of what stands
+// there.
 //
 // They are read from the last one back to the first, since whether a group's header is shown hangs on
 // what stands behind it.
-fn items_between(
+fn put_between(
     alloc: Global,
     d: &Design,
     t: &Nest,
     first: u32,
     end: u32,
     mask: Mask,
-) -> Result<Vec<Item>, AllocError>
+    items: &mut Vec<Item>,
+) -> Result<(), AllocError>
     requires whole { IsWhole d.now }
     requires nesting { t.now.rows ≡ map row_of (elements d.now) }
     requires ordered { first ≤ end }
     requires within { end ≤ length (elements d.now) }
-    ensures { IfOk result (λ found. found.items ≡ read_back d.now.dim mask (elements d.now) first (end - first)) }
+    ensures { OnOk result (items.new.items ≡ read_back d.now.dim mask (elements d.now) first (end - first)) }
 {
-    let mut items = Vec::new(alloc);
+    items.clear();
     for n in (first..end).rev() {
-        add(alloc, d.dim, mask, place_of(d, t, n), &mut items)?;
+        add(alloc, d.dim, mask, place_of(d, t, n), items)?;
     }
     items.reverse();
-    Ok(items)
+    Ok(())
 }

@@ -13,8 +13,8 @@ roots-init c =
     subst (StandsAt (elements c.args.design.now) c.args.nest.now.rows (λ n. takes c.args.mode c.args.fence.now (tree_shown c.args.design.now.dim c.args.mask (elements c.args.design.now) n)) 0) (sym c.new-found.ensures.items)
     (stands_first (elements c.args.design.now) c.args.nest.now.rows c.requires.nesting (λ n. takes c.args.mode c.args.fence.now (tree_shown c.args.design.now.dim c.args.mask (elements c.args.design.now) n)))
 
-pub tree_items-requires-clause-root : goal.tree_items-requires-clause-root
-tree_items-requires-clause-root c = c.roots.invariant.root (omega (arith, c.roots-test.true, c.count-count.ensures))
+pub tree_items_into-requires-clause-root : goal.tree_items_into-requires-clause-root
+tree_items_into-requires-clause-root c = c.roots.invariant.root (omega (arith, c.roots-test.true, c.count-count.ensures))
 
 pub roots-smaller : goal.roots-smaller
 roots-smaller c =
@@ -27,7 +27,7 @@ pub roots-preserved : goal.roots-preserved
 roots-preserved c =
     let known : c.roots.root < length (elements c.args.design.now) = omega (arith, c.roots-test.true, c.count-count.ensures) in
     let asked : c.takes.result ≡ takes c.args.mode c.args.fence.now (tree_shown c.args.design.now.dim c.args.mask (elements c.args.design.now) c.roots.root) =
-    c.takes.ensures ∙ ap (takes c.args.mode c.args.fence.now) (c.deref.ensures.value ∙ c.in_ok-items.ensures) in
+    c.takes.ensures ∙ ap (takes c.args.mode c.args.fence.now) (c.deref.ensures.value ∙ c.in_ok-tree_items_into.ensures) in
     elim c.if-takes.branch [
       | then-takes+in_ok-push w ↦
           subst (λ (ns : List ℕ). StandsAt (elements c.args.design.now) c.args.nest.now.rows (λ n. takes c.args.mode c.args.fence.now (tree_shown c.args.design.now.dim c.args.mask (elements c.args.design.now) n)) c.end_of-root.result ns) (sym (ap (λ v. v.items) w.found-is ∙ w.in_ok-push.ensures.items))

@@ -21,6 +21,6 @@ returns c =
     (sized c.args.before v.tail (state_of v) _ _ _ c.args.text.now.items c.push_numbered.new.out.items c.push_numbered-2.new.out.items _
     (c.from.ensures ∙ c.count.ensures ∙ ap (length {A = Element}) same)
     (bytes ∙ long)
-    (c.len-4.ensures ∙ c.in_ok-shown.shown.ok.0 ∙ ap length c.in_ok-shown.ensures)
+    c.in_ok-shown.ensures
     c.in_ok-push_numbered.ensures c.in_ok-push_numbered-2.ensures refl)
     c.push_numbered-3.ensures

@@ -1,9 +1,16 @@
-use Rattle.std.proofs.Common.{◌+◌, length, sym, ◌∙◌}
+use Rattle.std.proofs.Common.{◌+◌, ℕ, List, [], ◌++◌, length, refl, sym, ap, ◌∙◌}
+use Rattle.dgn_drawing.specs.Spelling.{spell}
+use Rattle.dgn_drawing.specs.NewElements.{made}
 use Rattle.elem_index.specs.Design.{elements}
+use Rattle.edit_ops.proofs.Behind.{appends_behind}
 use Rattle.edit_ops.proofs.Deciding.{made_plan}
 use Rattle.edit_ops.proofs.planning.plan_append.Goals as goal
 
 pub returns-clause-planned : goal.returns-clause-planned
 returns-clause-planned c =
-    made_plan c.args.d.now.dim (elements c.args.d.now) (length c.args.d.now.tail.items + c.args.pending) c.args.edit.now c.in-Append.new (record { patches = c.new.result; append = c.in_ok-append.append })
-    c.in-Append.is (sym c.edit_cause.ensures ∙ c.in_default-edit_cause.is) c.new.ensures c.in_ok-append.ensures
+    let d = c.args.d.now in
+    let rest = length c.args.d.now.tail.items + c.args.pending in
+    let bytes = spell (made c.in-Append.new) in
+    appends_behind d.dim (elements d) rest c.args.edit.now c.args.all.now (record { patches = c.args.all.now.patches; append = c.push_all.new.self }) bytes
+    (made_plan d.dim (elements d) rest c.args.edit.now c.in-Append.new (record { patches = []; append = bytes }) c.in-Append.is (sym c.edit_cause.ensures ∙ c.in_default-edit_cause.is) refl refl)
+    refl (c.in_ok-push_all.ensures.ok ∙ ap (λ (b : List ℕ). c.args.all.now.append ++ b) c.in_ok-bytes.ensures)

@@ -5,11 +5,11 @@ use Rattle.dgn_drawing.specs.Rows.{row_of}
 use Rattle.dgn_drawing.specs.Numbering.{Mark, mark_of}
 use Rattle.elem_index.specs.Design.{elements}
 use Rattle.level_view.specs.Back.{read_back}
-use Rattle.level_view.proofs.Results.{ok_gives}
+use Rattle.level_view.proofs.Results.{ok_same}
 use Rattle.level_view.proofs.Places.{mark-rows, mark_told}
 use Rattle.level_view.proofs.Roots.{IsTree, parent_at, root_known, root_found}
-use Rattle.level_view.proofs.view.tree_items.Goals as goal
-use Rattle.level_view.proofs.view.tree_items.Goals.{In-Some}
+use Rattle.level_view.proofs.view.tree_items_into.Goals as goal
+use Rattle.level_view.proofs.view.tree_items_into.Goals.{In-Some}
 
 -- the tree of the root, and its span
 tree_of : (c : goal.In-Some) → IsTree c.args.d.now.dim c.args.mask (elements c.args.d.now) c.args.n (forest row_of (elements c.args.d.now)) 0
@@ -29,15 +29,15 @@ first_is c = ap (λ (x : ℕ × ℕ). x.0) (span_is c)
 end_is : (c : goal.In-Some) → c.in-Some.end ≡ (tree_of c).mark.end
 end_is c = ap (λ (x : ℕ × ℕ). x.1) (span_is c)
 
-pub items_between-requires-clause-within : goal.items_between-requires-clause-within
-items_between-requires-clause-within c = omega (arith, end_is c, (tree_of c).within)
+pub put_between-requires-clause-within : goal.put_between-requires-clause-within
+put_between-requires-clause-within c = let at = (goal.at.put_between-requires-clause-within c).In-Some in omega (arith, end_is at, (tree_of at).within)
 
-pub items_between-requires-clause-ordered : goal.items_between-requires-clause-ordered
-items_between-requires-clause-ordered c = omega (arith, first_is c, end_is c, (tree_of c).ordered)
+pub put_between-requires-clause-ordered : goal.put_between-requires-clause-ordered
+put_between-requires-clause-ordered c = let at = (goal.at.put_between-requires-clause-ordered c).In-Some in omega (arith, first_is at, end_is at, (tree_of at).ordered)
 
 pub returns : goal.returns
 returns c =
     let at = (goal.at.returns c).In-Some in
-    ok_gives (λ found. found.items) c.items_between.result _ _ c.items_between.ensures
+    ok_same c.put_between.result _ _ _ c.put_between.ensures
     (ap (λ (k : ℕ). read_back c.args.d.now.dim c.args.mask (elements c.args.d.now) k (c.in-Some.end - k)) (first_is at)
     ∙ ap (λ (k : ℕ). read_back c.args.d.now.dim c.args.mask (elements c.args.d.now) c.args.n (k - c.args.n)) (end_is at) ∙ (tree_of at).found)

@@ -2,7 +2,7 @@ use Rattle.std.proofs.Common.{◌≡◌, ℕ, ◌-◌, ap, ◌∙◌, arith, rev
 use Rattle.elem_index.specs.Design.{elements}
 use Rattle.level_view.specs.Back.{read_back}
 use Rattle.level_view.proofs.Places.{back_step}
-use Rattle.level_view.proofs.view.items_between.Goals as goal
+use Rattle.level_view.proofs.view.put_between.Goals as goal
 
 pub loop-n-preserved : goal.loop-n-preserved
 loop-n-preserved c = record {
