@@ -1,6 +1,7 @@
 // Runs over a desk of memory, by the rows of the format's examples.
 
 mod elements;
+mod faults;
 mod fences;
 mod made;
 
