@@ -5,7 +5,7 @@ ghost use Rattle.std.specs.FinMap as maps;
 ghost use Rattle.dgn_desk.specs.declared.act.Act.TheVariants as act;
 ghost use Rattle.dgn_desk.specs.Content.{opened, consumed, filed, written, spoken, with_file, HasFile, HasTarget};
 ghost use Rattle.dgn_desk.specs.Desk.{Counts, TakesFirst, TakesSome, StaysWilling, DoesNotFail};
-ghost use Rattle.dgn_desk.specs.NumberedDesk.{next_number, is_listed, none_ahead, is_missing, has_no_target, Answers};
+ghost use Rattle.dgn_desk.specs.NumberedDesk.{is_listed, none_ahead, is_missing, has_no_target, Answers};
 
 use crate::act::Act;
 use crate::desk::Desk;
@@ -142,7 +142,8 @@ impl Desk for MemDesk {
         ensures cause { Counts self.old.read_faults self.new.read_faults result }
         ensures stays { StaysWilling (none_ahead self.old) (none_ahead self.new) }
         ensures able { IsTrue (none_ahead self.old) → HasFile name.now (Some self.old.content) → DoesNotFail result }
-        ensures exact { Answers act.BeginRead (is_listed self.old || is_missing name.now self.old.content) (λ _. opened name.now) result self.old self.new }
+        ensures exact { Answers act.BeginRead (is_listed self.old || is_missing name.now self.old.content)
+            (λ _. opened name.now) result self.old self.new }
     {
         self.acts.reserve(1)?;
         if self.is_listed() || self.under.file(name).is_none() {
@@ -197,7 +198,8 @@ impl Desk for MemDesk {
         ensures taken { IfOk result (TakesSome bytes.now) }
         ensures stays { StaysWilling (none_ahead self.old) (none_ahead self.new) }
         ensures able { IsTrue (none_ahead self.old) → HasTarget (Some self.old.content) → DoesNotFail result }
-        ensures exact { Answers act.Write (is_listed self.old || has_no_target self.old.content) (λ count. written (take count bytes.now)) result self.old self.new }
+        ensures exact { Answers act.Write (is_listed self.old || has_no_target self.old.content)
+            (λ count. written (take count bytes.now)) result self.old self.new }
     {
         self.acts.reserve(1)?;
         if self.is_listed() || !self.begun {
