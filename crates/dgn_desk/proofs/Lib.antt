@@ -1,3 +1,4 @@
 pub mod FileMaps
 pub mod Gathering
+pub mod Numbered
 pub mod Telling

@@ -1,6 +1,6 @@
 -- What the calls of a desk answer and change. What a desk holds is told or not, and each clause says
 -- what is told after a call by what was told before it.
-use Rattle.std.specs.Prelude.{ℕ, ◌≡◌, ◌⊎◌, ◌+◌, ◌-◌, ◌^◌, ◌≤◌, ◌<◌, min, List, [], ◌++◌, length, take, Option, option_map, Result, Ok, Err, IfOk, IfSome, Bool, IsTrue, ⊤}
+use Rattle.std.specs.Prelude.{ℕ, ◌≡◌, ◌⊎◌, ◌+◌, ◌-◌, ◌^◌, ◌≤◌, ◌<◌, min, List, [], ◌++◌, length, take, drop, Option, option_map, Result, Ok, Err, IfOk, IfSome, Bool, IsTrue, ⊤}
 use Rattle.dgn_desk.specs.declared.stop.Stop.{Stop}
 use Rattle.dgn_desk.specs.declared.stop.Stop.TheVariants.{Failed, Memory}
 use Rattle.dgn_desk.specs.declared.reading.ReadEnd.{ReadEnd}
@@ -80,3 +80,20 @@ DoesNotFault (Ok x) = ⊤
 DoesNotFault (Err ends.Fault) = ⊥
 DoesNotFault (Err ends.TooLong) = ⊤
 DoesNotFault (Err ends.Memory) = ⊤
+
+-- what stands behind some first part of these bytes that has at most so many
+abbrev pub IsBehind : ℕ → List ℕ → List ℕ → Type 0
+IsBehind most bytes left = (count : ℕ) × (count ≤ most) × (left ≡ drop count bytes)
+
+-- what is left to read after the reading of a whole file of these bytes, of which so many were allowed: nothing once it was
+-- read; of one that is too long what stands behind one byte more; and where the reading stopped what was left before, or what
+-- stands behind the bytes that were read, at most one more than were allowed
+abbrev pub LeftAfter : {T : Type 0} → Result T ReadEnd → ℕ → List ℕ → List ℕ → List ℕ → Type 0
+LeftAfter (Ok x) limit bytes before now = now ≡ []
+LeftAfter (Err ends.TooLong) limit bytes before now = now ≡ drop (limit + 1) bytes
+LeftAfter (Err ends.Fault) limit bytes before now = (now ≡ before) ⊎ IsBehind (limit + 1) bytes now
+LeftAfter (Err ends.Memory) limit bytes before now = (now ≡ before) ⊎ IsBehind (limit + 1) bytes now
+
+-- the same, where it is told what is left
+abbrev pub Leaves : {T : Type 0} → Result T ReadEnd → ℕ → (Content → List ℕ) → Option Content → Option Content → Type 0
+Leaves result limit bytes old new = IfSome old (λ b. IfSome new (λ n. LeftAfter result limit (bytes b) b.left n.left))

@@ -2,3 +2,4 @@ pub mod Content
 pub mod Desk
 pub mod FileLaws
 pub mod FileMap
+pub mod NumberedDesk

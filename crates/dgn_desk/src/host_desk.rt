@@ -1,8 +1,9 @@
-ghost use Rattle.std.specs.Prelude.{◌≡◌, None, Err, false};
+ghost use Rattle.std.specs.Prelude.{◌≡◌, ◌≤◌, length, None, IfOk, IsErrOf, false};
 ghost use Rattle.std.proofs.Common.{rules};
-ghost use Rattle.dgn_desk.specs.Desk.{Counts};
+ghost use Rattle.dgn_desk.specs.Desk.{Counts, TakesSome};
 
 use crate::desk::Desk;
+use crate::failing::failed;
 use crate::stop::Stop;
 use std::fs;
 use std::io::{Read, Write};
@@ -12,7 +13,7 @@ use std::rt::Files;
 ///
 /// A name is a path as std takes it. All that is said goes to standard output, and nothing goes to
 /// standard error. Each error of the system is answered as `Failed` and counted, want of memory in the
-/// system too; the desk itself takes no memory. It tells nothing of what it holds, and is never willing.
+/// system too; the desk itself takes no memory, so none of its calls answers `Memory`. It tells nothing of what it holds, and is never willing.
 #[derive(Drop)]
 pub struct HostDesk<R: Files> {
     rt: R,
@@ -49,7 +50,11 @@ impl<R: Files + Print + Drop> Desk for HostDesk<R> {
 
     ghost tells = { Prim.search rules };
 
-    fn begin_read(&mut self, name: &str) -> Result<(), Stop> {
+    fn begin_read(&mut self, name: &str) -> Result<(), Stop>
+        ensures cause { Counts self.old.read_faults self.new.read_faults result }
+        ensures other { self.new.write_faults ≡ self.old.write_faults }
+        ensures memory { ¬ IsErrOf result Stop.Memory }
+    {
         let Ok(file) = fs::open(&self.rt, name) else {
             return failed(&mut self.read_faults);
         };
@@ -58,7 +63,12 @@ impl<R: Files + Print + Drop> Desk for HostDesk<R> {
     }
 
     /// Where no file was begun, 0.
-    fn read(&mut self, buf: &mut [u8]) -> Result<usize, Stop> {
+    fn read(&mut self, buf: &mut [u8]) -> Result<usize, Stop>
+        ensures cause { Counts self.old.read_faults self.new.read_faults result }
+        ensures other { self.new.write_faults ≡ self.old.write_faults }
+        ensures within { IfOk result (λ count. count ≤ length buf.new) }
+        ensures memory { ¬ IsErrOf result Stop.Memory }
+    {
         let Some(file) = &mut self.reading else {
             return Ok(0);
         };
@@ -68,7 +78,11 @@ impl<R: Files + Print + Drop> Desk for HostDesk<R> {
         }
     }
 
-    fn begin_write(&mut self, name: &str) -> Result<(), Stop> {
+    fn begin_write(&mut self, name: &str) -> Result<(), Stop>
+        ensures cause { Counts self.old.write_faults self.new.write_faults result }
+        ensures other { self.new.read_faults ≡ self.old.read_faults }
+        ensures memory { ¬ IsErrOf result Stop.Memory }
+    {
         let Ok(file) = fs::create(&self.rt, name) else {
             return failed(&mut self.write_faults);
         };
@@ -77,7 +91,12 @@ impl<R: Files + Print + Drop> Desk for HostDesk<R> {
     }
 
     /// Where no file was begun, `Failed`.
-    fn write(&mut self, bytes: &[u8]) -> Result<usize, Stop> {
+    fn write(&mut self, bytes: &[u8]) -> Result<usize, Stop>
+        ensures cause { Counts self.old.write_faults self.new.write_faults result }
+        ensures other { self.new.read_faults ≡ self.old.read_faults }
+        ensures taken { IfOk result (TakesSome bytes.now) }
+        ensures memory { ¬ IsErrOf result Stop.Memory }
+    {
         let Some(file) = &mut self.writing else {
             return failed(&mut self.write_faults);
         };
@@ -87,19 +106,15 @@ impl<R: Files + Print + Drop> Desk for HostDesk<R> {
         }
     }
 
-    fn say(&mut self, bytes: &[u8]) -> Result<usize, Stop> {
+    fn say(&mut self, bytes: &[u8]) -> Result<usize, Stop>
+        ensures cause { Counts self.old.write_faults self.new.write_faults result }
+        ensures other { self.new.read_faults ≡ self.old.read_faults }
+        ensures taken { IfOk result (TakesSome bytes.now) }
+        ensures memory { ¬ IsErrOf result Stop.Memory }
+    {
         match self.rt.write_some(bytes) {
             Ok(count) if count > 0 || bytes.is_empty() => Ok(count),
             _ => failed(&mut self.write_faults),
         }
     }
-}
-
-// Counts one more fault, up to the last value of the counter, and answers it.
-fn failed<T>(count: &mut u64) -> Result<T, Stop>
-    ensures cause { Counts count.old count.new result }
-    ensures answer { result ≡ Err Stop.Failed }
-{
-    *count = count.saturating_add(1);
-    Err(Stop::Failed)
 }

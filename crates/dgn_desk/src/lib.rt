@@ -2,16 +2,21 @@
 //! things. Its contract counts the faults and, for a desk that tells it, gives the content.
 #![tactic(auto)]
 
+mod act;
 mod desk;
+mod failing;
 mod file_map;
 mod host_desk;
+mod mem_desk;
 mod reading;
 mod stop;
 mod sure_desk;
 mod writing;
 
+pub use act::Act;
 pub use desk::Desk;
 pub use host_desk::HostDesk;
+pub use mem_desk::MemDesk;
 pub use reading::{ReadEnd, read_all};
 pub use stop::Stop;
 pub use sure_desk::SureDesk;

@@ -1,7 +1,7 @@
 ghost use Rattle.std.specs.Prelude.{◌≡◌, ◌+◌, ◌<◌, ◌≤◌, ◌^◌, length, vec_len, IfOk, IfSome, IsErrOf, IsTrue};
 ghost use Rattle.dgn_desk.specs.declared.reading.ReadEnd.TheVariants.{Memory};
 ghost use Rattle.dgn_desk.specs.Content.{bytes_of, consumed, OnlyLeftDiffers, HasFile};
-ghost use Rattle.dgn_desk.specs.Desk.{Counts, Changes, Reads, ReadCounts, StaysWilling, DoesNotFail, DoesNotFault, end_of};
+ghost use Rattle.dgn_desk.specs.Desk.{Counts, Changes, Reads, ReadCounts, StaysWilling, DoesNotFail, DoesNotFault, Leaves, end_of};
 
 use crate::desk::Desk;
 use crate::stop::Stop;
@@ -45,7 +45,9 @@ const PIECE: usize = 65536;
 /// `TooLong` comes exactly where the file has more than `limit` bytes, a fault and want of memory
 /// before that aside. `Fault` comes only where the desk's count of faults of reading rose in this
 /// call, and never over a willing desk that has the file. Over any desk it ends at `limit + 1` bytes at
-/// the latest. Nothing but what is left to read changes, and a willing desk stays willing.
+/// the latest. Nothing but what is left to read changes: nothing is left of a file that was read whole,
+/// and else it is what was left before, or the file behind those bytes that were read. A willing desk
+/// stays willing.
 pub fn read_all<D: Desk>(
     alloc: Global,
     desk: &mut D,
@@ -59,6 +61,7 @@ pub fn read_all<D: Desk>(
     ensures cause { ReadCounts (D.read_faults desk.old) (D.read_faults desk.new) result }
     ensures other { D.write_faults desk.new ≡ D.write_faults desk.old }
     ensures told { OnlyLeftDiffers (D.content desk.old) (D.content desk.new) }
+    ensures left { Leaves result limit (λ c. bytes_of c.files name.now) (D.content desk.old) (D.content desk.new) }
     ensures stays { StaysWilling (D.willing desk.old) (D.willing desk.new) }
     ensures able { IsTrue (D.willing desk.old) → HasFile name.now (D.content desk.old) → DoesNotFault result }
 {
@@ -82,6 +85,7 @@ fn gather<D: Desk>(
     ensures cause { ReadCounts (D.read_faults desk.old) (D.read_faults desk.new) result }
     ensures other { D.write_faults desk.new ≡ D.write_faults desk.old }
     ensures told { OnlyLeftDiffers (D.content desk.old) (D.content desk.new) }
+    ensures left { Leaves result limit (λ c. c.left) (D.content desk.old) (D.content desk.new) }
     ensures stays { StaysWilling (D.willing desk.old) (D.willing desk.new) }
     ensures able { IsTrue (D.willing desk.old) → DoesNotFault result }
 {

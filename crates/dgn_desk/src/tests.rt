@@ -4,7 +4,11 @@ ghost use Rattle.std.specs.Prelude.{◌≡◌, None, Err, false};
 ghost use Rattle.std.proofs.Common.{rules};
 ghost use Rattle.dgn_desk.specs.Desk.{Counts};
 
+mod full_output;
+mod mem_desk;
+
 use super::*;
+use full_output::{FULL, FullOutput};
 use std::alloc::{AllocError, Global};
 use std::fs;
 use std::test::Fail;
@@ -27,6 +31,21 @@ fn host_desk_writes_reads_and_says(rt: HostRuntime) -> Result<(), Fail> {
     fs::remove_file(&rt, NAME)?;
     assert_eq!(rt; read_all(alloc, &mut desk, NAME, 9), Err(ReadEnd::Fault));
     assert_eq!(rt; say_all(&mut desk, b"said\n"), Ok(()));
+    Ok(())
+}
+
+// A device that takes no byte, as a file and as the output: the disk's error is a fault of writing.
+#[test]
+fn host_desk_on_a_full_disk(rt: HostRuntime) -> Result<(), Fail> {
+    let mut desk = HostDesk::new(FullOutput::new(rt.clone()?));
+    assert_eq!(rt; desk.begin_write(FULL), Ok(()));
+    assert_eq!(rt; desk.write(b"lost"), Err(Stop::Failed));
+    assert_eq!(rt; desk.say(b"lost"), Err(Stop::Failed));
+    assert_eq!(rt;
+        write_file(&mut desk, FULL, b"a", b"", b""),
+        Err(Stop::Failed)
+    );
+    assert_eq!(rt; say_all(&mut desk, b"lost"), Err(Stop::Failed));
     Ok(())
 }
 

@@ -5,8 +5,8 @@ ghost use Rattle.dgn_desk.specs.Desk.{Counts, SaysAll, FilesAll, AddsAll, StaysW
 use crate::desk::Desk;
 use crate::stop::Stop;
 
-/// Says all the bytes. Where the desk stops, some first part of them was said. A willing desk doesn't
-/// fail, and stays willing.
+/// Says all the bytes: the desk is handed all that is left each time, and goes on behind a short call.
+/// Where it stops, some first part of them was said. A willing desk doesn't fail, and stays willing.
 pub fn say_all<D: Desk>(desk: &mut D, bytes: &[u8]) -> Result<(), Stop>
     ensures cause { Counts (D.write_faults desk.old) (D.write_faults desk.new) result }
     ensures other { D.read_faults desk.new ≡ D.read_faults desk.old }
@@ -23,9 +23,10 @@ pub fn say_all<D: Desk>(desk: &mut D, bytes: &[u8]) -> Result<(), Stop>
     Ok(())
 }
 
-/// Makes the named file hold the body, then the tail, and then what fills it. Where the desk stops, the
-/// file wasn't begun and nothing changed, or it holds some first part of these bytes. A willing desk
-/// doesn't fail, and stays willing.
+/// Makes the named file hold the body, then the tail, and then what fills it. The desk is handed all that
+/// is left of the body each time, then of the tail, then of what fills it, and goes on behind a short
+/// call. Where it stops, the file wasn't begun and nothing changed, or it holds some first part of these
+/// bytes. A willing desk doesn't fail, and stays willing.
 pub fn write_file<D: Desk>(
     desk: &mut D,
     name: &str,

@@ -1,5 +1,6 @@
 // Runs over a desk of memory, by the rows of the format's examples.
 
+mod faults;
 mod fences;
 mod hostile;
 mod made;

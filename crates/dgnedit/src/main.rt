@@ -1,6 +1,10 @@
 //! `dgnedit`: changes what a script asks for in a design file, and leaves every other byte.
 #![tactic(auto)]
 
+ghost use Rattle.std.specs.Prelude.{◌≡◌};
+ghost use Rattle.std.specs.Process.{exit_status};
+ghost use Rattle.dgn_tool.specs.Status.{number_of};
+
 use dgn_desk::HostDesk;
 use dgn_tool::{Status, run};
 use std::process::ExitCode;
@@ -14,6 +18,13 @@ fn main(rt: HostRuntime) -> ExitCode {
         Err(error) if error.kind() == io::ErrorKind::OutOfMemory => Status::Memory,
         Err(_) => run(alloc, &[], &mut HostDesk::new(rt)),
     };
+    exit_code(status)
+}
+
+// What the program ends with: the number of the status.
+fn exit_code(status: Status) -> ExitCode
+    ensures { exit_status result ≡ number_of status }
+{
     ExitCode::from(status.number())
 }
 

@@ -1,0 +1,9 @@
+use Rattle.std.proofs.Common.{◌∷◌, ◌++◌, [], ap, ◌∙◌}
+use Rattle.dgn_desk.specs.declared.act.Act.TheVariants.{Say}
+use Rattle.dgn_desk.proofs.Numbered.{stays_ahead}
+use Rattle.dgn_desk.proofs.mem_desk.MemDeskDesk.say.Goals as goal
+
+pub returns-clause-stays : goal.returns-clause-stays
+returns-clause-stays c =
+    stays_ahead _ _ _ _ Say (ap (λ d. d.fails) c.self.view_is)
+    (c.push_reserved-2.ensures.items ∙ ap (λ acts. acts ++ Say ∷ []) (c.reserve.ensures.items ∙ ap (λ d. d.acts) c.self.view_is))

@@ -1,0 +1,15 @@
+ghost use Rattle.std.specs.Prelude.{◌≡◌, Err};
+ghost use Rattle.dgn_desk.specs.Desk.{Counts};
+ghost use Rattle.dgn_desk.specs.NumberedDesk.{one_more};
+
+use crate::stop::Stop;
+
+// Counts one more fault, up to the last value of the counter, and answers it.
+pub(crate) fn failed<T>(count: &mut u64) -> Result<T, Stop>
+    ensures counted { count.new ≡ one_more count.old }
+    ensures cause { Counts count.old count.new result }
+    ensures answer { result ≡ Err Stop.Failed }
+{
+    *count = count.saturating_add(1);
+    Err(Stop::Failed)
+}
