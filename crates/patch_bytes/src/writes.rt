@@ -13,12 +13,26 @@ pub fn swap_in(buf: &mut [u8], p: Patch) -> Patch
     ensures written { buf.new ≡ lay buf.old (put_of p) }
     ensures restores { put_of result ≡ old_of buf.old (put_of p) }
 {
+    match p.len {
+        1 => exchange::<1>(buf, p),
+        2 => exchange::<2>(buf, p),
+        3 => exchange::<3>(buf, p),
+        _ => exchange::<4>(buf, p),
+    }
+}
+
+// The same of a patch of LEN bytes. That the number is known makes the copies single moves.
+fn exchange<const LEN: usize>(buf: &mut [u8], p: Patch) -> Patch
+    requires long { p.len ≡ LEN }
+    requires within { IsWithin (length buf.old) (put_of p) }
+    ensures written { buf.new ≡ lay buf.old (put_of p) }
+    ensures restores { put_of result ≡ old_of buf.old (put_of p) }
+{
     let from = p.at as usize;
-    let len = usize::from(p.len);
-    let place = &mut buf[from..from + len];
+    let place = &mut buf[from..from + LEN];
     let mut bytes = [0; 4];
-    bytes[..len].copy_from_slice(place);
-    place.copy_from_slice(&p.bytes[..len]);
+    bytes[..LEN].copy_from_slice(place);
+    place.copy_from_slice(&p.bytes[..LEN]);
     Patch {
         at: p.at,
         len: p.len,
