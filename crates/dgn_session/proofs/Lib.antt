@@ -10,3 +10,4 @@ pub mod Carried
 pub mod Choosing
 pub mod Chosen
 pub mod Restored
+pub mod Blocks

@@ -14,6 +14,7 @@ ghost use Rattle.dgn_session.specs.Laws.{IsSound};
 
 use crate::carrying::carry;
 use crate::fence_edit_fault::FenceEditFault;
+use crate::nesting::nest_design;
 use crate::nothing::Nothing;
 use crate::select_fault::SelectFault;
 use crate::selecting::select;
@@ -24,7 +25,6 @@ use dgn_fence::types::Fence;
 use edit_ops::{EditFault, plan, plan_all};
 use elem_index::Design;
 use level_view::{count_shown, show};
-use nest_tree::nest;
 use nest_tree::types::Nest;
 use std::alloc::{AllocError, Global};
 use std::marker::Model;
@@ -66,8 +66,7 @@ impl Session {
         ensures value { IfOk result (λ s. s ≡ started d) }
         ensures begun { IfOk result (λ s. state_of s ≡ begun d.dim (elements d) (length d.tail.items)) }
     {
-        let rows = d.rows()?;
-        let nest = nest(alloc, &rows)?;
+        let nest = nest_design(alloc, &d)?;
         Ok(Session {
             alloc,
             design: d,

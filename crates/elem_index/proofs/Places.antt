@@ -1,9 +1,9 @@
 -- What a whole design says of its elements: how many there are, and where each stands in the body.
 use Rattle.std.proofs.Common.{◌≡◌, ℕ, zero, suc, ◌+◌, ◌-◌, ◌<◌, ◌≤◌, List, [], ◌∷◌, ◌++◌, length, take, drop, map, get_or, refl, sym, ap, ◌∙◌, subst, arith, true, false, length-append, zero-add, inl, inr}
-use Rattle.std.specs.Prelude.{slice_get, vec_len, Option, Some, None, option_map}
+use Rattle.std.specs.Prelude.{slice_get, vec_len, Option, Some, None, option_map, IsFalse, Bool, not}
 use Rattle.std.specs.List.{AllByRecursion}
 use Rattle.std.specs.declared.result.Result.TheVariants.{Ok}
-use Rattle.std.proofs.lemmas.List.{append-nil, take_at, drop_at, take-append-drop, drop-drop, take_all, take_more, map-append, length-map}
+use Rattle.std.proofs.lemmas.List.{append-nil, take_at, drop_at, take-append-drop, drop-drop, take_all, take_more, map-append, length-map, drop_more}
 use Rattle.dgn_drawing.specs.Element.{Element}
 use Rattle.dgn_drawing.specs.Spelling.{spell, spelling, size_of}
 use Rattle.dgn_drawing.specs.WellFormed.{IsDimension, IsWellFormed}
@@ -12,6 +12,7 @@ use Rattle.dgn_drawing.proofs.Read.{size_said-spell, element_fault-spell}
 use Rattle.dgn_drawing.proofs.Rows.{row_at-spell}
 use Rattle.elem_head.specs.Head.{size_of as size_said}
 use Rattle.dgn_drawing.specs.Rows.{row_of, row_at}
+use Rattle.dgn_drawing.specs.Nesting.{BeginsFree}
 use Rattle.dgn_drawing.specs.Opening.{dimension, Opens}
 use Rattle.dgn_drawing.proofs.Opening.{dimension_is}
 use Rattle.dgn_drawing.proofs.Fronts.{opens_elements, opens_of, body_spelled, four_each}
@@ -139,7 +140,7 @@ each_at P [] n e each found = absurd (let f = found in cc)
 each_at P (x ∷ es) zero e each found = let same : x ≡ e = cc in subst P same each.0
 each_at P (x ∷ es) (suc n) e each found = each_at P es n e each.1 found
 
-sound_in : (dim : ℕ) (e : Element) → IsDimension dim → IsWellFormed dim e → IsSoundIn dim (spell e)
+pub sound_in : (dim : ℕ) (e : Element) → IsDimension dim → IsWellFormed dim e → IsSoundIn dim (spell e)
 sound_in dim e axes good = record {
   size = sym (size_said-spell dim e axes good []) ∙ ap size_said (append-nil (spell e));
   fault = element_fault-spell dim e axes good;
@@ -187,6 +188,10 @@ take_one_more : (es : List Element) (n : ℕ) (e : Element) → slice_get es n �
 take_one_more es n e found =
     take_more es n e (slice_get_within es n e found) ∙ ap (λ (x : Element). take n es ++ x ∷ []) (get_or_from_slice_get es n e e found)
 
+is_false : (b : Bool) → not b ≡ true → IsFalse b
+is_false false is = refl
+is_false true is = absurd (both_ways false refl is)
+
 -- the bytes of an element of a whole design, and the row that is read from them
 module _ (d : Design) (whole : IsWhole d) (n : ℕ) (b : List ℕ) (is : Some b ≡ option_map spell (slice_get (elements d) n)) where
   this : (e : Element) × (slice_get (elements d) n ≡ Some e) × (b ≡ spell e)
@@ -202,3 +207,12 @@ module _ (d : Design) (whole : IsWhole d) (n : ℕ) (b : List ℕ) (is : Some b 
   rows_more row read =
       ap (map row_of) (take_one_more (elements d) n this.0 this.1) ∙ map-append row_of (take n (elements d)) (this.0 ∷ [])
       ∙ ap (λ (r : Row). map row_of (take n (elements d)) ++ r ∷ []) (sym (row_at-spell d.dim this.0 (axes_of d whole) good) ∙ ap row_at (sym this.2) ∙ sym read)
+
+  -- and where it has no bit C, the elements from there on begin without it
+  pub free_here : (row : Row) → row ≡ row_at b → not row.cbit ≡ true → BeginsFree row_of (drop n (elements d))
+  free_here row read free =
+      let same : row_of this.0 ≡ row = sym (row_at-spell d.dim this.0 (axes_of d whole) good) ∙ ap row_at (sym this.2) ∙ sym read in
+      let within = slice_get_within (elements d) n this.0 this.1 in
+      let from : drop n (elements d) ≡ this.0 ∷ drop (n + 1) (elements d)
+      = drop_more (elements d) n this.0 within ∙ ap (λ (e : Element). e ∷ drop (n + 1) (elements d)) (get_or_from_slice_get (elements d) n this.0 this.0 this.1) in
+      subst (BeginsFree row_of) (sym from) (subst (λ (r : Row). IsFalse r.cbit) (sym same) (is_false row.cbit free))

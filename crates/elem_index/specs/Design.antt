@@ -1,8 +1,11 @@
 -- A design: the dimension, body and tail of a file that opens, and the offsets of its elements. And when the
 -- kept offsets can follow a body that has grown, or one that has lost its last elements.
-use Rattle.std.specs.Prelude.{ℕ, ◌≡◌, ◌+◌, ◌-◌, ◌≤◌, List, ◌++◌, length, take, vec_len, vec_capacity}
+use Rattle.std.specs.Prelude.{ℕ, ◌≡◌, ◌+◌, ◌-◌, ◌≤◌, ◌<◌, List, ◌++◌, length, take, drop, map, vec_len, vec_capacity}
 use Rattle.elem_index.specs.declared.design.Design.{Design}
 use Rattle.dgn_drawing.specs.Element.{Element}
+use Rattle.dgn_drawing.specs.declared.row.Row.{Row}
+use Rattle.dgn_drawing.specs.Rows.{row_of}
+use Rattle.dgn_drawing.specs.Nesting.{BeginsFree}
 use Rattle.dgn_drawing.specs.Opening.{Opens, elements_of}
 use Rattle.elem_index.specs.Offsets.{offsets_of}
 
@@ -40,6 +43,13 @@ pub record IsBehind (count : ℕ) (d : Design) : Type 0 where
   pub is_open : IsOpen d
   pub many : length (elements d) ≡ count
   pub first : take count (kept_of d) ≡ offsets_of (elements d)
+
+-- the rows of some elements from number n on; the first element behind them, if there is one, has no bit C
+pub record IsBlock (es : List Element) (n : ℕ) (rows : List Row) : Type 0 where
+  pub some : 0 < length rows
+  pub within : n + length rows ≤ length es
+  pub are : map row_of (take n es) ++ rows ≡ map row_of (take (n + length rows) es)
+  pub free : BeginsFree row_of (drop (n + length rows) es)
 
 -- dimension, body and tail stay, with the room that body and tail have
 pub record SameText (old new : Design) : Type 0 where

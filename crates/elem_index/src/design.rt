@@ -1,9 +1,9 @@
-ghost use Rattle.std.specs.Prelude.{◌≡◌, ◌≤◌, ◌<◌, ◌+◌, ◌++◌, ◌↔◌, length, vec_len, IfOk, IfErr, IsErrOf, IsNone, IfSome, map, slice_get, option_map};
+ghost use Rattle.std.specs.Prelude.{◌≡◌, ◌≤◌, ◌<◌, ◌+◌, ◌++◌, ◌↔◌, length, vec_len, IfOk, IfErr, IsErrOf, IsNone, IfSome, OnOk, map, slice_get, option_map};
 ghost use Rattle.dgn_drawing.specs.Spelling.{spell};
 ghost use Rattle.dgn_drawing.specs.Rows.{row_of};
 ghost use Rattle.elem_index.specs.Offsets.{offset_of, offsets_of};
 ghost use Rattle.elem_index.specs.Opened.{opening};
-ghost use Rattle.elem_index.specs.Design.{elements, IsWhole};
+ghost use Rattle.elem_index.specs.Design.{elements, IsWhole, IsBlock};
 ghost use Rattle.elem_index.specs.Answers.{HasCount, HasToldFault, Tells, TellsFault};
 
 use crate::open_fault::OpenFault;
@@ -12,6 +12,9 @@ use dgn_drawing::{Row, row_of};
 use std::alloc::{AllocError, Global};
 
 mod growth;
+
+// How many rows a block has at the least, if there are so many.
+const ROW_BLOCK: usize = 4096;
 
 /// A design file that is open: its dimension, the bytes of its elements, and the bytes behind them.
 ///
@@ -125,6 +128,29 @@ impl Design {
         ensures { result.now ≡ offsets_of (elements self.now) }
     {
         self.kept.as_slice()
+    }
+
+    /// Puts the rows of some elements, from number `n` on, in place of what the list holds: of 4096 and of those with bit C
+    /// that follow, or of as many as there are. So what is behind them nests apart.
+    pub fn row_block(&self, n: u32, rows: &mut Vec<Row>) -> Result<(), AllocError>
+        requires whole { IsWhole self.now }
+        requires known { n < length (elements self.now) }
+        ensures block { OnOk result (IsBlock (elements self.now) n rows.new.items) }
+    {
+        rows.clear();
+        for at in n..self.count() {
+            match self.element(at) {
+                Some(bytes) => {
+                    let row = row_of(bytes);
+                    if ROW_BLOCK <= rows.len() && !row.cbit {
+                        return Ok(());
+                    }
+                    rows.push(row)?;
+                }
+                None => unreachable!(),
+            }
+        }
+        Ok(())
     }
 
     /// The row of each element, in file order: what the nesting looks at.

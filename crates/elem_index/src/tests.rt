@@ -246,5 +246,10 @@ fn rows_of_a_file(rt: HostRuntime) -> Result<(), AllocError> {
         };
         assert_eq!(rt; *row, wanted);
     }
+    let mut block = Vec::new(alloc);
+    if design.count() == 3 {
+        design.row_block(1, &mut block)?;
+    }
+    assert_eq!(rt; block.as_slice(), &rows[1..]);
     Ok(())
 }

@@ -11,7 +11,7 @@ use Rattle.dgn_drawing.specs.Numbering.{Mark, marks, is_broken, is_broken_as}
 use Rattle.nest_tree.specs.Linked.{Link}
 use Rattle.nest_tree.specs.Depths.{IsWordTotal}
 use Rattle.nest_tree.specs.Passing.{passing, broken_in, below}
-use Rattle.nest_tree.specs.Places.{marks_in, link_of, end_told, ArePlaces}
+use Rattle.nest_tree.specs.Places.{marks_in, link_of, end_told, ArePlaces, NestApart}
 use Rattle.nest_tree.specs.Nested.{IsNest}
 use Rattle.nest_tree.proofs.Climbing.{get_first}
 use Rattle.nest_tree.proofs.Stacks.{length-marks_in}
@@ -44,16 +44,17 @@ broken_parted rows n list are = subst (IsPartitionedBy (λ m. nat_lt m n)) (sym 
 
 -- rows, and behind them others that nest apart
 module _ (rows new : List Row) (some : 0 < length rows) (free : BeginsFree itself new) where
-  pub marks_behind : marks_in (rows ++ new) ≡ marks_in rows ++ marks (nest itself All new) (length rows) 0 None
+  pub marks_behind : NestApart rows new
   unfolding marks_in
   marks_behind = numbered_behind rows new some free
 
+module _ (rows new : List Row) (apart : NestApart rows new) where
   pub marks_first : take (length rows) (marks_in (rows ++ new)) ≡ marks_in rows
-  marks_first = ap (take (length rows)) marks_behind ∙ take_at (marks_in rows) (marks (nest itself All new) (length rows) 0 None) (length rows) (length-marks_in rows)
+  marks_first = ap (take (length rows)) apart ∙ take_at (marks_in rows) (marks (nest itself All new) (length rows) 0 None) (length rows) (length-marks_in rows)
 
   pub marks_last : drop (length rows) (marks_in (rows ++ new)) ≡ marks (nest itself All (drop (length rows) (rows ++ new))) (length rows) 0 None
   marks_last =
-      ap (drop (length rows)) marks_behind ∙ drop_at (marks_in rows) (marks (nest itself All new) (length rows) 0 None) (length rows) (length-marks_in rows)
+      ap (drop (length rows)) apart ∙ drop_at (marks_in rows) (marks (nest itself All new) (length rows) 0 None) (length rows) (length-marks_in rows)
       ∙ ap (λ (l : List Row). marks (nest itself All l) (length rows) 0 None) (sym (drop_at rows new (length rows) refl))
 
   -- the first elements are broken as they were
@@ -62,7 +63,7 @@ module _ (rows new : List Row) (some : 0 < length rows) (free : BeginsFree itsel
   broken_first k from before =
       let inside : k < length rows = omega arith in
       let mark : slice_get (marks_in rows) k ≡ slice_get (marks_in (rows ++ new)) k =
-      sym (ap (λ (l : List Mark). slice_get l k) marks_behind ∙ get_first (marks_in rows) (marks (nest itself All new) (length rows) 0 None) k (omega (arith, length-marks_in rows))) in
+      sym (ap (λ (l : List Mark). slice_get l k) apart ∙ get_first (marks_in rows) (marks (nest itself All new) (length rows) 0 None) k (omega (arith, length-marks_in rows))) in
       ap (λ (o : Option Mark). is_broken_as itself k o (slice_get rows k)) mark
       ∙ ap (is_broken_as itself k (slice_get (marks_in (rows ++ new)) k)) (sym (get_first rows new k inside))
 
@@ -78,7 +79,7 @@ module _ (rows new : List Row) (some : 0 < length rows) (free : BeginsFree itsel
       ∙ sym (passing_same (is_broken itself rows) (is_broken itself (rows ++ new)) 0 (length rows) broken_first)
 
 -- what is kept of the rows is what is kept of the first of all
-module _ (rows new all : List Row) (ends : List ℕ) (links : List Link) (broken : List ℕ) (kept : IsNest rows ends links broken) (free : BeginsFree itself new) (is : all ≡ rows ++ new) where
+module _ (rows new all : List Row) (ends : List ℕ) (links : List Link) (broken : List ℕ) (kept : IsNest rows ends links broken) (apart : NestApart rows new) (is : all ≡ rows ++ new) where
   pub length-grown : length all ≡ length rows + length new
   length-grown = ap (length {A = Row}) is ∙ length-append rows new
 
@@ -93,7 +94,7 @@ module _ (rows new all : List Row) (ends : List ℕ) (links : List Link) (broken
   grown_words more = subst (AllByRecursion IsWordTotal) (sym is) (all_both IsWordTotal rows new kept.words more)
 
   grown_marks : take (length rows) (marks_in all) ≡ take (length rows) (marks_in rows)
-  grown_marks = ap (λ (l : List Row). take (length rows) (marks_in l)) is ∙ marks_first rows new kept.some free ∙ sym (all_marks rows)
+  grown_marks = ap (λ (l : List Row). take (length rows) (marks_in l)) is ∙ marks_first rows new apart ∙ sym (all_marks rows)
 
   pub grown_places : ArePlaces all (length ends) ends links
   grown_places =
@@ -107,17 +108,20 @@ module _ (rows new all : List Row) (ends : List ℕ) (links : List Link) (broken
   pub grown_apart : drop (length ends) (marks_in all) ≡ marks (nest itself All (drop (length ends) all)) (length ends) 0 None
   grown_apart =
       subst (λ (k : ℕ). drop k (marks_in all) ≡ marks (nest itself All (drop k all)) k 0 None) (sym length-kept_ends)
-      (subst (λ (l : List Row). drop (length rows) (marks_in l) ≡ marks (nest itself All (drop (length rows) l)) (length rows) 0 None) (sym is) (marks_last rows new kept.some free))
+      (subst (λ (l : List Row). drop (length rows) (marks_in l) ≡ marks (nest itself All (drop (length rows) l)) (length rows) 0 None) (sym is) (marks_last rows new apart))
 
   pub grown_broken : (first : ℕ) → first ≡ length ends → broken ≡ passing (is_broken itself all) 0 first
   grown_broken first at =
-      kept.are_broken ∙ broken_begun rows new kept.some free ∙ ap (λ (l : List Row). passing (is_broken itself l) 0 (length rows)) (sym is)
+      kept.are_broken ∙ broken_begun rows new apart ∙ ap (λ (l : List Row). passing (is_broken itself l) 0 (length rows)) (sym is)
       ∙ ap (passing (is_broken itself all) 0) (sym (at ∙ length-kept_ends))
 
 -- the first ones of all are left
 module _ (all : List Row) (ends : List ℕ) (links : List Link) (broken : List ℕ) (kept : IsNest all ends links broken) (count : ℕ) (some : 1 ≤ count) (free : BeginsFree itself (drop count all)) where
   left_some : 0 < length (take count all)
   left_some = let all_some = kept.some in omega (arith, length-take count all)
+
+  left_apart : NestApart (take count all) (drop count all)
+  left_apart = marks_behind (take count all) (drop count all) left_some free
 
   joined_again : take count all ++ drop count all ≡ all
   joined_again = take-append-drop count all
@@ -127,7 +131,7 @@ module _ (all : List Row) (ends : List ℕ) (links : List Link) (broken : List �
     | inl less ↦
         let few : count ≡ length (take count all) = omega (arith, length-take count all) in
         ap (λ (l : List Row). take count (marks_in l)) (sym joined_again) ∙ ap (λ (k : ℕ). take k (marks_in (take count all ++ drop count all))) few
-        ∙ marks_first (take count all) (drop count all) left_some free
+        ∙ marks_first (take count all) (drop count all) left_apart
     | inr past ↦ take_all count (marks_in all) (omega (arith, length-marks_in all)) ∙ ap marks_in (sym (take_all count all past))
   ]
 
@@ -141,7 +145,7 @@ module _ (all : List Row) (ends : List ℕ) (links : List Link) (broken : List �
     | inl less ↦
         let few : count ≡ length (take count all) = omega (arith, length-take count all) in
         ap (below count) (kept.are_broken ∙ ap broken_in (sym joined_again)) ∙ ap (λ (k : ℕ). below k (broken_in (take count all ++ drop count all))) few
-        ∙ broken_left (take count all) (drop count all) left_some free
+        ∙ broken_left (take count all) (drop count all) left_apart
     | inr past ↦ ap (below count) kept.are_broken ∙ broken_all all count past ∙ ap broken_in (sym (take_all count all past))
   ]
 

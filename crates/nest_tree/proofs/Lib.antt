@@ -23,4 +23,6 @@ pub mod Nestable
 pub mod Cut
 pub mod Grown
 pub mod Reached
+pub mod Blocks
 pub mod Walks
+pub mod Linking

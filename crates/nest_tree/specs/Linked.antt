@@ -1,5 +1,5 @@
 -- What is kept of an element beside the number behind its span, as contracts see it.
-use Rattle.std.specs.Prelude.{◌≡◌, ℕ, ◌==◌, Option, Some, None, if◌then◌else◌}
+use Rattle.std.specs.Prelude.{◌≡◌, ℕ, ◌==◌, Option, Some, None, if◌then◌else◌, List}
 use Rattle.std.proofs.Common.{sym, ◌∙◌, ap, inl, inr}
 use Rattle.std.proofs.lemmas.Bool.{cases_Bool, cond-true, cond-false, eqb-true}
 use Rattle.nest_tree.specs.declared.knot.Knot.{Knot}
@@ -8,6 +8,15 @@ pub record Link : Type 0 where
   pub parent : Option ℕ
   pub depth : ℕ
   pub knot : Knot
+
+-- that of a root with nothing below it
+abbrev pub plain_link : Link
+plain_link = record { parent = None; depth = 0; knot = Knot.Leaf }
+
+-- what is kept of elements, and for how many more there is room
+pub record Links : Type 0 where
+  pub items : List Link
+  pub spare : ℕ
 
 -- a kept number stands for a header, unless it is one that no element has
 abbrev pub header_of : ℕ → Option ℕ

@@ -3,7 +3,7 @@
 use Rattle.std.specs.Prelude.{ℕ, ◌+◌, ◌-◌, ◌<◌, ◌≤◌, ◌≡◌, ◌&&◌, ◌||◌, ◌==◌, not, is_some, Bool, true, false, if◌then◌else◌, Option, Some, None, List, [], ◌∷◌, ◌++◌, length, take, drop, map, slice_index, slice_index_or}
 use Rattle.dgn_layout.specs.Classes.{is_among}
 use Rattle.dgn_drawing.specs.declared.row.Row.{Row}
-use Rattle.dgn_drawing.specs.Nesting.{itself, nest, forest}
+use Rattle.dgn_drawing.specs.Nesting.{All, itself, nest, forest}
 use Rattle.dgn_drawing.specs.Numbering.{Mark, marks, marks_of}
 use Rattle.nest_tree.specs.declared.knot.Knot.{Knot}
 use Rattle.nest_tree.specs.Linked.{Link}
@@ -14,6 +14,10 @@ use Rattle.nest_tree.specs.Shapes.{knot_told, scope_meant}
 -- the marks of the elements with these rows
 unfoldable pub marks_in : List Row → List Mark
 marks_in rows = marks_of (forest itself rows)
+
+-- new elements with these rows nest apart from those before them
+abbrev pub NestApart : List Row → List Row → Type 0
+NestApart rows new = marks_in (rows ++ new) ≡ marks_in rows ++ marks (nest itself All new) (length rows) 0 None
 
 -- what is kept of a mark beside its end
 abbrev pub link_of : Mark → Link

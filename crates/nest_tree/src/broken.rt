@@ -9,6 +9,7 @@ ghost use Rattle.std.specs.List.Sorted.{IsPartitionedBy};
 
 use crate::knot::Knot;
 use crate::link::Link;
+use crate::link_list::LinkList;
 use crate::seen::SeenRows;
 use dgn_drawing::Row;
 use std::alloc::AllocError;
@@ -27,19 +28,19 @@ pub(crate) fn add_broken(
     _seen: &SeenRows,
     first: usize,
     rows: &[Row],
-    links: &[Link],
+    links: &LinkList,
     list: &mut Vec<u32>,
 ) -> Result<(), AllocError>
     requires few { length _seen.now.list < 4294967295 }
     requires rows { rows.now ≡ drop first _seen.now.list }
-    requires links { links.now ≡ map link_of (marks_in _seen.now.list) }
+    requires links { links.now.items ≡ map link_of (marks_in _seen.now.list) }
     requires within { first ≤ length _seen.now.list }
     requires begun { list.old.items ≡ passing (is_broken itself _seen.now.list) 0 first }
     ensures list { OnOk result (list.new.items ≡ broken_in _seen.now.list) }
     ensures full { OnErr result (vec_capacity list.old < vec_len list.old + (length _seen.now.list - first)) }
 {
     for n in first..links.len() {
-        if is_broken_as(n as u32, links[n], rows[n - first]) {
+        if is_broken_as(n as u32, links.at(n as u32), rows[n - first]) {
             list.push(n as u32)?;
         }
     }

@@ -4,14 +4,15 @@ ghost use Rattle.nest_tree.specs.Depths.{IsSized, IsWordTotal};
 ghost use Rattle.dgn_drawing.specs.Nesting.{BeginsFree, itself};
 ghost use Rattle.dgn_drawing.specs.Numbering.{span_of, depth_of, parent_of, knot_of, root_of, first_broken_of};
 ghost use Rattle.nest_tree.specs.Shapes.{knot_told, IsRow};
-ghost use Rattle.nest_tree.specs.Places.{marks_in, link_of, end_told};
+ghost use Rattle.nest_tree.specs.Places.{marks_in, link_of, end_told, NestApart};
 ghost use Rattle.nest_tree.specs.Passing.{broken_in, first_at, if_below};
 ghost use Rattle.nest_tree.specs.Nested.{Nested, nested_of, IsNest};
 
 use crate::broken::{add_broken, cut_broken};
 use crate::knot::Knot;
 use crate::link::Link;
-use crate::passes::read_on;
+use crate::link_list::LinkList;
+use crate::reading::read_on;
 use crate::seen::{SeenRows, Step};
 use crate::sums::set_sums;
 use dgn_drawing::Row;
@@ -28,7 +29,7 @@ pub struct Nest {
     // For each element the number behind the last one below it.
     pub(crate) ends: Vec<u32>,
     // What else is kept of each element.
-    pub(crate) links: Vec<Link>,
+    pub(crate) links: LinkList,
     // The numbers of all broken elements.
     pub(crate) broken: Vec<u32>,
 }
@@ -36,7 +37,7 @@ pub struct Nest {
 impl Model for Nest {
     ghost Value = { Nested };
 
-    ghost view = { λ s. nested_of s.seen.list (vec_capacity s.sums - 1) (vec_capacity s.ends - vec_len s.ends) (vec_capacity s.links - vec_len s.links) (vec_capacity s.broken - vec_len s.broken) };
+    ghost view = { λ s. nested_of s.seen.list (vec_capacity s.sums - 1) (vec_capacity s.ends - vec_len s.ends) s.links.spare (vec_capacity s.broken - vec_len s.broken) };
 
     ghost invariant = { λ s. IsNest s.seen.list s.ends.items s.links.items s.broken.items };
 }
@@ -83,6 +84,17 @@ impl Nest {
         requires free { BeginsFree itself rows.now }
         ensures { self.new.rows ≡ self.old.rows ++ rows.now }
     {
+        self.add(rows);
+    }
+
+    // Adds the elements with these rows behind the others, of which they nest apart.
+    pub(crate) fn add(&mut self, rows: &[Row])
+        requires room { length rows.now ≤ self.old.spare }
+        requires few { length self.old.rows + length rows.now < 4294967295 }
+        requires each { AllByRecursion IsRow rows.now }
+        requires apart { 0 < length self.old.rows → NestApart self.old.rows rows.now }
+        ensures { self.new.rows ≡ self.old.rows ++ rows.now }
+    {
         // Without rows there may be no room for their sums, of which there is one more.
         if rows.is_empty() {
             return;
@@ -109,7 +121,7 @@ impl Nest {
         let kept = count as usize;
         self.seen = self.seen.then(&Step::First(count));
         self.ends.truncate(kept);
-        self.links.truncate(kept);
+        self.links.truncate(count);
         cut_broken(&mut self.broken, count);
     }
 
@@ -125,7 +137,7 @@ impl Nest {
         ensures link { result ≡ option_map link_of (slice_get (marks_in self.now.rows) n) }
         ensures words { AllByRecursion IsWordTotal self.now.rows }
     {
-        entry(&self.links, n as usize)
+        self.links.get(n)
     }
 
     // The number behind the last element below element `n`, where there is one.

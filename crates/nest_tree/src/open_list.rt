@@ -6,7 +6,7 @@ ghost use Rattle.dgn_drawing.specs.Numbering.{Mark};
 ghost use Rattle.nest_tree.specs.Places.{marks_in, ArePlaces, Going, parent_in, scope_below, list_in, list_around};
 
 use crate::knot::Knot;
-use crate::link::Link;
+use crate::link_list::LinkList;
 use crate::seen::SeenRows;
 use crate::shape::Scope;
 use dgn_drawing::Row;
@@ -55,20 +55,20 @@ fn list_below(
     first: usize,
     rows: &[Row],
     ends: &[u32],
-    links: &[Link],
+    links: &LinkList,
     header: u32,
     depth: u32,
 ) -> OpenList
     requires few { length _seen.now.list < 4294967295 }
     requires rows { rows.now ≡ drop first _seen.now.list }
-    requires places { ArePlaces _seen.now.list (length links.now) ends.now links.now }
-    requires known { header < length links.now }
+    requires places { ArePlaces _seen.now.list (length links.now.items) ends.now links.now.items }
+    requires known { header < length links.now.items }
     requires read { first ≤ header }
     ensures { result ≡ list_in _seen.now.list (Some header) depth }
 {
     let n = header as usize;
     OpenList {
-        scope: scope_below(links[n].knot(), rows[n - first].kind),
+        scope: scope_below(links.at(header).knot(), rows[n - first].kind),
         end: ends[n],
         depth,
         parent: Some(header),
@@ -81,19 +81,19 @@ fn list_around(
     first: usize,
     rows: &[Row],
     ends: &[u32],
-    links: &[Link],
+    links: &LinkList,
     n: u32,
 ) -> OpenList
     requires few { length seen.now.list < 4294967295 }
     requires rows { rows.now ≡ drop first seen.now.list }
     requires within { first ≤ length seen.now.list }
-    requires places { ArePlaces seen.now.list (length links.now) ends.now links.now }
-    requires known { n < length links.now }
-    requires above { IfSome (parent_in seen.now.list n) (λ p. p < length links.now) }
+    requires places { ArePlaces seen.now.list (length links.now.items) ends.now links.now.items }
+    requires known { n < length links.now.items }
+    requires above { IfSome (parent_in seen.now.list n) (λ p. p < length links.now.items) }
     requires read { IfSome (parent_in seen.now.list n) (λ p. first ≤ p) }
     ensures { result ≡ list_around seen.now.list n }
 {
-    let link = links[n as usize];
+    let link = links.at(n);
     match link.parent() {
         None => all_elements(seen, first + rows.len()),
         Some(parent) => list_below(seen, first, rows, ends, links, parent, link.depth()),
@@ -106,7 +106,7 @@ pub(crate) fn list_at(
     first: usize,
     rows: &[Row],
     ends: &[u32],
-    links: &[Link],
+    links: &LinkList,
     at: u32,
     mut list: OpenList,
 ) -> OpenList
@@ -115,7 +115,7 @@ pub(crate) fn list_at(
     requires apart { AllByRecursion (λ (m : Mark). IfSome m.parent (λ p. first ≤ p)) (drop first (marks_in seen.now.list)) }
     requires within { at < length seen.now.list }
     requires read { first ≤ at }
-    requires places { ArePlaces seen.now.list at ends.now links.now }
+    requires places { ArePlaces seen.now.list at ends.now links.now.items }
     requires going { Going seen.now.list at list }
     requires header { IfSome list.parent (λ p. first ≤ p) }
     ensures going { Going seen.now.list at result }

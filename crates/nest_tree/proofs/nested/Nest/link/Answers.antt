@@ -1,8 +1,7 @@
 use Rattle.std.specs.List.{AllByRecursion}
 use Rattle.nest_tree.specs.Depths.{IsWordTotal}
-use Rattle.std.proofs.Common.{subst, ◌∙◌, ap, List}
+use Rattle.std.proofs.Common.{subst, ◌∙◌, ap}
 use Rattle.std.specs.Prelude.{slice_get, option_map}
-use Rattle.nest_tree.specs.Linked.{Link}
 use Rattle.nest_tree.specs.Nested.{Nested}
 use Rattle.nest_tree.specs.Places.{marks_in, link_of}
 use Rattle.nest_tree.proofs.Begun.{links_kept}
@@ -10,8 +9,7 @@ use Rattle.nest_tree.proofs.nested.Nest.link.Goals as goal
 
 pub returns-clause-link : goal.returns-clause-link
 returns-clause-link c =
-    c.entry.ensures ∙ ap (λ (l : List Link). slice_get l c.args.n) c.deref.ensures.value
-    ∙ links_kept c.self.inside.seen.list c.self.inside.ends.items c.self.inside.links.items c.self.inside.broken.items c.self.invariant c.args.n
+    c.get.ensures ∙ links_kept c.self.inside.seen.list c.self.inside.ends.items c.self.inside.links.items c.self.inside.broken.items c.self.invariant c.args.n
     ∙ ap (λ (t : Nested). option_map link_of (slice_get (marks_in t.rows) c.args.n)) c.self.view_is
 
 pub returns-clause-words : goal.returns-clause-words

@@ -1,6 +1,6 @@
-// The pass over the rows that finds the place of each element.
+// Reading of rows, one behind the other, which finds the place of each element.
 
-ghost use Rattle.std.specs.Prelude.{◌≡◌, ◌<◌, ◌≤◌, ◌*◌, length, drop, None, vec_capacity};
+ghost use Rattle.std.specs.Prelude.{◌≡◌, ◌<◌, ◌≤◌, ◌*◌, ◌+◌, length, drop, None, vec_capacity};
 ghost use Rattle.std.specs.List.{AllByRecursion};
 ghost use Rattle.dgn_drawing.specs.Nesting.{All, itself, nest};
 ghost use Rattle.dgn_drawing.specs.Numbering.{marks};
@@ -9,6 +9,7 @@ ghost use Rattle.nest_tree.specs.Shapes.{IsRow};
 ghost use Rattle.nest_tree.specs.Places.{marks_in, ArePlaces};
 
 use crate::link::Link;
+use crate::link_list::LinkList;
 use crate::open_list::{OpenList, all_elements, list_at};
 use crate::seen::SeenRows;
 use crate::shape::shape_at;
@@ -22,7 +23,7 @@ pub(crate) fn read_on(
     rows: &[Row],
     sums: &[u64],
     ends: &mut Vec<u32>,
-    links: &mut Vec<Link>,
+    links: &mut LinkList,
 )
     requires few { length seen.now.list < 4294967295 }
     requires rows { rows.now ≡ drop (length ends.old.items) seen.now.list }
@@ -32,7 +33,7 @@ pub(crate) fn read_on(
     requires places { ArePlaces seen.now.list (length ends.old.items) ends.old.items links.old.items }
     requires apart { drop (length ends.old.items) (marks_in seen.now.list) ≡ marks (nest itself All (drop (length ends.old.items) seen.now.list)) (length ends.old.items) 0 None }
     requires room_for_ends { length seen.now.list ≤ vec_capacity ends.old }
-    requires room_for_links { length seen.now.list ≤ vec_capacity links.old }
+    requires room_for_links { length seen.now.list ≤ length links.old.items + links.old.spare }
     ensures { ArePlaces seen.now.list (length seen.now.list) ends.new.items links.new.items }
 {
     let first = ends.len();
@@ -44,7 +45,7 @@ pub(crate) fn read_on(
         let shape = shape_at(rows, sums, around.scope, at - first, list_end - first);
         let end = (at + 1 + shape.count) as u32;
         push_within(ends, end);
-        push_within(links, Link::new(around.parent, around.depth, shape.knot));
+        links.push(Link::new(around.parent, around.depth, shape.knot));
         list = OpenList {
             scope: shape.inside,
             end,

@@ -1,11 +1,12 @@
 use Rattle.std.proofs.Common.{◌≡◌, sym, ap, ◌∙◌, ◌++◌, ◌∷◌, [], ◌+◌, ℕ, List, drop, length, subst, arith}
+use Rattle.std.proofs.lemmas.List.{length_push}
 use Rattle.nest_tree.specs.Linked.{Link}
 use Rattle.std.specs.List.{AllByRecursion}
 use Rattle.nest_tree.specs.Places.{marks_in, ArePlaces}
 use Rattle.nest_tree.proofs.Reached.{parent_small, NotBefore, reached}
 use Rattle.nest_tree.proofs.Stacks.{going_on, going_deep}
 use Rattle.nest_tree.proofs.Placed.{between, shaped, end_fits, one_more}
-use Rattle.nest_tree.proofs.passes.read_on.Goals as goal
+use Rattle.nest_tree.proofs.reading.read_on.Goals as goal
 
 pub list_at-around-requires-clause-apart : goal.list_at-around-requires-clause-apart
 list_at-around-requires-clause-apart c =
@@ -48,11 +49,11 @@ loop-at-preserved c =
     let more = one_more c.args.seen.now.list c.loop-at.at c.list_at-around.result c.list_at-around.ensures.going c.list_at-around.ensures.inside c.shape_at-shape.result shape c.loop-at.ends.items c.loop-at.links.items c.loop-at.invariant.0 in
     let on = going_on c.args.seen.now.list c.loop-at.at c.list_at-around.result c.list_at-around.ensures.going c.list_at-around.ensures.inside c.shape_at-shape.result shape in
     let ends = c.push_within.ensures.items in
-    let links = c.push_within-in-loop-at.ensures.items ∙ ap (λ (x : Link). c.loop-at.links.items ++ x ∷ []) c.new.ensures in (
-      subst (λ (l : List ℕ). ArePlaces c.args.seen.now.list (c.loop-at.at + 1) l c.push_within-in-loop-at.new.list.items) (sym ends)
+    let links = c.push.ensures.items ∙ ap (λ (x : Link). c.loop-at.links.items ++ x ∷ []) c.new.ensures in (
+      subst (λ (l : List ℕ). ArePlaces c.args.seen.now.list (c.loop-at.at + 1) l c.push.new.self.items) (sym ends)
           (subst (λ (l : List Link). ArePlaces c.args.seen.now.list (c.loop-at.at + 1) (c.loop-at.ends.items ++ (c.loop-at.at + 1 + c.shape_at-shape.result.count) ∷ []) l) (sym links) more),
       on,
       omega (arith, c.loop-at.invariant.2, c.push_within.ensures.room),
-      omega (arith, c.loop-at.invariant.3, c.push_within-in-loop-at.ensures.room),
+      omega (arith, c.loop-at.invariant.3, c.push.ensures.room, ap (length {A = Link}) c.push.ensures.items, length_push c.loop-at.links.items c.new.result),
       c.loop-at.auto.at,
     )

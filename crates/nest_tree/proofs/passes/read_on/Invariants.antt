@@ -1,9 +1,0 @@
-use Rattle.std.proofs.Common.{◌≤◌, length, vec_capacity}
-use Rattle.std.specs.Prelude.{IfSome}
-use Rattle.nest_tree.specs.Places.{ArePlaces, Going}
-use Rattle.nest_tree.proofs.passes.read_on.Given as goal
-
-abbrev pub invariant-loop-at : goal.invariant-loop-at
-invariant-loop-at l =
-    ArePlaces l.seen.list l.at l.ends.items l.links.items × Going l.seen.list l.at l.list × (length l.seen.list ≤ vec_capacity l.ends) × (length l.seen.list ≤ vec_capacity l.links)
-    × IfSome l.list.parent (λ p. l.first ≤ p)
