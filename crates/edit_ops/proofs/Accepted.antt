@@ -21,8 +21,8 @@ use Rattle.dgn_drawing.specs.Opening.{BeginsWithTcb}
 use Rattle.elem_index.specs.Offsets.{offset_of}
 use Rattle.edit_ops.specs.declared.cause.Cause.{Cause}
 use Rattle.edit_ops.specs.declared.cause.Cause.TheVariants as causes
-use Rattle.edit_ops.specs.declared.test.Test.{Test}
-use Rattle.edit_ops.specs.declared.test.Test.TheVariants as tests
+use Rattle.edit_ops.specs.declared.asked.Test.{Test}
+use Rattle.edit_ops.specs.declared.asked.Test.TheVariants as tests
 use Rattle.edit_ops.specs.Trees.{Live, live_from, live_tree, above_tree, found_at, path_to}
 use Rattle.edit_ops.specs.Causes.{unknown, broken, broken_in, silent, unwidened, unmovable, lookless, unmarkable, cause_at, first_cause, first_of, part_cause, causes_of, target_of, target_cause, cause_of}
 use Rattle.edit_ops.specs.Applying.{Done, unless, apply, changed_forest}

@@ -24,7 +24,7 @@ use Rattle.dgn_drawing.proofs.Freed.{freed_put}
 use Rattle.nest_tree.proofs.Unfolded.{flat-forest}
 use Rattle.elem_index.specs.Offsets.{offset_of}
 use Rattle.edit_ops.specs.declared.types.plan.Plan.{Plan}
-use Rattle.edit_ops.specs.declared.test.Test.TheVariants as tests
+use Rattle.edit_ops.specs.declared.asked.Test.TheVariants as tests
 use Rattle.edit_ops.specs.Trees.{tree_at, live_map, live_tree}
 use Rattle.edit_ops.specs.Causes.{first_cause, other_axes, too_long, bytes_appended, cause_of}
 use Rattle.edit_ops.specs.Applying.{Done, apply, change_of, head_freed, copied, changed_forest, IsEdit}

@@ -12,8 +12,8 @@ use Rattle.patch_bytes.specs.Puts.{Put}
 use Rattle.elem_index.specs.Offsets.{offset_of}
 use Rattle.edit_ops.proofs.Accepted.{none_both, movable}
 use Rattle.edit_ops.specs.declared.cause.Cause.{Cause}
-use Rattle.edit_ops.specs.declared.test.Test.{Test}
-use Rattle.edit_ops.specs.declared.test.Test.TheVariants as tests
+use Rattle.edit_ops.specs.declared.asked.Test.{Test}
+use Rattle.edit_ops.specs.declared.asked.Test.TheVariants as tests
 use Rattle.edit_ops.specs.Trees.{Live, found_at}
 use Rattle.edit_ops.specs.Causes.{cause_at, first_cause}
 use Rattle.edit_ops.specs.Asking.{cause_in, MayBeAsked, MayBeAskedOf}

@@ -11,7 +11,7 @@ use Rattle.dgn_drawing.specs.Numbering.{Mark, marks_of, mark_of, is_broken_as, i
 use Rattle.nest_tree.proofs.Climbing.{headers_by_rows}
 use Rattle.nest_tree.proofs.ByRows.{forest_rows, marks-map}
 use Rattle.edit_ops.specs.declared.cause.Cause.{Cause}
-use Rattle.edit_ops.specs.declared.test.Test.TheVariants as tests
+use Rattle.edit_ops.specs.declared.asked.Test.TheVariants as tests
 use Rattle.edit_ops.specs.Trees.{Live, above_tree, found_at}
 use Rattle.edit_ops.specs.Causes.{broken, broken_in, first_cause, part_cause}
 use Rattle.edit_ops.specs.Asking.{broken_by, cause_in}

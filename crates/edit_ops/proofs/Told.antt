@@ -31,8 +31,8 @@ use Rattle.edit_ops.specs.declared.cause.Cause.TheVariants as causes
 use Rattle.edit_ops.specs.declared.edit_fault.EditFault.{EditFault}
 use Rattle.edit_ops.specs.declared.edit_fault.EditFault.TheVariants as faults
 use Rattle.edit_ops.specs.declared.finding.Found.{Found}
-use Rattle.edit_ops.specs.declared.test.Test.{Test}
-use Rattle.edit_ops.specs.declared.test.Test.TheVariants as tests
+use Rattle.edit_ops.specs.declared.asked.Test.{Test}
+use Rattle.edit_ops.specs.declared.asked.Test.TheVariants as tests
 use Rattle.edit_ops.specs.Trees.{Live, found_at}
 use Rattle.edit_ops.specs.Causes.{says_locked, is_locked}
 use Rattle.edit_ops.specs.Asking.{cause_in, MayBeAskedOf, locked_in}

@@ -9,8 +9,8 @@ use Rattle.dgn_drawing.specs.Element.{Element}
 use Rattle.dgn_drawing.specs.Nesting.{itself}
 use Rattle.dgn_drawing.specs.Numbering.{first_broken_of}
 use Rattle.edit_ops.specs.declared.cause.Cause.{Cause}
-use Rattle.edit_ops.specs.declared.test.Test.{Test}
-use Rattle.edit_ops.specs.declared.test.Test.TheVariants as tests
+use Rattle.edit_ops.specs.declared.asked.Test.{Test}
+use Rattle.edit_ops.specs.declared.asked.Test.TheVariants as tests
 use Rattle.edit_ops.specs.Trees.{Live}
 use Rattle.edit_ops.specs.Causes.{cause_at, first_cause, says_locked}
 

@@ -14,8 +14,8 @@ use Rattle.dgn_drawing.specs.Changes.{stays_on_plane}
 use Rattle.dgn_drawing.specs.NewElements.{made}
 use Rattle.edit_ops.specs.declared.cause.Cause.{Cause}
 use Rattle.edit_ops.specs.declared.cause.Cause.TheVariants as causes
-use Rattle.edit_ops.specs.declared.test.Test.{Test}
-use Rattle.edit_ops.specs.declared.test.Test.TheVariants as tests
+use Rattle.edit_ops.specs.declared.asked.Test.{Test}
+use Rattle.edit_ops.specs.declared.asked.Test.TheVariants as tests
 use Rattle.edit_ops.specs.Trees.{Live, tree_at, live_tree, above_tree, path_to}
 
 -- there is no element n

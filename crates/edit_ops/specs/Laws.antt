@@ -10,7 +10,7 @@ use Rattle.dgn_drawing.specs.Numbering.{span_of, root_of}
 use Rattle.elem_index.specs.Offsets.{offset_of}
 use Rattle.dgn_drawing.specs.Opening.{Opens}
 use Rattle.edit_ops.specs.declared.cause.Cause.{Cause}
-use Rattle.edit_ops.specs.declared.test.Test.{Test}
+use Rattle.edit_ops.specs.declared.asked.Test.{Test}
 use Rattle.edit_ops.specs.Trees.{Live, live_tree, above_tree, path_to}
 use Rattle.edit_ops.specs.Causes.{target_of, cause_at, first_cause, bytes_appended}
 use Rattle.edit_ops.specs.Applying.{Done, apply, changed_forest, IsEdit}

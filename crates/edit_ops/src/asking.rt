@@ -7,11 +7,11 @@ ghost use Rattle.edit_ops.specs.Asking.{cause_in, MayBeAsked, MayBeAskedOf, lock
 ghost use Rattle.edit_ops.specs.Trees.{above_of, live_of};
 ghost use Rattle.edit_ops.specs.Written.{found};
 
+use crate::asked::Test;
 use crate::cause::Cause;
 use crate::causes::{other_axes, silent, too_long};
 use crate::finding::find;
 use crate::sums::stays_on_plane;
-use crate::test::Test;
 use dgn_drawing::{Edit, Shift};
 use dgn_layout::types::Class;
 use dgn_layout::{class, is_silent};

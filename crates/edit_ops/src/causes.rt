@@ -8,10 +8,10 @@ ghost use Rattle.edit_ops.specs.Causes.{unknown, broken, silent, other_axes, too
 ghost use Rattle.edit_ops.specs.Asking.{broken_by};
 ghost use Rattle.edit_ops.specs.Written.{found};
 
+use crate::asked::Test;
 use crate::asking::{cause_against, first_cause};
 use crate::cause::Cause;
 use crate::finding::find;
-use crate::test::Test;
 use dgn_layout::is_silent;
 use elem_index::Design;
 use nest_tree::types::Nest;

@@ -6,6 +6,7 @@
 #![tactic(auto)]
 
 mod above;
+mod asked;
 mod asking;
 mod cause;
 mod causes;
@@ -19,7 +20,6 @@ mod making;
 mod patches;
 mod planning;
 mod sums;
-mod test;
 pub mod types;
 
 pub use cause::Cause;

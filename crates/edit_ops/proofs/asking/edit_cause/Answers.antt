@@ -8,7 +8,7 @@ use Rattle.dgn_drawing.specs.Spelling.{spelling}
 use Rattle.elem_index.specs.Design.{elements}
 use Rattle.elem_index.proofs.Places.{body_is}
 use Rattle.edit_ops.specs.declared.cause.Cause.{Cause}
-use Rattle.edit_ops.specs.declared.test.Test.TheVariants as tests
+use Rattle.edit_ops.specs.declared.asked.Test.TheVariants as tests
 use Rattle.edit_ops.specs.Trees.{Live, live_of, live_tree}
 use Rattle.edit_ops.specs.Causes.{other_axes, first_cause, too_long, bytes_appended, first_of, causes_of, target_of}
 use Rattle.edit_ops.specs.Written.{found}
