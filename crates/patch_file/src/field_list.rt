@@ -31,8 +31,8 @@ impl FieldList {
         }
     }
 
-    /// A list without fields that has room for `n` of them.
-    pub fn with_capacity(alloc: Global, n: usize) -> Result<Self, AllocError>
+    // A list without fields that has room for `n` of them.
+    pub(crate) fn with_capacity(alloc: Global, n: usize) -> Result<Self, AllocError>
         ensures { IfOk result (λ f. f ≡ []) }
     {
         Ok(FieldList {
