@@ -26,7 +26,8 @@ use Rattle.edit_ops.specs.declared.asked.Test.TheVariants as tests
 use Rattle.edit_ops.specs.Trees.{Live, live_from, live_tree, above_tree, found_at, path_to}
 use Rattle.edit_ops.specs.Causes.{unknown, broken, broken_in, silent, unwidened, unmovable, lookless, unmarkable, cause_at, first_cause, first_of, part_cause, causes_of, target_of, target_cause, cause_of}
 use Rattle.edit_ops.specs.Applying.{Done, unless, apply, changed_forest}
-use Rattle.edit_ops.specs.Written.{IsReady}
+use Rattle.edit_ops.specs.Written.{IsReady, MayWiden}
+use Rattle.edit_ops.proofs.Headed.{headers_head, all_spotted}
 use Rattle.edit_ops.proofs.Readable.{silent_class}
 use Rattle.edit_ops.proofs.Placed.{IsPlaced, placed, first_left}
 use Rattle.edit_ops.proofs.Standing.{each_first, each_last, live_alive}
@@ -258,6 +259,19 @@ widens dim es rest n by is =
     let three = named_cause dim es rest (edit.Move n by) n refl is in
     let each = none_of (causes_of dim es rest (edit.Move n by)) three.2 in
     none_first dim tests.Widens (above_tree es n) each.1.1.0
+
+-- so these headers have spots
+pub may_widen : (dim : ℕ) (es : List Element) (rest n : ℕ) (e : Edit) → target_of e ≡ Some n → cause_of dim es rest e ≡ None → MayWiden e (above_tree es n)
+may_widen dim es rest n (edit.Move m by) named is =
+    let is_n : Some m ≡ Some n = named in
+    let same : m ≡ n = cc in
+    let wide : AllByRecursion (λ v. unwidened v.number (class_of v.element.kind) ≡ None) (above_tree es n) =
+    subst (λ (k : ℕ). AllByRecursion (λ v. unwidened v.number (class_of v.element.kind) ≡ None) (above_tree es k)) same (widens dim es rest m by is) in
+    all_spotted (above_tree es n) (headers_head es n) wide
+may_widen dim es rest n (edit.Copy m by) named is = tt
+may_widen dim es rest n (edit.Sym m change) named is = tt
+may_widen dim es rest n (edit.Delete m) named is = tt
+may_widen dim es rest n (edit.Append new) named is = tt
 
 -- what is done has no cause, and leaves the elements of the changed trees
 pub done_unless : (c : Option Cause) (left made : List Element) → unless c left ≡ Done made → (c ≡ None) × (made ≡ left)

@@ -1,6 +1,6 @@
--- Wider range numbers are put as the two corners of the joined range, and the headers above a moved element
--- are made to hold its range.
-use Rattle.std.proofs.Common.{◌≡◌, ℕ, ◌+◌, ◌≤◌, ◌<◌, List, [], ◌∷◌, ◌++◌, length, take, drop, get_or, map, Bool, true, false, Option, Some, None, refl, sym, ap, ap₂, ◌∙◌, subst, append_assoc, inl, inr, arith}
+-- Wider numbers are put at those spots that hold range numbers, and the headers above a moved element are made to
+-- hold its range.
+use Rattle.std.proofs.Common.{◌≡◌, ℕ, zero, suc, ◌+◌, ◌*◌, if◌then◌else◌, ◌≤◌, ◌<◌, List, [], ◌∷◌, ◌++◌, length, take, drop, get_or, Bool, true, false, Option, Some, None, refl, sym, ap, ap₂, ◌∙◌, subst, append_assoc, inl, inr, arith}
 use Rattle.std.specs.Prelude.{ℤ, pos, ◌+ℤ◌, ◌&&◌, slice_get, option_map, IfSome}
 use Rattle.std.specs.List.{AllByRecursion, flat_map, list_all}
 use Rattle.std.specs.Option.{option_to_list}
@@ -8,12 +8,11 @@ use Rattle.std.proofs.lemmas.Bool.{and_parts}
 use Rattle.std.proofs.lemmas.Int.{ints}
 use Rattle.std.proofs.lemmas.List.{append-nil}
 use Rattle.std.proofs.lemmas.List.Concat.{flat_map-append}
-use Rattle.dgn_words.specs.Numbers.{range_long_bytes}
 use Rattle.range_code.specs.declared.Box3.{Box3}
 use Rattle.range_code.specs.Plane.{is_on_plane}
-use Rattle.range_code.specs.Ranges.{corner_at, range_of, on_axis, join_of}
+use Rattle.range_code.specs.Ranges.{corner_at, on_axis}
 use Rattle.dgn_layout.specs.Classes.{class_of, is_silent}
-use Rattle.dgn_layout.specs.Spots.{has_spots, fields_from}
+use Rattle.dgn_layout.specs.Spots.{has_spots, fields_from, points_spots, range_spots, spots_of, spots_with, points_in, Points}
 use Rattle.dgn_layout.specs.declared.spot.Spot.{Spot}
 use Rattle.dgn_layout.specs.declared.types.Class.{Class}
 use Rattle.patch_bytes.specs.Puts.{Put}
@@ -23,10 +22,8 @@ use Rattle.dgn_drawing.specs.Values.{Displacement}
 use Rattle.dgn_drawing.specs.Element.{Body, Shown, Element}
 use Rattle.dgn_drawing.specs.Spelling.{spell}
 use Rattle.dgn_drawing.specs.WellFormed.{IsDimension}
-use Rattle.dgn_drawing.specs.SpotNumbers.{value_at, number_bytes, wider}
 use Rattle.dgn_drawing.specs.Laws.{BodySits, DisplaySits}
 use Rattle.dgn_drawing.specs.Changes.{displaced, body_displaced, numbers_in, stays_on_plane}
-use Rattle.dgn_drawing.proofs.Places.{in_both}
 use Rattle.dgn_drawing.proofs.Sits.{all-sits}
 use Rattle.elem_index.specs.declared.design.Design.{Design}
 use Rattle.elem_index.specs.Design.{elements, IsWhole}
@@ -34,66 +31,51 @@ use Rattle.elem_index.specs.Offsets.{offset_of}
 use Rattle.edit_ops.specs.declared.finding.Found.{Found}
 use Rattle.edit_ops.specs.Found.{IsFound}
 use Rattle.edit_ops.specs.Trees.{Live, found_at}
-use Rattle.edit_ops.specs.Written.{found, wider_puts, corner_puts, holding_puts, above_puts}
+use Rattle.edit_ops.specs.Written.{found, wider_puts, holding_puts, above_puts}
 use Rattle.edit_ops.proofs.Listed.{found_next}
 use Rattle.edit_ops.proofs.Readable.{IsShown, is_shown, shown_long}
 use Rattle.edit_ops.proofs.Seen.{axes_of}
 
--- the two corners of the joined range, put one behind the other
-abbrev pub joined_puts : ℕ → Box3 → ℕ → List ℕ → List Put
-joined_puts dim r p b = corner_puts dim (p + 4) (join_of (range_of b) r).lo ++ corner_puts dim (p + 16) (join_of (range_of b) r).hi
+-- those of some spots that hold range numbers
+abbrev pub of_ranges : List Spot → List Spot
+of_ranges [] = []
+of_ranges (s ∷ ss) = if s.offset then s ∷ of_ranges ss else of_ranges ss
 
--- what a wider range puts at a spot of an element that begins at byte p
-abbrev wider_put : Box3 → ℕ → List ℕ → Spot → Put
-wider_put r p b s = record { at = p + s.at; bytes = number_bytes s (wider r s (value_at b s)) }
+ranges_step : (t : Bool) (x : Spot) (ss ts us : List Spot) → us ≡ ss ++ ts → (if t then x ∷ us else us) ≡ (if t then x ∷ ss else ss) ++ ts
+ranges_step true x ss ts us is = ap (λ (l : List Spot). x ∷ l) is
+ranges_step false x ss ts us is = is
 
--- bytes put at three places, and at two
-abbrev three_at : ℕ → ℕ → ℕ → List ℕ → List ℕ → List ℕ → List Put
-three_at p q r x y z = record { at = p; bytes = x } ∷ record { at = q; bytes = y } ∷ record { at = r; bytes = z } ∷ []
+ranges-append : (xs ys : List Spot) → of_ranges (xs ++ ys) ≡ of_ranges xs ++ of_ranges ys
+ranges-append [] ys = refl
+ranges-append (x ∷ xs) ys = ranges_step x.offset x (of_ranges xs) (of_ranges ys) (of_ranges (xs ++ ys)) (ranges-append xs ys)
 
-abbrev two_at : ℕ → ℕ → List ℕ → List ℕ → List Put
-two_at p q x y = record { at = p; bytes = x } ∷ record { at = q; bytes = y } ∷ []
+ranges-fields : (n axis p : ℕ) → of_ranges (fields_from true n axis p) ≡ fields_from true n axis p
+ranges-fields zero axis p = refl
+ranges-fields (suc n) axis p = ap (λ (ss : List Spot). record { at = p; axis = axis; offset = true } ∷ ss) (ranges-fields n (axis + 1) (p + 4))
 
--- three puts at places counted from another place, and two
-three_places : (p k : ℕ) (x y z : List ℕ) → three_at (p + k + 0) (p + k + 4) (p + k + 8) x y z ≡ three_at (p + k) (p + (k + 4)) (p + (k + 8)) x y z
-three_places p k x y z =
-    let first : p + k + 0 ≡ p + k = omega arith in
-    let second : p + k + 4 ≡ p + (k + 4) = omega arith in
-    let third : p + k + 8 ≡ p + (k + 8) = omega arith in
-    ap (λ (at : ℕ). three_at at (p + k + 4) (p + k + 8) x y z) first ∙ ap (λ (at : ℕ). three_at (p + k) at (p + k + 8) x y z) second
-    ∙ ap (λ (at : ℕ). three_at (p + k) (p + (k + 4)) at x y z) third
+ranges-point : (n axis p : ℕ) → of_ranges (fields_from false n axis p) ≡ []
+ranges-point zero axis p = refl
+ranges-point (suc n) axis p = ranges-point n (axis + 1) (p + 4)
 
-two_places : (p k : ℕ) (x y : List ℕ) → two_at (p + k + 0) (p + k + 4) x y ≡ two_at (p + k) (p + (k + 4)) x y
-two_places p k x y =
-    let first : p + k + 0 ≡ p + k = omega arith in
-    let second : p + k + 4 ≡ p + (k + 4) = omega arith in
-    ap (λ (at : ℕ). two_at at (p + k + 4) x y) first ∙ ap (λ (at : ℕ). two_at (p + k) at x y) second
+ranges-points : (n dim p : ℕ) → of_ranges (points_spots n dim p) ≡ []
+ranges-points zero dim p = refl
+ranges-points (suc n) dim p =
+    ranges-append (fields_from false dim 0 p) (points_spots n dim (p + 4 * dim))
+    ∙ ap (λ (ss : List Spot). ss ++ of_ranges (points_spots n dim (p + 4 * dim))) (ranges-point dim 0 p) ∙ ranges-points n dim (p + 4 * dim)
 
--- the wider numbers are those of the joined range's corners
-pub wider_joined : (dim : ℕ) (r : Box3) (p : ℕ) (b : List ℕ) → IsDimension dim → joined_puts dim r p b ≡ wider_puts dim r p b
-wider_joined dim r p b axes =
-    let low : List ℤ = (join_of (range_of b) r).lo in
-    let high : List ℤ = (join_of (range_of b) r).hi in
-    let low_two : corner_puts 2 (p + 4) low ≡ map (wider_put r p b) (fields_from true 2 0 4) = two_places p 4 _ _ in
-    let high_two : corner_puts 2 (p + 16) high ≡ map (wider_put r p b) (fields_from true 2 0 16) = two_places p 16 _ _ in
-    let low_three : corner_puts 3 (p + 4) low ≡ map (wider_put r p b) (fields_from true 3 0 4) = three_places p 4 _ _ _ in
-    let high_three : corner_puts 3 (p + 16) high ≡ map (wider_put r p b) (fields_from true 3 0 16) = three_places p 16 _ _ _ in
-    in_both (λ (d : ℕ). joined_puts d r p b ≡ wider_puts d r p b) (ap₂ (λ (x y : List Put). x ++ y) low_two high_two) (ap₂ (λ (x y : List Put). x ++ y) low_three high_three) axes
+ranges-range : (dim : ℕ) → of_ranges (range_spots dim) ≡ range_spots dim
+ranges-range dim =
+    ranges-append (fields_from true dim 0 4) (fields_from true dim 0 16)
+    ∙ ap₂ (λ (x y : List Spot). x ++ y) (ranges-fields dim 0 4) (ranges-fields dim 0 16)
 
--- a range number put at a place
-abbrev pub range_put : ℕ → ℤ → Put
-range_put at v = record { at = at; bytes = range_long_bytes v }
-
--- three numbers put one behind the other are those of a corner of three
-pub corner_put : (dim at : ℕ) (corner : List ℤ) (done one two three : List Put) (p q r : Put) → dim ≡ 3
-    → p ≡ range_put at (on_axis corner 0) → q ≡ range_put (at + 4) (on_axis corner 1) → r ≡ range_put (at + 8) (on_axis corner 2)
-    → one ≡ done ++ p ∷ [] → two ≡ one ++ q ∷ [] → three ≡ two ++ r ∷ [] → three ≡ done ++ corner_puts dim at corner
-corner_put dim at corner done one two three p q r solid first second third then_one then_two then_three =
-    let here : at ≡ at + 0 = omega arith in
-    let puts : p ∷ q ∷ r ∷ [] ≡ corner_puts 3 at corner = cc in
-    then_three ∙ ap (λ (ps : List Put). ps ++ r ∷ []) (then_two ∙ ap (λ (ps : List Put). ps ++ q ∷ []) then_one)
-    ∙ append_assoc (done ++ p ∷ []) (q ∷ []) (r ∷ []) ∙ append_assoc done (p ∷ []) (q ∷ r ∷ [])
-    ∙ ap (λ (ps : List Put). done ++ ps) puts ∙ ap (λ (d : ℕ). done ++ corner_puts d at corner) (sym solid)
+-- of an element that has spots they are those of its range
+pub ranges_are : (dim kind : ℕ) (b : List ℕ) → has_spots (class_of kind) ≡ true → of_ranges (spots_of dim kind b) ≡ range_spots dim
+ranges_are dim kind b some =
+    let points : Points = points_in (class_of kind) dim kind b in
+    ap (λ (t : Bool). of_ranges (spots_with t dim points)) some
+    ∙ ranges-append (range_spots dim) (points_spots points.count dim points.start)
+    ∙ ap₂ (λ (x y : List Spot). x ++ y) (ranges-range dim) (ranges-points points.count dim points.start)
+    ∙ append-nil (range_spots dim)
 
 -- what is put into headers made wider
 abbrev pub all_wider : ℕ → Box3 → List Live → List Put
@@ -250,13 +232,12 @@ module _ (d : Design) (whole : IsWhole d) (m : ℕ) (f : Found) (here : IsFound 
       ∙ ap (λ (high : List ℤ). all_wider d.dim (record { lo = displaced (take d.dim by.by) (corner_at f.bytes.now 4); hi = displaced (take d.dim by.by) high }) vs) (sym (high_read shown))
 
   -- what is put into it where it is made wider
-  pub wider_found : (r : Box3) → all_wider d.dim r (option_to_list (found_at (elements d) m)) ≡ joined_puts d.dim r f.place f.bytes.now
+  pub wider_found : (r : Box3) → all_wider d.dim r (option_to_list (found_at (elements d) m)) ≡ wider_puts d.dim r f.place f.bytes.now
   wider_found r =
       ap (λ (o : Option Element). all_wider d.dim r (option_to_list (option_map (λ (x : Element). record { number = m; place = offset_of (elements d) m; element = x }) o))) here.there
       ∙ append-nil (wider_puts d.dim r (offset_of (elements d) m) (spell here.element))
       ∙ ap (λ (p : ℕ). wider_puts d.dim r p (spell here.element)) (sym here.place)
       ∙ ap (wider_puts d.dim r f.place) (sym here.bytes)
-      ∙ sym (wider_joined d.dim r f.place f.bytes.now (axes_of d whole))
 
 -- the one element of which this holds
 pub one_of : (P : Live → Type 0) (es : List Element) (m : ℕ) (v : Element) → slice_get es m ≡ Some v

@@ -1,16 +1,14 @@
 -- What an edit puts into the headers above its element and into the live elements of its part, where nothing
 -- stands against it.
-use Rattle.std.specs.Prelude.{ℕ, ◌≡◌, ◌+◌, ◌*◌, ℤ, true, List, [], ◌∷◌, ◌++◌, map, unwrap_or, slice_get, Option, Some, IsTrue, IsFalse}
-use Rattle.std.specs.List.{flat_map}
+use Rattle.std.specs.Prelude.{ℕ, ◌≡◌, ◌+◌, ◌*◌, List, [], ◌∷◌, ◌++◌, map, unwrap_or, slice_get, Option, Some, IsTrue, IsFalse}
+use Rattle.std.specs.List.{AllByRecursion, flat_map}
 use Rattle.std.specs.Option.{option_to_list}
 use Rattle.elem_head.specs.declared.types.Symb.{Symb}
 use Rattle.dgn_layout.specs.Classes.{class_of, is_silent}
-use Rattle.dgn_layout.specs.Spots.{fields_from, range_spots, spots_of, has_spots}
+use Rattle.dgn_layout.specs.Spots.{range_spots, spots_of, has_spots}
 use Rattle.dgn_layout.specs.declared.spot.Spot.{Spot}
 use Rattle.patch_bytes.specs.Puts.{Put}
-use Rattle.dgn_words.specs.Numbers.{range_long_bytes}
 use Rattle.range_code.specs.declared.Box3.{Box3}
-use Rattle.range_code.specs.Ranges.{on_axis}
 use Rattle.dgn_drawing.specs.declared.edit.Edit.{Edit}
 use Rattle.dgn_drawing.specs.declared.edit.Edit.TheVariants as edit
 use Rattle.dgn_drawing.specs.Values.{Displacement, LookChange}
@@ -45,13 +43,13 @@ puts_at dim (edit.Append new) p e = []
 abbrev pub live_puts : ℕ → Edit → List Live → List Put
 live_puts dim e vs = flat_map (λ v. puts_at dim e v.place v.element) vs
 
--- the range numbers, made wider by a range, of an element with the bytes b that begins at byte p
-abbrev pub wider_puts : ℕ → Box3 → ℕ → List ℕ → List Put
-wider_puts dim r p b = map (λ s. record { at = p + s.at; bytes = number_bytes s (wider r s (value_at b s)) }) (range_spots dim)
+-- the number at a range spot, made wider by a range, of an element with the bytes b that begins at byte p
+abbrev pub wider_put : Box3 → ℕ → List ℕ → Spot → Put
+wider_put r p b s = record { at = p + s.at; bytes = number_bytes s (wider r s (value_at b s)) }
 
--- the numbers of a corner on the file's axes, put as range numbers from byte p on
-abbrev pub corner_puts : ℕ → ℕ → List ℤ → List Put
-corner_puts dim p corner = map (λ s. record { at = p + s.at; bytes = range_long_bytes (on_axis corner s.axis) }) (fields_from true dim 0 0)
+-- all range numbers of it
+abbrev pub wider_puts : ℕ → Box3 → ℕ → List ℕ → List Put
+wider_puts dim r p b = map (wider_put r p b) (range_spots dim)
 
 -- the range numbers of a header, made to hold the range of this body too
 abbrev pub holding_puts : ℕ → Body → ℕ → List ℕ → List Put
@@ -78,6 +76,11 @@ IsReady dim (edit.Copy n by) e = IsTrue (has_spots (class_of e.kind)) × IsTrue 
 IsReady dim (edit.Sym n change) e = IsFalse (is_silent (class_of e.kind))
 IsReady dim (edit.Delete n) e = ¬ (e.kind ≡ 127)
 IsReady dim (edit.Append new) e = Unit {0}
+
+-- the headers above a moved element have spots, so their ranges can be made wider
+abbrev pub MayWiden : Edit → List Live → Type 0
+MayWiden (edit.Move n by) vs = AllByRecursion (λ v. IsTrue (has_spots (class_of v.element.kind))) vs
+MayWiden other vs = Unit {0}
 
 -- the elements of these numbers
 abbrev pub found : List Element → List ℕ → List Live

@@ -4,31 +4,34 @@ ghost use Rattle.std.specs.Option.{option_to_list};
 ghost use Rattle.elem_head.specs.Head.{symbology_of};
 ghost use Rattle.dgn_words.specs.Numbers.{range_long_at, range_long_bytes};
 ghost use Rattle.range_code.specs.Ranges.{on_axis, corner_at};
-ghost use Rattle.dgn_layout.specs.Classes.{class_of, is_silent};
-ghost use Rattle.dgn_layout.specs.Spots.{HoldsPoints, spots_of};
+ghost use Rattle.dgn_layout.specs.Classes.{class_of};
+ghost use Rattle.dgn_layout.specs.Spots.{HoldsPoints, has_spots, spots_of};
 ghost use Rattle.dgn_drawing.specs.Spelling.{spell};
 ghost use Rattle.dgn_drawing.specs.Changes.{displaced};
 ghost use Rattle.dgn_drawing.specs.WellFormed.{IsDimension};
 ghost use Rattle.elem_index.specs.Design.{elements, IsWhole};
 ghost use Rattle.patch_bytes.specs.PatchView.{put_of};
 ghost use Rattle.range_code.specs.Plane.{is_on_plane};
-ghost use Rattle.dgn_drawing.specs.SpotNumbers.{sum_at};
+ghost use Rattle.dgn_drawing.specs.SpotNumbers.{sum_at, wider};
 ghost use Rattle.edit_ops.specs.Trees.{found_at, above_tree, live_tree};
-ghost use Rattle.edit_ops.specs.Written.{found, live_puts, above_puts, part_puts, corner_puts, wider_puts, sum_put, new_look, IsReady};
+ghost use Rattle.edit_ops.specs.Written.{found, live_puts, above_puts, part_puts, wider_put, wider_puts, sum_put, new_look, IsReady, MayWiden};
 
 use crate::finding::{Found, find};
-use crate::sums::{bytes_at, spots_in, sum};
+use crate::sums::{bytes_at, spots_in, sum, value};
 use dgn_drawing::{Edit, Shift, SymbChange};
 use dgn_layout::Spot;
-use dgn_words::{put_range_long, range_long};
+use dgn_words::range_long;
 use elem_head::symb;
 use elem_index::Design;
 use patch_bytes::{Patch, PatchList};
-use range_code::{Box3, join, range};
+use range_code::Box3;
 use std::alloc::AllocError;
 
 // The bit of an element's second byte that marks it deleted.
 const DELETED: u8 = 0x80;
+
+// The byte where the high corner of a range begins.
+const HIGH: u32 = 16;
 
 // Appends what an edit of the part of element n puts into the headers above it and into its live elements, of which
 // `above` and `live` have the numbers.
@@ -44,7 +47,7 @@ pub fn push_part(
     requires above { found (elements d.now) above.now ≡ above_tree (elements d.now) n }
     requires live { found (elements d.now) live.now ≡ live_tree (elements d.now) n }
     requires head { IfSome (slice_get (elements d.now) n) (IsReady d.now.dim edit.now) }
-    requires shown { AllByRecursion (λ v. IsFalse (is_silent (class_of v.element.kind))) (above_tree (elements d.now) n) }
+    requires widens { MayWiden edit.now (above_tree (elements d.now) n) }
     requires ready { AllByRecursion (λ v. IsReady d.now.dim edit.now v.element) (live_tree (elements d.now) n) }
     ensures { OnOk result (patches.new ≡ patches.old ++ part_puts d.now.dim (elements d.now) edit.now n) }
 {
@@ -62,7 +65,7 @@ fn push_above(
 ) -> Result<(), AllocError>
     requires whole { IsWhole d.now }
     requires head { IfSome (slice_get (elements d.now) n) (IsReady d.now.dim edit.now) }
-    requires shown { AllByRecursion (λ v. IsFalse (is_silent (class_of v.element.kind))) (found (elements d.now) above.now) }
+    requires widens { MayWiden edit.now (found (elements d.now) above.now) }
     ensures { OnOk result (patches.new ≡ patches.old
         ++ above_puts d.now.dim edit.now (slice_get (elements d.now) n) (found (elements d.now) above.now)) }
 {
@@ -83,7 +86,7 @@ fn push_all_wider(
     r: Box3,
 ) -> Result<(), AllocError>
     requires whole { IsWhole d.now }
-    requires shown { AllByRecursion (λ v. IsFalse (is_silent (class_of v.element.kind))) (found (elements d.now) above.now) }
+    requires spotted { AllByRecursion (λ v. IsTrue (has_spots (class_of v.element.kind))) (found (elements d.now) above.now) }
     ensures { OnOk result (patches.new ≡ patches.old
         ++ flat_map (λ v. wider_puts d.now.dim r v.place (spell v.element)) (found (elements d.now) above.now)) }
 {
@@ -147,7 +150,7 @@ fn moved_number(b: &[u8], at: u32, axis: u8, by: &Shift) -> i32
 // Appends the range numbers of header m, where there is one, made to hold a range too.
 fn push_wider(patches: &mut PatchList, d: &Design, m: u32, r: Box3) -> Result<(), AllocError>
     requires whole { IsWhole d.now }
-    requires shown { AllByRecursion (λ v. IsFalse (is_silent (class_of v.element.kind)))
+    requires spotted { AllByRecursion (λ v. IsTrue (has_spots (class_of v.element.kind)))
         (option_to_list (found_at (elements d.now) m)) }
     ensures { OnOk result (patches.new ≡ patches.old
         ++ flat_map (λ v. wider_puts d.now.dim r v.place (spell v.element)) (option_to_list (found_at (elements d.now) m))) }
@@ -155,37 +158,57 @@ fn push_wider(patches: &mut PatchList, d: &Design, m: u32, r: Box3) -> Result<()
     let Some(found) = find(d, m) else {
         return Ok(());
     };
-    let wider = join(range(found.bytes), r);
-    push_corner(patches, d.dim, found.place as u32 + 4, wider.lo)?;
-    push_corner(patches, d.dim, found.place as u32 + 16, wider.hi)
+    push_range(patches, d.dim, found, r)
 }
 
-// Appends the range numbers of a corner that begins at byte `at`, on the file's axes.
-fn push_corner(
-    patches: &mut PatchList,
-    dim: u8,
-    at: u32,
-    corner: [i32; 3],
-) -> Result<(), AllocError>
+// Appends the numbers at the range spots of an element, made to hold a range too.
+fn push_range(patches: &mut PatchList, dim: u8, found: Found, r: Box3) -> Result<(), AllocError>
     requires dimension { IsDimension dim }
-    requires few { at ≤ 67108864 }
-    ensures { OnOk result (patches.new ≡ patches.old ++ corner_puts dim at corner) }
+    requires kind { found.kind < 128 }
+    requires spotted { IsTrue (has_spots (class_of found.kind)) }
+    requires holds { HoldsPoints dim found.kind found.bytes.now (length found.bytes.now) }
+    requires few { found.place + length found.bytes.now ≤ 67108864 }
+    ensures { OnOk result (patches.new ≡ patches.old ++ wider_puts dim r found.entry.place found.entry.bytes.now) }
 {
-    patches.push(range_patch(at, corner[0]))?;
-    patches.push(range_patch(at + 4, corner[1]))?;
-    if dim == 3 {
-        patches.push(range_patch(at + 8, corner[2]))?;
+    'spots: for spot in spots_in(dim, found.kind, found.bytes) {
+        if spot.offset {
+            patches.push(wider_patch(found, spot, r))?;
+        }
     }
     Ok(())
 }
 
-// A range number at a place.
-fn range_patch(at: u32, number: i32) -> Patch
-    ensures { put_of result ≡ record { at = at; bytes = range_long_bytes number } }
+// The number at a range spot, made to hold a range too.
+fn wider_patch(found: Found, spot: Spot, r: Box3) -> Patch
+    requires within { spot.at + 4 ≤ length found.bytes.now }
+    requires few { found.place + length found.bytes.now ≤ 67108864 }
+    ensures { put_of result ≡ wider_put r found.entry.place found.entry.bytes.now spot }
 {
-    let mut bytes = [0; 4];
-    put_range_long(&mut bytes, 0, number);
-    Patch { at, len: 4, bytes }
+    let number = wider(spot, value(found.bytes, spot), r);
+    Patch {
+        at: found.place as u32 + spot.at,
+        len: 4,
+        bytes: bytes_at(spot, number),
+    }
+}
+
+// A number of a range made to hold a range too: the lesser of the two in the low corner, which stands before byte 16,
+// and else the greater.
+fn wider(spot: Spot, number: i32, r: Box3) -> i32
+    ensures { result ≡ wider r spot number }
+{
+    if spot.at < HIGH {
+        number.min(along(r.lo, spot.axis))
+    } else {
+        number.max(along(r.hi, spot.axis))
+    }
+}
+
+// The number of a corner along an axis.
+fn along(corner: [i32; 3], axis: u8) -> i32
+    ensures { result ≡ on_axis corner axis }
+{
+    corner.get(usize::from(axis)).copied().unwrap_or(0)
 }
 
 // Appends what an edit puts into live elements, or into the copies of them, of which `live` has the numbers.

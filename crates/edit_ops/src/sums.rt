@@ -63,7 +63,7 @@ fn step(by: &Shift, axis: u8) -> i64
 }
 
 // The number at a spot.
-fn value(b: &[u8], spot: Spot) -> i32
+pub fn value(b: &[u8], spot: Spot) -> i32
     requires { spot.at + 4 ≤ length b.now }
     ensures { result ≡ value_at b.now spot }
 {

@@ -1,6 +1,7 @@
-use Rattle.std.proofs.Common.{◌≡◌, ◌++◌, drop, false}
+use Rattle.std.proofs.Common.{◌≡◌, ◌++◌, drop, true}
 use Rattle.std.specs.List.{AllByRecursion}
-use Rattle.dgn_layout.specs.Classes.{class_of, is_silent}
+use Rattle.dgn_layout.specs.Classes.{class_of}
+use Rattle.dgn_layout.specs.Spots.{has_spots}
 use Rattle.elem_index.specs.Design.{elements}
 use Rattle.edit_ops.specs.Written.{found}
 use Rattle.edit_ops.proofs.Wider.{all_wider}
@@ -9,6 +10,6 @@ use Rattle.edit_ops.proofs.patches.push_all_wider.Given as goal
 -- what is put so far and what is put into those that are left are all
 abbrev pub invariant-above : goal.invariant-above
 invariant-above l = record {
-  shown : AllByRecursion (λ v. is_silent (class_of v.element.kind) ≡ false) (found (elements l.d) (drop l.m-index l.above));
+  spotted : AllByRecursion (λ v. has_spots (class_of v.element.kind) ≡ true) (found (elements l.d) (drop l.m-index l.above));
   all : l.patches ++ all_wider l.d.dim l.r (found (elements l.d) (drop l.m-index l.above)) ≡ l.fn.patches ++ all_wider l.d.dim l.r (found (elements l.d) l.above);
 }

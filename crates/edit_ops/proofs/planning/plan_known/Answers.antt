@@ -5,8 +5,7 @@ use Rattle.dgn_drawing.specs.Spelling.{spelling}
 use Rattle.dgn_drawing.specs.Nesting.{flat}
 use Rattle.edit_ops.specs.Applying.{copied}
 use Rattle.edit_ops.specs.Written.{found, part_puts}
-use Rattle.edit_ops.proofs.Accepted.{accepted, some_ready}
-use Rattle.edit_ops.proofs.Headed.{headers_read}
+use Rattle.edit_ops.proofs.Accepted.{accepted, may_widen, some_ready}
 use Rattle.edit_ops.proofs.Behind.{appends_behind, writes_behind}
 use Rattle.edit_ops.proofs.Deciding.{later_first, copied_plan, changed_plan}
 use Rattle.edit_ops.proofs.planning.plan_known.Goals as goal
@@ -42,7 +41,7 @@ push_part-requires c =
       above = ap (found (elements d)) c.deref-3.ensures.value ∙ c.in_ok-above.ensures.found;
       live = ap (found (elements d)) c.deref-4.ensures.value ∙ c.in_ok-live.ensures.found;
       head = some_ready d.dim (elements d) c.args.edit.now c.args.n able.head able.there able.head_able;
-      shown = headers_read (elements d) c.args.n;
+      widens = may_widen d.dim (elements d) rest c.args.n c.args.edit.now c.requires.target none;
       ready = able.able;
     }
 
