@@ -6,23 +6,8 @@ use Rattle.std.proofs.lemmas.List.{append-nil, take-append-le, take-append-drop,
 use Rattle.std.proofs.lemmas.Option.{get_or_from_slice_get, slice_get_within}
 use Rattle.std.proofs.lemmas.List.Concat.{flat_map-append}
 use Rattle.std.proofs.Math.Seq.{take-append-add}
-use Rattle.dgn_listing.specs.Lines.{AppendsFrontOf}
-
--- a front of the first piece
-pub first : (a b old new : List ℕ) → AppendsFrontOf a old new → AppendsFrontOf (a ++ b) old new
-first a b old new f = record {
-  count = f.count;
-  within = omega (arith, length-append a b, f.within);
-  bytes = f.bytes ∙ ap (λ (t : List ℕ). old ++ t) (sym (take-append-le f.count a b f.within));
-}
-
--- the first piece, and a front of what follows
-pub later : (a b old mid new : List ℕ) → mid ≡ old ++ a → AppendsFrontOf b mid new → AppendsFrontOf (a ++ b) old new
-later a b old mid new before f = record {
-  count = length a + f.count;
-  within = omega (arith, length-append a b, f.within);
-  bytes = f.bytes ∙ (ap (λ (t : List ℕ). t ++ take f.count b) before ∙ (append_assoc old a (take f.count b) ∙ ap (λ (t : List ℕ). old ++ t) (sym (take-append-add a b f.count))));
-}
+use Rattle.patch_bytes.specs.Fronts.{AppendsFrontOf}
+pub use Rattle.patch_bytes.proofs.Fronts.{first, later, said, last}
 
 -- the pieces of the elements before one, and a front of its own
 pub among : {X : Type 0} (f : X → List ℕ) (xs : List X) (i : ℕ) (d : X) (old mid new : List ℕ) → i < length xs → mid ≡ old ++ flat_map f (take i xs) → AppendsFrontOf (f (get_or xs i d)) mid new → AppendsFrontOf (flat_map f xs) old new
@@ -55,13 +40,3 @@ pub among_parts : {X : Type 0} (f : X → List ℕ) (xs : List X) (x : X) (ys al
 among_parts f xs x ys all old mid new parts before front =
     let whole : flat_map f xs ++ (f x ++ flat_map f ys) ≡ flat_map f all = sym (flat_map-append f xs (x ∷ ys)) ∙ ap (flat_map f) parts in
     subst (λ (t : List ℕ). AppendsFrontOf t old new) whole (later (flat_map f xs) (f x ++ flat_map f ys) old mid new before (first (f x) (flat_map f ys) mid new front))
-
--- what holds of an exit is said of its result
-pub said : {E : Type 0} (r : Result (Unit {0}) E) (text old new : List ℕ) → AppendsFrontOf text old new → OnErr r (AppendsFrontOf text old new)
-said (Ok x) text old new f = tt
-said (Err e) text old new f = f
-
--- a front of the last piece
-pub last : {E : Type 0} (r : Result (Unit {0}) E) (a b old mid new : List ℕ) → mid ≡ old ++ a → OnErr r (AppendsFrontOf b mid new) → OnErr r (AppendsFrontOf (a ++ b) old new)
-last (Ok x) a b old mid new before f = tt
-last (Err e) a b old mid new before f = later a b old mid new before f

@@ -1,6 +1,7 @@
--- The pieces that lines of a listing are made of, and what a writer leaves where memory ran out.
-use Rattle.std.specs.Prelude.{ℕ, zero, suc, ◌≡◌, ◌+◌, ◌≤◌, List, [], ◌∷◌, ◌++◌, length, take, codes, decimal}
+-- The pieces that lines of a listing are made of.
+use Rattle.std.specs.Prelude.{ℕ, zero, suc, ◌+◌, List, [], ◌∷◌, ◌++◌, codes, decimal}
 use Rattle.std.specs.List.{flat_map}
+pub use Rattle.patch_bytes.specs.Fronts.{AppendsFrontOf}
 
 -- words of a line stand one blank apart, and each line ends with a line feed
 abbrev pub blank : List ℕ
@@ -24,9 +25,3 @@ ending_text word count = word ++ (blank ++ (decimal count ++ line_feed))
 abbrev pub texts_from : (ℕ → List ℕ) → ℕ → ℕ → List ℕ
 texts_from text n zero = []
 texts_from text n (suc count) = text n ++ texts_from text (n + 1) count
-
--- the new bytes are the old ones and a front of a text
-pub record AppendsFrontOf (text old new : List ℕ) : Type 0 where
-  pub count : ℕ
-  pub within : count ≤ length text
-  pub bytes : new ≡ old ++ take count text

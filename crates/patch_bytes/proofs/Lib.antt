@@ -1,3 +1,4 @@
+pub mod Fronts
 pub mod Laying
 pub mod Same
 pub mod Spans

@@ -5,37 +5,12 @@ use Rattle.std.specs.List.{flat_map}
 use Rattle.std.proofs.lemmas.List.{append-nil, take-append-le, take-append-drop, drop_more, take_more, map-append}
 use Rattle.std.proofs.lemmas.List.Concat.{flat_map-append, flat_map-cons}
 use Rattle.std.proofs.Math.Seq.{take-append-add}
-use Rattle.patch_file.specs.Fronts.{AppendsFrontOf}
-
--- a front of the first piece
-pub first : (a b old new : List ℕ) → AppendsFrontOf a old new → AppendsFrontOf (a ++ b) old new
-first a b old new f = record {
-  count = f.count;
-  within = omega (arith, length-append a b, f.within);
-  bytes = f.bytes ∙ ap (λ (t : List ℕ). old ++ t) (sym (take-append-le f.count a b f.within));
-}
-
--- the first piece, and a front of what follows
-pub later : (a b old mid new : List ℕ) → mid ≡ old ++ a → AppendsFrontOf b mid new → AppendsFrontOf (a ++ b) old new
-later a b old mid new before f = record {
-  count = length a + f.count;
-  within = omega (arith, length-append a b, f.within);
-  bytes = f.bytes ∙ (ap (λ (t : List ℕ). t ++ take f.count b) before ∙ (append_assoc old a (take f.count b) ∙ ap (λ (t : List ℕ). old ++ t) (sym (take-append-add a b f.count))));
-}
+use Rattle.patch_bytes.specs.Fronts.{AppendsFrontOf}
+pub use Rattle.patch_bytes.proofs.Fronts.{first, later, said, last}
 
 -- nothing of it
 pub none : (text old new : List ℕ) → new ≡ old → AppendsFrontOf text old new
 none text old new same = record { count = 0; within = omega arith; bytes = same ∙ sym (append-nil old) }
-
--- what holds of an exit is said of its result
-pub said : {E : Type 0} (r : Result (Unit {0}) E) (text old new : List ℕ) → AppendsFrontOf text old new → OnErr r (AppendsFrontOf text old new)
-said (Ok x) text old new f = tt
-said (Err e) text old new f = f
-
--- a front of the last piece
-pub last : {E : Type 0} (r : Result (Unit {0}) E) (a b old mid new : List ℕ) → mid ≡ old ++ a → OnErr r (AppendsFrontOf b mid new) → OnErr r (AppendsFrontOf (a ++ b) old new)
-last (Ok x) a b old mid new before f = tt
-last (Err e) a b old mid new before f = later a b old mid new before f
 
 -- the last piece, where it is written
 pub ended : {E : Type 0} (r : Result (Unit {0}) E) (a b old mid new : List ℕ) → mid ≡ old ++ a → OnOk r (new ≡ mid ++ b) → OnOk r (new ≡ old ++ (a ++ b))

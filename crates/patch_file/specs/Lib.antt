@@ -1,7 +1,6 @@
 pub mod Answers
 pub mod Exchanges
 pub mod FieldView
-pub mod Fronts
 pub mod Laws
 pub mod PatchView
 pub mod Reading

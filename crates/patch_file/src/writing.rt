@@ -6,7 +6,7 @@ ghost use Rattle.std.specs.List.{All, flat_map};
 ghost use Rattle.patch_file.specs.FieldView.{exchange_of};
 ghost use Rattle.patch_file.specs.Spelling.{number, field_spelling, head_spelling, entry_spelling, patch_spelling};
 ghost use Rattle.patch_file.specs.PatchView.{packed_of, all_packed};
-ghost use Rattle.patch_file.specs.Fronts.{AppendsFrontOf};
+ghost use Rattle.patch_bytes.specs.Fronts.{AppendsFrontOf};
 
 use crate::pieces::MARK;
 use crate::{Field, PatchEntry, patch_len};

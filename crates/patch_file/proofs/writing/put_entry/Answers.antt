@@ -3,7 +3,7 @@ use Rattle.std.specs.Prelude.{OnErr}
 use Rattle.std.specs.List.{flat_map}
 use Rattle.patch_file.specs.Exchanges.{Exchange}
 use Rattle.patch_file.specs.Spelling.{head_spelling, field_spelling}
-use Rattle.patch_file.specs.Fronts.{AppendsFrontOf}
+use Rattle.patch_bytes.specs.Fronts.{AppendsFrontOf}
 use Rattle.patch_file.proofs.Again.{few_fields}
 use Rattle.patch_file.proofs.Fronts.{first, later, last, said}
 use Rattle.patch_file.proofs.writing.put_entry.Goals as goal

@@ -1,7 +1,7 @@
 use Rattle.std.proofs.Common.{ℕ, ◌≡◌, ◌++◌, ◌∷◌, [], length, take, ap, subst, ◌∙◌, arith, length-take}
 use Rattle.std.specs.Prelude.{OnErr}
 use Rattle.patch_file.specs.Spelling.{number}
-use Rattle.patch_file.specs.Fronts.{AppendsFrontOf}
+use Rattle.patch_bytes.specs.Fronts.{AppendsFrontOf}
 use Rattle.patch_file.proofs.Fronts.{first, later, last, said}
 use Rattle.patch_file.proofs.writing.put_field.Goals as goal
 

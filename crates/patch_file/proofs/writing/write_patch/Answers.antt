@@ -1,7 +1,7 @@
 use Rattle.std.proofs.Common.{ℕ, List, ◌≡◌, ◌++◌, length, ap, sym, subst, ◌∙◌, arith}
 use Rattle.std.specs.List.{flat_map}
 use Rattle.std.proofs.lemmas.List.{length-map}
-use Rattle.patch_file.specs.Fronts.{AppendsFrontOf}
+use Rattle.patch_bytes.specs.Fronts.{AppendsFrontOf}
 use Rattle.patch_file.specs.Spelling.{mark, number, entry_spelling}
 use Rattle.patch_file.specs.PatchView.{packed_of, all_packed}
 use Rattle.patch_file.proofs.Fronts.{first, later, last, said}
