@@ -5,6 +5,7 @@ ghost use Rattle.nest_tree.specs.Linked.{Links, plain_link};
 
 use crate::knot::Knot;
 use crate::link::Link;
+use crate::sums::push_within;
 use std::alloc::{AllocError, Global};
 use std::marker::Model;
 
@@ -29,6 +30,16 @@ fn is_plain(link: Link) -> bool
     ensures { result ≡ true → link ≡ plain_link }
 {
     link.parent().is_none() && link.depth() == 0 && matches!(link.knot(), Knot::Leaf)
+}
+
+// Puts so many such links last. There is room for them.
+fn push_links(count: u32, list: &mut Vec<Link>)
+    requires { vec_len list.old + count ≤ vec_capacity list.old }
+    ensures { list.new.items ≡ list.old.items ++ replicate count plain_link }
+{
+    for _ in 0..count {
+        push_within(list, Link::new(None, 0, Knot::Leaf));
+    }
 }
 
 impl LinkList {
@@ -85,6 +96,19 @@ impl LinkList {
                 Ok(()) => {}
                 Err(_) => unreachable!(),
             }
+        }
+    }
+
+    // Puts the links of so many roots with nothing below them last. There is room for them.
+    pub(crate) fn push_plain(&mut self, count: u32)
+        requires room { count ≤ self.old.spare }
+        requires few { length self.old.items + count < 4294967296 }
+        ensures { self.new.items ≡ self.old.items ++ replicate count plain_link }
+    {
+        if self.rest.is_empty() {
+            self.plain += count;
+        } else {
+            push_links(count, &mut self.rest);
         }
     }
 
