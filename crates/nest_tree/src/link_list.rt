@@ -5,7 +5,6 @@ ghost use Rattle.nest_tree.specs.Linked.{Links, plain_link};
 
 use crate::knot::Knot;
 use crate::link::Link;
-use crate::sums::push_within;
 use std::alloc::{AllocError, Global};
 use std::marker::Model;
 
@@ -38,7 +37,7 @@ fn push_links(count: u32, list: &mut Vec<Link>)
     ensures { list.new.items ≡ list.old.items ++ replicate count plain_link }
 {
     for _ in 0..count {
-        push_within(list, Link::new(None, 0, Knot::Leaf));
+        list.push_reserved(Link::new(None, 0, Knot::Leaf));
     }
 }
 
@@ -92,10 +91,7 @@ impl LinkList {
         if self.rest.is_empty() && is_plain(link) {
             self.plain += 1;
         } else {
-            match self.rest.push(link) {
-                Ok(()) => {}
-                Err(_) => unreachable!(),
-            }
+            self.rest.push_reserved(link);
         }
     }
 

@@ -7,7 +7,6 @@ ghost use Rattle.dgn_drawing.specs.Nesting.{front_count};
 ghost use Rattle.nest_tree.specs.Depths.{IsWordTotal};
 ghost use Rattle.nest_tree.specs.Plain.{is_header, is_plain};
 
-use crate::sums::push_within;
 use dgn_drawing::Row;
 
 // Whether elements of that type can have others below them.
@@ -46,6 +45,6 @@ pub(crate) fn push_numbers(first: u32, count: u32, list: &mut Vec<u32>)
     ensures room { vec_capacity list.old ≤ vec_capacity list.new }
 {
     for number in first..first + count {
-        push_within(list, number);
+        list.push_reserved(number);
     }
 }

@@ -8,7 +8,7 @@ pub loop-preserved : goal.loop-preserved
 loop-preserved c =
     let inside = c.loop-test.true in
     let left : c.args.count - c.loop.counter ≡ suc (c.args.count - (c.loop.counter + 1)) = omega arith in (
-      put_same c.loop.list.items c.push_within.new.list.items (c.args.list.now.items ++ replicate c.args.count plain_link) plain_link (c.args.count - c.loop.counter) (c.args.count - (c.loop.counter + 1)) left c.loop.invariant.0
-          (c.push_within.ensures.items ∙ ap (λ (x : Link). c.loop.list.items ++ x ∷ []) c.new.ensures),
-      omega (arith, c.loop.invariant.1, c.push_within.ensures.room, ap (length {A = Link}) c.push_within.ensures.items, length_push c.loop.list.items c.new.result, c.loop.list.ok.0, c.push_within.new.list.ok.0),
+      put_same c.loop.list.items c.push_reserved.new.self.items (c.args.list.now.items ++ replicate c.args.count plain_link) plain_link (c.args.count - c.loop.counter) (c.args.count - (c.loop.counter + 1)) left c.loop.invariant.0
+          (c.push_reserved.ensures.items ∙ ap (λ (x : Link). c.loop.list.items ++ x ∷ []) c.new.ensures),
+      omega (arith, c.loop.invariant.1, c.push_reserved.ensures.capacity, ap (length {A = Link}) c.push_reserved.ensures.items, length_push c.loop.list.items c.new.result, c.loop.list.ok.0, c.push_reserved.new.self.ok.0),
     )
