@@ -76,6 +76,7 @@ fn is_counted(kind: u8) -> bool
 }
 
 // Where the body of an element ends, of a type that isn't silent. None exactly where the element ends before that.
+#[inline(always)]
 fn end_within(dim: u8, kind: u8, b: &[u8]) -> Option<usize>
     requires dimension { IsDimension dim }
     requires kind { kind < 128 }
