@@ -7,13 +7,13 @@ ghost use Rattle.dgn_layout.specs.Classes.{class_of, is_silent};
 ghost use Rattle.dgn_layout.specs.Ends.{body_end as end_of};
 ghost use Rattle.dgn_layout.specs.declared.types.Class.{Class};
 ghost use Rattle.dgn_drawing.specs.Faults.{element_fault, IsSound};
+ghost use Rattle.dgn_drawing.specs.Nesting.{is_counted};
 ghost use Rattle.dgn_drawing.specs.Rows.{row_at, total_in};
 ghost use Rattle.dgn_drawing.specs.WellFormed.{IsDimension};
 
 use crate::body_fault::BodyFault;
 use crate::row::Row;
-use dgn_layout::types::Class;
-use dgn_layout::{body_end, class, is_silent};
+use dgn_layout::{body_end, is_silent};
 use elem_head::{attr_start, head};
 use group_head::total;
 
@@ -22,6 +22,7 @@ use group_head::total;
 ///
 /// Short comes exactly where they end before the body does, Attr exactly where they aren't Short and
 /// break the rule on attribute data. A silent element has neither fault.
+#[inline(always)]
 pub fn check_elem(dim: u8, b: &[u8]) -> Result<(), BodyFault>
     requires dimension { IsDimension dim }
     requires element { length b.now ≡ size_of b.now }
@@ -60,13 +61,22 @@ fn counted_total(kind: u8, b: &[u8]) -> u16
     requires total { class_of kind ≡ Class.Counted → 40 ≤ length b.now }
     ensures { result ≡ total_in (class_of kind) b.now }
 {
-    match class(kind) {
-        Class::Counted => total(b).unwrap_or(0),
-        _ => 0,
+    if is_counted(kind) {
+        total(b).unwrap_or(0)
+    } else {
+        0
     }
 }
 
+// Whether a header of that type counts its members.
+fn is_counted(kind: u8) -> bool
+    ensures { result ≡ is_counted (class_of kind) }
+{
+    matches!(kind, 2 | 7 | 12 | 14 | 18 | 19)
+}
+
 // Where the body of an element ends, of a type that isn't silent. None exactly where the element ends before that.
+#[inline(always)]
 fn end_within(dim: u8, kind: u8, b: &[u8]) -> Option<usize>
     requires dimension { IsDimension dim }
     requires kind { kind < 128 }

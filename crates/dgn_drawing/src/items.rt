@@ -16,15 +16,13 @@ use crate::form::{Form, form_of};
 use crate::types::{Item, ItemBody};
 use body_text::{node, text};
 use body_vertex::path;
+use dgn_layout::SHARED_CELL;
 use elem_head::{head, symb};
 use group_head::cell;
 use patch_bytes::ByteList;
 use plane_geom::PointList;
 use range_code::range;
 use std::alloc::{AllocError, Global};
-
-// The type of a shared cell definition.
-const SHARED_CELL: u8 = 34;
 
 /// What a display shows of the sound element `b` with the number `number` at the depth `depth`, in 2
 /// or 3 dimensions.

@@ -22,6 +22,9 @@ pub mod types;
 pub use spot::Spot;
 pub use table::Table;
 
+/// The type of a shared cell definition. Nothing shows one, and its parts are the elements with bit C behind it.
+pub const SHARED_CELL: u8 = 34;
+
 /// The class of the element type `kind`. A type that no class names is silent.
 pub fn class(kind: u8) -> types::Class
     requires { kind < 128 }

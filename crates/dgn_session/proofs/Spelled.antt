@@ -1,16 +1,17 @@
 -- The rows of elements, read from their spellings one after the other.
-use Rattle.std.proofs.Common.{◌≡◌, ℕ, ◌+◌, ◌<◌, ◌≤◌, List, [], ◌∷◌, ◌++◌, length, take, drop, map, refl, sym, ap, ◌∙◌, subst, arith, length-append, append_assoc, inl, inr}
+use Rattle.std.proofs.Common.{◌≡◌, ℕ, ◌+◌, ◌<◌, ◌≤◌, List, [], ◌∷◌, ◌++◌, length, take, drop, map, refl, sym, ap, ◌∙◌, subst, arith, length-append, append_assoc}
 use Rattle.std.specs.List.{AllByRecursion}
-use Rattle.std.proofs.lemmas.List.{append-nil, take_at, drop_at, drop-drop, length-drop}
+use Rattle.std.proofs.lemmas.List.{take_at, drop_at, drop-drop, length-drop}
 use Rattle.elem_head.specs.Head.{size_of as size_said}
 use Rattle.dgn_drawing.specs.declared.row.Row.{Row}
 use Rattle.dgn_drawing.specs.Element.{Element}
 use Rattle.dgn_drawing.specs.Spelling.{spell, spelling, size_of}
 use Rattle.dgn_drawing.specs.WellFormed.{IsDimension, IsWellFormed}
 use Rattle.dgn_drawing.specs.Rows.{row_of, row_at}
-use Rattle.dgn_drawing.specs.Faults.{IsSoundIn, IsSound}
-use Rattle.dgn_drawing.proofs.Read.{size_said-spell, element_fault-spell, size-spell}
+use Rattle.dgn_drawing.specs.Faults.{IsSound}
+use Rattle.dgn_drawing.proofs.Read.{size_said-spell, size-spell}
 use Rattle.dgn_drawing.proofs.Rows.{row_at-spell}
+use Rattle.elem_index.proofs.Places.{sound_spell}
 use Rattle.dgn_session.specs.Carried.{Spells, IsSpelling, AreRowsOf}
 
 -- the elements that are left from a place on, and the rows of those before it
@@ -31,16 +32,6 @@ left_first b dim es spells = record { left = es; each = spells.each; rest = spel
 -- each element has four bytes
 four : (dim : ℕ) (e : Element) → IsDimension dim → IsWellFormed dim e → 4 ≤ size_of e
 four dim e axes good = omega (arith, size-spell dim e axes good)
-
-sound_in : (dim : ℕ) (e : Element) → IsDimension dim → IsWellFormed dim e → IsSoundIn dim (spell e)
-sound_in dim e axes good = record {
-  size = sym (size_said-spell dim e axes good []) ∙ ap size_said (append-nil (spell e));
-  fault = element_fault-spell dim e axes good;
-}
-
-sound_spell : (dim : ℕ) (e : Element) → IsDimension dim → IsWellFormed dim e → IsSound (spell e)
-sound_spell dim e (inl two) good = inl (subst (λ (n : ℕ). IsSoundIn n (spell e)) two (sound_in dim e (inl two) good))
-sound_spell dim e (inr three) good = inr (subst (λ (n : ℕ). IsSoundIn n (spell e)) three (sound_in dim e (inr three) good))
 
 -- the element that begins the bytes from a place on
 pub record First (dim : ℕ) (es : List Element) (b : List ℕ) (rows : List Row) (at : ℕ) (rest : List ℕ) : Type 0 where

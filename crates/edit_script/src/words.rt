@@ -26,21 +26,21 @@ pub fn strip_blanks(line: &[u8]) -> &[u8]
     rest
 }
 
-// The bytes before the first one of this kind, and those behind it.
-pub fn first_piece(text: &[u8], kind: u8) -> (&[u8], &[u8])
-    ensures piece { result.0.now ≡ before_first (λ b. b == kind) text.now }
-    ensures rest { result.1.now ≡ after_first (λ b. b == kind) text.now }
+// The bytes before the first `separator`, and those behind it.
+pub fn first_piece(text: &[u8], separator: u8) -> (&[u8], &[u8])
+    ensures piece { result.0.now ≡ before_first (λ b. b == separator) text.now }
+    ensures rest { result.1.now ≡ after_first (λ b. b == separator) text.now }
     ensures shorter { 0 < length text.now → length result.1.now < length text.now }
 {
-    match place_of(text, kind) {
+    match place_of(text, separator) {
         Some(at) => (text.split_at(at).0, text.split_at(at + 1).1),
         None => (text, &[]),
     }
 }
 
-// The place of the first byte of this kind.
-fn place_of(text: &[u8], kind: u8) -> Option<usize>
-    ensures { result ≡ position (λ b. b == kind) text.now }
+// The place of the first `byte`.
+fn place_of(text: &[u8], byte: u8) -> Option<usize>
+    ensures { result ≡ position (λ b. b == byte) text.now }
 {
-    text.iter().position(|b| *b == kind)
+    text.iter().position(|b| *b == byte)
 }

@@ -11,7 +11,7 @@ use dgn_words::word;
 
 pub mod types;
 
-/// The bit of the properties, 0x0800, that says that attribute data follow.
+// The number of the bit of the properties that says that attribute data follow: it counts 0x0800.
 const ATTRIBUTE_DATA: u32 = 11;
 
 /// Level, bit C, type, deleted bit and number of words that follow, from bytes 0 to 3.

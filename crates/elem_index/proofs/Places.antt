@@ -146,7 +146,7 @@ sound_in dim e axes good = record {
   fault = element_fault-spell dim e axes good;
 }
 
-sound_spell : (dim : ℕ) (e : Element) → IsDimension dim → IsWellFormed dim e → IsSound (spell e)
+pub sound_spell : (dim : ℕ) (e : Element) → IsDimension dim → IsWellFormed dim e → IsSound (spell e)
 sound_spell dim e (inl two) good = inl (subst (λ (n : ℕ). IsSoundIn n (spell e)) two (sound_in dim e (inl two) good))
 sound_spell dim e (inr three) good = inr (subst (λ (n : ℕ). IsSoundIn n (spell e)) three (sound_in dim e (inr three) good))
 

@@ -111,7 +111,7 @@ fn next_size(dim: u8, at: u32, rest: &[u8]) -> Result<Option<usize>, OpenFault>
 }
 
 // The size of the sound element that the bytes begin with, by all that an element can have wrong.
-#[inline(never)]
+#[inline(always)]
 fn checked_size(dim: u8, at: u32, rest: &[u8]) -> Result<usize, OpenFault>
     requires { IsDimension dim }
     ensures sound { IfOk result (BeginsSound dim rest.now) }

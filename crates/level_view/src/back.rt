@@ -12,12 +12,10 @@ use crate::alone::shown_alone;
 use crate::place::Place;
 use dgn_drawing::types::Item;
 use dgn_drawing::{Mask, item};
+use dgn_layout::SHARED_CELL;
 use elem_head::head;
 use nest_tree::Knot;
 use std::alloc::{AllocError, Global};
-
-// The type of a shared cell definition.
-pub(crate) const SHARED_CELL: u8 = 34;
 
 // Whether the item of the least number has one below `end`.
 fn begins_below(items: &[Item], end: u32) -> bool

@@ -6,10 +6,9 @@ ghost use Rattle.dgn_drawing.specs.Faults.{IsSoundIn};
 ghost use Rattle.dgn_drawing.specs.Reading.{element_at};
 ghost use Rattle.level_view.specs.Numbers.{alone_if, has_item, is_alone, first_below, numbers_past, with_group_number, with_number};
 
-use crate::back::SHARED_CELL;
 use crate::place::Place;
 use dgn_drawing::Mask;
-use dgn_layout::is_silent;
+use dgn_layout::{SHARED_CELL, is_silent};
 use elem_head::head;
 use nest_tree::Knot;
 use std::alloc::AllocError;

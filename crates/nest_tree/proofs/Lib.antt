@@ -22,6 +22,8 @@ pub mod Elements
 pub mod Nestable
 pub mod Cut
 pub mod Grown
+pub mod PlainRows
+pub mod Pushing
 pub mod Reached
 pub mod Blocks
 pub mod Walks

@@ -203,7 +203,7 @@ module _ (rows : List Row) where
     length-links_of = ap (length {A = Link}) are ∙ length-map (marks_in rows) link_of ∙ length-marks_in rows
 
     -- what is kept of an element says whether it is broken
-    said : (n : ℕ) (d : Link) (e : Row) → n < length rows → broken_told n (get_or links n d) (get_or rows n e) ≡ is_broken itself rows n
+    pub said : (n : ℕ) (d : Link) (e : Row) → n < length rows → broken_told n (get_or links n d) (get_or rows n e) ≡ is_broken itself rows n
     said n d e inside =
         let long = length-links_of in
         broken_is rows n (get_or links n d) (get_or rows n e)

@@ -3,6 +3,7 @@ pub mod Linked
 pub mod Shapes
 pub mod Places
 pub mod Passing
+pub mod Plain
 pub mod Nested
 pub mod Stepped
 pub mod Depths

@@ -9,6 +9,7 @@ mod link_list;
 mod nested;
 mod nesting;
 mod open_list;
+mod plain;
 mod reading;
 mod seen;
 mod shape;

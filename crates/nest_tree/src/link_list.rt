@@ -31,6 +31,16 @@ fn is_plain(link: Link) -> bool
     link.parent().is_none() && link.depth() == 0 && matches!(link.knot(), Knot::Leaf)
 }
 
+// Puts so many such links last. There is room for them.
+fn push_links(count: u32, list: &mut Vec<Link>)
+    requires { vec_len list.old + count ≤ vec_capacity list.old }
+    ensures { list.new.items ≡ list.old.items ++ replicate count plain_link }
+{
+    for _ in 0..count {
+        list.push_reserved(Link::new(None, 0, Knot::Leaf));
+    }
+}
+
 impl LinkList {
     // No links, with room for so many.
     pub(crate) fn with_capacity(alloc: Global, count: usize) -> Result<LinkList, AllocError>
@@ -81,10 +91,20 @@ impl LinkList {
         if self.rest.is_empty() && is_plain(link) {
             self.plain += 1;
         } else {
-            match self.rest.push(link) {
-                Ok(()) => {}
-                Err(_) => unreachable!(),
-            }
+            self.rest.push_reserved(link);
+        }
+    }
+
+    // Puts the links of so many roots with nothing below them last. There is room for them.
+    pub(crate) fn push_plain(&mut self, count: u32)
+        requires room { count ≤ self.old.spare }
+        requires few { length self.old.items + count < 4294967296 }
+        ensures { self.new.items ≡ self.old.items ++ replicate count plain_link }
+    {
+        if self.rest.is_empty() {
+            self.plain += count;
+        } else {
+            push_links(count, &mut self.rest);
         }
     }
 

@@ -6,12 +6,14 @@ ghost use Rattle.dgn_drawing.specs.Numbering.{span_of, depth_of, parent_of, knot
 ghost use Rattle.nest_tree.specs.Shapes.{knot_told, IsRow};
 ghost use Rattle.nest_tree.specs.Places.{marks_in, link_of, end_told, NestApart};
 ghost use Rattle.nest_tree.specs.Passing.{broken_in, first_at, if_below};
+ghost use Rattle.nest_tree.specs.Plain.{IsPlain};
 ghost use Rattle.nest_tree.specs.Nested.{Nested, nested_of, IsNest};
 
 use crate::broken::{add_broken, cut_broken};
 use crate::knot::Knot;
 use crate::link::Link;
 use crate::link_list::LinkList;
+use crate::plain::{plain_front, push_numbers};
 use crate::reading::read_on;
 use crate::seen::{SeenRows, Step};
 use crate::sums::set_sums;
@@ -89,6 +91,37 @@ impl Nest {
 
     // Adds the elements with these rows behind the others, of which they nest apart.
     pub(crate) fn add(&mut self, rows: &[Row])
+        requires room { length rows.now ≤ self.old.spare }
+        requires few { length self.old.rows + length rows.now < 4294967295 }
+        requires each { AllByRecursion IsRow rows.now }
+        requires apart { 0 < length self.old.rows → NestApart self.old.rows rows.now }
+        ensures { self.new.rows ≡ self.old.rows ++ rows.now }
+    {
+        if plain_front(rows) == rows.len() {
+            self.add_plain(rows);
+        } else {
+            self.add_any(rows);
+        }
+    }
+
+    // The same, where each is a root with nothing below it.
+    fn add_plain(&mut self, rows: &[Row])
+        requires room { length rows.now ≤ self.old.spare }
+        requires few { length self.old.rows + length rows.now < 4294967295 }
+        requires plain { AllByRecursion IsPlain rows.now }
+        requires words { AllByRecursion IsWordTotal rows.now }
+        requires apart { 0 < length self.old.rows → NestApart self.old.rows rows.now }
+        ensures { self.new.rows ≡ self.old.rows ++ rows.now }
+    {
+        let count = rows.len() as u32;
+        let first = self.ends.len() as u32;
+        push_numbers(first + 1, count, &mut self.ends);
+        self.links.push_plain(count);
+        self.seen = self.seen.then(&Step::Behind(rows));
+    }
+
+    // The same, whatever they are.
+    fn add_any(&mut self, rows: &[Row])
         requires room { length rows.now ≤ self.old.spare }
         requires few { length self.old.rows + length rows.now < 4294967295 }
         requires each { AllByRecursion IsRow rows.now }

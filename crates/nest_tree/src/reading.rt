@@ -13,7 +13,6 @@ use crate::link_list::LinkList;
 use crate::open_list::{OpenList, all_elements, list_at};
 use crate::seen::SeenRows;
 use crate::shape::shape_at;
-use crate::sums::push_within;
 use dgn_drawing::Row;
 
 // Reads on behind the elements that have their places: `rows` are those from there on, and `sums` their
@@ -44,7 +43,7 @@ pub(crate) fn read_on(
         let list_end = around.end as usize;
         let shape = shape_at(rows, sums, around.scope, at - first, list_end - first);
         let end = (at + 1 + shape.count) as u32;
-        push_within(ends, end);
+        ends.push_reserved(end);
         links.push(Link::new(around.parent, around.depth, shape.knot));
         list = OpenList {
             scope: shape.inside,

@@ -8,7 +8,7 @@ ghost use Rattle.nest_tree.specs.Shapes.{scope_meant, shape_told, shape_in, rows
 use crate::knot::Knot;
 use crate::sums::members;
 use dgn_drawing::Row;
-use dgn_layout::class;
+use dgn_layout::{SHARED_CELL, class};
 use dgn_layout::types::Class;
 
 // The list that is read.
@@ -71,7 +71,7 @@ fn shared_parts(rows: &[Row]) -> usize
 fn is_shared(kind: u8, scope: Scope) -> bool
     ensures { result ≡ (kind == 34 && is_all (scope_meant scope)) }
 {
-    kind == 34 && matches!(scope, Scope::All)
+    kind == SHARED_CELL && matches!(scope, Scope::All)
 }
 
 // Whether the list is the parts of a B-spline.

@@ -30,18 +30,6 @@ pub(crate) fn has_word_total(_row: Row)
     ensures { IsWordTotal _row }
 {}
 
-// Puts `value` last. There is room for it.
-pub(crate) fn push_within<T>(list: &mut Vec<T>, value: T)
-    requires { vec_len list.old < vec_capacity list.old }
-    ensures items { list.new.items ≡ list.old.items ++ value ∷ [] }
-    ensures room { vec_capacity list.old ≤ vec_capacity list.new }
-{
-    match list.push(value) {
-        Ok(()) => {}
-        Err(_) => unreachable!(),
-    }
-}
-
 // Puts the sums of the rows in place of what the list holds: sum i is what the first i rows count
 // together. There is room for them.
 pub(crate) fn set_sums(rows: &[Row], sums: &mut Vec<u64>)
@@ -53,11 +41,11 @@ pub(crate) fn set_sums(rows: &[Row], sums: &mut Vec<u64>)
     ensures room { vec_capacity sums.old ≤ vec_capacity sums.new }
 {
     sums.clear();
-    push_within(sums, 0);
+    sums.push_reserved(0);
     let mut sum = 0;
     for i in 0..rows.len() {
         sum += weight(rows[i]);
-        push_within(sums, sum);
+        sums.push_reserved(sum);
     }
 }
 

@@ -48,12 +48,12 @@ loop-at-preserved c =
     let shape = shaped c.args.seen.now.list c.args.rows.now c.len-first.result are c.loop-at.at c.list_at-around.result c.list_at-around.ensures.going c.list_at-around.ensures.inside c.requires.few c.loop-at.auto.at c.shape_at-shape.result c.shape_at-shape.ensures in
     let more = one_more c.args.seen.now.list c.loop-at.at c.list_at-around.result c.list_at-around.ensures.going c.list_at-around.ensures.inside c.shape_at-shape.result shape c.loop-at.ends.items c.loop-at.links.items c.loop-at.invariant.0 in
     let on = going_on c.args.seen.now.list c.loop-at.at c.list_at-around.result c.list_at-around.ensures.going c.list_at-around.ensures.inside c.shape_at-shape.result shape in
-    let ends = c.push_within.ensures.items in
+    let ends = c.push_reserved.ensures.items in
     let links = c.push.ensures.items ∙ ap (λ (x : Link). c.loop-at.links.items ++ x ∷ []) c.new.ensures in (
       subst (λ (l : List ℕ). ArePlaces c.args.seen.now.list (c.loop-at.at + 1) l c.push.new.self.items) (sym ends)
           (subst (λ (l : List Link). ArePlaces c.args.seen.now.list (c.loop-at.at + 1) (c.loop-at.ends.items ++ (c.loop-at.at + 1 + c.shape_at-shape.result.count) ∷ []) l) (sym links) more),
       on,
-      omega (arith, c.loop-at.invariant.2, c.push_within.ensures.room),
+      omega (arith, c.loop-at.invariant.2, c.push_reserved.ensures.capacity),
       omega (arith, c.loop-at.invariant.3, c.push.ensures.room, ap (length {A = Link}) c.push.ensures.items, length_push c.loop-at.links.items c.new.result),
       c.loop-at.auto.at,
     )

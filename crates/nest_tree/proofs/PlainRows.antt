@@ -1,0 +1,183 @@
+-- Roots with nothing below them, behind other elements: their marks, and what is kept of all.
+use Rattle.std.proofs.Common.{◌≡◌, ℕ, zero, suc, ◌+◌, ◌-◌, ◌≤◌, ◌<◌, List, [], ◌∷◌, ◌++◌, length, take, drop, map, get_or, replicate, refl, sym, ap, ◌∙◌, subst, arith, length-append, true, false, Bool, inl, inr}
+use Rattle.std.specs.Prelude.{Option, Some, None, ◌&&◌, ◌||◌, ◌==◌, not}
+use Rattle.std.specs.List.{AllByRecursion, range_with_len}
+use Rattle.std.proofs.lemmas.List.{map-append, get_or-append-add}
+use Rattle.std.proofs.lemmas.Bool.{cond-true, cond-false, cases_Bool, or_cases, and_parts, eqb-true, both_ways}
+use Rattle.dgn_layout.specs.declared.types.Class.{Class}
+use Rattle.dgn_layout.specs.Classes.{class_of, is_among}
+use Rattle.dgn_drawing.specs.declared.row.Row.{Row}
+use Rattle.dgn_drawing.specs.Nesting.{All, Members, Leaf, Forest, NoTree, Tree, Shape, leaf, shape, nest, itself, is_counted, is_all, is_spline_part, has_bit, member_count, front_count}
+use Rattle.dgn_drawing.specs.Numbering.{Mark, marks, is_broken}
+use Rattle.nest_tree.specs.Linked.{Link, plain_link}
+use Rattle.nest_tree.specs.Depths.{IsWordTotal}
+use Rattle.nest_tree.specs.Plain.{is_header, is_plain, IsPlain, plain_mark}
+use Rattle.nest_tree.specs.Passing.{passing, broken_in}
+use Rattle.nest_tree.specs.Places.{marks_in, link_of, end_told, broken_told, NestApart}
+use Rattle.nest_tree.specs.Nested.{IsNest}
+use Rattle.nest_tree.proofs.Unfolded.{shape_cases, nest_cons, nest_nil}
+use Rattle.nest_tree.proofs.Begun.{all_marks, all_links}
+use Rattle.nest_tree.proofs.Weighed.{no_row}
+use Rattle.nest_tree.proofs.Placed.{length-links}
+use Rattle.nest_tree.proofs.Grown.{grown_words, length-grown, grown_broken, length-kept_ends}
+use Rattle.nest_tree.proofs.Passed.{one_fails, said}
+
+-- rows of which all pass a test from the front on pass it
+pub all_pass : (test : Row → Bool) (rows : List Row) → front_count test rows ≡ length rows → AllByRecursion (λ r. test r ≡ true) rows
+all_pass test [] all = tt
+all_pass test (r ∷ rows) all = elim (cases_Bool (test r)) [
+  | inl passes ↦
+      let count : suc (front_count test rows) ≡ suc (length rows) = sym (cond-true (test r) (suc (front_count test rows)) 0 passes) ∙ all in
+      (passes, all_pass test rows (omega arith))
+  | inr fails ↦
+      let none : 0 ≡ suc (length rows) = sym (cond-false (test r) (suc (front_count test rows)) 0 fails) ∙ all in
+      absurd (omega arith)
+]
+
+both_true : (a b : Bool) → (not a && not b) ≡ true → (a ≡ false) × (b ≡ false)
+both_true true b is = absurd (let e = is in cc)
+both_true false true is = absurd (let e = is in cc)
+both_true false false is = (refl, refl)
+
+pub no_bit : (r : Row) → IsPlain r → r.cbit ≡ false
+no_bit r plain = (both_true r.cbit (is_header (class_of r.kind)) plain).0
+
+no_header : (r : Row) → IsPlain r → is_header (class_of r.kind) ≡ false
+no_header r plain = (both_true r.cbit (is_header (class_of r.kind)) plain).1
+
+counted_header : (c : Class) → is_counted c ≡ true → is_header c ≡ true
+counted_header Class.Vertices is = absurd (let e = is in cc)
+counted_header Class.Words is = absurd (let e = is in cc)
+counted_header Class.Counted is = refl
+counted_header Class.Run is = absurd (let e = is in cc)
+counted_header Class.Floating is = absurd (let e = is in cc)
+counted_header Class.Boxed is = absurd (let e = is in cc)
+counted_header Class.Silent is = absurd (let e = is in cc)
+
+header_among : (kind : ℕ) (k : ℕ) → (kind == k) ≡ true → is_header (class_of k) ≡ true → is_header (class_of kind) ≡ true
+header_among kind k is header = ap (λ (n : ℕ). is_header (class_of n)) (eqb-true kind k is) ∙ header
+
+spline_header : (kind : ℕ) → is_among kind (24 ∷ 27 ∷ []) ≡ true → is_header (class_of kind) ≡ true
+spline_header kind spline = elim (or_cases (kind == 24) ((kind == 27) || false) spline) [
+  | inl a ↦ header_among kind 24 a refl
+  | inr b ↦ elim (or_cases (kind == 27) false b) [
+    | inl a ↦ header_among kind 27 a refl
+    | inr never ↦ absurd (both_ways false refl never)
+  ]
+]
+
+-- nothing stands below such a root
+plain_shape : (h : Row) (r : List Row) → IsPlain h → shape itself All h r ≡ leaf
+plain_shape h r plain =
+    let none = no_header h plain in
+    shape_cases (λ s. s ≡ leaf) All h (member_count itself h r) (front_count (λ e. is_spline_part (itself e)) r) (front_count (λ e. has_bit (itself e)) r)
+    refl
+    (λ counted. absurd (both_ways (is_header (class_of h.kind)) none (counted_header (class_of h.kind) counted)))
+    (λ _ spline. absurd (both_ways (is_header (class_of h.kind)) none (spline_header h.kind spline)))
+    (λ _ shared. absurd (both_ways (is_header (class_of h.kind)) none (header_among h.kind 34 (and_parts (h.kind == 34) (is_all All) shared).0 refl)))
+
+plain_tree : (h : Row) (r : List Row) → IsPlain h → nest itself All (h ∷ r) ≡ Tree Leaf h NoTree (nest itself All r)
+plain_tree h r plain =
+    nest_cons itself All h r
+    ∙ ap (λ (s : Shape). Tree s.knot h (nest itself s.inside (take s.count r)) (nest itself All (drop s.count r))) (plain_shape h r plain)
+    ∙ ap (λ (f : Forest Row). Tree Leaf h f (nest itself All r)) (nest_nil itself Members)
+
+-- so their marks are plain
+plain_marks : (rows : List Row) (n : ℕ) → AllByRecursion IsPlain rows → marks (nest itself All rows) n 0 None ≡ map plain_mark (range_with_len (n + 1) (length rows))
+plain_marks [] n plain = ap (λ (f : Forest Row). marks f n 0 None) (nest_nil itself All)
+plain_marks (r ∷ rows) n plain =
+    let next : n + 1 + 0 ≡ n + 1 = omega arith in
+    ap (λ (f : Forest Row). marks f n 0 None) (plain_tree r rows plain.0)
+    ∙ ap (λ (k : ℕ). plain_mark k ∷ marks (nest itself All rows) k 0 None) next
+    ∙ ap (λ (l : List Mark). plain_mark (n + 1) ∷ l) (plain_marks rows (n + 1) plain.1)
+
+plain_ends : (n k : ℕ) → map end_told (map plain_mark (range_with_len n k)) ≡ range_with_len n k
+plain_ends n zero = refl
+plain_ends n (suc k) = ap (λ (l : List ℕ). n ∷ l) (plain_ends (n + 1) k)
+
+plain_links : (n k : ℕ) → map link_of (map plain_mark (range_with_len n k)) ≡ replicate k plain_link
+plain_links n zero = refl
+plain_links n (suc k) = ap (λ (l : List Link). plain_link ∷ l) (plain_links (n + 1) k)
+
+and_last : (b : Bool) → (b && true && false) ≡ false
+and_last true = refl
+and_last false = refl
+
+-- and none is broken
+plain_told : (n : ℕ) (r : Row) → r.cbit ≡ false → broken_told n plain_link r ≡ false
+plain_told n r none = ap (λ (b : Bool). not (n == 0) && true && b) none ∙ and_last (not (n == 0))
+
+plain_at : (rows : List Row) (i : ℕ) → AllByRecursion IsPlain rows → i < length rows → (get_or rows i no_row).cbit ≡ false
+plain_at [] i plain inside = absurd (omega arith)
+plain_at (r ∷ rows) zero plain inside = no_bit r plain.0
+plain_at (r ∷ rows) (suc i) plain inside = plain_at rows i plain.1 (omega arith)
+
+same_link : (k i : ℕ) → get_or (replicate k plain_link) i plain_link ≡ plain_link
+same_link zero i = refl
+same_link (suc k) zero = refl
+same_link (suc k) (suc i) = same_link k i
+
+-- what is kept of all, where such rows are put behind the others
+module _ (rows new all : List Row) (ends : List ℕ) (links : List Link) (broken : List ℕ) (kept : IsNest rows ends links broken) (apart : NestApart rows new) (is : all ≡ rows ++ new) (plain : AllByRecursion IsPlain new) where
+  all_marks_are : marks_in all ≡ marks_in rows ++ map plain_mark (range_with_len (length rows + 1) (length new))
+  all_marks_are = ap marks_in is ∙ apart ∙ ap (λ (l : List Mark). marks_in rows ++ l) (plain_marks new (length rows) plain)
+
+  ends_are : ends ++ range_with_len (length rows + 1) (length new) ≡ map end_told (marks_in all)
+  ends_are =
+      ap (λ (l : List ℕ). l ++ range_with_len (length rows + 1) (length new)) (kept.places.ends_are ∙ ap (map end_told) (all_marks rows))
+      ∙ ap (λ (l : List ℕ). map end_told (marks_in rows) ++ l) (sym (plain_ends (length rows + 1) (length new)))
+      ∙ sym (map-append end_told (marks_in rows) (map plain_mark (range_with_len (length rows + 1) (length new))))
+      ∙ ap (map end_told) (sym all_marks_are)
+
+  links_are : links ++ replicate (length new) plain_link ≡ map link_of (marks_in all)
+  links_are =
+      ap (λ (l : List Link). l ++ replicate (length new) plain_link) (all_links rows ends links kept.places)
+      ∙ ap (λ (l : List Link). map link_of (marks_in rows) ++ l) (sym (plain_links (length rows + 1) (length new)))
+      ∙ sym (map-append link_of (marks_in rows) (map plain_mark (range_with_len (length rows + 1) (length new))))
+      ∙ ap (map link_of) (sym all_marks_are)
+
+  sound : (k : ℕ) → k < length new → is_broken itself all (length rows + k) ≡ false
+  sound k inside =
+      let long : length links ≡ length rows = length-links rows (length rows) ends links kept.places in
+      let link : get_or (links ++ replicate (length new) plain_link) (length rows + k) plain_link ≡ plain_link =
+      ap (λ (n : ℕ). get_or (links ++ replicate (length new) plain_link) (n + k) plain_link) (sym long)
+      ∙ get_or-append-add links (replicate (length new) plain_link) k plain_link ∙ same_link (length new) k in
+      let row : (get_or all (length rows + k) no_row).cbit ≡ false =
+      ap (λ (l : List Row). (get_or l (length rows + k) no_row).cbit) is
+      ∙ ap (λ (r : Row). r.cbit) (get_or-append-add rows new k no_row) ∙ plain_at new k plain inside in
+      sym (said all (links ++ replicate (length new) plain_link) links_are (length rows + k) plain_link no_row (omega (arith, ap (length {A = Row}) is, length-append rows new)))
+      ∙ ap (λ (l : Link). broken_told (length rows + k) l (get_or all (length rows + k) no_row)) link
+      ∙ plain_told (length rows + k) (get_or all (length rows + k) no_row) row
+
+  broken_yet : (k : ℕ) → k ≤ length new → broken ≡ passing (is_broken itself all) 0 (length rows + k)
+  broken_yet zero within =
+      let place : length rows ≡ length rows + 0 = omega arith in
+      grown_broken rows new all ends links broken kept apart is (length rows) (sym (length-kept_ends rows new all ends links broken kept apart is))
+      ∙ ap (passing (is_broken itself all) 0) place
+  broken_yet (suc k) within =
+      let place : 0 + (length rows + k) ≡ length rows + k = omega arith in
+      let next : suc (length rows + k) ≡ length rows + suc k = omega arith in
+      broken_yet k (omega arith)
+      ∙ sym (one_fails (is_broken itself all) 0 (length rows + k) (ap (is_broken itself all) place ∙ sound k (omega arith)))
+      ∙ ap (passing (is_broken itself all) 0) next
+
+  broken_still : broken ≡ broken_in all
+  unfolding broken_in
+  broken_still =
+      let whole : length rows + length new ≡ length all = sym (length-grown rows new all ends links broken kept apart is) in
+      broken_yet (length new) (omega arith) ∙ ap (passing (is_broken itself all) 0) whole
+
+  pub plain_grown : length all < 4294967295 → AllByRecursion IsWordTotal new → IsNest all (ends ++ range_with_len (length rows + 1) (length new)) (links ++ replicate (length new) plain_link) broken
+  plain_grown few words =
+      let some = kept.some in
+      record {
+        some = omega (arith, length-grown rows new all ends links broken kept apart is);
+        few = few;
+        words = grown_words rows new all ends links broken kept apart is words;
+        places = record {
+          within = omega arith;
+          ends_are = ends_are ∙ ap (map end_told) (sym (all_marks all));
+          links_are = links_are ∙ ap (map link_of) (sym (all_marks all));
+        };
+        are_broken = broken_still;
+      }

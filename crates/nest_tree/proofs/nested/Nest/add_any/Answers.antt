@@ -1,0 +1,59 @@
+use Rattle.std.proofs.Common.{◌≡◌, ◌≤◌, ◌∙◌, ◌-◌, ◌+◌, ◌<◌, ap, sym, subst, arith, List, length, drop, vec_len, vec_capacity, ℕ}
+use Rattle.dgn_drawing.specs.declared.row.Row.{Row}
+use Rattle.nest_tree.specs.Nested.{Nested}
+use Rattle.nest_tree.specs.Places.{NestApart}
+use Rattle.nest_tree.proofs.Placed.{length-links}
+use Rattle.nest_tree.proofs.Begun.{all_links}
+use Rattle.nest_tree.proofs.Grown.{least_room, length-grown, length-kept_ends, grown_new, grown_places, grown_apart, grown_broken}
+use Rattle.nest_tree.proofs.nested.Nest.add_any.Goals as goal
+
+apart_of : (new : List Row) (t : Nested) (rows : List Row) → rows ≡ t.rows → 0 < length rows → (0 < length t.rows → NestApart t.rows new) → NestApart rows new
+apart_of new t rows same some apart = subst (λ (l : List Row). NestApart l new) (sym same) (apart (subst (λ (l : List Row). 0 < length l) same some))
+
+pub read_on-requires-clause-rows : goal.read_on-requires-clause-rows
+read_on-requires-clause-rows c = grown_new c.self.inside.seen.list c.args.rows.now c.then-seen.result.list c.self.inside.ends.items c.self.inside.links.items c.self.inside.broken.items c.self.invariant (apart_of c.args.rows.now c.args.self.now c.self.inside.seen.list (ap (λ (t : Nested). t.rows) c.self.view_is) c.self.invariant.some c.requires.apart) c.then-seen.ensures
+
+pub read_on-requires-clause-places : goal.read_on-requires-clause-places
+read_on-requires-clause-places c = grown_places c.self.inside.seen.list c.args.rows.now c.then-seen.result.list c.self.inside.ends.items c.self.inside.links.items c.self.inside.broken.items c.self.invariant (apart_of c.args.rows.now c.args.self.now c.self.inside.seen.list (ap (λ (t : Nested). t.rows) c.self.view_is) c.self.invariant.some c.requires.apart) c.then-seen.ensures
+
+pub read_on-requires-clause-apart : goal.read_on-requires-clause-apart
+read_on-requires-clause-apart c = grown_apart c.self.inside.seen.list c.args.rows.now c.then-seen.result.list c.self.inside.ends.items c.self.inside.links.items c.self.inside.broken.items c.self.invariant (apart_of c.args.rows.now c.args.self.now c.self.inside.seen.list (ap (λ (t : Nested). t.rows) c.self.view_is) c.self.invariant.some c.requires.apart) c.then-seen.ensures
+
+pub read_on-requires-clause-room_for_ends : goal.read_on-requires-clause-room_for_ends
+read_on-requires-clause-room_for_ends c =
+    let room = least_room (length c.args.rows.now) (vec_capacity c.self.inside.sums - 1) (vec_capacity c.self.inside.ends - vec_len c.self.inside.ends) c.self.inside.links.spare (vec_capacity c.self.inside.broken - vec_len c.self.inside.broken)
+    (subst (λ (t : Nested). length c.args.rows.now ≤ t.spare) (sym c.self.view_is) c.requires.room) in
+    let long = length-grown c.self.inside.seen.list c.args.rows.now c.then-seen.result.list c.self.inside.ends.items c.self.inside.links.items c.self.inside.broken.items c.self.invariant (apart_of c.args.rows.now c.args.self.now c.self.inside.seen.list (ap (λ (t : Nested). t.rows) c.self.view_is) c.self.invariant.some c.requires.apart) c.then-seen.ensures in
+    let kept = length-kept_ends c.self.inside.seen.list c.args.rows.now c.then-seen.result.list c.self.inside.ends.items c.self.inside.links.items c.self.inside.broken.items c.self.invariant (apart_of c.args.rows.now c.args.self.now c.self.inside.seen.list (ap (λ (t : Nested). t.rows) c.self.view_is) c.self.invariant.some c.requires.apart) c.then-seen.ensures in
+    omega (arith, room.1, c.self.inside.ends.ok.0, c.self.inside.ends.ok.1)
+
+pub read_on-requires-clause-room_for_links : goal.read_on-requires-clause-room_for_links
+read_on-requires-clause-room_for_links c =
+    let room = least_room (length c.args.rows.now) (vec_capacity c.self.inside.sums - 1) (vec_capacity c.self.inside.ends - vec_len c.self.inside.ends) c.self.inside.links.spare (vec_capacity c.self.inside.broken - vec_len c.self.inside.broken)
+    (subst (λ (t : Nested). length c.args.rows.now ≤ t.spare) (sym c.self.view_is) c.requires.room) in
+    let long = length-grown c.self.inside.seen.list c.args.rows.now c.then-seen.result.list c.self.inside.ends.items c.self.inside.links.items c.self.inside.broken.items c.self.invariant (apart_of c.args.rows.now c.args.self.now c.self.inside.seen.list (ap (λ (t : Nested). t.rows) c.self.view_is) c.self.invariant.some c.requires.apart) c.then-seen.ensures in
+    let kept = length-links c.self.inside.seen.list (length c.self.inside.seen.list) c.self.inside.ends.items c.self.inside.links.items c.self.invariant.places in
+    omega (arith, room.2)
+
+pub add_broken-requires-clause-rows : goal.add_broken-requires-clause-rows
+add_broken-requires-clause-rows c =
+    let first : length c.self.inside.ends.items ≡ c.len-first.result = omega (arith, c.len-first.ensures, c.self.inside.ends.ok.0) in
+    grown_new c.self.inside.seen.list c.args.rows.now c.then-seen.result.list c.self.inside.ends.items c.self.inside.links.items c.self.inside.broken.items c.self.invariant (apart_of c.args.rows.now c.args.self.now c.self.inside.seen.list (ap (λ (t : Nested). t.rows) c.self.view_is) c.self.invariant.some c.requires.apart) c.then-seen.ensures ∙ ap (λ (k : ℕ). drop k c.then-seen.result.list) first
+
+pub add_broken-requires-clause-links : goal.add_broken-requires-clause-links
+add_broken-requires-clause-links c = all_links c.then-seen.result.list c.read_on.new.ends.items c.read_on.new.links.items c.read_on.ensures
+
+pub add_broken-requires-clause-begun : goal.add_broken-requires-clause-begun
+add_broken-requires-clause-begun c =
+    let first : length c.self.inside.ends.items ≡ c.len-first.result = omega (arith, c.len-first.ensures, c.self.inside.ends.ok.0) in
+    grown_broken c.self.inside.seen.list c.args.rows.now c.then-seen.result.list c.self.inside.ends.items c.self.inside.links.items c.self.inside.broken.items c.self.invariant (apart_of c.args.rows.now c.args.self.now c.self.inside.seen.list (ap (λ (t : Nested). t.rows) c.self.view_is) c.self.invariant.some c.requires.apart) c.then-seen.ensures c.len-first.result (sym first)
+
+pub unreachable-requires : goal.unreachable-requires
+unreachable-requires c =
+    let room = least_room (length c.args.rows.now) (vec_capacity c.self.inside.sums - 1) (vec_capacity c.self.inside.ends - vec_len c.self.inside.ends) c.self.inside.links.spare (vec_capacity c.self.inside.broken - vec_len c.self.inside.broken)
+    (subst (λ (t : Nested). length c.args.rows.now ≤ t.spare) (sym c.self.view_is) c.requires.room) in
+    let first : length c.self.inside.ends.items ≡ c.len-first.result = omega (arith, c.len-first.ensures, c.self.inside.ends.ok.0) in
+    let long = length-grown c.self.inside.seen.list c.args.rows.now c.then-seen.result.list c.self.inside.ends.items c.self.inside.links.items c.self.inside.broken.items c.self.invariant (apart_of c.args.rows.now c.args.self.now c.self.inside.seen.list (ap (λ (t : Nested). t.rows) c.self.view_is) c.self.invariant.some c.requires.apart) c.then-seen.ensures in
+    let kept = length-kept_ends c.self.inside.seen.list c.args.rows.now c.then-seen.result.list c.self.inside.ends.items c.self.inside.links.items c.self.inside.broken.items c.self.invariant (apart_of c.args.rows.now c.args.self.now c.self.inside.seen.list (ap (λ (t : Nested). t.rows) c.self.view_is) c.self.invariant.some c.requires.apart) c.then-seen.ensures in
+    let full : vec_capacity c.self.inside.broken < vec_len c.self.inside.broken + (length c.then-seen.result.list - c.len-first.result) = c.in-Err.ensures.full in
+    omega (arith, room.3, c.self.inside.broken.ok.0, c.self.inside.broken.ok.1)
