@@ -15,6 +15,7 @@ pub mod Fronts
 pub mod Openings
 pub mod Offsets
 pub mod Shown
+pub mod ByClass
 pub mod WorkedOpening
 pub mod WorkedShown
 pub mod Looks

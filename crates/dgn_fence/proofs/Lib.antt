@@ -1,3 +1,5 @@
 pub mod Segments
 pub mod Held
 pub mod Misses
+pub mod Outlines
+pub mod Drawn

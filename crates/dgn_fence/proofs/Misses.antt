@@ -18,7 +18,7 @@ use Rattle.dgn_fence.specs.Taken.{any_touches, touches_fence, first_point_of, be
 use Rattle.dgn_fence.specs.Limits.{at, grown, bounds_of, extent_of, is_held, is_apart, near_bounds, misses}
 use Rattle.dgn_fence.proofs.Held.{IsIn, Spans, SpanAll, itself, held, kept, bounds_hold, edges_held, item_held, item_bare}
 
-neither : (a b : Bool) → a ≡ false → b ≡ false → (a || b) ≡ false
+pub neither : (a b : Bool) → a ≡ false → b ≡ false → (a || b) ≡ false
 neither a b e f = rw (e, f) refl
 
 -- ---- an edge that is missed

@@ -3,3 +3,4 @@ pub mod Taken
 pub mod Selected
 pub mod Limits
 pub mod Ends
+pub mod Outlines

@@ -6,6 +6,7 @@ ghost use Rattle.plane_geom.specs.Polygons.{edges};
 ghost use Rattle.dgn_fence.specs.Segments.{flat, segments_of, path_segments, corners_of};
 ghost use Rattle.dgn_fence.specs.Taken.{any_touches, touches_fence};
 ghost use Rattle.dgn_fence.specs.Limits.{extent_of};
+ghost use Rattle.dgn_fence.specs.Outlines.{misses_all};
 
 use crate::bounds::Bounds;
 use crate::end::End;
@@ -32,6 +33,23 @@ pub(crate) fn touches_fence(corners: &[Pt], item: &Item, around: Bounds) -> bool
         from = *to;
     }
     touches_edge(item, around, from, *first)
+}
+
+// Whether all segments within `around` miss all edges of the fence with these corners, by bounds or by lines.
+pub(crate) fn misses_all(corners: &[Pt], around: Bounds) -> bool
+    ensures { result ≡ misses_all around corners.now }
+{
+    let Some((first, rest)) = corners.split_first() else {
+        return true;
+    };
+    let mut from = *first;
+    for to in rest {
+        if !around.misses(from, *to) {
+            return false;
+        }
+        from = *to;
+    }
+    around.misses(from, *first)
 }
 
 // Whether some of them touches the edge from `r` to `s`. Where they all miss it, none is tried.

@@ -9,6 +9,7 @@ mod end;
 mod extent;
 mod fence_fault;
 mod making;
+mod outline;
 pub mod types;
 
 pub use fence_fault::FenceFault;

@@ -1,20 +1,27 @@
 // The roots that a fence chooses.
 
-ghost use Rattle.std.specs.Prelude.{◌≡◌, ◌<◌, length, map, option_map, Some, IfOk};
+ghost use Rattle.std.specs.Prelude.{ℕ, ◌≡◌, ◌<◌, length, map, option_map, Some, IfOk};
 ghost use Rattle.dgn_drawing.specs.Rows.{row_of};
 ghost use Rattle.dgn_drawing.specs.Nesting.{itself};
 ghost use Rattle.dgn_drawing.specs.Numbering.{mark_of};
+ghost use Rattle.dgn_drawing.specs.WellFormed.{IsDimension};
+ghost use Rattle.dgn_drawing.specs.Faults.{IsSoundIn};
+ghost use Rattle.dgn_drawing.specs.Reading.{element_at};
+ghost use Rattle.dgn_drawing.specs.Shown.{tree_shown, shown_alone, IsRoot};
 ghost use Rattle.dgn_fence.specs.Selected.{selected};
+ghost use Rattle.dgn_fence.specs.Taken.{takes};
 ghost use Rattle.elem_index.specs.Design.{elements, IsWhole};
 
+use dgn_drawing::types::Item;
 use dgn_drawing::{Mask, Mode};
 use dgn_fence::types::Fence;
+use elem_head::head;
 use elem_index::Design;
-use level_view::tree_items_into;
+use level_view::{lone_element, tree_items_into};
 use nest_tree::types::Nest;
 use std::alloc::{AllocError, Global};
 
-// The numbers of the roots, in file order, whose items under the mask the fence takes. The items of one root at a time
+// The numbers of the roots, in file order, whose items under the mask the fence takes. The items of one header at a time
 // are made, in one list for all.
 pub(crate) fn select(
     alloc: Global,
@@ -33,13 +40,59 @@ pub(crate) fn select(
     let count = design.count();
     let mut root = 0;
     'roots: while root < count {
-        tree_items_into(alloc, design, nest, root, mask, &mut items)?;
-        if fence.takes(mode, &items) {
+        let taken = takes_root(alloc, design, nest, root, mask, fence, mode, &mut items)?;
+        if taken {
             found.push(root)?;
         }
         root = end_of(nest, root);
     }
     Ok(found)
+}
+
+// Whether the fence takes what the tree of a root shows. The items of a header are put into `items`, in the place of
+// what stands there; of a leaf no list is made.
+fn takes_root(
+    alloc: Global,
+    design: &Design,
+    nest: &Nest,
+    root: u32,
+    mask: Mask,
+    fence: &Fence,
+    mode: Mode,
+    items: &mut Vec<Item>,
+) -> Result<bool, AllocError>
+    requires whole { IsWhole design.now }
+    requires nesting { nest.now.rows ≡ map row_of (elements design.now) }
+    requires root { IsRoot itself nest.now.rows root }
+    ensures { IfOk result
+        (λ taken. taken ≡ takes mode fence.now (tree_shown design.now.dim mask (elements design.now) root)) }
+{
+    if let Some(b) = lone_element(design, nest, root) {
+        return takes_lone(alloc, design.dim, b, mask, fence, mode);
+    }
+    tree_items_into(alloc, design, nest, root, mask, items)?;
+    Ok(fence.takes(mode, items))
+}
+
+// Whether the fence takes what the element `b` shows by itself.
+fn takes_lone(
+    alloc: Global,
+    dim: u8,
+    b: &[u8],
+    mask: Mask,
+    fence: &Fence,
+    mode: Mode,
+) -> Result<bool, AllocError>
+    requires dimension { IsDimension dim }
+    requires element { IsSoundIn dim b.now }
+    ensures { IfOk result
+        (λ taken. (number depth : ℕ) → taken ≡ takes mode fence.now (shown_alone dim mask number depth (element_at dim b.now))) }
+{
+    let head = head(b);
+    if head.deleted || !mask.shows(head.level) {
+        return Ok(false);
+    }
+    fence.takes_element(alloc, mode, dim, b)
 }
 
 // The number behind the last element of the tree of a root.

@@ -1,4 +1,4 @@
-ghost use Rattle.std.specs.Prelude.{◌≡◌, ◌<◌, length, map, Some, IfOk};
+ghost use Rattle.std.specs.Prelude.{◌≡◌, ◌<◌, length, map, Some, OnOk};
 ghost use Rattle.dgn_drawing.specs.Rows.{row_of};
 ghost use Rattle.dgn_drawing.specs.Nesting.{itself};
 ghost use Rattle.dgn_drawing.specs.Numbering.{parent_of};
@@ -8,7 +8,7 @@ ghost use Rattle.edit_ops.specs.Written.{found};
 
 use elem_index::Design;
 use nest_tree::types::Nest;
-use std::alloc::{AllocError, Global};
+use std::alloc::AllocError;
 
 // The number of the header that element n, which there is, stands below, where it stands below one.
 fn header_of(t: &Nest, n: u32) -> Option<u32>
@@ -21,18 +21,24 @@ fn header_of(t: &Nest, n: u32) -> Option<u32>
     parent
 }
 
-// The numbers of the headers above element n, which there is, the root first. `_d` is what is nested.
-pub fn numbers_above(alloc: Global, _d: &Design, t: &Nest, n: u32) -> Result<Vec<u32>, AllocError>
+// Puts the numbers of the headers above element n, which there is, the root first, in the place of what the list holds.
+// `_d` is what is nested.
+pub fn put_numbers_above(
+    _d: &Design,
+    t: &Nest,
+    n: u32,
+    above: &mut Vec<u32>,
+) -> Result<(), AllocError>
     requires nesting { t.now.rows ≡ map row_of (elements _d.now) }
     requires known { n < length (elements _d.now) }
-    ensures found { IfOk result (λ above. found (elements _d.now) above.items ≡ above_tree (elements _d.now) n) }
+    ensures found { OnOk result (found (elements _d.now) above.new.items ≡ above_tree (elements _d.now) n) }
 {
-    let mut above = Vec::new(alloc);
+    above.clear();
     let mut i = n;
     'up: while let Some(header) = header_of(t, i) {
         above.push(header)?;
         i = header;
     }
     above.reverse();
-    Ok(above)
+    Ok(())
 }

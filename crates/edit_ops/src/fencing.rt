@@ -6,6 +6,7 @@ ghost use Rattle.edit_ops.specs.Fenced.{edit_at, apply_all, AreRoots, IsFenceEdi
 ghost use Rattle.edit_ops.specs.Planned.{IsPlanBehind, IsFencePlan, IsRefused};
 
 use crate::edit_fault::EditFault;
+use crate::numbers::{Numbers, no_numbers};
 use crate::planning::plan_behind;
 use crate::types::Plan;
 use dgn_drawing::{Edit, FenceEdit, Shift, SymbChange};
@@ -68,8 +69,9 @@ fn join_plans(
     ensures refused { IfErr result
         (IsRefused (apply_all d.now.dim (elements d.now) (length d.now.tail.items) edit.now roots.now)) }
 {
+    let mut numbers = no_numbers(alloc);
     'roots: for n in roots {
-        join_root(alloc, d, t, *n, edit, all)?;
+        join_root(alloc, d, t, *n, edit, &mut numbers, all)?;
     }
     Ok(())
 }
@@ -81,6 +83,7 @@ fn join_root(
     t: &Nest,
     n: u32,
     edit: &FenceEdit,
+    numbers: &mut Numbers,
     all: &mut Plan,
 ) -> Result<(), EditFault>
     requires whole { IsWhole d.now }
@@ -92,7 +95,7 @@ fn join_root(
         (IsRefused (apply d.now.dim (elements d.now) (length d.now.tail.items + length all.old.append) (edit_at edit.now n))) }
 {
     let pending = all.append.len();
-    plan_behind(alloc, d, t, &root_edit(edit, n), pending, all)
+    plan_behind(alloc, d, t, &root_edit(edit, n), pending, numbers, all)
 }
 
 // The edit of root n.

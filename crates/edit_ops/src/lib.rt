@@ -17,6 +17,7 @@ mod finding;
 pub mod laws;
 mod live;
 mod making;
+mod numbers;
 mod patches;
 mod planning;
 mod sums;

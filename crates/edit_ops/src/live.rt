@@ -1,4 +1,4 @@
-ghost use Rattle.std.specs.Prelude.{◌≡◌, ◌<◌, length, map, slice_get, option_map, Some, IfOk};
+ghost use Rattle.std.specs.Prelude.{◌≡◌, ◌<◌, length, map, slice_get, option_map, Some, IfOk, OnOk};
 ghost use Rattle.dgn_drawing.specs.Rows.{row_of};
 ghost use Rattle.dgn_drawing.specs.Nesting.{itself};
 ghost use Rattle.dgn_drawing.specs.Numbering.{mark_of};
@@ -43,6 +43,24 @@ pub fn live_numbers(alloc: Global, d: &Design, t: &Nest, n: u32) -> Result<Vec<u
     ensures found { IfOk result (λ live. found (elements d.now) live.items ≡ live_tree (elements d.now) n) }
 {
     let mut live = Vec::new(alloc);
+    put_live_numbers(d, t, n, &mut live)?;
+    Ok(live)
+}
+
+// Puts them in the place of what the list holds.
+pub fn put_live_numbers(
+    d: &Design,
+    t: &Nest,
+    n: u32,
+    live: &mut Vec<u32>,
+) -> Result<(), AllocError>
+    requires whole { IsWhole d.now }
+    requires nesting { t.now.rows ≡ map row_of (elements d.now) }
+    requires known { n < length (elements d.now) }
+    ensures numbers { OnOk result (live.new.items ≡ map (λ v. v.number) (live_tree (elements d.now) n)) }
+    ensures found { OnOk result (found (elements d.now) live.new.items ≡ live_tree (elements d.now) n) }
+{
+    live.clear();
     let end = end_of(t, n);
     let mut i = n;
     'elements: while i < end {
@@ -53,5 +71,5 @@ pub fn live_numbers(alloc: Global, d: &Design, t: &Nest, n: u32) -> Result<Vec<u
             i += 1;
         }
     }
-    Ok(live)
+    Ok(())
 }

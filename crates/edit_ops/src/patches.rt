@@ -69,6 +69,9 @@ fn push_above(
     ensures { OnOk result (patches.new ≡ patches.old
         ++ above_puts d.now.dim edit.now (slice_get (elements d.now) n) (found (elements d.now) above.now)) }
 {
+    if above.is_empty() {
+        return Ok(());
+    }
     let Edit::Move { by, .. } = edit else {
         return Ok(());
     };

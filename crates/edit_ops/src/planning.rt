@@ -11,14 +11,15 @@ ghost use Rattle.edit_ops.specs.Causes.{target_of, part_cause, causes_of, first_
 ghost use Rattle.edit_ops.specs.Planned.{IsPlan, IsPlanBehind, IsRefused};
 ghost use Rattle.edit_ops.specs.Written.{found, IsReady};
 
-use crate::above::numbers_above;
+use crate::above::put_numbers_above;
 use crate::asking::edit_cause;
 use crate::cause::Cause;
 use crate::causes::{part_cause, unknown};
 use crate::copying::{copy_of, part_len};
 use crate::edit_fault::EditFault;
-use crate::live::live_numbers;
+use crate::live::put_live_numbers;
 use crate::making::{size_made, spelled};
+use crate::numbers::{Numbers, no_numbers};
 use crate::patches::push_part;
 use crate::types::Plan;
 use dgn_drawing::Edit;
@@ -68,18 +69,20 @@ pub fn plan(
         patches: PatchList::new(alloc),
         append: ByteList::new(alloc),
     };
-    plan_behind(alloc, d, t, edit, pending, &mut plan)?;
+    let mut numbers = no_numbers(alloc);
+    plan_behind(alloc, d, t, edit, pending, &mut numbers, &mut plan)?;
     Ok(plan)
 }
 
 // Puts what an edit comes to behind what `all` has already, in the same way. Where it is refused, or there is no memory,
-// `all` may have some of it.
+// `all` may have some of it. `numbers` is filled anew, whatever stands in it.
 pub(crate) fn plan_behind(
     alloc: Global,
     d: &Design,
     t: &Nest,
     edit: &Edit,
     pending: usize,
+    numbers: &mut Numbers,
     all: &mut Plan,
 ) -> Result<(), EditFault>
     requires whole { IsWhole d.now }
@@ -92,7 +95,7 @@ pub(crate) fn plan_behind(
         (IsRefused (apply d.now.dim (elements d.now) (length d.now.tail.items + pending) edit.now)) }
 {
     match target(edit) {
-        Some(n) => plan_part(alloc, d, t, n, edit, pending, all),
+        Some(n) => plan_part(alloc, d, t, n, edit, pending, numbers, all),
         None => plan_append(alloc, d, edit, pending, all),
     }
 }
@@ -105,6 +108,7 @@ fn plan_part(
     n: u32,
     edit: &Edit,
     pending: usize,
+    numbers: &mut Numbers,
     all: &mut Plan,
 ) -> Result<(), EditFault>
     requires whole { IsWhole d.now }
@@ -117,43 +121,20 @@ fn plan_part(
     ensures refused { IfErr result
         (IsRefused (apply d.now.dim (elements d.now) (length d.now.tail.items + pending) edit.now)) }
 {
-    match unknown(d, n) {
-        Some(cause) => Err(EditFault::Refused(cause)),
-        None => plan_known(alloc, d, t, n, edit, pending, all),
+    if let Some(cause) = unknown(d, n) {
+        return Err(EditFault::Refused(cause));
     }
-}
-
-// The same where there is an element n.
-fn plan_known(
-    alloc: Global,
-    d: &Design,
-    t: &Nest,
-    n: u32,
-    edit: &Edit,
-    pending: usize,
-    all: &mut Plan,
-) -> Result<(), EditFault>
-    requires whole { IsWhole d.now }
-    requires nesting { t.now.rows ≡ map row_of (elements d.now) }
-    requires room { length d.now.body.items + (length d.now.tail.items + pending) ≤ 67108864 }
-    requires known { n < length (elements d.now) }
-    requires target { target_of edit.now ≡ Some n }
-    requires fits { IsEdit edit.now }
-    ensures planned { IfOk result
-        (λ _. IsPlanBehind d.now.dim (elements d.now) (length d.now.tail.items + pending) edit.now all.old all.new) }
-    ensures refused { IfErr result
-        (IsRefused (apply d.now.dim (elements d.now) (length d.now.tail.items + pending) edit.now)) }
-{
-    let above = numbers_above(alloc, d, t, n)?;
-    let live = live_numbers(alloc, d, t, n)?;
-    if let Some(cause) = later_cause(d, t, n, edit, &above, &live, pending) {
+    put_numbers_above(d, t, n, &mut numbers.above)?;
+    put_live_numbers(d, t, n, &mut numbers.live)?;
+    let Numbers { above, live } = numbers;
+    if let Some(cause) = later_cause(d, t, n, edit, above, live, pending) {
         return Err(EditFault::Refused(cause));
     }
     if let Edit::Copy { .. } = edit {
-        push_copy(alloc, d, t, n, &live, edit, &mut all.append)?;
+        push_copy(alloc, d, t, n, live, edit, &mut all.append)?;
         return Ok(());
     }
-    push_part(&mut all.patches, d, n, &above, &live, edit)?;
+    push_part(&mut all.patches, d, n, above, live, edit)?;
     Ok(())
 }
 
@@ -246,7 +227,8 @@ fn plan_append(
     Ok(())
 }
 
-// The element whose part an edit changes or copies, where it names one.
+// The element whose part an edit changes or copies, where it names one. What an edit holds is such as its type keeps,
+// which is known where a value of it is read.
 fn target(edit: &Edit) -> Option<u32>
     ensures target { result ≡ target_of edit.now }
     ensures kept { IsEdit edit.now }

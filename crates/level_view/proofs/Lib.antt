@@ -10,3 +10,4 @@ pub mod Onward
 pub mod Places
 pub mod Rows
 pub mod Counted
+pub mod Leaves

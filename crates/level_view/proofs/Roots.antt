@@ -7,12 +7,12 @@ use Rattle.std.proofs.lemmas.Bool.{cond-true, cond-false, cases_lt, eq-eqb, eqb-
 use Rattle.dgn_drawing.specs.declared.mask.Mask.{Mask}
 use Rattle.dgn_drawing.specs.Element.{Element}
 use Rattle.dgn_drawing.specs.Rows.{row_of}
-use Rattle.dgn_drawing.specs.Nesting.{Knot, Forest, NoTree, Tree, flat, forest}
+use Rattle.dgn_drawing.specs.Nesting.{Knot, Leaf, Group, Run, Loose, Forest, NoTree, Tree, flat, forest}
 use Rattle.dgn_drawing.specs.Numbering.{Mark, end_of, marks, marks_of, mark_of}
 use Rattle.dgn_drawing.specs.Shown.{items, tree_from}
 use Rattle.nest_tree.proofs.Unfolded.{flat-forest}
 use Rattle.level_view.specs.Back.{read_back}
-use Rattle.level_view.proofs.Bare.{AreBare, forest_bare}
+use Rattle.level_view.proofs.Bare.{IsBare, AreBare, forest_bare}
 use Rattle.level_view.proofs.Stands.{Stands, length-marks, head_marked, below_stands, behind_stands, trees_found, all_stand}
 
 -- the parent of a mark, where there is one
@@ -41,12 +41,21 @@ module _ (es : List Element) where
         ]
       ]
 
+-- nothing is below a leaf
+leaf_bare : {A : Type 0} (knot : Knot) (below : Forest A) → knot ≡ Leaf → IsBare knot below → below ≡ NoTree
+leaf_bare Leaf below is bare = bare
+leaf_bare Group below is bare = absurd cc
+leaf_bare Run below is bare = absurd cc
+leaf_bare Loose below is bare = absurd cc
+
 -- the elements of one tree, which has that mark
 pub record IsTree (dim : ℕ) (mask : Mask) (es : List Element) (root : ℕ) (f : Forest Element) (n : ℕ) : Type 0 where
   pub mark : Mark
   pub marked : mark_of row_of es root ≡ Some mark
   pub ordered : root < mark.end
   pub within : mark.end ≤ length es
+  pub depth : mark.depth ≡ 0
+  pub alone : mark.knot ≡ Leaf → mark.end ≡ root + 1
   pub found : read_back dim mask es root (mark.end - root) ≡ items dim mask root 0 (tree_from root n f)
 
 module _ (dim : ℕ) (mask : Mask) (es : List Element) (root : ℕ) (is_root : parent_at (mark_of row_of es root) ≡ Some None) where
@@ -69,6 +78,8 @@ module _ (dim : ℕ) (mask : Mask) (es : List Element) (root : ℕ) (is_root : p
         marked = head_marked es knot e below behind root 0 None stands;
         ordered = omega arith;
         within = omega (arith, ap (length {A = Element}) stands.listed, length-drop root es, length-append (flat below ++ flat behind) stands.behind, length-append (flat below) (flat behind));
+        depth = refl;
+        alone = λ leaf. ap (λ (f : Forest Element). end_of root f) (leaf_bare knot below leaf bare.0) ∙ omega arith;
         found = ap (read_back dim mask es root) steps ∙ trees_found dim mask es (Tree knot e below NoTree) root 0 None (bare.0, bare.1, tt) alone 0
             ∙ append-nil (items dim mask root 0 (Tree knot e below NoTree)) ∙ ap (items dim mask root 0) (sym same);
       }
@@ -94,6 +105,8 @@ module _ (dim : ℕ) (mask : Mask) (es : List Element) (root : ℕ) (is_root : p
                 marked = rest.marked;
                 ordered = rest.ordered;
                 within = rest.within;
+                depth = rest.depth;
+                alone = rest.alone;
                 found = rest.found ∙ ap (items dim mask root 0) (sym skipped);
               }
         ]

@@ -5,11 +5,13 @@ mod alone;
 mod back;
 mod counting;
 pub mod laws;
+mod lone;
 mod numbering;
 mod place;
 mod view;
 
 pub use counting::count_shown;
+pub use lone::lone_element;
 pub use view::{show, tree_items, tree_items_into};
 
 #[cfg(test)]

@@ -1,19 +1,26 @@
-ghost use Rattle.std.specs.Prelude.{◌≡◌, ◌≤◌, List, length};
+ghost use Rattle.std.specs.Prelude.{◌≡◌, ◌≤◌, List, length, ℕ, IfOk};
 ghost use Rattle.std.specs.List.{list_any, list_all};
 ghost use Rattle.std.specs.Cmp.{partial_equiv_from_equiv};
 ghost use Rattle.std.specs.Cmp.Lexicographic.{pointwise, lists_equiv};
+ghost use Rattle.dgn_drawing.specs.WellFormed.{IsDimension};
+ghost use Rattle.dgn_drawing.specs.Faults.{IsSoundIn};
+ghost use Rattle.dgn_drawing.specs.Reading.{element_at};
+ghost use Rattle.dgn_drawing.specs.Shown.{its_item};
 ghost use Rattle.plane_geom.specs.declared.pt.Pt.{Pt};
 ghost use Rattle.plane_geom.specs.Points.{same_point, same_point_equiv};
 ghost use Rattle.dgn_fence.specs.Segments.{segments_of};
 ghost use Rattle.dgn_fence.specs.Taken.{begins_within, is_inside, overlaps, parts, takes};
 ghost use Rattle.dgn_fence.specs.Limits.{IsFence, bounds_of, extent_of, near_bounds};
+ghost use Rattle.dgn_fence.specs.Outlines.{told_by_bounds, untouched_taken};
 
 use crate::bounds::{Bounds, bounds_of};
-use crate::edges::touches_fence;
+use crate::edges::{misses_all, touches_fence};
 use crate::extent::{extent, first_point, has_part, is_part};
-use dgn_drawing::Mode;
+use crate::outline::{Outline, read_outline};
 use dgn_drawing::types::Item;
+use dgn_drawing::{Mode, item};
 use plane_geom::{Pt, within};
+use std::alloc::{AllocError, Global};
 use std::marker::Model;
 
 /// A polygon of 3 to 256 corners that takes trees by their items. A contract sees it as the list of its
@@ -60,6 +67,46 @@ impl Fence {
             Mode::Overlap => self.some_overlaps(items),
             Mode::Void => has_part(items) && !self.some_overlaps(items),
         }
+    }
+
+    /// Whether the fence takes the item of the one element `b`, whose bytes are sound in 2 or 3 dimensions, as `takes`
+    /// says. No item is made where the bounds of its segments tell that it touches no edge. Where one is made, there may be
+    /// no memory for it.
+    pub fn takes_element(
+        &self,
+        alloc: Global,
+        mode: Mode,
+        dim: u8,
+        b: &[u8],
+    ) -> Result<bool, AllocError>
+        requires dimension { IsDimension dim }
+        requires element { IsSoundIn dim b.now }
+        ensures { IfOk result
+            (λ taken. (number depth : ℕ) → taken ≡ takes mode self.now (its_item dim number depth (element_at dim b.now))) }
+    {
+        let Some(outline) = read_outline(dim, b) else {
+            return Ok(false);
+        };
+        if let Some(begins) = self.told_by_bounds(outline) {
+            return Ok(untouched_taken(mode, begins));
+        }
+        match item(alloc, dim, 0, 0, b)? {
+            Some(item) => Ok(self.takes(mode, &[item])),
+            None => Ok(false),
+        }
+    }
+
+    // Whether what has that outline begins within the fence, where bounds tell that it touches no edge.
+    fn told_by_bounds(&self, outline: Outline) -> Option<bool>
+        ensures { result ≡ told_by_bounds (bounds_of self.now) self.now outline }
+    {
+        if outline.around.is_apart(self.bounds) {
+            return Some(false);
+        }
+        if misses_all(self.corners.as_slice(), outline.around) {
+            return Some(within(outline.first, self.corners.as_slice()));
+        }
+        None
     }
 
     // Whether all parts of the items are inside.
@@ -129,6 +176,16 @@ impl Fence {
             return false;
         };
         self.bounds.holds(start) && within(start, self.corners.as_slice())
+    }
+}
+
+// Whether a part that touches no edge is taken, by whether it begins within the fence.
+fn untouched_taken(mode: Mode, begins: bool) -> bool
+    ensures { result ≡ untouched_taken mode begins }
+{
+    match mode {
+        Mode::Inside | Mode::Overlap => begins,
+        Mode::Void => !begins,
     }
 }
 

@@ -8,7 +8,7 @@ use Rattle.nest_tree.proofs.Climbing.{climbs, ends_climb, headers_by_rows}
 use Rattle.elem_index.specs.Design.{elements}
 use Rattle.edit_ops.specs.Written.{found}
 use Rattle.edit_ops.proofs.Climbed.{found_above}
-use Rattle.edit_ops.proofs.above.numbers_above.Goals as goal
+use Rattle.edit_ops.proofs.above.put_numbers_above.Goals as goal
 
 -- one header more is found
 one_more : (front above new : List ℕ) (q : ℕ) → new ≡ above ++ q ∷ [] → front ++ reverse new ≡ (front ++ q ∷ []) ++ reverse above

@@ -1,7 +1,7 @@
 use Rattle.std.proofs.Common.{◌-◌}
 use Rattle.elem_index.specs.Design.{elements}
 use Rattle.edit_ops.proofs.Walked.{IsLeft}
-use Rattle.edit_ops.proofs.live.live_numbers.Given as goal
+use Rattle.edit_ops.proofs.live.put_live_numbers.Given as goal
 
 abbrev pub invariant-elements : goal.invariant-elements
 invariant-elements l = IsLeft (elements l.d) l.n l.end l.i l.live.items

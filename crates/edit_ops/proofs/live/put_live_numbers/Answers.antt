@@ -6,13 +6,13 @@ use Rattle.elem_index.specs.Design.{elements}
 use Rattle.edit_ops.specs.Written.{found}
 use Rattle.edit_ops.proofs.Walked.{IsLeft, all_left, all_numbers, next_known, enters, passes, goes_on, end_said}
 use Rattle.edit_ops.proofs.Found.{found_tree}
-use Rattle.edit_ops.proofs.live.live_numbers.Goals as goal
+use Rattle.edit_ops.proofs.live.put_live_numbers.Goals as goal
 
 pub elements-init : goal.elements-init
 elements-init c =
     let start = all_left (elements c.args.d.now) c.args.n c.end_of-end.result c.requires.known
     (end_said (elements c.args.d.now) c.args.t.now.rows c.args.n c.end_of-end.result c.requires.nesting c.end_of-end.ensures) in
-    subst (IsLeft (elements c.args.d.now) c.args.n c.end_of-end.result c.args.n) (sym c.new-live.ensures.items) start
+    subst (IsLeft (elements c.args.d.now) c.args.n c.end_of-end.result c.args.n) (sym c.clear.ensures.items) start
 
 pub is_deleted-requires-clause-known : goal.is_deleted-requires-clause-known
 is_deleted-requires-clause-known c =

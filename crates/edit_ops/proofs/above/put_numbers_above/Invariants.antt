@@ -1,7 +1,7 @@
 use Rattle.std.proofs.Common.{◌≡◌, ◌<◌, ◌++◌, length, reverse}
 use Rattle.dgn_drawing.specs.Nesting.{itself}
 use Rattle.dgn_drawing.specs.Numbering.{headers_of}
-use Rattle.edit_ops.proofs.above.numbers_above.Given as goal
+use Rattle.edit_ops.proofs.above.put_numbers_above.Given as goal
 
 abbrev pub invariant-up : goal.invariant-up
 invariant-up l = (l.i < length l.t.rows) × (headers_of itself l.t.rows l.i ++ reverse l.above.items ≡ headers_of itself l.t.rows l.n)

@@ -1,0 +1,188 @@
+-- The outline of an item, and what is taken where bounds alone tell it.
+use Rattle.std.proofs.Common.{◌≡◌, ◌⊎◌, inl, inr, ℕ, zero, suc, ◌+◌, ◌≤◌, ◌==◌, ℤ, Bool, true, false, ◌&&◌, not, Option, Some, None, option_map, List, [], ◌∷◌, length, map, drop, refl, sym, ap, ◌∙◌, cond, if◌then◌else◌, arith}
+use Rattle.std.specs.Prelude.{slice_get}
+use Rattle.std.specs.List.{fold, list_any, list_all}
+use Rattle.std.specs.Option.{option_to_list}
+use Rattle.std.proofs.lemmas.Bool.{cond-true, cond-false, cases_Bool, and_parts}
+use Rattle.std.proofs.lemmas.List.{drop_all}
+use Rattle.range_code.specs.declared.Box3.{Box3}
+use Rattle.plane_geom.specs.declared.pt.Pt.{Pt}
+use Rattle.plane_geom.specs.Polygons.{edges, is_within}
+use Rattle.dgn_drawing.specs.declared.mode.Mode.{Mode}
+use Rattle.dgn_drawing.specs.declared.types.item.Item.{Item}
+use Rattle.dgn_drawing.specs.declared.types.item_body.ItemBody.{ItemBody}
+use Rattle.dgn_drawing.specs.Element.{Display, Parts, Body, Silent, Shown, Element}
+use Rattle.dgn_drawing.specs.Items.{item_body_of, shown_item, item_in}
+use Rattle.dgn_drawing.specs.Shown.{its_item}
+use Rattle.dgn_fence.specs.declared.bounds.Bounds.{Bounds}
+use Rattle.dgn_fence.specs.declared.outline.Outline.{Outline}
+use Rattle.dgn_fence.specs.Segments.{flat, path_segments, corners_of, body_segments, segments_of}
+use Rattle.dgn_fence.specs.Taken.{any_touches, touches_fence, first_point_of, begins_within, is_inside, overlaps, has_some, takes}
+use Rattle.dgn_fence.specs.Limits.{at, grown, bounds_of, body_bounds, extent_of, is_apart, misses}
+use Rattle.dgn_fence.specs.Outlines.{path_outline, body_outline, outline_of, misses_all, told_by_bounds, untouched_taken}
+use Rattle.dgn_fence.proofs.Held.{item_bare}
+use Rattle.dgn_fence.proofs.Segments.{path_begins}
+use Rattle.dgn_fence.proofs.Misses.{neither, edge_missed, far_outside, far_untouched}
+
+-- ---- the points of a path, one after the other
+
+-- one more point
+pub one_more : (xs : List (List ℤ)) (i : ℕ) (x : List ℤ) (b : Bounds) → slice_get xs i ≡ Some x
+    → fold grown b (map flat (drop i xs)) ≡ fold grown (grown b (flat x)) (map flat (drop (i + 1) xs))
+one_more [] i x b is = absurd cc
+one_more (y ∷ ys) zero x b is = let same : y ≡ x = cc in ap (λ (z : List ℤ). fold grown (grown b (flat z)) (map flat ys)) same
+one_more (y ∷ ys) (suc i) x b is =
+    let e : suc i + 1 ≡ suc (i + 1) = omega arith in
+    one_more ys i x b is ∙ ap (λ (k : ℕ). fold grown (grown b (flat x)) (map flat (drop k (y ∷ ys)))) (sym e)
+
+outlined : Pt → Bounds → Outline
+outlined p b = record { first = p; around = b }
+
+-- all points
+pub all_points : (xs : List (List ℤ)) (x : List ℤ) (b : Bounds) → slice_get xs 0 ≡ Some x → b ≡ fold grown (at (flat x)) (map flat (drop 1 xs))
+    → Some (record { first = flat x; around = b }) ≡ path_outline (map flat xs)
+unfolding outlined
+all_points [] x b is grew = absurd cc
+all_points (y ∷ ys) x b is grew =
+    let same : x ≡ y = cc in
+    ap (λ (a : Bounds). Some (outlined (flat x) a)) grew ∙ ap (λ (z : List ℤ). Some (outlined (flat z) (fold grown (at (flat z)) (map flat ys)))) same
+
+pub no_points : (xs : List (List ℤ)) → length xs ≡ 0 → path_outline (map flat xs) ≡ None
+no_points [] none = refl
+no_points (x ∷ xs) none = absurd (omega arith)
+
+-- no point is left behind the last one
+pub none_left : (xs : List (List ℤ)) (i : ℕ) (b : Bounds) → length xs ≤ i → fold grown b (map flat (drop i xs)) ≡ b
+none_left xs i b past = rw (drop_all i xs past) refl
+
+-- ---- an outline has the first point and the bounds
+
+same_some : {A : Type 0} (a b : A) → Some a ≡ Some b → a ≡ b
+same_some a b e = cc
+
+around_of : Option Outline → Option Bounds
+around_of o = option_map (λ (x : Outline). x.around) o
+
+first_of : Option Outline → Option Pt
+first_of o = option_map (λ (x : Outline). x.first) o
+
+path_extent : (ps : List Pt) → bounds_of ps ≡ around_of (path_outline ps)
+unfolding around_of
+path_extent [] = refl
+path_extent (p ∷ ps) = refl
+
+body_extent : (range : Box3) (body : ItemBody) → body_bounds range body ≡ around_of (body_outline range body)
+unfolding around_of
+body_extent range (ItemBody.Path points) = path_extent (map flat points)
+body_extent range (ItemBody.Text origin chars) = refl
+body_extent range ItemBody.Boxed = refl
+body_extent range (ItemBody.Cell name origin) = refl
+body_extent range (ItemBody.Node origin) = refl
+body_extent range ItemBody.Group = refl
+
+path_first : (closed : Bool) (points : List (List ℤ)) → first_point_of (path_segments closed (map flat points)) ≡ first_of (path_outline (map flat points))
+unfolding first_of
+path_first closed [] = refl
+path_first closed (p ∷ points) = sym (path_begins closed (p ∷ points))
+
+body_first : (kind : ℕ) (range : Box3) (body : ItemBody) → first_point_of (body_segments kind range body) ≡ first_of (body_outline range body)
+unfolding first_of
+body_first kind range (ItemBody.Path points) = path_first (kind == 6) points
+body_first kind range (ItemBody.Text origin chars) = refl
+body_first kind range ItemBody.Boxed = refl
+body_first kind range (ItemBody.Cell name origin) = refl
+body_first kind range (ItemBody.Node origin) = refl
+body_first kind range ItemBody.Group = refl
+
+-- ---- edges that bounds miss
+
+any_missed : (item : Item) (b : Bounds) (es : List (Pt × Pt)) → extent_of item ≡ Some b → list_all (λ e. misses b e.0 e.1) es ≡ true → list_any (any_touches (segments_of item)) es ≡ false
+any_missed item b [] is all = refl
+any_missed item b (e ∷ es) is all =
+    let both = and_parts (misses b e.0 e.1) (list_all (λ e. misses b e.0 e.1) es) all in
+    neither _ _ (edge_missed item b e.0 e.1 is both.0) (any_missed item b es is both.1)
+
+-- ---- what bounds tell
+
+record IsTold (fence : List Pt) (segments : List (Pt × Pt)) (begins : Bool) : Type 0 where
+  first : has_some segments ≡ true
+  begun : begins_within fence segments ≡ begins
+  untouched : touches_fence fence segments ≡ false
+
+has_first : (segments : List (Pt × Pt)) (p : Pt) → first_point_of segments ≡ Some p → has_some segments ≡ true
+has_first [] p is = absurd cc
+has_first (s ∷ segments) p is = refl
+
+begun_at : (fence : List Pt) (segments : List (Pt × Pt)) (p : Pt) → first_point_of segments ≡ Some p → begins_within fence segments ≡ is_within p fence
+unfolding begins_within
+begun_at fence [] p is = absurd cc
+begun_at fence (s ∷ segments) p is = let same : s.0 ≡ p = cc in ap (λ (q : Pt). is_within q fence) same
+
+told : (item : Item) (fence : List Pt) (o : Outline) (begins : Bool) (bounds : Option Bounds) → bounds_of fence ≡ bounds → outline_of (Some item) ≡ Some o → told_by_bounds bounds fence o ≡ Some begins
+    → IsTold fence (segments_of item) begins
+unfolding around_of first_of touches_fence
+told item fence o begins None is has says = absurd cc
+told item fence o begins (Some b) is has says =
+    let extent : extent_of item ≡ Some o.around = body_extent item.range item.body ∙ ap around_of has in
+    let start : first_point_of (segments_of item) ≡ Some o.first = body_first item.kind item.range item.body ∙ ap first_of has in
+    elim (cases_Bool (is_apart o.around b)) [
+      | inl t ↦ record {
+        first = has_first (segments_of item) o.first start;
+        begun = far_outside item fence o.around b extent is t ∙ same_some false begins (sym (cond-true (is_apart o.around b) _ _ t) ∙ says);
+        untouched = far_untouched item fence o.around b extent is t;
+      }
+      | inr n ↦
+          let near : (cond (misses_all o.around fence) (Some (is_within o.first fence)) None) ≡ Some begins = sym (cond-false (is_apart o.around b) _ _ n) ∙ says in
+          elim (cases_Bool (misses_all o.around fence)) [
+            | inl m ↦ record {
+              first = has_first (segments_of item) o.first start;
+              begun = begun_at fence (segments_of item) o.first start ∙ same_some (is_within o.first fence) begins (sym (cond-true (misses_all o.around fence) _ _ m) ∙ near);
+              untouched = any_missed item o.around (edges fence) extent m;
+            }
+            | inr k ↦ absurd (let none = sym (cond-false (misses_all o.around fence) _ _ k) ∙ near in cc)
+          ]
+    ]
+
+alone : (mode : Mode) (fence : List Pt) (item : Item) (begins : Bool) → IsTold fence (segments_of item) begins → takes mode fence (item ∷ []) ≡ untouched_taken mode begins
+unfolding is_inside overlaps
+alone Mode.Inside fence item true t = rw (t.first, t.begun, t.untouched) refl
+alone Mode.Inside fence item false t = rw (t.first, t.begun) refl
+alone Mode.Overlap fence item true t = rw (t.first, t.begun) refl
+alone Mode.Overlap fence item false t = rw (t.first, t.begun, t.untouched) refl
+alone Mode.Void fence item true t = rw (t.first, t.begun) refl
+alone Mode.Void fence item false t = rw (t.first, t.begun, t.untouched) refl
+
+pub told_taken : (mode : Mode) (fence : List Pt) (item : Option Item) (o : Outline) (begins : Bool) → outline_of item ≡ Some o → told_by_bounds (bounds_of fence) fence o ≡ Some begins
+    → takes mode fence (option_to_list item) ≡ untouched_taken mode begins
+told_taken mode fence None o begins has says = absurd cc
+told_taken mode fence (Some item) o begins has says = alone mode fence item begins (told item fence o begins (bounds_of fence) refl has says)
+
+bare : (mode : Mode) (fence : List Pt) (item : Item) → segments_of item ≡ [] → takes mode fence (item ∷ []) ≡ false
+bare Mode.Inside fence item e = rw e refl
+bare Mode.Overlap fence item e = rw e refl
+bare Mode.Void fence item e = rw e refl
+
+-- without an outline nothing is taken
+pub none_taken : (mode : Mode) (fence : List Pt) (item : Option Item) → outline_of item ≡ None → takes mode fence (option_to_list item) ≡ false
+unfolding around_of
+none_taken Mode.Inside fence None is = refl
+none_taken Mode.Overlap fence None is = refl
+none_taken Mode.Void fence None is = refl
+none_taken mode fence (Some item) is = bare mode fence item (item_bare item (body_extent item.range item.body ∙ ap around_of is))
+
+-- ---- neither number nor depth counts
+
+by_shape : (mode : Mode) (fence : List Pt) (dim number depth : ℕ) (e : Element) (display : Display) (parts : Parts) (shared : Bool)
+    → takes mode fence (option_to_list (cond shared None (Some (shown_item dim 0 0 e display parts)))) ≡ takes mode fence (option_to_list (cond shared None (Some (shown_item dim number depth e display parts))))
+by_shape mode fence dim number depth e display parts true = refl
+by_shape Mode.Inside fence dim number depth e display parts false = refl
+by_shape Mode.Overlap fence dim number depth e display parts false = refl
+by_shape Mode.Void fence dim number depth e display parts false = refl
+
+by_body : (mode : Mode) (fence : List Pt) (dim number depth : ℕ) (e : Element) (body : Body)
+    → takes mode fence (option_to_list (item_in dim 0 0 e body)) ≡ takes mode fence (option_to_list (item_in dim number depth e body))
+by_body mode fence dim number depth e (Silent rest) = refl
+by_body mode fence dim number depth e (Shown display parts rest) = by_shape mode fence dim number depth e display parts (e.kind == 34)
+
+pub anywhere : (mode : Mode) (fence : List Pt) (dim number depth : ℕ) (e : Element) → takes mode fence (its_item dim 0 0 e) ≡ takes mode fence (its_item dim number depth e)
+anywhere mode fence dim number depth e = by_body mode fence dim number depth e e.body
