@@ -5,9 +5,8 @@ use Rattle.std.proofs.lemmas.Bool.Decides.{nat_tests}
 use Rattle.std.proofs.lemmas.List.{length-map}
 use Rattle.dgn_desk.specs.Content.{Content, Files, bytes_of}
 use Rattle.dgn_drawing.specs.Spelling.{spelling}
-use Rattle.dgn_drawing.proofs.Fronts.{body_spelled}
 use Rattle.elem_index.specs.declared.design.Design.{Design}
-use Rattle.elem_index.specs.Design.{elements, IsWhole}
+use Rattle.elem_index.specs.Design.{IsWhole}
 use Rattle.elem_index.specs.Answers.{opened_of}
 use Rattle.elem_index.specs.Opened.{Opened, opening}
 use Rattle.patch_file.specs.declared.patch_entry.PatchEntry.{PatchEntry}
@@ -23,6 +22,7 @@ use Rattle.dgn_tool.specs.PatchLaws.{AllFit, DiffersAt, Applies, refused_at, Ref
 use Rattle.dgn_tool.specs.declared.status.Status.{Status}
 use Rattle.dgn_tool.specs.declared.status.Status.TheVariants as statuses
 use Rattle.dgn_tool.proofs.Endings.{known, input_opens}
+use Rattle.dgn_tool.proofs.Finished.{spelled_with}
 use Rattle.dgn_tool.proofs.Patching.{where_one_differs, one_differs, all_made}
 
 -- PATCH has too many bytes
@@ -67,16 +67,12 @@ few_read read es same are =
     let few = are.count in
     omega (arith, ap (length {A = PatchEntry}) same, length-map read packed_of)
 
--- the elements of a whole design spell its body
-spelled : (d : Design) → IsWhole d → spelling (elements d) ≡ d.body.items
-spelled d whole = body_spelled d.body.items d.tail.items d.dim (elements d) whole.is_open.opens
-
 -- where IN opens, `apply` goes on with PATCH
 pub goes_on : (name patch output : List ℕ) (d : Design) (old : Option Content) → IsWhole d → OpensAs name old (opened_of d) → IfSome old (λ c. input_outcome (bytes_of c.files name) (λ x. patched x (bytes_of c.files patch) output) ≡ body_patched d.body.items d.tail.items (bytes_of c.files patch) output)
 goes_on name patch output d None whole opens = tt
 goes_on name patch output d (Some c) whole opens =
     input_opens (bytes_of c.files name) (λ x. patched x (bytes_of c.files patch) output) (Ok (opened_of d)) opens.0 opens.1
-    ∙ ap (λ (b : List ℕ). body_patched b d.tail.items (bytes_of c.files patch) output) (spelled d whole)
+    ∙ ap (λ (b : List ℕ). body_patched b d.tail.items (bytes_of c.files patch) output) (sym (spelled_with d.dim d.body.items d whole refl refl))
 
 -- a run comes to what is known to be its outcome
 pub comes_as : (o q : Outcome) (status : Status) (old now : Option Content) → o ≡ q → ComesTo status (λ _. q) old now → ComesTo status (λ _. o) old now

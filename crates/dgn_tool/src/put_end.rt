@@ -2,9 +2,7 @@
 #[derive(Drop)]
 pub(crate) enum PutEnd {
     // The entry with this number, from 1, doesn't stand.
-    Refused {
-        number: u32,
-    },
+    Refused { number: u32 },
     // Body and tail would have more bytes than a design file may.
     TooLong,
     // There was no memory.

@@ -9,12 +9,7 @@ use crate::put_end::PutEnd;
 use patch_file::{PatchEntry, apply_entry, stands};
 
 // Puts an entry on a body where it stands there, and the body keeps the limit with so many bytes behind it.
-fn put_entry(
-    body: &mut Vec<u8>,
-    tail: usize,
-    entry: &PatchEntry,
-    number: u32,
-) -> Result<(), PutEnd>
+fn put_entry(body: &mut Vec<u8>, tail: usize, entry: &PatchEntry, number: u32) -> Result<(), PutEnd>
     requires { length body.old.items + tail ≤ 67108864 }
     ensures put { Puts result (put_from tail number body.old.items (packed_of entry.now ∷ [])) body.new.items }
     ensures few { OnOk result (length body.new.items + tail ≤ 67108864) }

@@ -13,12 +13,12 @@ ghost use Rattle.dgn_tool.specs.Outcome.{IsEnding, EndsAs, StoppedAs, ComesTo, I
 use crate::applying::apply;
 use crate::commands::run_all;
 use crate::ending::{end, end_numbered, stopped};
-use crate::filling::filling_len;
+use crate::filling::write_filled;
 use crate::generation::generate_file;
 use crate::opening::{end_bad_design, open_design, read_input};
 use crate::request::{Request, read_words};
 use crate::status::Status;
-use dgn_desk::{Desk, ReadEnd, Stop, read_all, write_file};
+use dgn_desk::{Desk, ReadEnd, Stop, read_all};
 use dgn_session::Session;
 use edit_script::{Command, ScriptFault, read_script};
 use elem_index::{Design, count_elements};
@@ -216,16 +216,8 @@ pub(crate) fn write_drawing<D: Desk>(
     ensures stays { StaysWilling (D.willing desk.old) (D.willing desk.new) }
     ensures able { IsTrue (D.willing desk.old) → DoesNotFail result }
 {
-    let zeros = [0; 512];
     let design = session.design();
-    let count = filling_len(before, &design.tail, design.body.len());
-    write_file(
-        desk,
-        output,
-        session.body(),
-        session.tail(),
-        &zeros[..count],
-    )
+    write_filled(desk, output, before, &design.body, &design.tail)
 }
 
 // Runs the commands and writes OUT.
