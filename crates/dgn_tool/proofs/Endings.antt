@@ -32,6 +32,8 @@ ends_only statuses.ReadFault ending stopped = stopped
 ends_only statuses.WriteFault ending stopped = ending
 ends_only statuses.Memory ending stopped = ending
 ends_only statuses.TooLong ending stopped = stopped
+ends_only statuses.BadPatch ending stopped = stopped
+ends_only statuses.PatchRefused ending stopped = stopped
 
 -- so many first bytes are a front
 pub is_taken : (bytes : List ℕ) (count : ℕ) → IsFrontOf bytes (take count bytes)
@@ -120,7 +122,7 @@ input_too_long input go_on h =
     rw test refl
 
 -- IN has no more bytes than it may
-input_opens : (input : List ℕ) (go_on : Opened → Outcome) (found : Result Opened Fault) → length input ≤ 67108864 → opening input ≡ found → input_outcome input go_on ≡ opened_outcome found go_on
+pub input_opens : (input : List ℕ) (go_on : Opened → Outcome) (found : Result Opened Fault) → length input ≤ 67108864 → opening input ≡ found → input_outcome input go_on ≡ opened_outcome found go_on
 input_opens input go_on found h e =
     let test : nat_lt 67108864 (length input) ≡ false = grind (arith, nat_tests) in
     rw (test, e) refl

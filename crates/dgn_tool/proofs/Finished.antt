@@ -55,12 +55,16 @@ filled_so before n long body tail tail' zeros same counted few is are =
     is ∙ ap (λ (t : List ℕ). cond (is_blocks before t) (left_in_block (long + length t)) 0) same ∙ ap (λ (k : ℕ). cond (is_blocks before tail) (left_in_block (k + length tail)) 0) counted in
     ap (λ (z : List ℕ). body ++ (tail ++ z)) (zeros_fill before tail (length body) n zeros few exact are)
 
--- as many bytes as the elements of the drawing spell
+-- the elements of the drawing spell its body
+pub spelled_with : (dim : ℕ) (body : List ℕ) (d : Design) → IsWhole d → d.dim ≡ dim → d.body.items ≡ body → d.body.items ≡ spelling (elements_of dim body)
+spelled_with dim body d whole axes text =
+    sym (body_spelled d.body.items d.tail.items d.dim (elements d) whole.is_open.opens)
+    ∙ ap (λ (k : ℕ). spelling (elements_of k d.body.items)) axes
+    ∙ ap (λ (b : List ℕ). spelling (elements_of dim b)) text
+
+-- as many bytes as they spell
 pub begun_with : (dim : ℕ) (body : List ℕ) (d : Design) (n : ℕ) → IsWhole d → d.dim ≡ dim → d.body.items ≡ body → n ≡ vec_len d.body → n ≡ length (spelling (elements_of dim body))
-begun_with dim body d n whole axes text counted =
-    let spelled : spelling (elements_of d.dim d.body.items) ≡ d.body.items = body_spelled d.body.items d.tail.items d.dim (elements d) whole.is_open.opens in
-    counted ∙ d.body.ok.0
-    ∙ ap (length {A = ℕ}) (sym spelled ∙ ap (λ (k : ℕ). spelling (elements_of k d.body.items)) axes ∙ ap (λ (b : List ℕ). spelling (elements_of dim b)) text)
+begun_with dim body d n whole axes text counted = counted ∙ d.body.ok.0 ∙ ap (length {A = ℕ}) (spelled_with dim body d whole axes text)
 
 -- the drawing that is written is that of the elements after the commands, with the same tail
 pub made_so : (s new : State) (t tail : List ℕ) (cs : List Command) (before : ℕ) → new ≡ after_all cs s → tail ≡ t → before ≡ length (spelling s.top) → file_made before tail (spelling new.top) ≡ file_after s t cs

@@ -11,3 +11,6 @@ mod GeneratedFile
 mod Begun
 mod Links
 mod Tried
+mod Filed
+mod Patching
+mod PatchEndings

@@ -6,8 +6,10 @@ pub mod Commands
 pub mod Filling
 pub mod Ended
 pub mod Generation
+pub mod Applied
 pub mod Outcome
 pub mod Told
 pub mod Laws
+pub mod PatchLaws
 pub mod Generator
 pub mod Fronts

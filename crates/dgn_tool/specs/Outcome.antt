@@ -11,9 +11,10 @@ use Rattle.edit_script.specs.Script.{commands_of}
 use Rattle.edit_script.specs.declared.command.Command.{Command}
 use Rattle.edit_script.specs.declared.fault.ScriptFault.{ScriptFault}
 use Rattle.edit_script.specs.declared.fault.ScriptFault.TheVariants as faults
-use Rattle.dgn_tool.specs.Request.{Request, Edit, Check, Gen, request_of}
+use Rattle.dgn_tool.specs.Request.{Request, Edit, Check, Gen, Apply, request_of}
 use Rattle.dgn_tool.specs.Ended.{Outcome, ended, file_after}
 use Rattle.dgn_tool.specs.Generation.{generation}
+use Rattle.dgn_tool.specs.Applied.{patched}
 use Rattle.dgn_tool.specs.Lines.{numbered}
 use Rattle.dgn_tool.specs.Commands.{begun, texts_of, refused_count}
 use Rattle.dgn_tool.specs.declared.status.Status.{Status}
@@ -67,10 +68,11 @@ input_outcome input go_on =
 
 -- what a run with this request comes to
 abbrev pub outcome_of : Option Request → Files → Outcome
-outcome_of None files = ended statuses.Usage (codes "usage: dgnedit edit IN SCRIPT OUT, check IN, gen SEED COUNT OUT\n")
+outcome_of None files = ended statuses.Usage (codes "usage: dgnedit edit IN SCRIPT OUT, check IN, gen SEED COUNT OUT, pack IN SCRIPT PATCH, apply IN PATCH OUT\n")
 outcome_of (Some (Edit input script output)) files = input_outcome (bytes_of files input) (λ d. scripted d (bytes_of files script) output)
 outcome_of (Some (Check input)) files = input_outcome (bytes_of files input) checked
 outcome_of (Some (Gen seed count output)) files = generation seed count output
+outcome_of (Some (Apply input patch output)) files = input_outcome (bytes_of files input) (λ d. patched d (bytes_of files patch) output)
 
 -- what a run with these words comes to
 abbrev pub outcome : List (List ℕ) → Files → Outcome
@@ -154,11 +156,11 @@ IsFaultless statuses.ReadFault = ⊥
 IsFaultless statuses.WriteFault = ⊥
 IsFaultless _ = ⊤
 
--- whether SCRIPT is read after this IN: it is within its limit and opens
+-- whether another file is read after this IN: IN is within its limit and opens
 abbrev pub comes_to_script : List ℕ → Bool
 comes_to_script input = nat_le (length input) 67108864 && is_ok (opening input)
 
--- IN is there, and SCRIPT is where it is read after IN
+-- IN is there, and so is SCRIPT, or PATCH, where it is read after IN
 abbrev pub HasBoth : List ℕ → List ℕ → Files → Type 0
 HasBoth input script files = IsSome (maps.get files input) × (IsTrue (comes_to_script (bytes_of files input)) → IsSome (maps.get files script))
 
@@ -168,6 +170,7 @@ HasFiles None files = ⊤
 HasFiles (Some (Edit input script output)) files = HasBoth input script files
 HasFiles (Some (Check input)) files = IsSome (maps.get files input)
 HasFiles (Some (Gen seed count output)) files = ⊤
+HasFiles (Some (Apply input patch output)) files = HasBoth input patch files
 
 -- a request that reads a file
 abbrev pub Reads : Option Request → Type 0
@@ -175,3 +178,4 @@ Reads None = ⊥
 Reads (Some (Edit input script output)) = ⊤
 Reads (Some (Check input)) = ⊤
 Reads (Some (Gen seed count output)) = ⊥
+Reads (Some (Apply input patch output)) = ⊤

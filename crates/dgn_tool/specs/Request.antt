@@ -3,12 +3,13 @@ use Rattle.std.specs.Prelude.{ℕ, ◌&&◌, nat_le, not, if◌then◌else◌, L
 use Rattle.std.specs.Str.{bytes_eq}
 use Rattle.edit_script.specs.Numbers.{number_within}
 
--- to edit IN by SCRIPT into OUT, to check IN, or to generate the drawing of a seed and a count into OUT; each file by
--- its name
+-- to edit IN by SCRIPT into OUT, to check IN, to generate the drawing of a seed and a count into OUT, or to apply PATCH to
+-- IN into OUT; each file by its name
 pub data Request : Type 0 where
   Edit : List ℕ → List ℕ → List ℕ → Request
   Check : List ℕ → Request
   Gen : ℕ → ℕ → List ℕ → Request
+  Apply : List ℕ → List ℕ → List ℕ → Request
 
 -- `check IN`
 abbrev pub check_of : List ℕ → List ℕ → Option Request
@@ -30,10 +31,17 @@ abbrev pub gen_of : List ℕ → List ℕ → List ℕ → List ℕ → Option R
 gen_of command seed count output =
     if bytes_eq command (codes "gen") then generation_of (number_within 4294967295 seed) (number_within 4294967295 count) output else None
 
+-- `apply IN PATCH OUT`, where IN and OUT are different
+abbrev pub apply_of : List ℕ → List ℕ → List ℕ → List ℕ → Option Request
+apply_of command input patch output =
+    if bytes_eq command (codes "apply") && not (bytes_eq input output) then Some (Apply input patch output) else None
+
 -- what four words ask for
 abbrev pub four_words : List ℕ → List ℕ → List ℕ → List ℕ → Option Request
 four_words command second third fourth =
-    if bytes_eq command (codes "edit") then edit_of command second third fourth else gen_of command second third fourth
+    if bytes_eq command (codes "edit") then edit_of command second third fourth
+    else if bytes_eq command (codes "apply") then apply_of command second third fourth
+    else gen_of command second third fourth
 
 -- what the words ask for, where they are of a form
 abbrev pub request_of : List (List ℕ) → Option Request

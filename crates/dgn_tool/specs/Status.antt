@@ -3,7 +3,7 @@ use Rattle.std.specs.Prelude.{ℕ}
 use Rattle.dgn_tool.specs.declared.status.Status.{Status}
 use Rattle.dgn_tool.specs.declared.status.Status.TheVariants as statuses
 
--- the place of a status in the list of them, from 0
+-- from 0 in the order of the list; 9 isn't used
 abbrev pub number_of : Status → ℕ
 number_of statuses.Done = 0
 number_of statuses.SomeRefused = 1
@@ -14,3 +14,5 @@ number_of statuses.ReadFault = 5
 number_of statuses.WriteFault = 6
 number_of statuses.Memory = 7
 number_of statuses.TooLong = 8
+number_of statuses.BadPatch = 10
+number_of statuses.PatchRefused = 11

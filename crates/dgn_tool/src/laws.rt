@@ -1,6 +1,7 @@
 //! Laws over the definitions that the contracts cite. The function does nothing; its contract is the law.
 
 ghost use Rattle.dgn_tool.specs.Laws.{UntouchedBytesStay};
+ghost use Rattle.dgn_tool.specs.PatchLaws.{RefusesWhereOneDiffers, RefusesNoneElse, AppliesAll};
 ghost use Rattle.dgn_tool.specs.Generator.{GeneratedDrawingsOpen};
 ghost use Rattle.dgn_tool.specs.Generation.{FixedScriptReads};
 
@@ -22,4 +23,18 @@ pub fn generated_drawings_open()
 /// The fixed script that is run on a generated drawing is read to its commands.
 pub fn fixed_script_reads()
     ensures { FixedScriptReads }
+{}
+
+/// Refused at the first difference: a run that applies a patch file to a drawing that opens is refused exactly at the first
+/// entry that doesn't stand on what those before it made, where these keep the limit of a design file. The line has the
+/// number of that entry, from 1, and no file is written.
+pub fn refused_at_the_first_difference()
+    ensures refused { RefusesWhereOneDiffers }
+    ensures only { RefusesNoneElse }
+{}
+
+/// Where all entries of the patch file stand, each on what those before it made, and keep the limit of a design file, the
+/// run writes what they make of the drawing, with its tail, and what fills the last block as before.
+pub fn all_entries_applied()
+    ensures { AppliesAll }
 {}

@@ -4,6 +4,7 @@
 
 mod answered;
 mod answers;
+mod applying;
 mod commands;
 mod ending;
 mod fences;
@@ -14,6 +15,8 @@ pub mod laws;
 mod lines;
 mod listings;
 mod opening;
+mod put_end;
+mod putting;
 mod request;
 mod status;
 mod tally;

@@ -13,7 +13,7 @@ use elem_index::{Design, OpenFault, read_design};
 use std::alloc::Global;
 
 // The most bytes that a design file may have.
-const MOST_DESIGN: usize = 67108864;
+pub(crate) const MOST_DESIGN: usize = 67108864;
 
 /// Reads IN whole, or ends the run.
 pub fn read_input<D: Desk>(alloc: Global, desk: &mut D, input: &str) -> Result<Vec<u8>, Status>

@@ -23,13 +23,19 @@ pub enum Request<'a> {
         count: u32,
         output: &'a str,
     },
+    /// To apply a patch file to a design file and to write the file that comes of it.
+    Apply {
+        input: &'a str,
+        patch: &'a str,
+        output: &'a str,
+    },
 }
 
 // The most elements that are generated.
 const MOST_GENERATED: u32 = 200000;
 
-/// The request that the words make: `edit IN SCRIPT OUT`, where IN and OUT are different, `check IN`, or
-/// `gen SEED COUNT OUT`. None exactly where they are of no form.
+/// The request that the words make: `edit IN SCRIPT OUT` or `apply IN PATCH OUT`, where IN and OUT are different,
+/// `check IN`, or `gen SEED COUNT OUT`. None exactly where they are of no form.
 pub fn read_words(words: &[String]) -> Option<Request<'_>>
     ensures asked { option_map seen result ≡ request_of (map string_bytes words.now) }
     ensures counted { IfSome result IsCounted }
@@ -75,6 +81,16 @@ fn read_four<'a>(
         return Some(Request::Edit {
             input: second,
             script: third,
+            output: fourth,
+        });
+    }
+    if command == "apply" {
+        if second == fourth {
+            return None;
+        }
+        return Some(Request::Apply {
+            input: second,
+            patch: third,
             output: fourth,
         });
     }

@@ -1,10 +1,10 @@
 ghost use Rattle.std.specs.Prelude.{◌≡◌};
 ghost use Rattle.dgn_tool.specs.Status.{number_of};
 
-/// How a run ended. The numbers, from 0 in this order, are the exit status of the program.
+/// How a run ended. Each has a number, the exit status of the program.
 #[derive(Clone, Copy, Debug, PartialEq, Eq, Drop)]
 pub enum Status {
-    /// Every command was done, and OUT was written; or IN was checked, or a drawing generated.
+    /// Every command was done, and OUT was written; or IN was checked, a drawing generated, or a patch file applied.
     Done,
     /// OUT was written, and at least one command was refused.
     SomeRefused,
@@ -20,12 +20,17 @@ pub enum Status {
     WriteFault,
     /// There was no memory.
     Memory,
-    /// IN has more than 67108864 bytes, or SCRIPT more than 1048576.
+    /// IN has more than 67108864 bytes, SCRIPT more than 1048576, or PATCH more than 134217728; or body and tail
+    /// would have more than 67108864 after an entry of the patch file.
     TooLong,
+    /// PATCH is no patch file: a piece of it is cut off or breaks its rule, or bytes stand behind the last entry.
+    BadPatch,
+    /// An entry of the patch file doesn't stand on what those before it made of the drawing.
+    PatchRefused,
 }
 
 impl Status {
-    /// The exit status: the place in the list, from 0.
+    /// The exit status: from 0 in the order of the list, but that 9 isn't used.
     pub fn number(self) -> u8
         ensures { result ≡ number_of self }
     {
@@ -39,6 +44,8 @@ impl Status {
             Status::WriteFault => 6,
             Status::Memory => 7,
             Status::TooLong => 8,
+            Status::BadPatch => 10,
+            Status::PatchRefused => 11,
         }
     }
 }

@@ -10,14 +10,15 @@ ghost use Rattle.dgn_tool.specs.Request.{request_of};
 ghost use Rattle.dgn_tool.specs.Outcome.{outcome, input_outcome, scripted, script_outcome, told_from, checked};
 ghost use Rattle.dgn_tool.specs.Outcome.{IsEnding, EndsAs, StoppedAs, ComesTo, IsFaultless, HasBoth, HasFiles, Reads};
 
+use crate::applying::apply;
 use crate::commands::run_all;
 use crate::ending::{end, end_numbered, stopped};
-use crate::filling::filling_len;
+use crate::filling::write_filled;
 use crate::generation::generate_file;
 use crate::opening::{end_bad_design, open_design, read_input};
 use crate::request::{Request, read_words};
 use crate::status::Status;
-use dgn_desk::{Desk, ReadEnd, Stop, read_all, write_file};
+use dgn_desk::{Desk, ReadEnd, Stop, read_all};
 use dgn_session::Session;
 use edit_script::{Command, ScriptFault, read_script};
 use elem_index::{Design, count_elements};
@@ -31,7 +32,9 @@ const MOST_SCRIPT: usize = 1048576;
 ///
 /// `edit IN SCRIPT OUT` reads the design file IN and the script SCRIPT whole, runs the commands of the
 /// script and writes OUT. `check IN` reads IN and says how many elements it has. `gen SEED COUNT OUT`
-/// generates a drawing, runs a fixed script on it, writes OUT and says a summary; it reads nothing. The
+/// generates a drawing, runs a fixed script on it, writes OUT and says a summary; it reads nothing.
+/// `apply IN PATCH OUT` reads IN and the patch file PATCH whole, puts the entries of the patch file on the elements one
+/// after the other, writes OUT and says how many entries there are; it writes nothing where an entry doesn't stand. The
 /// files, the texts and the status are those of `outcome`; `Status` says when each status comes. Where the desk fails, or
 /// there is no memory, the run ends at once and says nothing more: after WriteFault or Memory some first
 /// part of the outcome's text was said, the file that the outcome writes is as before or holds some first
@@ -75,9 +78,16 @@ pub fn run<D: Desk>(alloc: Global, words: &[String], desk: &mut D) -> Status
                 output,
             },
         ) => generate_file(alloc, desk, seed, count, output),
+        Some(
+            Request::Apply {
+                input,
+                patch,
+                output,
+            },
+        ) => apply(alloc, desk, input, patch, output),
         None => end(
             desk,
-            b"usage: dgnedit edit IN SCRIPT OUT, check IN, gen SEED COUNT OUT\n",
+            b"usage: dgnedit edit IN SCRIPT OUT, check IN, gen SEED COUNT OUT, pack IN SCRIPT PATCH, apply IN PATCH OUT\n",
             Status::Usage,
         ),
     }
@@ -206,16 +216,8 @@ pub(crate) fn write_drawing<D: Desk>(
     ensures stays { StaysWilling (D.willing desk.old) (D.willing desk.new) }
     ensures able { IsTrue (D.willing desk.old) → DoesNotFail result }
 {
-    let zeros = [0; 512];
     let design = session.design();
-    let count = filling_len(before, &design.tail, design.body.len());
-    write_file(
-        desk,
-        output,
-        session.body(),
-        session.tail(),
-        &zeros[..count],
-    )
+    write_filled(desk, output, before, &design.body, &design.tail)
 }
 
 // Runs the commands and writes OUT.

@@ -1,13 +1,15 @@
 // Runs over a desk in pieces of 512 bytes, of whose calls each fails in turn.
 
+use super::patches::PATCH;
 use super::*;
 use dgn_desk::{Act, MemDesk};
 
-// A desk with the design file of the ordinary case, and its script.
+// A desk with the design file of the ordinary case, its script, and a patch file.
 fn ordinary_desk(alloc: Global) -> Result<MemDesk, AllocError> {
     let mut desk = MemDesk::new(alloc, 512);
     desk.add("in", design(alloc, 0, &[&LINE, &END])?)?;
     desk.add("s", Vec::from_slice(alloc, b"show\nmove 1 10 -5\nshow\n")?)?;
+    desk.add("p", Vec::from_slice(alloc, &PATCH)?)?;
     Ok(desk)
 }
 
@@ -26,7 +28,7 @@ const MOVED: [(usize, [u8; 4]); 8] = [
     (1584, [0x00, 0x00, 0x2D, 0x00]),
 ];
 
-// The calls of a run in which none fails: IN has 1590 bytes, OUT of `edit` a body of 1588, and that of
+// The calls of a run in which none fails: IN has 1590 bytes, OUT of `edit` and of `apply` a body of 1588, and that of
 // `gen` one of 1928, each with a tail of two.
 const EDIT_ACTS: [Act; 18] = [
     Act::BeginRead,
@@ -60,6 +62,25 @@ const CHECK_ACTS: [Act; 7] = [
 ];
 
 const GEN_ACTS: [Act; 7] = [
+    Act::BeginWrite,
+    Act::Write,
+    Act::Write,
+    Act::Write,
+    Act::Write,
+    Act::Write,
+    Act::Say,
+];
+
+const APPLY_ACTS: [Act; 16] = [
+    Act::BeginRead,
+    Act::Read,
+    Act::Read,
+    Act::Read,
+    Act::Read,
+    Act::Read,
+    Act::BeginRead,
+    Act::Read,
+    Act::Read,
     Act::BeginWrite,
     Act::Write,
     Act::Write,
@@ -108,9 +129,10 @@ fn fails_in_turn<R: Abort + Alloc<A = Global>>(
 fn each_call_fails_in_turn(rt: HostRuntime) -> Result<(), Fail> {
     let alloc = rt.alloc();
     // The words, the calls of the run in which none fails, and what that says.
-    let rows: [(&[&str], &[Act], &[u8]); 3] = [
+    let rows: [(&[&str], &[Act], &[u8]); 4] = [
         (&EDIT, &EDIT_ACTS, SAID),
         (&CHECK, &CHECK_ACTS, b"elements 2\n"),
+        (&["apply", "in", "p", "out"], &APPLY_ACTS, b"applied 1\n"),
         (
             &["gen", "7", "3", "out"],
             &GEN_ACTS,

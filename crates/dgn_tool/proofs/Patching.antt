@@ -1,0 +1,160 @@
+-- What patch entries make of a body, one after the other.
+use Rattle.std.proofs.Common.{◌≡◌, ℕ, ◌+◌, ◌-◌, ◌<◌, ◌≤◌, Bool, true, false, cond, List, [], ◌∷◌, ◌++◌, length, map, drop, take, refl, sym, ap, ◌∙◌, subst, arith, length-append}
+use Rattle.std.specs.Prelude.{◌==◌, ◌&&◌, not, nat_lt}
+use Rattle.std.specs.List.{list_all, AllByRecursion}
+use Rattle.std.proofs.lemmas.Bool.{false_from_ne_true}
+use Rattle.std.proofs.lemmas.Bool.Decides.{Decides-and, Decides-like, Decides-eqb, nat_tests}
+use Rattle.std.proofs.lemmas.Slice.Eq.{bytes_eq-Decides}
+use Rattle.std.specs.Bool.{Decides}
+use Rattle.patch_bytes.specs.Puts.{write, AreWithin}
+use Rattle.patch_bytes.proofs.Laying.{length-write}
+use Rattle.patch_file.proofs.Puts.{news_within}
+use Rattle.patch_file.specs.declared.patch_entry.PatchEntry.{PatchEntry}
+use Rattle.patch_file.specs.Exchanges.{Exchange}
+use Rattle.patch_file.specs.Spelling.{Packed}
+use Rattle.patch_file.specs.PatchView.{packed_of, all_packed}
+use Rattle.patch_file.specs.Standing.{HoldsOld, Stands, new_of, put_on, AllStand, put_all}
+use Rattle.dgn_tool.specs.Applied.{holds_old, does_stand, Patched, Made, Differs, Overruns, put_from}
+use Rattle.dgn_tool.specs.PatchLaws.{AllFit, DiffersAt}
+
+-- the test tells whether an entry stands
+all_hold : (b : List ℕ) (fs : List Exchange) → Decides (list_all (holds_old b) fs) (AllByRecursion (HoldsOld b) fs)
+all_hold b [] = (λ _. tt, λ _. refl)
+all_hold b (f ∷ fs) =
+    Decides-and (holds_old b f) (list_all (holds_old b) fs) (bytes_eq-Decides (take (length f.was) (drop f.at b)) f.was) (all_hold b fs)
+
+pub stands_decided : (b : List ℕ) (e : Packed) → Decides (does_stand b e) (Stands b e)
+stands_decided b e =
+    Decides-like (does_stand b e) (λ h. record { long = h.0; fields = h.1 }) (λ s. (s.long, s.fields))
+    (Decides-and (length b == e.len) (list_all (holds_old b) e.fields) (Decides-eqb (length b) e.len) (all_hold b e.fields))
+
+-- one that doesn't stand
+pub differs : (tail k : ℕ) (b : List ℕ) (e : Packed) (es : List Packed) → ¬ Stands b e → put_from tail k b (e ∷ es) ≡ Differs k
+differs tail k b e es not_so =
+    let test : does_stand b e ≡ false = false_from_ne_true _ (λ t. not_so ((stands_decided b e).0 t)) in
+    rw test refl
+
+-- one that stands, and with which the drawing gets too long
+pub overruns : (tail k : ℕ) (b : List ℕ) (e : Packed) (es : List Packed) → Stands b e → 67108864 < length (put_on b e) + tail → put_from tail k b (e ∷ es) ≡ Overruns
+overruns tail k b e es so long =
+    let test : does_stand b e ≡ true = (stands_decided b e).1 so in
+    let too : nat_lt 67108864 (length (put_on b e) + tail) ≡ true = grind (arith, nat_tests) in
+    rw (test, too) refl
+
+-- one that stands, and keeps the limit
+pub goes_on : (tail k : ℕ) (b : List ℕ) (e : Packed) (es : List Packed) → Stands b e → length (put_on b e) + tail ≤ 67108864 → put_from tail k b (e ∷ es) ≡ put_from tail (k + 1) (put_on b e) es
+goes_on tail k b e es so few =
+    let test : does_stand b e ≡ true = (stands_decided b e).1 so in
+    let fits : nat_lt 67108864 (length (put_on b e) + tail) ≡ false = grind (arith, nat_tests) in
+    rw (test, fits) refl
+
+-- what one entry makes, others behind it go on with
+stepped : (x y : Bool) (k : ℕ) (b b' : List ℕ) (rest : List ℕ → Patched) → cond (not x) (Differs k) (cond y Overruns (Made b)) ≡ Made b' → cond (not x) (Differs k) (cond y Overruns (rest b)) ≡ rest b'
+stepped true true k b b' rest e = absurd (cc)
+stepped true false k b b' rest e = let same : b ≡ b' = cc in ap rest same
+stepped false y k b b' rest e = absurd (cc)
+
+differed : (x y : Bool) (k j : ℕ) (b : List ℕ) (rest : Patched) → cond (not x) (Differs k) (cond y Overruns (Made b)) ≡ Differs j → cond (not x) (Differs k) (cond y Overruns rest) ≡ Differs j
+differed true true k j b rest e = absurd (cc)
+differed true false k j b rest e = absurd (cc)
+differed false y k j b rest e = e
+
+overran : (x y : Bool) (k : ℕ) (b : List ℕ) (rest : Patched) → cond (not x) (Differs k) (cond y Overruns (Made b)) ≡ Overruns → cond (not x) (Differs k) (cond y Overruns rest) ≡ Overruns
+overran true true k b rest e = refl
+overran true false k b rest e = absurd (cc)
+overran false y k b rest e = absurd (cc)
+
+pub made_more : (tail k : ℕ) (b b' : List ℕ) (e : Packed) (es : List Packed) → put_from tail k b (e ∷ []) ≡ Made b' → put_from tail k b (e ∷ es) ≡ put_from tail (k + 1) b' es
+made_more tail k b b' e es made =
+    stepped (does_stand b e) (nat_lt 67108864 (length (put_on b e) + tail)) k (put_on b e) b' (λ c. put_from tail (k + 1) c es) made
+
+pub differs_more : (tail k j : ℕ) (b : List ℕ) (e : Packed) (es : List Packed) → put_from tail k b (e ∷ []) ≡ Differs j → put_from tail k b (e ∷ es) ≡ Differs j
+differs_more tail k j b e es made =
+    differed (does_stand b e) (nat_lt 67108864 (length (put_on b e) + tail)) k j (put_on b e) (put_from tail (k + 1) (put_on b e) es) made
+
+pub overruns_more : (tail k : ℕ) (b : List ℕ) (e : Packed) (es : List Packed) → put_from tail k b (e ∷ []) ≡ Overruns → put_from tail k b (e ∷ es) ≡ Overruns
+overruns_more tail k b e es made =
+    overran (does_stand b e) (nat_lt 67108864 (length (put_on b e) + tail)) k (put_on b e) (put_from tail (k + 1) (put_on b e) es) made
+
+-- how long a body is with an entry on it
+pub length-put_on : (b : List ℕ) (e : PatchEntry) → Stands b (packed_of e) → length (put_on b (packed_of e)) ≡ length b + length e.append
+length-put_on b e so =
+    let within : AreWithin (length b) (map new_of e.fields) = subst (λ n. AreWithin n (map new_of e.fields)) (sym so.long) (news_within 0 e.len e.fields e.rules) in
+    length-append (write b (map new_of e.fields)) e.append ∙ ap (λ (n : ℕ). n + length e.append) (length-write b (map new_of e.fields) within)
+
+-- Lists of entries.
+
+-- all of them stand and keep the limit
+pub all_made : (tail k : ℕ) (b : List ℕ) (es : List Packed) → AllStand b es → AllFit tail b es → put_from tail k b es ≡ Made (put_all b es)
+all_made tail k b [] stand fit = refl
+all_made tail k b (e ∷ es) stand fit = goes_on tail k b e es stand.0 fit.0 ∙ all_made tail (k + 1) (put_on b e) es stand.1 fit.1
+
+-- so do those before one that doesn't stand
+first_differs : (tail k : ℕ) (b : List ℕ) (before : List Packed) (e : Packed) (behind : List Packed) → AllStand b before → AllFit tail b before → ¬ Stands (put_all b before) e → put_from tail k b (before ++ e ∷ behind) ≡ Differs (k + length before)
+first_differs tail k b [] e behind stand fit not_so = differs tail k b e behind not_so ∙ ap Differs (omega arith)
+first_differs tail k b (x ∷ before) e behind stand fit not_so =
+    goes_on tail k b x (before ++ e ∷ behind) stand.0 fit.0
+    ∙ first_differs tail (k + 1) (put_on b x) before e behind stand.1 fit.1 not_so
+    ∙ ap Differs (omega arith)
+
+pub where_one_differs : (tail : ℕ) (b : List ℕ) (es : List Packed) (k : ℕ) → DiffersAt tail b es k → put_from tail 1 b es ≡ Differs k
+where_one_differs tail b es k at =
+    ap (put_from tail 1 b) at.parts ∙ first_differs tail 1 b at.before at.entry at.behind at.stand at.fit at.differs ∙ ap Differs (sym at.number)
+
+-- the same, counted from k
+record DiffersFrom (tail k : ℕ) (b : List ℕ) (es : List Packed) (j : ℕ) : Type 0 where
+  before : List Packed
+  entry : Packed
+  behind : List Packed
+  parts : es ≡ before ++ entry ∷ behind
+  number : j ≡ k + length before
+  stand : AllStand b before
+  fit : AllFit tail b before
+  differs : ¬ Stands (put_all b before) entry
+
+one_more : (tail k : ℕ) (b : List ℕ) (e : Packed) (es : List Packed) (j : ℕ) → Stands b e → length (put_on b e) + tail ≤ 67108864 → DiffersFrom tail (k + 1) (put_on b e) es j → DiffersFrom tail k b (e ∷ es) j
+one_more tail k b e es j so few at =
+    let n = at.number in
+    record {
+      before = e ∷ at.before;
+      entry = at.entry;
+      behind = at.behind;
+      parts = ap (λ (l : List Packed). e ∷ l) at.parts;
+      number = omega arith;
+      stand = (so, at.stand);
+      fit = (few, at.fit);
+      differs = at.differs;
+    }
+
+found_from : (tail k : ℕ) (b : List ℕ) (es : List Packed) (j : ℕ) → put_from tail k b es ≡ Differs j → DiffersFrom tail k b es j
+found_from tail k b [] j is = absurd (cc)
+found_from tail k b (e ∷ es) j is = by (found_from tail (k + 1) (put_on b e) es j) (does_stand b e) (nat_lt 67108864 (length (put_on b e) + tail)) refl refl
+  where
+    by : (put_from tail (k + 1) (put_on b e) es ≡ Differs j → DiffersFrom tail (k + 1) (put_on b e) es j) → (x y : Bool) → does_stand b e ≡ x → nat_lt 67108864 (length (put_on b e) + tail) ≡ y → DiffersFrom tail k b (e ∷ es) j
+    by rest false y s l =
+        let now : put_from tail k b (e ∷ es) ≡ Differs k = rw s refl in
+        let same : Differs k ≡ Differs j = sym now ∙ is in
+        let number : k ≡ j = cc in
+        record {
+          before = [];
+          entry = e;
+          behind = es;
+          parts = refl;
+          number = omega arith;
+          stand = tt;
+          fit = tt;
+          differs = λ so. let t : does_stand b e ≡ true = (stands_decided b e).1 so in absurd (cc);
+        }
+    by rest true true s l =
+        let now : put_from tail k b (e ∷ es) ≡ Overruns = rw (s, l) refl in
+        let same : Overruns ≡ Differs j = sym now ∙ is in
+        absurd (cc)
+    by rest true false s l =
+        let so : Stands b e = (stands_decided b e).0 s in
+        let few : length (put_on b e) + tail ≤ 67108864 = grind (arith, nat_tests) in
+        one_more tail k b e es j so few (rest (sym (goes_on tail k b e es so few) ∙ is))
+
+pub one_differs : (tail : ℕ) (b : List ℕ) (es : List Packed) (k : ℕ) → put_from tail 1 b es ≡ Differs k → DiffersAt tail b es k
+one_differs tail b es k is =
+    let at = found_from tail 1 b es k is in
+    record { before = at.before; entry = at.entry; behind = at.behind; parts = at.parts; number = at.number; stand = at.stand; fit = at.fit; differs = at.differs }

@@ -1,0 +1,70 @@
+-- What holds of every drawing that opens and every patch file that reads, each the contract of a function in `laws`.
+use Rattle.std.specs.Prelude.{ℕ, ◌≡◌, ◌+◌, ◌≤◌, List, [], ◌∷◌, ◌++◌, length, codes, Some, Ok}
+use Rattle.dgn_desk.specs.Content.{Files, bytes_of}
+use Rattle.dgn_drawing.specs.Spelling.{spelling}
+use Rattle.elem_index.specs.Opened.{Opened, opening}
+use Rattle.patch_file.specs.Spelling.{Packed}
+use Rattle.patch_file.specs.Reading.{patch_of}
+use Rattle.patch_file.specs.Standing.{Stands, put_on, AllStand, put_all}
+use Rattle.dgn_tool.specs.Filling.{file_made}
+use Rattle.dgn_tool.specs.Lines.{numbered}
+use Rattle.dgn_tool.specs.Request.{Apply, request_of}
+use Rattle.dgn_tool.specs.Ended.{Outcome, ended}
+use Rattle.dgn_tool.specs.Outcome.{outcome}
+use Rattle.dgn_tool.specs.declared.status.Status.TheVariants as statuses
+
+-- what each of the entries makes, put on in order, keeps the limit of a design file with a tail of so many bytes
+abbrev pub AllFit : ℕ → List ℕ → List Packed → Type 0
+AllFit tail b [] = Unit {0}
+AllFit tail b (e ∷ es) = (length (put_on b e) + tail ≤ 67108864) × AllFit tail (put_on b e) es
+
+-- entry k, counted from 1, is the first that doesn't stand on what those before it made, and these keep the limit
+pub record DiffersAt (tail : ℕ) (b : List ℕ) (es : List Packed) (k : ℕ) : Type 0 where
+  pub before : List Packed
+  pub entry : Packed
+  pub behind : List Packed
+  pub parts : es ≡ before ++ entry ∷ behind
+  pub number : k ≡ 1 + length before
+  pub stand : AllStand b before
+  pub fit : AllFit tail b before
+  pub differs : ¬ Stands (put_all b before) entry
+
+-- the words ask to apply a patch file of these entries to a file that opens as this drawing, into OUT
+pub record Applies (words : List (List ℕ)) (files : Files) (d : Opened) (es : List Packed) (output : List ℕ) : Type 0 where
+  pub input : List ℕ
+  pub patch : List ℕ
+  pub asked : request_of words ≡ Some (Apply input patch output)
+  pub few : length (bytes_of files input) ≤ 67108864
+  pub opens : opening (bytes_of files input) ≡ Ok d
+  pub short : length (bytes_of files patch) ≤ 134217728
+  pub reads : patch_of (bytes_of files patch) ≡ Ok es
+
+-- the outcome that refuses entry k: it has no file
+abbrev pub refused_at : ℕ → Outcome
+refused_at k = ended statuses.PatchRefused (numbered (codes "refused entry ") k)
+
+-- a run refuses entry k where that is the first that doesn't stand
+abbrev pub RefusesWhereOneDiffers : Type 0
+RefusesWhereOneDiffers =
+    (words : List (List ℕ)) (files : Files) (d : Opened) (es : List Packed) (output : List ℕ) (k : ℕ)
+    → Applies words files d es output → DiffersAt (length d.tail) (spelling d.elements) es k
+    → outcome words files ≡ refused_at k
+
+-- and it refuses none else
+abbrev pub RefusesNoneElse : Type 0
+RefusesNoneElse =
+    (words : List (List ℕ)) (files : Files) (d : Opened) (es : List Packed) (output : List ℕ)
+    → Applies words files d es output → (outcome words files).status ≡ statuses.PatchRefused
+    → (k : ℕ) × DiffersAt (length d.tail) (spelling d.elements) es k × (outcome words files ≡ refused_at k)
+
+-- where all entries stand and keep the limit, it writes what they make of the drawing
+abbrev pub AppliesAll : Type 0
+AppliesAll =
+    (words : List (List ℕ)) (files : Files) (d : Opened) (es : List Packed) (output : List ℕ)
+    → Applies words files d es output → AllStand (spelling d.elements) es → AllFit (length d.tail) (spelling d.elements) es
+    → outcome words files
+    ≡ record {
+      status = statuses.Done;
+      text = numbered (codes "applied ") (length es);
+      file = Some (output, file_made (length (spelling d.elements)) d.tail (put_all (spelling d.elements) es));
+    }
