@@ -1,6 +1,6 @@
 -- Roots with nothing below them, behind other elements: their marks, and what is kept of all.
-use Rattle.std.proofs.Common.{◌≡◌, ℕ, zero, suc, ◌+◌, ◌-◌, ◌≤◌, ◌<◌, List, [], ◌∷◌, ◌++◌, length, take, drop, map, get_or, replicate, refl, sym, ap, ◌∙◌, subst, arith, length-append, true, false, Bool, inl, inr}
-use Rattle.std.specs.Prelude.{Option, Some, None, ◌&&◌, ◌||◌, ◌==◌, not}
+use Rattle.std.proofs.Common.{◌≡◌, ℕ, zero, suc, ◌+◌, ◌≤◌, ◌<◌, List, [], ◌∷◌, ◌++◌, length, take, drop, map, get_or, replicate, refl, sym, ap, ◌∙◌, arith, length-append, true, false, Bool, inl, inr}
+use Rattle.std.specs.Prelude.{None, ◌&&◌, ◌||◌, ◌==◌, not}
 use Rattle.std.specs.List.{AllByRecursion, range_with_len}
 use Rattle.std.proofs.lemmas.List.{map-append, get_or-append-add}
 use Rattle.std.proofs.lemmas.Bool.{cond-true, cond-false, cases_Bool, or_cases, and_parts, eqb-true, both_ways}
@@ -11,7 +11,7 @@ use Rattle.dgn_drawing.specs.Nesting.{All, Members, Leaf, Forest, NoTree, Tree, 
 use Rattle.dgn_drawing.specs.Numbering.{Mark, marks, is_broken}
 use Rattle.nest_tree.specs.Linked.{Link, plain_link}
 use Rattle.nest_tree.specs.Depths.{IsWordTotal}
-use Rattle.nest_tree.specs.Plain.{is_header, is_plain, IsPlain, plain_mark}
+use Rattle.nest_tree.specs.Plain.{is_header, IsPlain, plain_mark}
 use Rattle.nest_tree.specs.Passing.{passing, broken_in}
 use Rattle.nest_tree.specs.Places.{marks_in, link_of, end_told, broken_told, NestApart}
 use Rattle.nest_tree.specs.Nested.{IsNest}

@@ -8,8 +8,8 @@ ghost use Rattle.nest_tree.specs.Shapes.{scope_meant, shape_told, shape_in, rows
 use crate::knot::Knot;
 use crate::sums::members;
 use dgn_drawing::Row;
-use dgn_layout::{SHARED_CELL, class};
 use dgn_layout::types::Class;
+use dgn_layout::{SHARED_CELL, class};
 
 // The list that is read.
 #[derive(Clone, Copy, Drop)]

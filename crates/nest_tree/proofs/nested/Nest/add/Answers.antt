@@ -1,8 +1,4 @@
-use Rattle.std.proofs.Common.{◌∙◌, sym, arith, take, length, subst, List}
-use Rattle.std.specs.List.{AllByRecursion}
-use Rattle.std.proofs.lemmas.List.{take_all}
-use Rattle.dgn_drawing.specs.declared.row.Row.{Row}
-use Rattle.nest_tree.specs.Depths.{IsWordTotal}
+use Rattle.std.proofs.Common.{◌∙◌, sym}
 use Rattle.nest_tree.specs.Plain.{is_plain}
 use Rattle.nest_tree.proofs.PlainRows.{all_pass}
 use Rattle.nest_tree.proofs.nested.Nest.add.Goals as goal

@@ -1,7 +1,7 @@
 use Rattle.std.proofs.Common.{◌≡◌, ◌+◌, ◌++◌, ◌∙◌, ap, sym, subst, arith, List, ℕ, length, replicate, ◌<◌}
 use Rattle.std.specs.List.{range_with_len}
 use Rattle.dgn_drawing.specs.declared.row.Row.{Row}
-use Rattle.nest_tree.specs.Linked.{Link, plain_link}
+use Rattle.nest_tree.specs.Linked.{plain_link}
 use Rattle.nest_tree.specs.Nested.{Nested, IsNest}
 use Rattle.nest_tree.specs.Places.{NestApart}
 use Rattle.nest_tree.proofs.Grown.{length-grown, length-kept_ends}
