@@ -132,3 +132,10 @@ tcb_pushed old mid all front zeros =
     zeros ∙ ap (λ (b : List ℕ). b ++ replicate 1532 0) front
     ∙ append_assoc old (0x08 ∷ 0x09 ∷ 0xFE ∷ 0x02 ∷ []) (replicate 1532 0)
     ∙ ap (λ (b : List ℕ). old ++ b) (sym tcb_spelled)
+
+-- two pieces that are put behind others
+pub two_pushed : (old mid all front rest first behind whole : List ℕ) → mid ≡ old ++ front → all ≡ mid ++ rest → front ≡ first → rest ≡ behind → whole ≡ first ++ behind → all ≡ old ++ whole
+two_pushed old mid all front rest first behind whole is_mid is_all is_first is_behind is_whole =
+    is_all ∙ ap (λ (b : List ℕ). b ++ rest) is_mid ∙ append_assoc old front rest
+    ∙ ap (λ (b : List ℕ). old ++ (b ++ rest)) is_first ∙ ap (λ (b : List ℕ). old ++ (first ++ b)) is_behind
+    ∙ ap (λ (b : List ℕ). old ++ b) (sym is_whole)

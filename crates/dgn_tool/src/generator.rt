@@ -4,6 +4,7 @@ ghost use Rattle.dgn_tool.specs.Generator.{next_state, trees_within, blank_tcb, 
 
 mod fields;
 mod place;
+mod rests;
 mod trees;
 
 use place::Place;

@@ -4,8 +4,9 @@ ghost use Rattle.dgn_drawing.specs.Spelling.{spell, spelling};
 ghost use Rattle.dgn_drawing.specs.NewElements.{made};
 ghost use Rattle.dgn_tool.specs.Generator.{point, new_at, shape_at, cell_header, cell, tree};
 
-use crate::generator::fields::{push_front, push_long, push_point, push_word};
+use crate::generator::fields::front;
 use crate::generator::place::Place;
+use crate::generator::rests::{chain_rest, header_rest, line_rest, shape_rest, text_rest};
 use std::alloc::AllocError;
 
 /// Appends the tree at this place, and answers how many elements it has. So many are left to make.
@@ -38,11 +39,9 @@ fn push_cell(bytes: &mut Vec<u8>, at: Place) -> Result<(), AllocError>
 fn push_cell_header(bytes: &mut Vec<u8>, at: Place) -> Result<(), AllocError>
     ensures { OnOk result (bytes.new.items ≡ bytes.old.items ++ spell (cell_header at.before at.x at.y)) }
 {
-    push_front(bytes, at, false, 2, 92, 30, 30)?;
-    push_word(bytes, 79)?;
-    push_word(bytes, 11414)?;
-    bytes.extend_from_slice(&[0; 44])?;
-    push_point(bytes, at.x, at.y)
+    bytes.extend_from_slice(&front(at, false, 2, 92, 30, 30))?;
+    bytes.extend_from_slice(&header_rest(at))?;
+    Ok(())
 }
 
 // Appends a tree of one element.
@@ -71,9 +70,9 @@ fn push_line(
     ensures { OnOk result (bytes.new.items ≡ bytes.old.items ++ spell (record (made (new_at at.before
         (shapes.Line (point at.x at.y ∷ point (at.x + width) (at.y + height) ∷ [])))) { cbit = bit_c })) }
 {
-    push_front(bytes, at, bit_c, 3, 52, width, height)?;
-    push_point(bytes, at.x, at.y)?;
-    push_point(bytes, at.x + width, at.y + height)
+    bytes.extend_from_slice(&front(at, bit_c, 3, 52, width, height))?;
+    bytes.extend_from_slice(&line_rest(at, width, height))?;
+    Ok(())
 }
 
 // Appends a chain of three points.
@@ -81,11 +80,9 @@ fn push_chain(bytes: &mut Vec<u8>, at: Place) -> Result<(), AllocError>
     ensures { OnOk result (bytes.new.items ≡ bytes.old.items ++ spell (made (new_at at.before
         (shapes.Chain (point at.x at.y ∷ point (at.x + 10) at.y ∷ point (at.x + 10) (at.y + 10) ∷ []))))) }
 {
-    push_front(bytes, at, false, 4, 62, 10, 10)?;
-    push_word(bytes, 3)?;
-    push_point(bytes, at.x, at.y)?;
-    push_point(bytes, at.x + 10, at.y)?;
-    push_point(bytes, at.x + 10, at.y + 10)
+    bytes.extend_from_slice(&front(at, false, 4, 62, 10, 10))?;
+    bytes.extend_from_slice(&chain_rest(at))?;
+    Ok(())
 }
 
 // Appends a shape of three sides.
@@ -93,12 +90,9 @@ fn push_shape(bytes: &mut Vec<u8>, at: Place) -> Result<(), AllocError>
     ensures { OnOk result (bytes.new.items ≡ bytes.old.items ++ spell (made (new_at at.before
         (shapes.Shape (point at.x at.y ∷ point (at.x + 20) at.y ∷ point (at.x + 20) (at.y + 20) ∷ point at.x at.y ∷ []))))) }
 {
-    push_front(bytes, at, false, 6, 70, 20, 20)?;
-    push_word(bytes, 4)?;
-    push_point(bytes, at.x, at.y)?;
-    push_point(bytes, at.x + 20, at.y)?;
-    push_point(bytes, at.x + 20, at.y + 20)?;
-    push_point(bytes, at.x, at.y)
+    bytes.extend_from_slice(&front(at, false, 6, 70, 20, 20))?;
+    bytes.extend_from_slice(&shape_rest(at))?;
+    Ok(())
 }
 
 // Appends a text of three characters.
@@ -106,11 +100,7 @@ fn push_text(bytes: &mut Vec<u8>, at: Place) -> Result<(), AllocError>
     ensures { OnOk result (bytes.new.items ≡ bytes.old.items ++ spell (made (new_at at.before
         (shapes.Text 1 0 (pos 1000) (pos 1000) (point at.x at.y) (codes "DGN"))))) }
 {
-    push_front(bytes, at, false, 17, 64, 0, 0)?;
-    bytes.extend_from_slice(&[1, 0])?;
-    push_long(bytes, 1000)?;
-    push_long(bytes, 1000)?;
-    push_long(bytes, 0)?;
-    push_point(bytes, at.x, at.y)?;
-    bytes.extend_from_slice(b"\x03\0DGN\0")
+    bytes.extend_from_slice(&front(at, false, 17, 64, 0, 0))?;
+    bytes.extend_from_slice(&text_rest(at))?;
+    Ok(())
 }

@@ -1,8 +1,8 @@
-use Rattle.std.proofs.Common.{rules, append_assoc}
-use Rattle.dgn_drawing.specs.Spelling.{display_bytes}
-use Rattle.dgn_tool.proofs.TreeBytes.{shape_spelled}
+use Rattle.dgn_tool.proofs.TreeBytes.{shape_spelled, two_pushed}
 use Rattle.dgn_tool.proofs.generator.trees.push_shape.Goals as goal
 
 pub returns : goal.returns
-unfolding display_bytes
-returns c = rw (shape_spelled c.args.at.before c.args.at.x c.args.at.y) (search (rules, append_assoc))
+returns c =
+    two_pushed c.args.bytes.now.items c.extend_from_slice.new.self.items c.extend_from_slice-2.new.self.items c.front.result c.shape_rest.result _ _ _
+    c.in_ok-extend_from_slice.ensures.items c.in_ok-extend_from_slice-2.ensures.items c.front.ensures c.shape_rest.ensures
+    (shape_spelled c.args.at.before c.args.at.x c.args.at.y)
