@@ -94,6 +94,13 @@ movables dim by e able vs moves leaves =
     (λ v moves stays. able v.element (movable v.number (class_of v.element.kind) moves) (met (stays_on_plane dim by v.element) (causes.OffPlane v.number) stays))
     vs (none_first dim tests.Moves vs moves) (none_first dim (tests.Leaves by) vs leaves)
 
+-- so nothing stands against the copy of each live element where each can be moved and stays on the plane
+pub copy_ready : (dim : ℕ) (by : Displacement) (n : ℕ) (vs : List Live) → option_or (first_cause dim tests.Moves vs) (first_cause dim (tests.Leaves by) vs) ≡ None
+    → AllByRecursion (λ v. IsReady dim (edit.Copy n by) v.element) vs
+copy_ready dim by n vs is =
+    let both = none_both (first_cause dim tests.Moves vs) (first_cause dim (tests.Leaves by) vs) is in
+    movables dim by (edit.Copy n by) (λ v spots stays. (spots, stays)) vs both.0 both.1
+
 -- nothing stands against an edit of each live element of its part where none of its causes stands
 pub ready : (dim : ℕ) (es : List Element) (rest : ℕ) (e : Edit) (n : ℕ) → target_of e ≡ Some n → first_of (causes_of dim es rest e) ≡ None
     → AllByRecursion (λ v. IsReady dim e v.element) (live_tree es n)
