@@ -9,7 +9,6 @@ mod appended;
 mod carrying;
 mod fence_edit_fault;
 pub mod laws;
-mod nesting;
 mod nothing;
 mod room;
 mod select_fault;

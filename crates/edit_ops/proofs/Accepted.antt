@@ -154,12 +154,12 @@ not_silent dim es rest (edit.Delete m) n x named there is able quiet =
 not_silent dim es rest (edit.Append new) n x named there is able silent = let y = named in cc
 
 -- the element is there, and is the first of the live elements of its part if it is live
-record IsThere (es : List Element) (n : ℕ) : Type 0 where
-  head : Element
-  there : slice_get es n ≡ Some head
-  first : head.deleted ≡ false → (vs : List Live) × (live_tree es n ≡ record { number = n; place = offset_of es n; element = head } ∷ vs)
+pub record IsThere (es : List Element) (n : ℕ) : Type 0 where
+  pub head : Element
+  pub there : slice_get es n ≡ Some head
+  pub first : head.deleted ≡ false → (vs : List Live) × (live_tree es n ≡ record { number = n; place = offset_of es n; element = head } ∷ vs)
 
-is_there : (es : List Element) (n : ℕ) → n < length es → IsThere es n
+pub is_there : (es : List Element) (n : ℕ) → n < length es → IsThere es n
 is_there es n known =
     let p : IsPlaced es n = placed es n known in
     let left : drop n es ≡ (p.head ∷ flat p.below) ++ p.behind = ap (drop n) p.parts ∙ drop_at p.front ((p.head ∷ flat p.below) ++ p.behind) n p.count in
