@@ -9,3 +9,4 @@ pub mod Steps
 pub mod Carried
 pub mod Chosen
 pub mod Restored
+pub mod Appending

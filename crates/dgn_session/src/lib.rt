@@ -8,6 +8,7 @@
 mod appended;
 mod carrying;
 mod fence_edit_fault;
+mod importing;
 pub mod laws;
 mod nothing;
 mod room;
