@@ -7,8 +7,8 @@ pub mod Keeping
 pub mod Cutting
 pub mod Steps
 pub mod Carried
-pub mod Choosing
 pub mod Chosen
 pub mod Restored
 pub mod Blocks
 pub mod Lone
+pub mod Appending

@@ -18,7 +18,7 @@ use Rattle.elem_index.specs.Offsets.{offset_of}
 use Rattle.edit_ops.specs.Applying.{Applied, Done, Refused}
 use Rattle.dgn_session.specs.State.{State, pushed, pushed_if, dropped, undone, applied, fence_applied, undo_refused, earlier_of}
 use Rattle.dgn_session.specs.Kept.{rows_of, AreKept}
-use Rattle.dgn_session.specs.Laws.{EditsAreUndone, FenceEditsAreUndone, last_of, opened_in, OpenedStay, EntriesAreCounted, EntriesLeadBack, IsUnheld, OpenedStandsStill}
+use Rattle.dgn_session.specs.Laws.{EditsAreUndone, FenceEditsAreUndone, ImportsAreUndone, last_of, opened_in, OpenedStay, EntriesAreCounted, EntriesLeadBack, IsUnheld, OpenedStandsStill}
 use Rattle.dgn_session.proofs.Planned.{front_long}
 use Rattle.dgn_session.proofs.Cutting.{leads_fit, opens_kept}
 use Rattle.dgn_session.proofs.Steps.{bodies_first}
@@ -29,6 +29,9 @@ edits_are_undone s e made done = (ap (λ (a : Applied). undone (pushed a s)) don
 pub fence_edits_are_undone : FenceEditsAreUndone
 fence_edits_are_undone s mode e made done =
     (ap (λ (a : Option Applied). undone (pushed_if a s)) done, ap (λ (a : Option Applied). undo_refused (pushed_if a s)) done)
+
+pub imports_are_undone : ImportsAreUndone
+imports_are_undone s new = (refl, refl)
 
 pushed_stays : (s : State) (a : Applied) → opened_in (pushed a s) ≡ opened_in s
 pushed_stays s (Done made) = refl
@@ -43,7 +46,7 @@ pushed_if_stays s None = refl
 pushed_if_stays s (Some a) = pushed_stays s a
 
 pub opened_stay : OpenedStay
-opened_stay s = (λ e. pushed_stays s (applied e s), λ mode e. pushed_if_stays s (fence_applied mode e s), dropped_stays s s.earlier refl)
+opened_stay s = (λ e. pushed_stays s (applied e s), λ mode e. pushed_if_stays s (fence_applied mode e s), λ new. refl, dropped_stays s s.earlier refl)
 
 length-bodies : (b : List ℕ) (es : List Entry) → length (drop 1 (bodies b es)) ≡ length es
 length-bodies b [] = refl

@@ -45,6 +45,10 @@ pub record IsChange (dim : ℕ) (tail b : List ℕ) (ps : List Put) (append : Li
   pub behind : rows_of dim (write b ps ++ append) ≡ rows_of dim b ++ rows
   pub free : BeginsFree itself rows
 
+-- patches and bytes to append, as a plan
+abbrev pub plan_of : List Put → List ℕ → Plan
+plan_of ps append = record { patches = ps; append = append }
+
 -- a plan that may be carried out on a body: what it appends spells elements, and with their rows it is a change
 pub record IsSoundPlan (dim : ℕ) (tail b : List ℕ) (p : Plan) : Type 0 where
   pub spelled : IsSpelling p.append

@@ -13,6 +13,7 @@ use Rattle.dgn_drawing.specs.Opening.{elements_of}
 use Rattle.elem_index.specs.Offsets.{offset_of}
 use Rattle.edit_ops.specs.Applying.{Done}
 use Rattle.dgn_session.specs.State.{State, SessionValue, state_of, applied, edited, fence_applied, fence_edited, undone, undo_refused}
+use Rattle.dgn_session.specs.Imported.{imported}
 use Rattle.dgn_session.specs.Kept.{rows_of, AreKept}
 
 -- after an edit that is done an undo is not refused, and gives the state before
@@ -24,6 +25,10 @@ abbrev pub FenceEditsAreUndone : Type 0
 FenceEditsAreUndone =
     (s : State) (mode : Mode) (e : FenceEdit) (made : List Element) → fence_applied mode e s ≡ Some (Done made)
     → (undone (fence_edited mode e s) ≡ s) × (undo_refused (fence_edited mode e s) ≡ false)
+
+-- and so it is after an import
+abbrev pub ImportsAreUndone : Type 0
+ImportsAreUndone = (s : State) (new : List Element) → (undone (imported new s) ≡ s) × (undo_refused (imported new s) ≡ false)
 
 -- the last list of a stack
 abbrev pub last_of : List Element → List (List Element) → List Element
@@ -39,6 +44,7 @@ abbrev pub OpenedStay : Type 0
 OpenedStay =
     (s : State) → ((e : Edit) → opened_in (edited e s) ≡ opened_in s)
     × ((mode : Mode) (e : FenceEdit) → opened_in (fence_edited mode e s) ≡ opened_in s)
+    × ((new : List Element) → opened_in (imported new s) ≡ opened_in s)
     × (opened_in (undone s) ≡ opened_in s)
 
 -- a value of a session

@@ -1,4 +1,5 @@
 pub mod State
+pub mod Imported
 pub mod Kept
 pub mod Carried
 pub mod Answers

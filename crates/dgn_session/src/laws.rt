@@ -1,12 +1,13 @@
 //! What holds of all sessions. Each call does nothing; its contract is the law.
 
-ghost use Rattle.dgn_session.specs.Laws.{EditsAreUndone, FenceEditsAreUndone, OpenedStay, EntriesAreCounted, EntriesLeadBack, OpenedStandsStill};
+ghost use Rattle.dgn_session.specs.Laws.{EditsAreUndone, FenceEditsAreUndone, ImportsAreUndone, OpenedStay, EntriesAreCounted, EntriesLeadBack, OpenedStandsStill};
 
-/// Edits are undone: after an edit that is done, of one part or of all that a fence chooses, an undo is not refused, and
-/// gives the state before; and the opened elements stay at the bottom of the stack.
+/// Edits are undone: after an edit that is done, of one part or of all that a fence chooses, and after an import, an undo
+/// is not refused, and gives the state before; and the opened elements stay at the bottom of the stack.
 pub fn edits_are_undone()
     ensures undone { EditsAreUndone }
     ensures fenced { FenceEditsAreUndone }
+    ensures imported { ImportsAreUndone }
     ensures opened { OpenedStay }
 {}
 

@@ -8,8 +8,8 @@
 mod appended;
 mod carrying;
 mod fence_edit_fault;
+mod importing;
 pub mod laws;
-mod nesting;
 mod nothing;
 mod room;
 mod select_fault;

@@ -14,7 +14,6 @@ ghost use Rattle.dgn_session.specs.Laws.{IsSound};
 
 use crate::carrying::carry;
 use crate::fence_edit_fault::FenceEditFault;
-use crate::nesting::nest_design;
 use crate::nothing::Nothing;
 use crate::select_fault::SelectFault;
 use crate::selecting::select;
@@ -22,6 +21,7 @@ use crate::taking::{last_len, take_back};
 use dgn_drawing::types::Item;
 use dgn_drawing::{Edit, FenceEdit, Mask, Mode};
 use dgn_fence::types::Fence;
+use dgn_import::nest_design;
 use edit_ops::{EditFault, plan, plan_all};
 use elem_index::Design;
 use level_view::{count_shown, show};

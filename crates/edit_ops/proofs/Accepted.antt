@@ -94,6 +94,13 @@ movables dim by e able vs moves leaves =
     (λ v moves stays. able v.element (movable v.number (class_of v.element.kind) moves) (met (stays_on_plane dim by v.element) (causes.OffPlane v.number) stays))
     vs (none_first dim tests.Moves vs moves) (none_first dim (tests.Leaves by) vs leaves)
 
+-- so nothing stands against the copy of each live element where each can be moved and stays on the plane
+pub copy_ready : (dim : ℕ) (by : Displacement) (n : ℕ) (vs : List Live) → option_or (first_cause dim tests.Moves vs) (first_cause dim (tests.Leaves by) vs) ≡ None
+    → AllByRecursion (λ v. IsReady dim (edit.Copy n by) v.element) vs
+copy_ready dim by n vs is =
+    let both = none_both (first_cause dim tests.Moves vs) (first_cause dim (tests.Leaves by) vs) is in
+    movables dim by (edit.Copy n by) (λ v spots stays. (spots, stays)) vs both.0 both.1
+
 -- nothing stands against an edit of each live element of its part where none of its causes stands
 pub ready : (dim : ℕ) (es : List Element) (rest : ℕ) (e : Edit) (n : ℕ) → target_of e ≡ Some n → first_of (causes_of dim es rest e) ≡ None
     → AllByRecursion (λ v. IsReady dim e v.element) (live_tree es n)
@@ -147,12 +154,12 @@ not_silent dim es rest (edit.Delete m) n x named there is able quiet =
 not_silent dim es rest (edit.Append new) n x named there is able silent = let y = named in cc
 
 -- the element is there, and is the first of the live elements of its part if it is live
-record IsThere (es : List Element) (n : ℕ) : Type 0 where
-  head : Element
-  there : slice_get es n ≡ Some head
-  first : head.deleted ≡ false → (vs : List Live) × (live_tree es n ≡ record { number = n; place = offset_of es n; element = head } ∷ vs)
+pub record IsThere (es : List Element) (n : ℕ) : Type 0 where
+  pub head : Element
+  pub there : slice_get es n ≡ Some head
+  pub first : head.deleted ≡ false → (vs : List Live) × (live_tree es n ≡ record { number = n; place = offset_of es n; element = head } ∷ vs)
 
-is_there : (es : List Element) (n : ℕ) → n < length es → IsThere es n
+pub is_there : (es : List Element) (n : ℕ) → n < length es → IsThere es n
 is_there es n known =
     let p : IsPlaced es n = placed es n known in
     let left : drop n es ≡ (p.head ∷ flat p.below) ++ p.behind = ap (drop n) p.parts ∙ drop_at p.front ((p.head ∷ flat p.below) ++ p.behind) n p.count in

@@ -97,7 +97,7 @@ module _ {A : Type 0} (row : A → Row) where
         (λ _. refl)
 
     -- so a counted header is what it was
-    group_as : (o : Option ℕ) → member_count row h r ≡ o → group_or_loose (member_count row h (take (group_or_loose o).count r)) ≡ group_or_loose o
+    pub group_as : (o : Option ℕ) → member_count row h r ≡ o → group_or_loose (member_count row h (take (group_or_loose o).count r)) ≡ group_or_loose o
     group_as None is = ap group_or_loose (members_nothing is)
     group_as (Some k) is = ap group_or_loose (members_alone k is)
 

@@ -25,12 +25,12 @@ use Rattle.edit_ops.proofs.Appended.{some_element}
 use Rattle.edit_ops.proofs.Copied.{freed_first, copied_good, copied_long, copied_nests}
 
 -- where trees are the same behind the same trees, they are the same
-joined_left : {A : Type 0} (f a b : Forest A) → joined f a ≡ joined f b → a ≡ b
+pub joined_left : {A : Type 0} (f a b : Forest A) → joined f a ≡ joined f b → a ≡ b
 joined_left NoTree a b is = is
 joined_left (Tree knot h below behind) a b is = joined_left behind a b (let e = is in cc)
 
 -- what begins without bit C, and behind it too
-free_both : (xs ys : List Element) → BeginsFree row_of xs → BeginsFree row_of ys → BeginsFree row_of (xs ++ ys)
+pub free_both : (xs ys : List Element) → BeginsFree row_of xs → BeginsFree row_of ys → BeginsFree row_of (xs ++ ys)
 free_both [] ys first last = last
 free_both (x ∷ xs) ys first last = first
 

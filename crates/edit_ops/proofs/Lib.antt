@@ -40,3 +40,4 @@ pub mod Fenced
 pub mod Joined
 pub mod Behind
 pub mod Choosing
+pub mod Refusing

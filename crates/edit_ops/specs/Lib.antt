@@ -7,5 +7,6 @@ pub mod Fenced
 pub mod Found
 pub mod Asking
 pub mod Planned
+pub mod Copying
 pub mod Laws
 pub mod FenceLaws

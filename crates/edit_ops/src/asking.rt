@@ -68,7 +68,7 @@ fn locked(d: &Design, above: &[u32], live: &[u32]) -> Option<Cause>
 
 // Live elements can't be moved: first whether all their coordinates are read, and then whether they stay on the
 // design plane.
-fn move_cause(d: &Design, live: &[u32], by: &Shift) -> Option<Cause>
+pub fn move_cause(d: &Design, live: &[u32], by: &Shift) -> Option<Cause>
     requires { IsWhole d.now }
     ensures { result ≡ option_or (first_cause d.now.dim Test.Moves (found (elements d.now) live.now))
         (first_cause d.now.dim (Test.Leaves by.now) (found (elements d.now) live.now)) }

@@ -120,7 +120,7 @@ fn root_edit(edit: &FenceEdit, n: u32) -> Edit
 }
 
 // The same displacement.
-fn same_shift(by: &Shift) -> Shift
+pub(crate) fn same_shift(by: &Shift) -> Shift
     ensures { result ≡ by.now }
 {
     Shift {

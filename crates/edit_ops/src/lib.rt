@@ -14,6 +14,7 @@ mod copying;
 mod edit_fault;
 mod fencing;
 mod finding;
+mod importing;
 pub mod laws;
 mod live;
 mod making;
@@ -26,6 +27,7 @@ pub mod types;
 pub use cause::Cause;
 pub use edit_fault::EditFault;
 pub use fencing::plan_all;
+pub use importing::copy_tree;
 pub use planning::plan;
 
 #[cfg(test)]

@@ -1,4 +1,4 @@
-ghost use Rattle.std.specs.Prelude.{◌≡◌, ◌+◌, ◌<◌, ◌≤◌, ◌++◌, length, map, Some, None, IfOk, IfErr, OnOk};
+ghost use Rattle.std.specs.Prelude.{◌≡◌, ◌+◌, ◌<◌, ◌≤◌, ◌++◌, length, map, Some, None, IfOk, IfErr, OnOk, OnErr};
 ghost use Rattle.std.specs.List.{AllByRecursion};
 ghost use Rattle.std.specs.Option.{option_or};
 ghost use Rattle.dgn_drawing.specs.Spelling.{spelling};
@@ -138,8 +138,9 @@ fn plan_part(
     Ok(())
 }
 
-// Appends the bytes of a copy of the part of element n, which nothing refuses.
-fn push_copy(
+// Appends the bytes of a copy of the part of element n, which nothing refuses. Where there is no memory for them,
+// nothing is appended.
+pub(crate) fn push_copy(
     alloc: Global,
     d: &Design,
     t: &Nest,
@@ -154,7 +155,9 @@ fn push_copy(
     requires fits { IsEdit edit.now }
     requires live { found (elements d.now) live.now ≡ live_tree (elements d.now) n }
     requires ready { AllByRecursion (λ v. IsReady d.now.dim edit.now v.element) (live_tree (elements d.now) n) }
-    ensures { OnOk result (append.new ≡ append.old ++ spelling (flat (copied d.now.dim (elements d.now) edit.now n))) }
+    ensures appended { OnOk result
+        (append.new ≡ append.old ++ spelling (flat (copied d.now.dim (elements d.now) edit.now n))) }
+    ensures kept { OnErr result (append.new ≡ append.old) }
 {
     let copy = copy_of(alloc, d, t, n, live, edit)?;
     append.push_all(&copy)

@@ -15,7 +15,7 @@ use nest_tree::nest;
 use nest_tree::types::Nest;
 use patch_bytes::{ByteList, Patch};
 use plane_geom::PointList;
-use sample_elements::{CELL, MEMBER, NEW_CHAIN, NEW_LINE, SHARED_CELL, TEXT, drawing};
+use sample_elements::{CELL, LINE, MEMBER, NEW_CHAIN, NEW_LINE, SHARED_CELL, TEXT, drawing};
 use std::alloc::{AllocError, Global};
 use std::process::Abort;
 use std::test::Fail;
@@ -232,6 +232,32 @@ fn copies(rt: HostRuntime) -> Result<(), Fail> {
     let by = along(1, 1);
     let copy = appended(&rt, 2, &SHARED_CELL, &MEMBER, &Edit::Copy { n: 2, by })?;
     assert_eq!(rt; copy.get(0), Some(0x01));
+    Ok(())
+}
+
+// A tree is copied behind what is there, and one that would leave the plane isn't.
+#[test]
+fn copied_trees(rt: HostRuntime) -> Result<(), Fail> {
+    let alloc = rt.alloc();
+    let bytes = drawing(alloc, 0x08, 0, &[&LINE])?;
+    assert!(rt; bytes.len() <= 67108864);
+    let Ok(design) = read_design(alloc, bytes) else {
+        panic!(rt; "it doesn't open");
+    };
+    let nesting = nested(alloc, &design)?;
+    assert!(rt; 1 < design.count());
+    let mut copy = ByteList::new(alloc);
+    copy.push(9)?;
+    let by = along(i32::MAX, 0);
+    let refused = copy_tree(alloc, &design, &nesting, 1, &by, &mut copy);
+    assert_eq!(rt; refused, Err(EditFault::Refused(Cause::OffPlane(1))));
+    assert_eq!(rt; copy.len(), 1);
+    let by = along(0, 0);
+    assert_eq!(rt;
+        copy_tree(alloc, &design, &nesting, 1, &by, &mut copy),
+        Ok(())
+    );
+    assert_eq!(rt; copy.as_slice().get(1..), Some(LINE.as_slice()));
     Ok(())
 }
 

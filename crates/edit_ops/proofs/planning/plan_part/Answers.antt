@@ -27,7 +27,7 @@ returns-in-Copy-clause-planned c =
     let bytes = spelling (flat (copied d.dim (elements d) c.args.edit.now c.args.n)) in
     appends_behind d.dim (elements d) rest c.args.edit.now c.args.all.now (record { patches = c.args.all.now.patches; append = c.push_copy.new.append }) bytes
     (copied_plan d.dim (elements d) rest c.args.edit.now c.args.n c.in-Copy.n c.in-Copy.by (record { patches = []; append = bytes }) c.requires.target c.in-Copy.is none refl refl)
-    refl c.in_ok-push_copy.ensures
+    refl c.in_ok-push_copy.ensures.appended
 
 pub push_part-requires : goal.push_part-requires
 push_part-requires c =

@@ -1,15 +1,14 @@
-use Rattle.std.proofs.Common.{◌∙◌, sym, ap, subst, arith, length, map, take, List}
+use Rattle.std.proofs.Common.{◌∙◌, sym, ap, subst, arith, length, take}
 use Rattle.std.specs.List.{AllByRecursion}
 use Rattle.std.proofs.lemmas.List.{length-map, length-take}
-use Rattle.dgn_drawing.specs.Element.{Element}
 use Rattle.dgn_drawing.specs.declared.row.Row.{Row}
 use Rattle.dgn_drawing.specs.Rows.{row_of}
 use Rattle.dgn_drawing.specs.Nesting.{BeginsFree, itself}
 use Rattle.elem_index.specs.Design.{elements}
 use Rattle.elem_index.proofs.Places.{few_elements}
 use Rattle.nest_tree.specs.Shapes.{IsRow}
-use Rattle.dgn_session.proofs.Blocks.{block_each, block_free}
-use Rattle.dgn_session.proofs.nesting.nest_design.Goals as goal
+use Rattle.dgn_import.proofs.Blocks.{block_each, block_free}
+use Rattle.dgn_import.proofs.nesting.nest_design.Goals as goal
 
 pub nest-requires-clause-few : goal.nest-requires-clause-few
 nest-requires-clause-few c =

@@ -9,8 +9,9 @@ use nest_tree::nest;
 use nest_tree::types::Nest;
 use std::alloc::{AllocError, Global};
 
-// The nesting of the elements of the design. Their rows are read block by block, so no more than those of a block are kept.
-pub(crate) fn nest_design(alloc: Global, d: &Design) -> Result<Nest, AllocError>
+/// The nesting of the elements of the design. Their rows are read block by block, so no more than those of a block are
+/// kept. There is an error exactly where there is no memory.
+pub fn nest_design(alloc: Global, d: &Design) -> Result<Nest, AllocError>
     requires { IsWhole d.now }
     ensures { IfOk result (λ t. t.rows ≡ map row_of (elements d.now)) }
 {

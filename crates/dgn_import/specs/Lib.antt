@@ -1,0 +1,4 @@
+pub mod Seconds
+pub mod Gathering
+pub mod Answers
+pub mod Laws
