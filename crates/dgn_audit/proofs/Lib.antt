@@ -1,0 +1,10 @@
+pub mod Boxes
+pub mod Bytes
+pub mod Sitting
+pub mod Stepping
+pub mod Trees
+pub mod Points
+pub mod Rooted
+pub mod Asked
+pub mod Ranged
+pub mod Fitted

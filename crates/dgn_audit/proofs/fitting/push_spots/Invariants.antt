@@ -1,0 +1,15 @@
+use Rattle.std.proofs.Common.{◌≡◌, ◌++◌, length, map}
+use Rattle.dgn_layout.specs.Spots.{spots_of}
+use Rattle.dgn_layout.specs.SpotsLeft.{spots_left}
+use Rattle.edit_ops.proofs.Steps.{LieIn}
+use Rattle.edit_ops.proofs.Wider.{of_ranges}
+use Rattle.dgn_audit.specs.Fitting.{range_put}
+use Rattle.dgn_audit.proofs.fitting.push_spots.Given as goal
+
+-- what is put so far and what is put at the range spots that are left are all
+abbrev pub invariant-spots : goal.invariant-spots
+invariant-spots l = record {
+  all : l.patches ++ map (range_put l.hull l.place) (of_ranges (spots_left l.spot-iterator))
+      ≡ l.fn.patches ++ map (range_put l.hull l.place) (of_ranges (spots_of l.dim l.kind l.b));
+  lie : LieIn (length l.b) (spots_left l.spot-iterator);
+}

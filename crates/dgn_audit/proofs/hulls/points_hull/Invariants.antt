@@ -1,0 +1,13 @@
+use Rattle.std.proofs.Common.{◌≡◌, length, None}
+use Rattle.dgn_layout.specs.Spots.{spots_of}
+use Rattle.dgn_layout.specs.SpotsLeft.{spots_left}
+use Rattle.edit_ops.proofs.Steps.{LieIn}
+use Rattle.dgn_audit.proofs.Points.{blank, read_from}
+use Rattle.dgn_audit.proofs.hulls.points_hull.Given as goal
+
+-- what is read so far and what is left give what all spots do
+abbrev pub invariant-spots : goal.invariant-spots
+invariant-spots l = record {
+  all : read_from l.dim l.b l.point.at l.hull (spots_left l.spot-iterator) ≡ read_from l.dim l.b blank None (spots_of l.dim l.kind l.b);
+  lie : LieIn (length l.b) (spots_left l.spot-iterator);
+}

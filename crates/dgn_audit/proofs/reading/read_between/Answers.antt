@@ -1,0 +1,19 @@
+use Rattle.std.proofs.Common.{◌≡◌, ℕ, ◌-◌, ap, ◌∙◌, arith}
+use Rattle.elem_index.specs.Design.{elements}
+use Rattle.dgn_audit.specs.Backwards.{Pass, pass_of, read_back}
+use Rattle.dgn_audit.proofs.Sitting.{back_step}
+use Rattle.dgn_audit.proofs.reading.read_between.Goals as goal
+
+pub loop-n-preserved : goal.loop-n-preserved
+loop-n-preserved c = record {
+  after = omega (arith, c.loop-n-test.true);
+  pass = back_step c.args.keep c.args.d.now.dim (elements c.args.d.now) (c.loop-n.n - 1) c.loop-n.n c.args.end
+      (pass_of c.loop-n.boxes.items c.loop-n.told.items) (pass_of c.read.new.boxes.items c.read.new.told.items)
+      (omega (arith, c.loop-n-test.true)) c.loop-n.auto.n c.loop-n.invariant.pass c.in_ok-read.ensures;
+}
+
+pub returns : goal.returns
+returns c =
+    let first : c.loop-n.n ≡ c.args.first = omega (arith, c.loop-n-test.false, c.loop-n.invariant.after) in
+    ap (λ (p : Pass). p.told) c.loop-n.invariant.pass
+    ∙ ap (λ (n : ℕ). (read_back c.args.keep c.args.d.now.dim (elements c.args.d.now) n (c.args.end - n)).told) first

@@ -1,0 +1,10 @@
+use Rattle.std.proofs.Common.{◌≡◌, ◌-◌, ◌≤◌}
+use Rattle.elem_index.specs.Design.{elements}
+use Rattle.dgn_audit.specs.Backwards.{pass_of, read_back}
+use Rattle.dgn_audit.proofs.reading.read_between.Given as goal
+
+abbrev pub invariant-loop-n : goal.invariant-loop-n
+invariant-loop-n l = record {
+  after : l.first ≤ l.n;
+  pass : pass_of l.boxes.items l.told.items ≡ read_back l.keep l.d.dim (elements l.d) l.n (l.end - l.n);
+}

@@ -1,0 +1,137 @@
+-- What a fit comes to: the stored range of each fitted element of one tree replaced by its hull, or the first cause
+-- against it.
+use Rattle.std.specs.Prelude.{ℕ, ℤ, ◌+◌, nat_lt, if◌then◌else◌, Option, Some, None, List, [], ◌∷◌, ◌++◌, map, take, drop, slice_get}
+use Rattle.std.specs.List.{flat_map}
+use Rattle.std.specs.Option.{option_or}
+use Rattle.range_code.specs.declared.Box3.{Box3}
+use Rattle.range_code.specs.Ranges.{on_axis}
+use Rattle.dgn_layout.specs.declared.spot.Spot.{Spot}
+use Rattle.dgn_layout.specs.Spots.{range_spots}
+use Rattle.patch_bytes.specs.Puts.{Put}
+use Rattle.dgn_drawing.specs.Element.{Display, Body, Silent, Shown, Element}
+use Rattle.dgn_drawing.specs.Rows.{row_of}
+use Rattle.dgn_drawing.specs.SpotNumbers.{number_bytes}
+use Rattle.dgn_drawing.specs.Nesting.{Knot, Forest, NoTree, Tree, flat, forest}
+use Rattle.dgn_drawing.specs.Numbering.{root_of, first_broken_of}
+use Rattle.elem_index.specs.Offsets.{offset_of}
+use Rattle.edit_ops.specs.Trees.{exchange}
+use Rattle.edit_ops.specs.Causes.{is_locked}
+use Rattle.edit_ops.specs.Fields.{Field, spot_fields}
+use Rattle.dgn_audit.specs.declared.finding.Finding.{Finding}
+use Rattle.dgn_audit.specs.declared.fit_cause.FitCause.{FitCause}
+use Rattle.dgn_audit.specs.declared.fit_cause.FitCause.TheVariants as causes
+use Rattle.dgn_audit.specs.Hulls.{tree_hull, hull_of}
+use Rattle.dgn_audit.specs.Findings.{is_fitted, fitted_in}
+
+-- the display part with its range replaced by a box, on the file's axes
+abbrev pub display_fitted : ℕ → Box3 → Display → Display
+display_fitted dim r d = record {
+  low = take dim r.lo ++ drop dim d.low;
+  high = take dim r.hi ++ drop dim d.high;
+  group = d.group;
+  index = d.index;
+  properties = d.properties;
+  style = d.style;
+  weight = d.weight;
+  color = d.color;
+}
+
+-- the body with that range
+abbrev pub body_fitted : ℕ → Box3 → Body → Body
+body_fitted dim r (Silent rest) = Silent rest
+body_fitted dim r (Shown display parts rest) = Shown (display_fitted dim r display) parts rest
+
+-- the element with that range
+abbrev pub with_range : ℕ → Box3 → Element → Element
+with_range dim r e = record {
+  level = e.level;
+  bit6 = e.bit6;
+  cbit = e.cbit;
+  kind = e.kind;
+  deleted = e.deleted;
+  body = body_fitted dim r e.body;
+}
+
+-- a live element, by its hull: where it can be fitted and has a hull, with that as its range
+abbrev pub head_fitted : ℕ → Knot → Element → Option Box3 → Element
+head_fitted dim knot e None = e
+head_fitted dim knot e (Some hull) = if is_fitted knot e.kind then with_range dim hull e else e
+
+-- the trees with each fitted element fitted to its hull
+abbrev pub fitted : ℕ → Forest Element → Forest Element
+fitted dim NoTree = NoTree
+fitted dim (Tree knot e below behind) =
+    Tree knot (head_fitted dim knot e (tree_hull dim knot e (hull_of dim below))) (if e.deleted then below else fitted dim below) (fitted dim behind)
+
+-- all trees, with those of the part of element n fitted
+abbrev pub fitted_forest : ℕ → List Element → ℕ → Forest Element
+fitted_forest dim es n = exchange (λ header. header) (fitted dim) n (forest row_of es)
+
+-- the tree holds a broken number, of which this is the least
+abbrev pub broken : Option (Option ℕ) → Option FitCause
+broken (Some (Some least)) = Some (causes.Broken least)
+broken other = None
+
+-- the root is marked deleted
+abbrev pub deleted : ℕ → Option Element → Option FitCause
+deleted root (Some e) = if e.deleted then Some (causes.Deleted root) else None
+deleted root None = None
+
+-- an element is locked
+abbrev pub locked : ℕ → Option Element → Option FitCause
+locked m (Some e) = if is_locked e.body then Some (causes.Locked m) else None
+locked m None = None
+
+-- the first of these elements that is
+abbrev pub first_locked : List Element → List Finding → Option FitCause
+first_locked es [] = None
+first_locked es (f ∷ fs) = option_or (locked f.number (slice_get es f.number)) (first_locked es fs)
+
+-- the first cause against a fit of the tree of a root
+abbrev pub tree_cause : ℕ → List Element → ℕ → Option FitCause
+tree_cause dim es root =
+    option_or (broken (first_broken_of row_of es root))
+    (option_or (deleted root (slice_get es root)) (first_locked es (fitted_in dim es root)))
+
+-- what a fit comes to
+pub data FitApplied : Type 0 where
+  Done : List Element → FitApplied
+  Refused : FitCause → FitApplied
+
+abbrev pub unless : Option FitCause → List Element → FitApplied
+unless None made = Done made
+unless (Some cause) made = Refused cause
+
+-- that of the tree of a root, if there is one
+abbrev pub fit_root : ℕ → List Element → ℕ → Option ℕ → FitApplied
+fit_root dim es n None = Refused (causes.Unknown n)
+fit_root dim es n (Some root) = unless (tree_cause dim es root) (flat (fitted_forest dim es root))
+
+-- a fit of the tree that holds element n
+abbrev pub apply_fit : ℕ → List Element → ℕ → FitApplied
+apply_fit dim es n = fit_root dim es n (root_of row_of es n)
+
+-- the fields of a fit of the tree of a root, if there is one: the range spots of each fitted element
+abbrev pub root_fields : ℕ → List Element → Option ℕ → List Field
+root_fields dim es None = []
+root_fields dim es (Some root) = flat_map (λ f. spot_fields (offset_of es f.number) (range_spots dim)) (fitted_in dim es root)
+
+-- those of a fit of the tree that holds element n
+abbrev pub fit_fields : ℕ → List Element → ℕ → List Field
+fit_fields dim es n = root_fields dim es (root_of row_of es n)
+
+-- the number of a box at a range spot: of its low corner, which stands before byte 16, or of its high one
+abbrev pub number_in : Box3 → Spot → ℤ
+number_in r s = if nat_lt s.at 16 then on_axis r.lo s.axis else on_axis r.hi s.axis
+
+-- what a fit puts at a range spot of an element that begins at byte p
+abbrev pub range_put : Box3 → ℕ → Spot → Put
+range_put r p s = record { at = p + s.at; bytes = number_bytes s (number_in r s) }
+
+-- and into all of them
+abbrev pub range_puts : ℕ → Box3 → ℕ → List Put
+range_puts dim r p = map (range_put r p) (range_spots dim)
+
+-- what is put into fitted elements
+abbrev pub fit_puts : ℕ → List Element → List Finding → List Put
+fit_puts dim es fs = flat_map (λ f. range_puts dim f.hull (offset_of es f.number)) fs

@@ -1,0 +1,25 @@
+-- What is read of one element of a design, and what the list of kept elements begins with.
+use Rattle.std.specs.Prelude.{ℕ, ◌≡◌, Some, slice_get}
+use Rattle.dgn_drawing.specs.Element.{Element}
+use Rattle.dgn_drawing.specs.Spelling.{spell}
+use Rattle.dgn_drawing.specs.WellFormed.{IsWellFormed}
+use Rattle.dgn_drawing.specs.Rows.{row_of}
+use Rattle.dgn_drawing.specs.Numbering.{Mark, mark_of}
+use Rattle.elem_index.specs.declared.design.Design.{Design}
+use Rattle.elem_index.specs.Design.{elements}
+use Rattle.nest_tree.specs.Shapes.{knot_told}
+use Rattle.dgn_audit.specs.declared.seat.Seat.{Seat}
+
+-- this is element n of the design, among its trees
+pub record IsSeat (d : Design) (n : ℕ) (s : Seat) : Type 0 where
+  pub mark : Mark
+  pub marked : mark_of row_of (elements d) n ≡ Some mark
+  pub element : Element
+  pub there : slice_get (elements d) n ≡ Some element
+  pub good : IsWellFormed d.dim element
+  pub knot : s.knot ≡ knot_told mark.knot
+  pub parent : s.parent ≡ mark.parent
+  pub end : s.end ≡ mark.end
+  pub kind : s.kind ≡ element.kind
+  pub deleted : s.deleted ≡ element.deleted
+  pub bytes : s.bytes.now ≡ spell element

@@ -1,0 +1,30 @@
+ghost use Rattle.std.specs.Prelude.{◌≡◌, map, IfOk};
+ghost use Rattle.dgn_drawing.specs.Rows.{row_of};
+ghost use Rattle.elem_index.specs.Design.{elements, IsWhole};
+ghost use Rattle.dgn_audit.specs.Findings.{findings};
+
+use crate::finding::Finding;
+use crate::keep::Keep;
+use crate::reading::read_between;
+use elem_index::Design;
+use nest_tree::types::Nest;
+use std::alloc::{AllocError, Global};
+
+/// The elements of the drawing `d` whose stored range, on the file's axes, isn't the hull of their tree, in file order. `t`
+/// is the nesting of `d`. There is an error exactly where there is no memory.
+///
+/// The hull of a row of points is the least box that holds them, and it has none without points. That of any other leaf of
+/// which more than its head is read, and of a B-spline, is its stored range. That of a group is the least box that holds
+/// the hulls of its members' trees. A shared cell definition and a loose header have none, nor has a tree whose head is
+/// marked deleted. An element without a hull is no finding, nor is one below a header that is marked deleted.
+///
+/// It takes the time of the drawing, and memory for the findings and for a box for each header above one element.
+pub fn audit(alloc: Global, d: &Design, t: &Nest) -> Result<Vec<Finding>, AllocError>
+    requires whole { IsWhole d.now }
+    requires nesting { t.now.rows ≡ map row_of (elements d.now) }
+    ensures { IfOk result (λ found. found.items ≡ findings d.now.dim (elements d.now)) }
+{
+    let mut found = read_between(alloc, d, t, 0, d.count(), Keep::Differing)?;
+    found.reverse();
+    Ok(found)
+}

@@ -1,0 +1,56 @@
+ghost use Rattle.std.specs.Prelude.{◌≡◌, ◌<◌, length, map};
+ghost use Rattle.dgn_drawing.specs.Rows.{row_of};
+ghost use Rattle.elem_index.specs.Design.{elements, IsWhole};
+ghost use Rattle.dgn_audit.specs.Seats.{IsSeat};
+
+use elem_head::head;
+use elem_index::Design;
+use nest_tree::Knot;
+use nest_tree::types::Nest;
+
+// An element among the trees of a drawing.
+#[derive(Clone, Copy)]
+pub(crate) struct Seat<'a> {
+    // What it is.
+    pub(crate) knot: Knot,
+    // The number of the header that it stands below.
+    pub(crate) parent: Option<u32>,
+    // The number behind the last element below it.
+    pub(crate) end: u32,
+    // Its type.
+    pub(crate) kind: u8,
+    // Whether it is marked deleted.
+    pub(crate) deleted: bool,
+    // Its bytes.
+    pub(crate) bytes: &'a [u8],
+}
+
+// Element `n`, which there is.
+pub(crate) fn seat_of<'a>(d: &'a Design, t: &Nest, n: u32) -> Seat<'a>
+    requires whole { IsWhole d.now }
+    requires nesting { t.now.rows ≡ map row_of (elements d.now) }
+    requires known { n < length (elements d.now) }
+    ensures { IsSeat d.now n result }
+{
+    let Some(bytes) = d.element(n) else {
+        unreachable!()
+    };
+    let Some(knot) = t.knot(n) else {
+        unreachable!()
+    };
+    let Some(parent) = t.parent(n) else {
+        unreachable!()
+    };
+    let Some((_, end)) = t.span(n) else {
+        unreachable!()
+    };
+    let head = head(bytes);
+    Seat {
+        knot,
+        parent,
+        end,
+        kind: head.kind,
+        deleted: head.deleted,
+        bytes,
+    }
+}
