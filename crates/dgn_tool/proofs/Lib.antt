@@ -11,3 +11,10 @@ mod GeneratedFile
 mod Begun
 mod Links
 mod Tried
+mod Logged
+mod Stacked
+mod Linked
+mod Packed
+mod Sized
+mod Repacked
+mod Filed

@@ -14,6 +14,7 @@ pub mod laws;
 mod lines;
 mod listings;
 mod opening;
+mod packing;
 mod request;
 mod status;
 mod tally;

@@ -4,9 +4,9 @@ ghost use Rattle.dgn_tool.specs.Status.{number_of};
 /// How a run ended. The numbers, from 0 in this order, are the exit status of the program.
 #[derive(Clone, Copy, Debug, PartialEq, Eq, Drop)]
 pub enum Status {
-    /// Every command was done, and OUT was written; or IN was checked, or a drawing generated.
+    /// Every command was done, and OUT or PATCH was written; or IN was checked, or a drawing generated.
     Done,
-    /// OUT was written, and at least one command was refused.
+    /// OUT or PATCH was written, and at least one command was refused.
     SomeRefused,
     /// The words are of no form.
     Usage,
@@ -20,7 +20,7 @@ pub enum Status {
     WriteFault,
     /// There was no memory.
     Memory,
-    /// IN has more than 67108864 bytes, or SCRIPT more than 1048576.
+    /// IN has more than 67108864 bytes, SCRIPT more than 1048576, or the patch file more than 134217728.
     TooLong,
 }
 

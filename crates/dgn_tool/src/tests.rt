@@ -4,6 +4,7 @@ mod faults;
 mod fences;
 mod hostile;
 mod made;
+mod packing;
 
 use super::*;
 use dgn_desk::SureDesk;
@@ -596,7 +597,7 @@ fn length_limits(rt: HostRuntime) -> Result<(), Fail> {
 #[test]
 fn words_of_the_command_line(rt: HostRuntime) -> Result<(), Fail> {
     let alloc = rt.alloc();
-    let rows: [&[&str]; 10] = [
+    let rows: [&[&str]; 12] = [
         &[],
         &["check"],
         &["check", "in", "out"],
@@ -607,8 +608,10 @@ fn words_of_the_command_line(rt: HostRuntime) -> Result<(), Fail> {
         &["edit", "in", "s", "in"],
         &["edit", "in", "s"],
         &["Edit", "in", "s", "out"],
+        &["pack", "in", "s", "in"],
+        &["pack", "in", "s"],
     ];
-    let usage = b"usage: dgnedit edit IN SCRIPT OUT, check IN, gen SEED COUNT OUT\n";
+    let usage = b"usage: dgnedit edit IN SCRIPT OUT, check IN, gen SEED COUNT OUT, pack IN SCRIPT PATCH, apply IN PATCH OUT\n";
     for row in rows {
         let files = (design(alloc, 0, &[])?, b"".as_slice());
         shows(

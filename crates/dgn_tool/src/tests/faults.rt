@@ -27,7 +27,7 @@ const MOVED: [(usize, [u8; 4]); 8] = [
 ];
 
 // The calls of a run in which none fails: IN has 1590 bytes, OUT of `edit` a body of 1588, and that of
-// `gen` one of 1928, each with a tail of two.
+// `gen` one of 1928, each with a tail of two; PATCH has 128.
 const EDIT_ACTS: [Act; 18] = [
     Act::BeginRead,
     Act::Read,
@@ -56,6 +56,21 @@ const CHECK_ACTS: [Act; 7] = [
     Act::Read,
     Act::Read,
     Act::Read,
+    Act::Say,
+];
+
+const PACK_ACTS: [Act; 12] = [
+    Act::BeginRead,
+    Act::Read,
+    Act::Read,
+    Act::Read,
+    Act::Read,
+    Act::Read,
+    Act::BeginRead,
+    Act::Read,
+    Act::Read,
+    Act::BeginWrite,
+    Act::Write,
     Act::Say,
 ];
 
@@ -108,9 +123,10 @@ fn fails_in_turn<R: Abort + Alloc<A = Global>>(
 fn each_call_fails_in_turn(rt: HostRuntime) -> Result<(), Fail> {
     let alloc = rt.alloc();
     // The words, the calls of the run in which none fails, and what that says.
-    let rows: [(&[&str], &[Act], &[u8]); 3] = [
+    let rows: [(&[&str], &[Act], &[u8]); 4] = [
         (&EDIT, &EDIT_ACTS, SAID),
         (&CHECK, &CHECK_ACTS, b"elements 2\n"),
+        (&["pack", "in", "s", "out"], &PACK_ACTS, b"entries 1\n"),
         (
             &["gen", "7", "3", "out"],
             &GEN_ACTS,
