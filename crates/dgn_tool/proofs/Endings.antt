@@ -16,7 +16,7 @@ use Rattle.edit_script.specs.declared.command.Command.{Command}
 use Rattle.edit_script.specs.declared.fault.ScriptFault.{ScriptFault}
 use Rattle.dgn_tool.specs.Lines.{numbered}
 use Rattle.dgn_tool.specs.Ended.{Outcome, ended}
-use Rattle.dgn_tool.specs.Outcome.{script_outcome, scripted, opened_outcome, input_outcome, checked, Leaves, Stops, ComesTo, ComesEarly, IsFrontOf, HoldsFront, IsStopped, OpensAs, IsEnding, comes_to_script, HasBoth}
+use Rattle.dgn_tool.specs.Outcome.{script_outcome, scripted, opened_outcome, input_outcome, checked, Leaves, Stops, ComesTo, ComesEarly, IsFrontOf, HoldsFront, IsStopped, OpensAs, EndsScript, ReadsAs, IsEnding, comes_to_script, HasBoth}
 use Rattle.dgn_tool.specs.Told.{told_fault}
 use Rattle.dgn_tool.specs.declared.status.Status.{Status}
 use Rattle.dgn_tool.specs.declared.status.Status.TheVariants as statuses
@@ -185,30 +185,42 @@ opens_so name text d None whole within opens = tt
 opens_so name text d (Some c) whole within opens = (subst (λ b. length {A = ℕ} b ≤ 67108864) whole within, ap opening (sym whole) ∙ opens)
 
 -- SCRIPT has too many bytes
-script_too_long : (d : Opened) (script output : List ℕ) → 1048576 < length script → scripted d script output ≡ ended statuses.TooLong (codes "too long script\n")
-script_too_long d script output h =
+script_too_long : (script : List ℕ) (go_on : List Command → Outcome) → 1048576 < length script → scripted script go_on ≡ ended statuses.TooLong (codes "too long script\n")
+script_too_long script go_on h =
     let test : nat_lt 1048576 (length script) ≡ true = grind (arith, nat_tests) in
     rw test refl
 
 -- SCRIPT has no more bytes than it may
-script_reads : (d : Opened) (script output : List ℕ) (found : Result (List Command) ScriptFault) → length script ≤ 1048576 → commands_of script ≡ found → scripted d script output ≡ script_outcome d found output
-script_reads d script output found h e =
+script_reads : (script : List ℕ) (go_on : List Command → Outcome) (found : Result (List Command) ScriptFault) → length script ≤ 1048576 → commands_of script ≡ found → scripted script go_on ≡ script_outcome found go_on
+script_reads script go_on found h e =
     let test : nat_lt 1048576 (length script) ≡ false = grind (arith, nat_tests) in
     rw (test, e) refl
 
--- the outcome by what was read of SCRIPT
-pub reads_script : (d : Opened) (name text output : List ℕ) (found : Result (List Command) ScriptFault) (old : Option Content) → IfSome old (λ c. text ≡ bytes_of c.files name) → length text ≤ 1048576 → commands_of text ≡ found → IfSome old (λ c. scripted d (bytes_of c.files name) output ≡ script_outcome d found output)
-reads_script d name text output found old whole within e =
-    known name old (λ b. text ≡ b) (λ fs. scripted d (bytes_of fs name) output) (λ _. script_outcome d found output)
-    (λ fs is. script_reads d (bytes_of fs name) output found (subst (λ b. length {A = ℕ} b ≤ 1048576) is within) (ap commands_of (sym is) ∙ e))
-    whole
+-- a run that ends since SCRIPT has too many bytes
+pub script_overruns : (name : List ℕ) (status : Status) (old mid now : Option Content) → OnlyLeftDiffers old mid → IfSome old (λ c. 1048576 < length (bytes_of c.files name)) → ComesTo status (λ _. ended statuses.TooLong (codes "too long script\n")) mid now → EndsScript name old now status
+script_overruns name status old mid now only long ends go_on =
+    through (λ files. scripted (bytes_of files name) (go_on files)) (λ _. ended statuses.TooLong (codes "too long script\n")) status old mid now only
+    (known name old (λ b. 1048576 < length b) (λ files. scripted (bytes_of files name) (go_on files)) (λ _. ended statuses.TooLong (codes "too long script\n")) (λ files h. script_too_long (bytes_of files name) (go_on files) h) long)
+    ends
 
--- the outcome where SCRIPT has too many bytes
-pub overruns_script : (d : Opened) (name output : List ℕ) (old : Option Content) → IfSome old (λ c. 1048576 < length (bytes_of c.files name)) → IfSome old (λ c. scripted d (bytes_of c.files name) output ≡ ended statuses.TooLong (codes "too long script\n"))
-overruns_script d name output old long =
-    known name old (λ b. 1048576 < length b) (λ fs. scripted d (bytes_of fs name) output) (λ _. ended statuses.TooLong (codes "too long script\n"))
-    (λ fs h. script_too_long d (bytes_of fs name) output h)
-    long
+-- a run that ends since a line of SCRIPT is bad
+pub script_ends : (name text : List ℕ) (fault : ScriptFault) (q : Outcome) (status : Status) (old mid now : Option Content) → OnlyLeftDiffers old mid → IfSome old (λ c. text ≡ bytes_of c.files name) → length text ≤ 1048576 → commands_of text ≡ Err fault → ((go_on : List Command → Outcome) → script_outcome (Err fault) go_on ≡ q) → ComesTo status (λ _. q) mid now → EndsScript name old now status
+script_ends name text fault q status old mid now only whole within told is ends go_on =
+    through (λ files. scripted (bytes_of files name) (go_on files)) (λ _. q) status old mid now only
+    (known name old (λ b. text ≡ b) (λ files. scripted (bytes_of files name) (go_on files)) (λ _. q)
+    (λ files same. script_reads (bytes_of files name) (go_on files) (Err fault) (subst (λ b. length {A = ℕ} b ≤ 1048576) same within) (ap commands_of (sym same) ∙ told) ∙ is (go_on files))
+    whole)
+    ends
+
+-- what was read of SCRIPT reads so
+pub reads_so : (name text : List ℕ) (cs : List Command) (old : Option Content) → IfSome old (λ c. text ≡ bytes_of c.files name) → length text ≤ 1048576 → commands_of text ≡ Ok cs → ReadsAs name old cs
+reads_so name text cs None whole within reads = tt
+reads_so name text cs (Some c) whole within reads = (subst (λ b. length {A = ℕ} b ≤ 1048576) whole within, ap commands_of (sym whole) ∙ reads)
+
+-- and a run goes on with its commands
+pub goes_on_with : (name : List ℕ) (cs : List Command) (go_on : List Command → Outcome) (old : Option Content) → ReadsAs name old cs → IfSome old (λ c. scripted (bytes_of c.files name) go_on ≡ go_on cs)
+goes_on_with name cs go_on None reads = tt
+goes_on_with name cs go_on (Some c) reads = script_reads (bytes_of c.files name) go_on (Ok cs) reads.0 reads.1
 
 -- an IN within its limit that opens comes to SCRIPT
 comes : (input : List ℕ) (d : Opened) → length input ≤ 67108864 → opening input ≡ Ok d → IsTrue (comes_to_script input)
@@ -239,7 +251,7 @@ pub counts : (name text : List ℕ) (count : ℕ) (old : Option Content) → IfS
 counts name text count old whole within has =
     counts_so name has.opened count old (opens_so name text has.opened old whole within has.found) has.counted
 
--- and `edit` goes on with SCRIPT
-pub goes_on : (name script output : List ℕ) (d : Opened) (old : Option Content) → OpensAs name old d → IfSome old (λ c. input_outcome (bytes_of c.files name) (λ x. scripted x (bytes_of c.files script) output) ≡ scripted d (bytes_of c.files script) output)
-goes_on name script output d None opens = tt
-goes_on name script output d (Some c) opens = input_opens (bytes_of c.files name) (λ x. scripted x (bytes_of c.files script) output) (Ok d) opens.0 opens.1
+-- and a run that reads SCRIPT goes on with it
+pub goes_on : (name script : List ℕ) (go_on : Opened → List Command → Outcome) (d : Opened) (old : Option Content) → OpensAs name old d → IfSome old (λ c. input_outcome (bytes_of c.files name) (λ x. scripted (bytes_of c.files script) (go_on x)) ≡ scripted (bytes_of c.files script) (go_on d))
+goes_on name script go_on d None opens = tt
+goes_on name script go_on d (Some c) opens = input_opens (bytes_of c.files name) (λ x. scripted (bytes_of c.files script) (go_on x)) (Ok d) opens.0 opens.1

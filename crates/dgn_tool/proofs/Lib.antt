@@ -11,6 +11,13 @@ mod GeneratedFile
 mod Begun
 mod Links
 mod Tried
+mod Logged
+mod Stacked
+mod Linked
+mod Packed
+mod Sized
+mod Repacked
 mod Filed
 mod Patching
 mod PatchEndings
+mod SameFile

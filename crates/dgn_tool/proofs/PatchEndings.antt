@@ -18,7 +18,7 @@ use Rattle.dgn_tool.specs.Applied.{Patched, Made, Differs, Overruns, put_from, p
 use Rattle.dgn_tool.specs.Ended.{Outcome, ended}
 use Rattle.dgn_tool.specs.Lines.{numbered}
 use Rattle.dgn_tool.specs.Outcome.{input_outcome, outcome_of, outcome, ComesTo, OpensAs}
-use Rattle.dgn_tool.specs.PatchLaws.{AllFit, DiffersAt, Applies, refused_at, RefusesWhereOneDiffers, RefusesNoneElse, AppliesAll}
+use Rattle.dgn_tool.specs.PatchLaws.{DiffersAt, Applies, refused_at, RefusesWhereOneDiffers, RefusesNoneElse, AppliesAll}
 use Rattle.dgn_tool.specs.declared.status.Status.{Status}
 use Rattle.dgn_tool.specs.declared.status.Status.TheVariants as statuses
 use Rattle.dgn_tool.proofs.Endings.{known, input_opens}

@@ -14,8 +14,8 @@ use Rattle.patch_file.specs.Exchanges.{Exchange}
 use Rattle.patch_file.specs.Spelling.{Packed}
 use Rattle.patch_file.specs.PatchView.{packed_of, all_packed}
 use Rattle.patch_file.specs.Standing.{HoldsOld, Stands, new_of, put_on, AllStand, put_all}
-use Rattle.dgn_tool.specs.Applied.{holds_old, does_stand, Patched, Made, Differs, Overruns, put_from}
-use Rattle.dgn_tool.specs.PatchLaws.{AllFit, DiffersAt}
+use Rattle.dgn_tool.specs.Applied.{holds_old, does_stand, Patched, Made, Differs, Overruns, put_from, AllFit}
+use Rattle.dgn_tool.specs.PatchLaws.{DiffersAt}
 
 -- the test tells whether an entry stands
 all_hold : (b : List ℕ) (fs : List Exchange) → Decides (list_all (holds_old b) fs) (AllByRecursion (HoldsOld b) fs)

@@ -1,5 +1,5 @@
 -- What a patch file comes to on a drawing: its entries are put on the drawing's elements, one after the other.
-use Rattle.std.specs.Prelude.{ℕ, ◌≡◌, ◌+◌, ◌-◌, ◌==◌, ◌&&◌, nat_lt, not, Bool, if◌then◌else◌, List, [], ◌∷◌, length, take, drop, codes, Some, Result, Ok, Err}
+use Rattle.std.specs.Prelude.{ℕ, ◌≡◌, ◌≤◌, ◌+◌, ◌-◌, ◌==◌, ◌&&◌, nat_lt, not, Bool, if◌then◌else◌, List, [], ◌∷◌, length, take, drop, codes, Some, Result, Ok, Err}
 use Rattle.std.specs.List.{list_all}
 use Rattle.std.specs.Str.{bytes_eq}
 use Rattle.dgn_drawing.specs.Spelling.{spelling}
@@ -66,6 +66,11 @@ body_patched b tail patch output =
 -- and on a drawing
 abbrev pub patched : Opened → List ℕ → List ℕ → Outcome
 patched d patch output = body_patched (spelling d.elements) d.tail patch output
+
+-- what each of the entries makes, put on in order, keeps the limit of a design file with a tail of so many bytes
+abbrev pub AllFit : ℕ → List ℕ → List Packed → Type 0
+AllFit tail b [] = Unit {0}
+AllFit tail b (e ∷ es) = (length (put_on b e) + tail ≤ 67108864) × AllFit tail (put_on b e) es
 
 -- what a call that puts entries on a body answers, and leaves
 abbrev pub Puts : Result (Unit {0}) PutEnd → Patched → List ℕ → Type 0

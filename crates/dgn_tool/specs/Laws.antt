@@ -1,77 +1,23 @@
 -- What holds of every drawing that opens and every list of commands, each the contract of a function in
 -- `laws`.
-use Rattle.std.specs.Prelude.{ℕ, ◌≡◌, ◌<◌, ◌≤◌, Bool, true, false, List, [], ◌∷◌, ◌++◌, length, drop, reverse, slice_index, Option, Some, All}
-use Rattle.dgn_drawing.specs.Element.{Element}
+use Rattle.std.specs.Prelude.{ℕ, ◌≡◌, ◌<◌, ◌≤◌, List, [], ◌∷◌, ◌++◌, length, slice_index, All}
+use Rattle.patch_file.specs.Spelling.{AreEntries, patch_spelling}
+use Rattle.patch_file.specs.Standing.{AllStand, put_all}
 use Rattle.dgn_drawing.specs.Spelling.{spelling}
 use Rattle.dgn_drawing.specs.Opening.{Opens}
-use Rattle.dgn_drawing.specs.declared.edit.Edit.{Edit}
-use Rattle.dgn_drawing.specs.declared.fence_edit.FenceEdit.{FenceEdit}
-use Rattle.dgn_session.specs.State.{State, applied, selection, fence_applied, undo_refused}
-use Rattle.edit_ops.specs.Applying.{Applied, Done, Refused, IsEdit}
-use Rattle.edit_ops.specs.Fields.{Field, IsIn, edited_fields}
-use Rattle.edit_ops.specs.Fenced.{fenced_fields, IsFenceEdit}
+use Rattle.dgn_session.specs.State.{State}
+use Rattle.edit_ops.specs.Applying.{IsEdit}
+use Rattle.edit_ops.specs.Fields.{IsIn}
+use Rattle.edit_ops.specs.Fenced.{IsFenceEdit}
 use Rattle.edit_script.specs.declared.command.Command.{Command}
 use Rattle.edit_script.specs.declared.command.Command.TheVariants as command
 use Rattle.elem_index.specs.Opened.{Opened}
-use Rattle.dgn_tool.specs.Commands.{begun, after_command, after_all}
+use Rattle.dgn_tool.specs.Commands.{begun, after_all}
 use Rattle.dgn_tool.specs.Filling.{filling}
 use Rattle.dgn_tool.specs.Ended.{file_after}
-
--- what was made of a drawing: an edit, or one of all that a fence chose, of these roots
-pub data Making : Type 0 where
-  Alone : Edit → Making
-  Fenced : FenceEdit → List ℕ → Making
-
--- what is left of it in a drawing, and the elements that it was made on
-pub record Made : Type 0 where
-  pub on : List Element
-  pub making : Making
-
--- In what follows edits stand the newest first.
-
--- an edit is put before those that are left, where it is done
-abbrev pub with_made : Applied → Made → List Made → List Made
-with_made (Done made) one left = one ∷ left
-with_made (Refused cause) one left = left
-
--- and so is an edit of all that a fence chooses
-abbrev pub with_all_made : Option Applied → Option (List ℕ) → List Element → FenceEdit → List Made → List Made
-with_all_made (Some applied) (Some ns) on e left = with_made applied (record { on = on; making = Fenced e ns }) left
-with_all_made applied ns on e left = left
-
--- an undo takes the newest away, unless it is refused
-abbrev pub without_newest : Bool → List Made → List Made
-without_newest true left = left
-without_newest false left = drop 1 left
-
--- what a command leaves of the edits that are left
-abbrev pub with_command : State → Command → List Made → List Made
-with_command s (command.Edit e) left = with_made (applied e s) (record { on = s.top; making = Alone e }) left
-with_command s (command.Fenced mode e) left = with_all_made (fence_applied mode e s) (selection mode s) s.top e left
-with_command s command.Undo left = without_newest (undo_refused s) left
-with_command s (command.Levels mask) left = left
-with_command s (command.Fence corners) left = left
-with_command s command.NoFence left = left
-with_command s command.Show left = left
-with_command s (command.Tree n) left = left
-with_command s command.Elements left = left
-with_command s command.Refs left = left
-with_command s (command.Links n) left = left
-with_command s (command.Select mode) left = left
-
--- and what all commands leave of them
-abbrev pub with_commands : List Command → State → List Made → List Made
-with_commands [] s left = left
-with_commands (c ∷ cs) s left = with_commands cs (after_command s c) (with_command s c left)
-
--- the edits that a run of these commands leaves: those that were done and not taken back, the first one first
-abbrev pub remaining : List Command → State → List Made
-remaining cs s = reverse (with_commands cs s [])
-
--- the fields that it writes
-abbrev pub fields_made : ℕ → List Element → Making → List Field
-fields_made dim on (Alone e) = edited_fields dim on e
-fields_made dim on (Fenced e ns) = fenced_fields dim on e ns
+use Rattle.dgn_tool.specs.Applied.{AllFit}
+use Rattle.dgn_tool.specs.Packing.{packed_after}
+use Rattle.dgn_tool.specs.Remaining.{Made, remaining, fields_made}
 
 -- the place is in no field that it writes
 abbrev pub IsOutside : ℕ → ℕ → Made → Type 0
@@ -100,3 +46,16 @@ abbrev pub UntouchedBytesStay : Type 0
 UntouchedBytesStay =
     (f : List ℕ) (d : Opened) (cs : List Command)
     → Opens f d.dim d.elements d.tail → All IsEditIn cs → IsEditedFile f (begun d) d.tail cs
+
+-- the packed entries of the commands stand, one after the other, on the elements of the file, and make of them those after
+-- the commands; what each makes keeps the limit; and where their patch file does, it is read to them again
+pub record PacksAgain (s : State) (t : List ℕ) (cs : List Command) : Type 0 where
+  pub stand : AllStand (spelling s.top) (packed_after cs s)
+  pub gives : put_all (spelling s.top) (packed_after cs s) ≡ spelling (after_all cs s).top
+  pub fit : AllFit (length t) (spelling s.top) (packed_after cs s)
+  pub entries : length (patch_spelling (packed_after cs s)) ≤ 134217728 → AreEntries (packed_after cs s)
+
+abbrev pub AppliedGivesTheSame : Type 0
+AppliedGivesTheSame =
+    (f : List ℕ) (d : Opened) (cs : List Command)
+    → Opens f d.dim d.elements d.tail → length f ≤ 67108864 → All IsEditIn cs → PacksAgain (begun d) d.tail cs

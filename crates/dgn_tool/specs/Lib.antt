@@ -5,6 +5,8 @@ pub mod Lines
 pub mod Commands
 pub mod Filling
 pub mod Ended
+pub mod Remaining
+pub mod Packing
 pub mod Generation
 pub mod Applied
 pub mod Outcome

@@ -11,9 +11,10 @@ use Rattle.edit_script.specs.Script.{commands_of}
 use Rattle.edit_script.specs.declared.command.Command.{Command}
 use Rattle.edit_script.specs.declared.fault.ScriptFault.{ScriptFault}
 use Rattle.edit_script.specs.declared.fault.ScriptFault.TheVariants as faults
-use Rattle.dgn_tool.specs.Request.{Request, Edit, Check, Gen, Apply, request_of}
+use Rattle.dgn_tool.specs.Request.{Request, Edit, Check, Gen, Pack, Apply, request_of}
 use Rattle.dgn_tool.specs.Ended.{Outcome, ended, file_after}
 use Rattle.dgn_tool.specs.Generation.{generation}
+use Rattle.dgn_tool.specs.Packing.{packed}
 use Rattle.dgn_tool.specs.Applied.{patched}
 use Rattle.dgn_tool.specs.Lines.{numbered}
 use Rattle.dgn_tool.specs.Commands.{begun, texts_of, refused_count}
@@ -32,17 +33,17 @@ told_from s tail cs output = record {
 abbrev pub told : Opened → List Command → List ℕ → Outcome
 told d cs output = told_from (begun d) d.tail cs output
 
--- what a script comes to that reads so; its reading alone never wants memory
-abbrev pub script_outcome : Opened → Result (List Command) ScriptFault → List ℕ → Outcome
-script_outcome d (Ok cs) output = told d cs output
-script_outcome d (Err (faults.Line number)) output = ended statuses.BadScript (numbered (codes "bad script line ") number)
-script_outcome d (Err faults.Memory) output = ended statuses.Memory []
+-- what a script comes to that reads so, where its commands go on so; its reading alone never wants memory
+abbrev pub script_outcome : Result (List Command) ScriptFault → (List Command → Outcome) → Outcome
+script_outcome (Ok cs) go_on = go_on cs
+script_outcome (Err (faults.Line number)) go_on = ended statuses.BadScript (numbered (codes "bad script line ") number)
+script_outcome (Err faults.Memory) go_on = ended statuses.Memory []
 
--- what `edit` comes to on a drawing
-abbrev pub scripted : Opened → List ℕ → List ℕ → Outcome
-scripted d script output =
+-- what these bytes of SCRIPT come to, where its commands go on so
+abbrev pub scripted : List ℕ → (List Command → Outcome) → Outcome
+scripted script go_on =
     if nat_lt 1048576 (length script) then ended statuses.TooLong (codes "too long script\n")
-    else script_outcome d (commands_of script) output
+    else script_outcome (commands_of script) go_on
 
 -- what `check` comes to on a drawing
 abbrev pub checked : Opened → Outcome
@@ -69,9 +70,10 @@ input_outcome input go_on =
 -- what a run with this request comes to
 abbrev pub outcome_of : Option Request → Files → Outcome
 outcome_of None files = ended statuses.Usage (codes "usage: dgnedit edit IN SCRIPT OUT, check IN, gen SEED COUNT OUT, pack IN SCRIPT PATCH, apply IN PATCH OUT\n")
-outcome_of (Some (Edit input script output)) files = input_outcome (bytes_of files input) (λ d. scripted d (bytes_of files script) output)
+outcome_of (Some (Edit input script output)) files = input_outcome (bytes_of files input) (λ d. scripted (bytes_of files script) (λ cs. told d cs output))
 outcome_of (Some (Check input)) files = input_outcome (bytes_of files input) checked
 outcome_of (Some (Gen seed count output)) files = generation seed count output
+outcome_of (Some (Pack input script patch)) files = input_outcome (bytes_of files input) (λ d. scripted (bytes_of files script) (λ cs. packed d cs patch))
 outcome_of (Some (Apply input patch output)) files = input_outcome (bytes_of files input) (λ d. patched d (bytes_of files patch) output)
 
 -- what a run with these words comes to
@@ -145,6 +147,16 @@ abbrev pub ComesEarly : List ℕ → Option Content → Option Content → Statu
 ComesEarly name old now status =
     (go_on : Files → Opened → Outcome) → ComesTo status (λ files. input_outcome (bytes_of files name) (go_on files)) old now
 
+-- a run that reads the named SCRIPT first came to this, whatever its commands would have gone on with
+abbrev pub EndsScript : List ℕ → Option Content → Option Content → Status → Type 0
+EndsScript name old now status =
+    (go_on : Files → List Command → Outcome) → ComesTo status (λ files. scripted (bytes_of files name) (go_on files)) old now
+
+-- the named SCRIPT is within its limit and reads as these commands, where the desk told it
+abbrev pub ReadsAs : List ℕ → Option Content → List Command → Type 0
+ReadsAs name old cs =
+    IfSome old (λ c. (length (bytes_of c.files name) ≤ 1048576) × (commands_of (bytes_of c.files name) ≡ Ok cs))
+
 -- the named IN is within its limit and opens as this, where the desk told it
 abbrev pub OpensAs : List ℕ → Option Content → Opened → Type 0
 OpensAs name old d =
@@ -170,6 +182,7 @@ HasFiles None files = ⊤
 HasFiles (Some (Edit input script output)) files = HasBoth input script files
 HasFiles (Some (Check input)) files = IsSome (maps.get files input)
 HasFiles (Some (Gen seed count output)) files = ⊤
+HasFiles (Some (Pack input script patch)) files = HasBoth input script files
 HasFiles (Some (Apply input patch output)) files = HasBoth input patch files
 
 -- a request that reads a file
@@ -178,4 +191,5 @@ Reads None = ⊥
 Reads (Some (Edit input script output)) = ⊤
 Reads (Some (Check input)) = ⊤
 Reads (Some (Gen seed count output)) = ⊥
+Reads (Some (Pack input script patch)) = ⊤
 Reads (Some (Apply input patch output)) = ⊤

@@ -1,22 +1,23 @@
 -- What holds of every drawing that opens and every patch file that reads, each the contract of a function in `laws`.
-use Rattle.std.specs.Prelude.{ℕ, ◌≡◌, ◌+◌, ◌≤◌, List, [], ◌∷◌, ◌++◌, length, codes, Some, Ok}
+use Rattle.std.specs.Prelude.{ℕ, ◌≡◌, ◌+◌, ◌≤◌, List, [], ◌∷◌, ◌++◌, length, codes, Some, Ok, All}
 use Rattle.dgn_desk.specs.Content.{Files, bytes_of}
 use Rattle.dgn_drawing.specs.Spelling.{spelling}
+use Rattle.dgn_drawing.specs.WellFormed.{IsBytes}
 use Rattle.elem_index.specs.Opened.{Opened, opening}
-use Rattle.patch_file.specs.Spelling.{Packed}
+use Rattle.patch_file.specs.Spelling.{Packed, patch_spelling}
 use Rattle.patch_file.specs.Reading.{patch_of}
 use Rattle.patch_file.specs.Standing.{Stands, put_on, AllStand, put_all}
+use Rattle.edit_script.specs.declared.command.Command.{Command}
+use Rattle.dgn_tool.specs.Applied.{AllFit}
+use Rattle.dgn_tool.specs.Commands.{begun}
 use Rattle.dgn_tool.specs.Filling.{file_made}
 use Rattle.dgn_tool.specs.Lines.{numbered}
 use Rattle.dgn_tool.specs.Request.{Apply, request_of}
 use Rattle.dgn_tool.specs.Ended.{Outcome, ended}
-use Rattle.dgn_tool.specs.Outcome.{outcome}
+use Rattle.dgn_tool.specs.Laws.{IsEditIn}
+use Rattle.dgn_tool.specs.Outcome.{told, outcome}
+use Rattle.dgn_tool.specs.Packing.{packed_after}
 use Rattle.dgn_tool.specs.declared.status.Status.TheVariants as statuses
-
--- what each of the entries makes, put on in order, keeps the limit of a design file with a tail of so many bytes
-abbrev pub AllFit : ℕ → List ℕ → List Packed → Type 0
-AllFit tail b [] = Unit {0}
-AllFit tail b (e ∷ es) = (length (put_on b e) + tail ≤ 67108864) × AllFit tail (put_on b e) es
 
 -- entry k, counted from 1, is the first that doesn't stand on what those before it made, and these keep the limit
 pub record DiffersAt (tail : ℕ) (b : List ℕ) (es : List Packed) (k : ℕ) : Type 0 where
@@ -67,4 +68,27 @@ AppliesAll =
       status = statuses.Done;
       text = numbered (codes "applied ") (length es);
       file = Some (output, file_made (length (spelling d.elements)) d.tail (put_all (spelling d.elements) es));
+    }
+
+-- the words ask to apply what `pack` makes of these commands to the same file, into OUT
+pub record AppliesPacked (words : List (List ℕ)) (files : Files) (d : Opened) (cs : List Command) (output : List ℕ) : Type 0 where
+  pub input : List ℕ
+  pub patch : List ℕ
+  pub asked : request_of words ≡ Some (Apply input patch output)
+  pub bytes : IsBytes (bytes_of files input)
+  pub few : length (bytes_of files input) ≤ 67108864
+  pub opens : opening (bytes_of files input) ≡ Ok d
+  pub short : length (bytes_of files patch) ≤ 134217728
+  pub packed : bytes_of files patch ≡ patch_spelling (packed_after cs (begun d))
+
+-- it writes the file that `edit` writes with these commands
+abbrev pub WritesTheSame : Type 0
+WritesTheSame =
+    (words : List (List ℕ)) (files : Files) (d : Opened) (cs : List Command) (output : List ℕ)
+    → AppliesPacked words files d cs output → All IsEditIn cs
+    → outcome words files
+    ≡ record {
+      status = statuses.Done;
+      text = numbered (codes "applied ") (length (packed_after cs (begun d)));
+      file = (told d cs output).file;
     }

@@ -3,12 +3,13 @@ use Rattle.std.specs.Prelude.{ℕ, ◌&&◌, nat_le, not, if◌then◌else◌, L
 use Rattle.std.specs.Str.{bytes_eq}
 use Rattle.edit_script.specs.Numbers.{number_within}
 
--- to edit IN by SCRIPT into OUT, to check IN, to generate the drawing of a seed and a count into OUT, or to apply PATCH to
--- IN into OUT; each file by its name
+-- to edit IN by SCRIPT into OUT, to check IN, to generate the drawing of a seed and a count into OUT, to pack what SCRIPT
+-- does to IN into PATCH, or to apply PATCH to IN into OUT; each file by its name
 pub data Request : Type 0 where
   Edit : List ℕ → List ℕ → List ℕ → Request
   Check : List ℕ → Request
   Gen : ℕ → ℕ → List ℕ → Request
+  Pack : List ℕ → List ℕ → List ℕ → Request
   Apply : List ℕ → List ℕ → List ℕ → Request
 
 -- `check IN`
@@ -19,6 +20,10 @@ check_of command input = if bytes_eq command (codes "check") then Some (Check in
 abbrev pub edit_of : List ℕ → List ℕ → List ℕ → List ℕ → Option Request
 edit_of command input script output =
     if bytes_eq command (codes "edit") && not (bytes_eq input output) then Some (Edit input script output) else None
+
+-- `pack IN SCRIPT PATCH`, where IN and PATCH are different
+abbrev pub pack_of : List ℕ → List ℕ → List ℕ → Option Request
+pack_of input script patch = if bytes_eq input patch then None else Some (Pack input script patch)
 
 -- a seed and a count of elements that are given, of which there are 1 to 200000
 abbrev pub generation_of : Option ℕ → Option ℕ → List ℕ → Option Request
@@ -32,15 +37,15 @@ gen_of command seed count output =
     if bytes_eq command (codes "gen") then generation_of (number_within 4294967295 seed) (number_within 4294967295 count) output else None
 
 -- `apply IN PATCH OUT`, where IN and OUT are different
-abbrev pub apply_of : List ℕ → List ℕ → List ℕ → List ℕ → Option Request
-apply_of command input patch output =
-    if bytes_eq command (codes "apply") && not (bytes_eq input output) then Some (Apply input patch output) else None
+abbrev pub apply_of : List ℕ → List ℕ → List ℕ → Option Request
+apply_of input patch output = if bytes_eq input output then None else Some (Apply input patch output)
 
 -- what four words ask for
 abbrev pub four_words : List ℕ → List ℕ → List ℕ → List ℕ → Option Request
 four_words command second third fourth =
     if bytes_eq command (codes "edit") then edit_of command second third fourth
-    else if bytes_eq command (codes "apply") then apply_of command second third fourth
+    else if bytes_eq command (codes "pack") then pack_of second third fourth
+    else if bytes_eq command (codes "apply") then apply_of second third fourth
     else gen_of command second third fourth
 
 -- what the words ask for, where they are of a form

@@ -2,6 +2,8 @@ ghost use Rattle.std.specs.Prelude.{◌≡◌, ◌+◌, ◌≤◌, ◌++◌, cod
 ghost use Rattle.dgn_listing.specs.Lines.{AppendsFrontOf};
 ghost use Rattle.dgn_session.specs.State.{state_of, applied, edited, undone, undo_refused, with_mask, is_refused as is_refusal};
 ghost use Rattle.dgn_tool.specs.Commands.{edit_said, undo_said, text_of, is_refused, after_command, trees_of};
+ghost use Rattle.dgn_tool.specs.Packing.{LogsAs};
+ghost use Rattle.edit_script.specs.declared.command.Command.{Command};
 
 use crate::answered::Answered;
 use crate::fences::{answer_fence, answer_fenced, answer_no_fence, answer_select};
@@ -48,6 +50,7 @@ pub(crate) fn respond(
     ensures refused { IfOk result (λ a. a.refused ≡ is_refused (state_of s.old) c.now) }
     ensures trees { IfOk result (λ a. a.trees ≡ trees_of (state_of s.old) c.now) }
     ensures state { OnOk result (state_of s.new ≡ after_command (state_of s.old) c.now) }
+    ensures logged { OnOk result (LogsAs c.now s.old s.new) }
     ensures tail { s.new.tail ≡ s.old.tail }
     ensures kept { OnErr result (s.new ≡ s.old) }
     ensures front { OnErr result (AppendsFrontOf (text_of (state_of s.old) c.now) out.old.items out.new.items) }
@@ -74,6 +77,7 @@ fn answer_levels(s: &mut Session, levels: Mask, out: &mut Vec<u8>) -> Result<boo
     ensures text { OnOk result (out.new.items ≡ out.old.items ++ codes "ok\n") }
     ensures refused { IfOk result (λ refused. refused ≡ false) }
     ensures state { OnOk result (state_of s.new ≡ with_mask levels (state_of s.old)) }
+    ensures logged { OnOk result (LogsAs (Command.Levels levels) s.old s.new) }
     ensures tail { s.new.tail ≡ s.old.tail }
     ensures kept { OnErr result (s.new ≡ s.old) }
     ensures bytes { OnErr result (out.new.items ≡ out.old.items) }
@@ -94,6 +98,7 @@ fn answer_edit(
     ensures text { OnOk result (out.new.items ≡ out.old.items ++ edit_said (applied edit.now (state_of s.old))) }
     ensures refused { IfOk result (λ refused. refused ≡ is_refusal (applied edit.now (state_of s.old))) }
     ensures state { OnOk result (state_of s.new ≡ edited edit.now (state_of s.old)) }
+    ensures logged { OnOk result (LogsAs (Command.Edit edit.now) s.old s.new) }
     ensures tail { s.new.tail ≡ s.old.tail }
     ensures kept { OnErr result (s.new ≡ s.old) }
     ensures front { OnErr result
@@ -118,6 +123,7 @@ fn answer_undo(s: &mut Session, out: &mut Vec<u8>) -> Result<bool, AllocError>
     ensures text { OnOk result (out.new.items ≡ out.old.items ++ undo_said (undo_refused (state_of s.old))) }
     ensures refused { IfOk result (λ refused. refused ≡ undo_refused (state_of s.old)) }
     ensures state { OnOk result (state_of s.new ≡ undone (state_of s.old)) }
+    ensures logged { OnOk result (LogsAs Command.Undo s.old s.new) }
     ensures tail { s.new.tail ≡ s.old.tail }
     ensures kept { OnErr result (s.new ≡ s.old) }
     ensures bytes { OnErr result (out.new.items ≡ out.old.items) }

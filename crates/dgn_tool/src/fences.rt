@@ -5,6 +5,8 @@ ghost use Rattle.dgn_listing.specs.Lines.{AppendsFrontOf};
 ghost use Rattle.dgn_session.specs.State.{state_of, selection, fence_applied, fence_edited, with_fence};
 ghost use Rattle.dgn_tool.specs.Lines.{numbered};
 ghost use Rattle.dgn_tool.specs.Commands.{fenced_said, fenced_refused, trees_edited, selection_said, selection_refused, fence_said, fence_refused, fence_set};
+ghost use Rattle.dgn_tool.specs.Packing.{LogsAs};
+ghost use Rattle.edit_script.specs.declared.command.Command.{Command};
 
 use crate::answered::Answered;
 use crate::answers::{ROOM, put_known};
@@ -30,6 +32,7 @@ pub(crate) fn answer_fenced(
     ensures trees { IfOk result (λ a. a.trees
         ≡ trees_edited (fence_applied mode edit.now (state_of s.old)) (selection mode (state_of s.old))) }
     ensures state { OnOk result (state_of s.new ≡ fence_edited mode edit.now (state_of s.old)) }
+    ensures logged { OnOk result (LogsAs (Command.Fenced mode edit.now) s.old s.new) }
     ensures tail { s.new.tail ≡ s.old.tail }
     ensures kept { OnErr result (s.new ≡ s.old) }
     ensures front { OnErr result (AppendsFrontOf
@@ -78,6 +81,7 @@ pub(crate) fn answer_fence(
     ensures text { OnOk result (out.new.items ≡ out.old.items ++ fence_said corners.now) }
     ensures refused { IfOk result (λ refused. refused ≡ fence_refused corners.now) }
     ensures state { OnOk result (state_of s.new ≡ fence_set corners.now (state_of s.old)) }
+    ensures logged { OnOk result (LogsAs (Command.Fence corners.now) s.old s.new) }
     ensures tail { s.new.tail ≡ s.old.tail }
     ensures kept { OnErr result (s.new ≡ s.old) }
     ensures bytes { OnErr result (out.new.items ≡ out.old.items) }
@@ -106,6 +110,7 @@ pub(crate) fn answer_no_fence(s: &mut Session, out: &mut Vec<u8>) -> Result<bool
     ensures text { OnOk result (out.new.items ≡ out.old.items ++ codes "ok\n") }
     ensures refused { IfOk result (λ refused. refused ≡ false) }
     ensures state { OnOk result (state_of s.new ≡ with_fence None (state_of s.old)) }
+    ensures logged { OnOk result (LogsAs Command.NoFence s.old s.new) }
     ensures tail { s.new.tail ≡ s.old.tail }
     ensures kept { OnErr result (s.new ≡ s.old) }
     ensures bytes { OnErr result (out.new.items ≡ out.old.items) }

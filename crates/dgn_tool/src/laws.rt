@@ -1,7 +1,7 @@
 //! Laws over the definitions that the contracts cite. The function does nothing; its contract is the law.
 
-ghost use Rattle.dgn_tool.specs.Laws.{UntouchedBytesStay};
-ghost use Rattle.dgn_tool.specs.PatchLaws.{RefusesWhereOneDiffers, RefusesNoneElse, AppliesAll};
+ghost use Rattle.dgn_tool.specs.Laws.{UntouchedBytesStay, AppliedGivesTheSame};
+ghost use Rattle.dgn_tool.specs.PatchLaws.{RefusesWhereOneDiffers, RefusesNoneElse, AppliesAll, WritesTheSame};
 ghost use Rattle.dgn_tool.specs.Generator.{GeneratedDrawingsOpen};
 ghost use Rattle.dgn_tool.specs.Generation.{FixedScriptReads};
 
@@ -11,6 +11,15 @@ ghost use Rattle.dgn_tool.specs.Generation.{FixedScriptReads};
 /// and that no undo took back.
 pub fn untouched_bytes_stay()
     ensures { UntouchedBytesStay }
+{}
+
+/// Applied gives the same: the entries of the patch file that a run packs stand, one after the other, on the elements of
+/// the file that was read, and put on these they give the exact bytes of the elements that the commands make. Each
+/// drawing on the way keeps the limit of a design file, and a patch file within its limit is read to these entries. So a
+/// run that applies this patch file to that file writes the very file that `edit` writes.
+pub fn applied_gives_the_same()
+    ensures entries { AppliedGivesTheSame }
+    ensures file { WritesTheSame }
 {}
 
 /// The drawing of any seed and of at most 200000 elements behind its TCB opens as these elements: a drawing of the

@@ -15,6 +15,7 @@ pub mod laws;
 mod lines;
 mod listings;
 mod opening;
+mod packing;
 mod put_end;
 mod putting;
 mod request;

@@ -1,6 +1,6 @@
 ghost use Rattle.std.specs.Prelude.{◌≡◌, map, string_bytes, option_map, IfSome};
 ghost use Rattle.edit_script.specs.Numbers.{number_within};
-ghost use Rattle.dgn_tool.specs.Request.{request_of, check_of, four_words, generation_of};
+ghost use Rattle.dgn_tool.specs.Request.{request_of, check_of, four_words, pack_of, apply_of, generation_of};
 ghost use Rattle.dgn_tool.specs.RequestView.{seen, IsCounted};
 
 use edit_script::number;
@@ -23,6 +23,12 @@ pub enum Request<'a> {
         count: u32,
         output: &'a str,
     },
+    /// To run a script on a design file and to write what its edits did as a patch file.
+    Pack {
+        input: &'a str,
+        script: &'a str,
+        patch: &'a str,
+    },
     /// To apply a patch file to a design file and to write the file that comes of it.
     Apply {
         input: &'a str,
@@ -34,8 +40,8 @@ pub enum Request<'a> {
 // The most elements that are generated.
 const MOST_GENERATED: u32 = 200000;
 
-/// The request that the words make: `edit IN SCRIPT OUT` or `apply IN PATCH OUT`, where IN and OUT are different,
-/// `check IN`, or `gen SEED COUNT OUT`. None exactly where they are of no form.
+/// The request that the words make: `edit IN SCRIPT OUT`, `pack IN SCRIPT PATCH` or `apply IN PATCH OUT`, where the
+/// first file and the last are different, `check IN`, or `gen SEED COUNT OUT`. None exactly where they are of no form.
 pub fn read_words(words: &[String]) -> Option<Request<'_>>
     ensures asked { option_map seen result ≡ request_of (map string_bytes words.now) }
     ensures counted { IfSome result IsCounted }
@@ -84,20 +90,46 @@ fn read_four<'a>(
             output: fourth,
         });
     }
+    if command == "pack" {
+        return read_pack(second, third, fourth);
+    }
     if command == "apply" {
-        if second == fourth {
-            return None;
-        }
-        return Some(Request::Apply {
-            input: second,
-            patch: third,
-            output: fourth,
-        });
+        return read_apply(second, third, fourth);
     }
     if command == "gen" {
         return read_generation(second, third, fourth);
     }
     None
+}
+
+// The request to pack, where the first word and the last are different.
+fn read_pack<'a>(input: &'a str, script: &'a str, patch: &'a str) -> Option<Request<'a>>
+    ensures asked { option_map seen result ≡ pack_of input.now script.now patch.now }
+    ensures counted { IfSome result IsCounted }
+{
+    if input == patch {
+        return None;
+    }
+    Some(Request::Pack {
+        input,
+        script,
+        patch,
+    })
+}
+
+// The request to apply a patch file, where the first word and the last are different.
+fn read_apply<'a>(input: &'a str, patch: &'a str, output: &'a str) -> Option<Request<'a>>
+    ensures asked { option_map seen result ≡ apply_of input.now patch.now output.now }
+    ensures counted { IfSome result IsCounted }
+{
+    if input == output {
+        return None;
+    }
+    Some(Request::Apply {
+        input,
+        patch,
+        output,
+    })
 }
 
 // The request to generate a drawing, where the words are a seed and a count.

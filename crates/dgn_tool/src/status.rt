@@ -4,9 +4,10 @@ ghost use Rattle.dgn_tool.specs.Status.{number_of};
 /// How a run ended. Each has a number, the exit status of the program.
 #[derive(Clone, Copy, Debug, PartialEq, Eq, Drop)]
 pub enum Status {
-    /// Every command was done, and OUT was written; or IN was checked, a drawing generated, or a patch file applied.
+    /// Every command was done, or every entry of the patch file put on, and OUT or PATCH was written; or IN was checked,
+    /// or a drawing generated.
     Done,
-    /// OUT was written, and at least one command was refused.
+    /// OUT or PATCH was written, and at least one command was refused.
     SomeRefused,
     /// The words are of no form.
     Usage,

@@ -3,6 +3,7 @@
 ghost use Rattle.std.specs.Prelude.{◌≡◌, IfOk, OnOk};
 ghost use Rattle.dgn_session.specs.State.{state_of};
 ghost use Rattle.dgn_tool.specs.Commands.{after_all, refused_count, trees_of_all};
+ghost use Rattle.dgn_tool.specs.Packing.{AllLogAs};
 
 use crate::answers::respond;
 use dgn_session::Session;
@@ -27,6 +28,7 @@ pub(crate) fn run_unsaid(
     ensures refused { IfOk result (λ t. t.refused ≡ refused_count commands.now (state_of session.old)) }
     ensures trees { IfOk result (λ t. t.trees.items ≡ trees_of_all commands.now (state_of session.old)) }
     ensures state { OnOk result (state_of session.new ≡ after_all commands.now (state_of session.old)) }
+    ensures logged { OnOk result (AllLogAs commands.now session.old session.new) }
     ensures tail { session.new.tail ≡ session.old.tail }
 {
     let mut out = Vec::new(alloc);

@@ -4,6 +4,7 @@ mod faults;
 mod fences;
 mod hostile;
 mod made;
+mod packing;
 mod patches;
 
 use super::*;
@@ -610,6 +611,8 @@ fn words_of_the_command_line(rt: HostRuntime) -> Result<(), Fail> {
         &["edit", "in", "s", "in"],
         &["edit", "in", "s"],
         &["Edit", "in", "s", "out"],
+        &["pack", "in", "s", "in"],
+        &["pack", "in", "s"],
         &["apply", "in", "s", "in"],
         &["apply", "in", "s"],
     ];

@@ -1,4 +1,4 @@
-ghost use Rattle.std.specs.Prelude.{◌≡◌, ◌≤◌, map, string_bytes, Ok, IfOk, IsNone, IfSome, IsTrue};
+ghost use Rattle.std.specs.Prelude.{◌≡◌, ◌≤◌, map, string_bytes, IfOk, IfErr, IsErrOf, OnOk, IsNone, IfSome, IsTrue};
 ghost use Rattle.dgn_desk.specs.Content.{bytes_of, OnlyLeftDiffers, HasFile};
 ghost use Rattle.dgn_desk.specs.Desk.{Rose, Counts, FilesAll, StaysWilling, DoesNotFail};
 ghost use Rattle.dgn_drawing.specs.Spelling.{spelling};
@@ -7,8 +7,8 @@ ghost use Rattle.elem_index.specs.Answers.{opened_of};
 ghost use Rattle.dgn_session.specs.State.{state_of};
 ghost use Rattle.dgn_tool.specs.Filling.{file_made};
 ghost use Rattle.dgn_tool.specs.Request.{request_of};
-ghost use Rattle.dgn_tool.specs.Outcome.{outcome, input_outcome, scripted, script_outcome, told_from, checked};
-ghost use Rattle.dgn_tool.specs.Outcome.{IsEnding, EndsAs, StoppedAs, ComesTo, IsFaultless, HasBoth, HasFiles, Reads};
+ghost use Rattle.dgn_tool.specs.Outcome.{outcome, input_outcome, scripted, told, told_from, checked};
+ghost use Rattle.dgn_tool.specs.Outcome.{IsEnding, EndsAs, StoppedAs, ComesTo, IsFaultless, HasBoth, HasFiles, Reads, EndsScript, ReadsAs};
 
 use crate::applying::apply;
 use crate::commands::run_all;
@@ -16,6 +16,7 @@ use crate::ending::{end, end_numbered, stopped};
 use crate::filling::write_filled;
 use crate::generation::generate_file;
 use crate::opening::{end_bad_design, open_design, read_input};
+use crate::packing::pack;
 use crate::request::{Request, read_words};
 use crate::status::Status;
 use dgn_desk::{Desk, ReadEnd, Stop, read_all};
@@ -33,6 +34,7 @@ const MOST_SCRIPT: usize = 1048576;
 /// `edit IN SCRIPT OUT` reads the design file IN and the script SCRIPT whole, runs the commands of the
 /// script and writes OUT. `check IN` reads IN and says how many elements it has. `gen SEED COUNT OUT`
 /// generates a drawing, runs a fixed script on it, writes OUT and says a summary; it reads nothing.
+/// `pack IN SCRIPT PATCH` reads and runs as `edit`, and writes what the edits that are left did as a patch file.
 /// `apply IN PATCH OUT` reads IN and the patch file PATCH whole, puts the entries of the patch file on the elements one
 /// after the other, writes OUT and says how many entries there are; it writes nothing where an entry doesn't stand. The
 /// files, the texts and the status are those of `outcome`; `Status` says when each status comes. Where the desk fails, or
@@ -79,6 +81,13 @@ pub fn run<D: Desk>(alloc: Global, words: &[String], desk: &mut D) -> Status
             },
         ) => generate_file(alloc, desk, seed, count, output),
         Some(
+            Request::Pack {
+                input,
+                script,
+                patch,
+            },
+        ) => pack(alloc, desk, input, script, patch),
+        Some(
             Request::Apply {
                 input,
                 patch,
@@ -118,7 +127,7 @@ fn check<D: Desk>(alloc: Global, desk: &mut D, input: &str) -> Status
 // Reads and opens IN, and goes on with it.
 fn edit<D: Desk>(alloc: Global, desk: &mut D, input: &str, script: &str, output: &str) -> Status
     ensures outcome { ComesTo result
-        (λ files. input_outcome (bytes_of files input.now) (λ d. scripted d (bytes_of files script.now) output.now))
+        (λ files. input_outcome (bytes_of files input.now) (λ d. scripted (bytes_of files script.now) (λ cs. told d cs output.now)))
         (D.content desk.old) (D.content desk.new) }
     ensures counted { IsEnding result → (D.read_faults desk.new ≡ D.read_faults desk.old)
         × (D.write_faults desk.new ≡ D.write_faults desk.old) }
@@ -146,7 +155,7 @@ fn edit_design<D: Desk>(
 ) -> Status
     requires { IsWhole design }
     ensures outcome { ComesTo result
-        (λ files. scripted (opened_of design) (bytes_of files script.now) output.now)
+        (λ files. scripted (bytes_of files script.now) (λ cs. told (opened_of design) cs output.now))
         (D.content desk.old) (D.content desk.new) }
     ensures counted { IsEnding result → (D.read_faults desk.new ≡ D.read_faults desk.old)
         × (D.write_faults desk.new ≡ D.write_faults desk.old) }
@@ -156,22 +165,44 @@ fn edit_design<D: Desk>(
     ensures write { result ≡ Status.WriteFault → Rose (D.write_faults desk.old) (D.write_faults desk.new) }
     ensures able { IsTrue (D.willing desk.old) → HasFile script.now (D.content desk.old) → IsFaultless result }
 {
+    match read_commands(alloc, desk, script) {
+        Ok(commands) => run_script(alloc, desk, design, &commands, output),
+        Err(status) => status,
+    }
+}
+
+// Reads SCRIPT, and its commands, or ends the run.
+pub(crate) fn read_commands<D: Desk>(
+    alloc: Global,
+    desk: &mut D,
+    script: &str,
+) -> Result<Vec<Command>, Status>
+    ensures read { IfOk result (λ commands. ReadsAs script.now (D.content desk.old) commands.items) }
+    ensures told { OnOk result (OnlyLeftDiffers (D.content desk.old) (D.content desk.new)) }
+    ensures quiet { OnOk result (D.write_faults desk.new ≡ D.write_faults desk.old) }
+    ensures calm { OnOk result (D.read_faults desk.new ≡ D.read_faults desk.old) }
+    ensures stays { OnOk result (StaysWilling (D.willing desk.old) (D.willing desk.new)) }
+    ensures ended { IfErr result (EndsScript script.now (D.content desk.old) (D.content desk.new)) }
+    ensures counted { IfErr result (λ status. IsEnding status → (D.read_faults desk.new ≡ D.read_faults desk.old)
+        × (D.write_faults desk.new ≡ D.write_faults desk.old)) }
+    ensures usage { IsErrOf result Status.Usage → ⊥ }
+    ensures read_fault { IsErrOf result Status.ReadFault → Rose (D.read_faults desk.old) (D.read_faults desk.new) }
+    ensures unread { IsErrOf result Status.ReadFault → OnlyLeftDiffers (D.content desk.old) (D.content desk.new) }
+    ensures write { IsErrOf result Status.WriteFault → Rose (D.write_faults desk.old) (D.write_faults desk.new) }
+    ensures able { IsTrue (D.willing desk.old) → HasFile script.now (D.content desk.old) → IfErr result IsFaultless }
+{
     let text = match read_all(alloc, desk, script, MOST_SCRIPT) {
         Ok(text) => text,
-        Err(ReadEnd::TooLong) => return end(desk, b"too long script\n", Status::TooLong),
-        Err(ReadEnd::Fault) => return Status::ReadFault,
-        Err(ReadEnd::Memory) => return Status::Memory,
+        Err(ReadEnd::TooLong) => return Err(end(desk, b"too long script\n", Status::TooLong)),
+        Err(ReadEnd::Fault) => return Err(Status::ReadFault),
+        Err(ReadEnd::Memory) => return Err(Status::Memory),
     };
     match read_script(alloc, &text) {
-        Ok(commands) => run_script(alloc, desk, design, &commands, output),
-        Err(ScriptFault::Line { number }) => end_numbered(
-            alloc,
-            desk,
-            b"bad script line ",
-            number,
-            Status::BadScript,
+        Ok(commands) => Ok(commands),
+        Err(ScriptFault::Line { number }) => Err(
+            end_numbered(alloc, desk, b"bad script line ", number, Status::BadScript),
         ),
-        Err(ScriptFault::Memory) => Status::Memory,
+        Err(ScriptFault::Memory) => Err(Status::Memory),
     }
 }
 
@@ -185,7 +216,7 @@ fn run_script<D: Desk>(
 ) -> Status
     requires { IsWhole design }
     ensures outcome { ComesTo result
-        (λ _. script_outcome (opened_of design) (Ok commands.now) output.now)
+        (λ _. told (opened_of design) commands.now output.now)
         (D.content desk.old) (D.content desk.new) }
     ensures counted { IsEnding result → (D.read_faults desk.new ≡ D.read_faults desk.old)
         × (D.write_faults desk.new ≡ D.write_faults desk.old) }

@@ -29,7 +29,7 @@ const MOVED: [(usize, [u8; 4]); 8] = [
 ];
 
 // The calls of a run in which none fails: IN has 1590 bytes, OUT of `edit` and of `apply` a body of 1588, and that of
-// `gen` one of 1928, each with a tail of two.
+// `gen` one of 1928, each with a tail of two; PATCH of `pack` has 128.
 const EDIT_ACTS: [Act; 18] = [
     Act::BeginRead,
     Act::Read,
@@ -58,6 +58,21 @@ const CHECK_ACTS: [Act; 7] = [
     Act::Read,
     Act::Read,
     Act::Read,
+    Act::Say,
+];
+
+const PACK_ACTS: [Act; 12] = [
+    Act::BeginRead,
+    Act::Read,
+    Act::Read,
+    Act::Read,
+    Act::Read,
+    Act::Read,
+    Act::BeginRead,
+    Act::Read,
+    Act::Read,
+    Act::BeginWrite,
+    Act::Write,
     Act::Say,
 ];
 
@@ -132,6 +147,7 @@ fn each_call_fails_in_turn(rt: HostRuntime) -> Result<(), Fail> {
     let rows: [(&[&str], &[Act], &[u8]); 4] = [
         (&EDIT, &EDIT_ACTS, SAID),
         (&CHECK, &CHECK_ACTS, b"elements 2\n"),
+        (&["pack", "in", "s", "out"], &PACK_ACTS, b"entries 1\n"),
         (&["apply", "in", "p", "out"], &APPLY_ACTS, b"applied 1\n"),
         (
             &["gen", "7", "3", "out"],

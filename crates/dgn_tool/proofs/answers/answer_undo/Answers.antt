@@ -1,5 +1,7 @@
 use Rattle.std.proofs.Common.{◌≡◌, ◌++◌, List, ℕ, Bool, codes, ap, ◌∙◌, sym, subst}
+use Rattle.dgn_session.specs.State.{SessionValue}
 use Rattle.dgn_tool.specs.Commands.{undo_said}
+use Rattle.dgn_tool.proofs.Logged.{undo_logs, nothing_logs}
 use Rattle.dgn_tool.proofs.Undone.{not_refused}
 use Rattle.dgn_tool.proofs.answers.answer_undo.Goals as goal
 
@@ -10,3 +12,6 @@ returns-in-Ok-clause-text c =
 
 pub returns-in-Ok-clause-refused : goal.returns-in-Ok-clause-refused
 returns-in-Ok-clause-refused c = sym (not_refused c.args.s.now c.in-Ok.ensures.nothing.1)
+
+pub returns-in-Ok-clause-logged : goal.returns-in-Ok-clause-logged
+returns-in-Ok-clause-logged c = undo_logs c.args.s.now c.undo.new.self c.in-Ok.ensures.nothing.1 c.in-Ok.ensures.back (ap (λ (v : SessionValue). v.dim) c.in-Ok.ensures.value)

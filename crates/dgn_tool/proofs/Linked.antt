@@ -1,0 +1,210 @@
+-- The edits that commands leave, each made on what those before it made of a drawing that opens.
+use Rattle.std.proofs.Common.{◌≡◌, ℕ, ◌+◌, ◌<◌, ◌≤◌, Bool, true, false, List, [], ◌∷◌, ◌++◌, length, drop, get_or, refl, sym, ap, ◌∙◌, subst, arith}
+use Rattle.std.specs.Prelude.{All, Option, Some, None, option_map}
+use Rattle.std.proofs.lemmas.Bool.{cond_both}
+use Rattle.std.proofs.lemmas.List.Elements.{All-head, All-tail}
+use Rattle.patch_bytes.specs.Puts.{write}
+use Rattle.dgn_drawing.specs.Element.{Element}
+use Rattle.dgn_drawing.specs.Spelling.{spelling}
+use Rattle.dgn_drawing.specs.Opening.{Opens}
+use Rattle.plane_geom.specs.declared.pt.Pt.{Pt}
+use Rattle.dgn_drawing.specs.declared.edit.Edit.{Edit}
+use Rattle.dgn_drawing.specs.declared.fence_edit.FenceEdit.{FenceEdit}
+use Rattle.dgn_drawing.specs.declared.mode.Mode.{Mode}
+use Rattle.dgn_drawing.specs.declared.mask.Mask.{Mask}
+use Rattle.dgn_drawing.specs.Shown.{tree_shown}
+use Rattle.dgn_fence.specs.Taken.{takes}
+use Rattle.dgn_fence.specs.Selected.{selected}
+use Rattle.dgn_session.specs.State.{State, applied, pushed, pushed_if, with_stack, selection, fence_applied, dropped, with_fence, with_mask, undo_refused}
+use Rattle.edit_ops.specs.Applying.{Applied, Done, Refused, apply, IsEdit}
+use Rattle.edit_ops.specs.Fields.{Rise, filled}
+use Rattle.edit_ops.specs.Fenced.{apply_all, AreRoots, IsFenceEdit}
+use Rattle.edit_ops.proofs.Apart.{fields_apart}
+use Rattle.edit_ops.proofs.Reopened.{edited_opens, edited_fits, changes_fields}
+use Rattle.edit_ops.proofs.Fenced.{fenced_opens, fenced_fits, fenced_changes, fenced_apart}
+use Rattle.edit_script.specs.declared.command.Command.{Command}
+use Rattle.edit_script.specs.declared.command.Command.TheVariants as command
+use Rattle.dgn_tool.specs.Commands.{fence_refused, after_command, after_all}
+use Rattle.dgn_tool.specs.Remaining.{Made, Alone, Fenced, fields_made, with_made, with_all_made, without_newest, with_command, with_commands}
+use Rattle.dgn_tool.specs.Laws.{IsOutside, IsEditIn}
+use Rattle.dgn_tool.proofs.Stacked.{lists_made, IsStacked, command_stacks}
+
+-- an edit made elements of others: they open with the tail, have no fewer bytes, the same ones at each place that it
+-- doesn't write, and there what it writes; its fields rise; and they keep the limit of a design file where those did
+pub record IsLink (dim rest : ℕ) (t : List ℕ) (m : Made) : Type 0 where
+  pub opens : Opens (spelling m.made ++ t) dim m.made t
+  pub long : length (spelling m.on) ≤ length (spelling m.made)
+  pub same : (p : ℕ) → p < length (spelling m.on) → IsOutside dim p m → get_or (spelling m.made) p 0 ≡ get_or (spelling m.on) p 0
+  pub rise : Rise 0 (fields_made dim m.on m.making) (length (spelling m.on))
+  pub written : spelling m.made ≡ write (spelling m.on) (filled (spelling m.made) (fields_made dim m.on m.making)) ++ drop (length (spelling m.on)) (spelling m.made)
+  pub fits : length (spelling m.on) + rest ≤ 67108864 → length (spelling m.made) + rest ≤ 67108864
+
+-- what the edits, which stand the newest first, made of the lowest elements
+abbrev pub top_of : List Element → List Made → List Element
+top_of base [] = base
+top_of base (m ∷ left) = m.made
+
+-- each was made on what those before it made, and the lowest elements open with the tail
+abbrev pub AreLinked : ℕ → ℕ → List ℕ → List Element → List Made → Type 0
+AreLinked dim rest t base [] = Opens (spelling base ++ t) dim base t
+AreLinked dim rest t base (m ∷ left) = IsLink dim rest t m × (m.on ≡ top_of base left) × AreLinked dim rest t base left
+
+pub top_opens : (dim rest : ℕ) (t : List ℕ) (base : List Element) (left : List Made) → AreLinked dim rest t base left → Opens (spelling (top_of base left) ++ t) dim (top_of base left) t
+top_opens dim rest t base [] linked = linked
+top_opens dim rest t base (m ∷ left) linked = linked.0.opens
+
+-- a stack's top is what they made
+pub stack_top : (base : List Element) (s : State) (left : List Made) → IsStacked base s left → s.top ≡ top_of base left
+stack_top base s [] stacked = let x = stacked in cc
+stack_top base s (m ∷ left) stacked = let x = stacked in cc
+
+module _ (dim rest : ℕ) (t : List ℕ) (base : List Element) where
+  -- what stands on top opens
+  opens_on : (on : List Element) (left : List Made) → on ≡ top_of base left → AreLinked dim rest t base left → Opens (spelling on ++ t) dim on t
+  opens_on on left is linked = subst (λ (es : List Element). Opens (spelling es ++ t) dim es t) (sym is) (top_opens dim rest t base left linked)
+
+  -- an edit that is done is one more
+  edit_links : (on : List Element) (left : List Made) (e : Edit) (came : Applied) → IsEdit e → apply dim on rest e ≡ came → on ≡ top_of base left → AreLinked dim rest t base left → AreLinked dim rest t base (with_made came on (Alone e) left)
+  edit_links on left e (Refused cause) fits is top linked = linked
+  edit_links on left e (Done made) fits is top linked =
+      let opens = opens_on on left top linked in
+      let changed = changes_fields (spelling on ++ t) dim on t rest e made fits opens is in
+      (
+        record {
+          opens = edited_opens (spelling on ++ t) dim on t rest e made fits opens is;
+          long = omega (arith, changed.long);
+          same = changed.stays;
+          rise = (fields_apart (spelling on ++ t) dim on t rest e made fits opens is).rise;
+          written = changed.written;
+          fits = edited_fits (spelling on ++ t) dim on t rest e made fits opens is;
+        },
+        top,
+        linked,
+      )
+
+  -- and so is one of all that a fence chose
+  roots_link : (on : List Element) (left : List Made) (e : FenceEdit) (ns : List ℕ) (came : Applied) → IsFenceEdit e → AreRoots on ns → apply_all dim on rest e ns ≡ came → on ≡ top_of base left → AreLinked dim rest t base left
+      → AreLinked dim rest t base (with_made came on (Fenced e ns) left)
+  roots_link on left e ns (Refused cause) fits roots is top linked = linked
+  roots_link on left e ns (Done made) fits roots is top linked =
+      let opens = opens_on on left top linked in
+      let changed = fenced_changes (spelling on ++ t) dim on t rest e ns made fits roots opens is in
+      (
+        record {
+          opens = fenced_opens (spelling on ++ t) dim on t rest e ns made fits roots opens is;
+          long = omega (arith, changed.long);
+          same = changed.stays;
+          rise = fenced_apart (spelling on ++ t) dim on t rest e ns made fits roots opens is;
+          written = changed.written;
+          fits = fenced_fits (spelling on ++ t) dim on t rest e ns made fits roots opens is;
+        },
+        top,
+        linked,
+      )
+
+  fence_links : (on : List Element) (left : List Made) (mask : Mask) (mode : Mode) (e : FenceEdit) (fence : Option (List Pt)) → IsFenceEdit e → on ≡ top_of base left → AreLinked dim rest t base left
+      → AreLinked dim rest t base (with_all_made (option_map (apply_all dim on rest e) (option_map (λ corners. selected dim mask corners mode on) fence)) (option_map (λ corners. selected dim mask corners mode on) fence) on e left)
+  fence_links on left mask mode e None fits top linked = linked
+  fence_links on left mask mode e (Some corners) fits top linked =
+      roots_link on left e (selected dim mask corners mode on) (apply_all dim on rest e (selected dim mask corners mode on)) fits
+      ((λ n. takes mode corners (tree_shown dim mask on n)), refl) refl top linked
+
+  -- an undo takes the newest away
+  undo_links : (refused : Bool) (left : List Made) → AreLinked dim rest t base left → AreLinked dim rest t base (without_newest refused left)
+  undo_links true left linked = linked
+  undo_links false [] linked = linked
+  undo_links false (m ∷ left) linked = linked.2
+
+-- a command leaves such edits
+command_links : (t : List ℕ) (base : List Element) (s : State) (left : List Made) (c : Command) → IsEditIn c → IsStacked base s left → AreLinked s.dim s.rest t base left → AreLinked s.dim s.rest t base (with_command s c left)
+command_links t base s left (command.Edit e) fits stacked linked = edit_links s.dim s.rest t base s.top left e (applied e s) fits refl (stack_top base s left stacked) linked
+command_links t base s left (command.Fenced mode e) fits stacked linked = fence_links s.dim s.rest t base s.top left s.mask mode e s.fence fits (stack_top base s left stacked) linked
+command_links t base s left command.Undo fits stacked linked = undo_links s.dim s.rest t base (undo_refused s) left linked
+command_links t base s left (command.Levels mask) fits stacked linked = linked
+command_links t base s left (command.Fence corners) fits stacked linked = linked
+command_links t base s left command.NoFence fits stacked linked = linked
+command_links t base s left command.Show fits stacked linked = linked
+command_links t base s left (command.Tree n) fits stacked linked = linked
+command_links t base s left command.Elements fits stacked linked = linked
+command_links t base s left command.Refs fits stacked linked = linked
+command_links t base s left (command.Links n) fits stacked linked = linked
+command_links t base s left (command.Select mode) fits stacked linked = linked
+
+-- What no command changes of a state.
+module _ {X : Type 0} (part : State → X) (stack : (top : List Element) (earlier : List (List Element)) (s : State) → part (with_stack top earlier s) ≡ part s)
+    (mask : (m : Mask) (s : State) → part (with_mask m s) ≡ part s) (fence : (f : Option (List Pt)) (s : State) → part (with_fence f s) ≡ part s) where
+  pushed_keeps : (came : Applied) (s : State) → part (pushed came s) ≡ part s
+  pushed_keeps (Done made) s = stack made (s.top ∷ s.earlier) s
+  pushed_keeps (Refused cause) s = refl
+
+  pushed_if_keeps : (came : Option Applied) (s : State) → part (pushed_if came s) ≡ part s
+  pushed_if_keeps None s = refl
+  pushed_if_keeps (Some came) s = pushed_keeps came s
+
+  dropped_keeps : (earlier : List (List Element)) (s : State) → part (dropped earlier s) ≡ part s
+  dropped_keeps [] s = refl
+  dropped_keeps (es ∷ earlier) s = stack es earlier s
+
+  command_keeps : (s : State) (c : Command) → part (after_command s c) ≡ part s
+  command_keeps s (command.Edit e) = pushed_keeps (applied e s) s
+  command_keeps s (command.Fenced mode e) = pushed_if_keeps (fence_applied mode e s) s
+  command_keeps s command.Undo = dropped_keeps s.earlier s
+  command_keeps s (command.Levels m) = mask m s
+  command_keeps s (command.Fence corners) = cond_both (fence_refused corners) s (with_fence (Some corners) s) (λ (after : State). part after ≡ part s) (λ _. refl) (λ _. fence (Some corners) s)
+  command_keeps s command.NoFence = fence None s
+  command_keeps s command.Show = refl
+  command_keeps s (command.Tree n) = refl
+  command_keeps s command.Elements = refl
+  command_keeps s command.Refs = refl
+  command_keeps s (command.Links n) = refl
+  command_keeps s (command.Select mode) = refl
+
+  commands_keep : (cs : List Command) (s : State) → part (after_all cs s) ≡ part s
+  commands_keep [] s = refl
+  commands_keep (c ∷ cs) s = commands_keep cs (after_command s c) ∙ command_keeps s c
+
+-- the dimension, and the length of the tail
+command_dim : (s : State) (c : Command) → (after_command s c).dim ≡ s.dim
+command_dim s c = command_keeps (λ (x : State). x.dim) (λ _ _ _. refl) (λ _ _. refl) (λ _ _. refl) s c
+
+command_rest : (s : State) (c : Command) → (after_command s c).rest ≡ s.rest
+command_rest s c = command_keeps (λ (x : State). x.rest) (λ _ _ _. refl) (λ _ _. refl) (λ _ _. refl) s c
+
+pub commands_dim : (cs : List Command) (s : State) → (after_all cs s).dim ≡ s.dim
+commands_dim cs s = commands_keep (λ (x : State). x.dim) (λ _ _ _. refl) (λ _ _. refl) (λ _ _. refl) cs s
+
+-- commands leave such edits
+pub commands_link : (t : List ℕ) (base : List Element) (cs : List Command) (s : State) (left : List Made) → All IsEditIn cs → IsStacked base s left → AreLinked s.dim s.rest t base left → AreLinked s.dim s.rest t base (with_commands cs s left)
+commands_link t base [] s left fits stacked linked = linked
+commands_link t base (c ∷ cs) s left fits stacked linked =
+    let next : State = after_command s c in
+    let more : List Made = with_command s c left in
+    let one = command_links t base s left c (All-head IsEditIn c cs fits) stacked linked in
+    let here = subst (λ (n : ℕ). AreLinked n next.rest t base more) (sym (command_dim s c)) (subst (λ (n : ℕ). AreLinked s.dim n t base more) (sym (command_rest s c)) one) in
+    let all = commands_link t base cs next more (All-tail IsEditIn c cs fits) (command_stacks base s left c stacked) here in
+    subst (λ (n : ℕ). AreLinked s.dim n t base (with_commands cs next more)) (command_rest s c) (subst (λ (n : ℕ). AreLinked n next.rest t base (with_commands cs next more)) (command_dim s c) all)
+
+-- they have no fewer bytes than the lowest
+pub linked_long : (dim rest : ℕ) (t : List ℕ) (base : List Element) (left : List Made) → AreLinked dim rest t base left → length (spelling base) ≤ length (spelling (top_of base left))
+linked_long dim rest t base [] linked = omega arith
+linked_long dim rest t base (m ∷ left) linked =
+    let below = linked_long dim rest t base left linked.2 in
+    let grown = linked.0.long in
+    let same : length (spelling m.on) ≡ length (spelling (top_of base left)) = ap (λ (es : List Element). length (spelling es)) linked.1 in
+    omega arith
+
+-- and the same byte at each place that none of the edits writes
+pub linked_same : (dim rest : ℕ) (t : List ℕ) (base : List Element) (left : List Made) (p : ℕ) → AreLinked dim rest t base left → p < length (spelling base) → All (IsOutside dim p) left → get_or (spelling (top_of base left)) p 0 ≡ get_or (spelling base) p 0
+linked_same dim rest t base [] p linked below all = refl
+linked_same dim rest t base (m ∷ left) p linked below all =
+    let long = linked_long dim rest t base left linked.2 in
+    let same : length (spelling m.on) ≡ length (spelling (top_of base left)) = ap (λ (es : List Element). length (spelling es)) linked.1 in
+    linked.0.same p (omega arith) (All-head (IsOutside dim p) m left all)
+    ∙ ap (λ (es : List Element). get_or (spelling es) p 0) linked.1
+    ∙ linked_same dim rest t base left p linked.2 below (All-tail (IsOutside dim p) m left all)
+
+-- and they keep the limit of a design file where the lowest do
+pub linked_fits : (dim rest : ℕ) (t : List ℕ) (base : List Element) (left : List Made) → AreLinked dim rest t base left → length (spelling base) + rest ≤ 67108864 → length (spelling (top_of base left)) + rest ≤ 67108864
+linked_fits dim rest t base [] linked few = few
+linked_fits dim rest t base (m ∷ left) linked few =
+    linked.0.fits (subst (λ (es : List Element). length (spelling es) + rest ≤ 67108864) (sym linked.1) (linked_fits dim rest t base left linked.2 few))

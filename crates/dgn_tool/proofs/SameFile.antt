@@ -1,0 +1,40 @@
+-- What is packed, applied to the same file, writes the file that `edit` writes.
+use Rattle.std.proofs.Common.{◌≡◌, ◌≤◌, ℕ, List, length, Ok, ap, ◌∙◌, subst}
+use Rattle.dgn_desk.specs.Content.{bytes_of}
+use Rattle.dgn_drawing.specs.Spelling.{spelling}
+use Rattle.elem_index.proofs.Finds.{opens-opening}
+use Rattle.patch_file.specs.Spelling.{Packed}
+use Rattle.patch_file.specs.Reading.{patch_of}
+use Rattle.patch_file.proofs.Again.{patch_again}
+use Rattle.dgn_tool.specs.Commands.{begun}
+use Rattle.dgn_tool.specs.Filling.{file_made}
+use Rattle.dgn_tool.specs.Lines.{numbered}
+use Rattle.dgn_tool.specs.Ended.{Outcome}
+use Rattle.dgn_tool.specs.Packing.{packed_after}
+use Rattle.dgn_tool.specs.PatchLaws.{Applies, WritesTheSame}
+use Rattle.dgn_tool.specs.declared.status.Status.TheVariants as statuses
+use Rattle.std.specs.Prelude.{codes, Some}
+use Rattle.dgn_tool.proofs.PatchEndings.{applies_all}
+use Rattle.dgn_tool.proofs.Repacked.{applied_gives_the_same}
+
+pub writes_the_same : WritesTheSame
+writes_the_same words files d cs output a fits =
+    let es : List Packed = packed_after cs (begun d) in
+    let again = applied_gives_the_same (bytes_of files a.input) d cs (opens-opening (bytes_of files a.input) d a.bytes a.opens) a.few fits in
+    let short = subst (λ (f : List ℕ). length f ≤ 134217728) a.packed a.short in
+    let reads : patch_of (bytes_of files a.patch) ≡ Ok es = ap patch_of a.packed ∙ patch_again es (again.entries short) in
+    let so : Applies words files d es output = record {
+      input = a.input;
+      patch = a.patch;
+      asked = a.asked;
+      few = a.few;
+      opens = a.opens;
+      short = a.short;
+      reads = reads;
+    } in
+    let made : List ℕ → Outcome = λ b. record {
+      status = statuses.Done;
+      text = numbered (codes "applied ") (length es);
+      file = Some (output, file_made (length (spelling d.elements)) d.tail b);
+    } in
+    applies_all words files d es output so again.stand again.fit ∙ ap made again.gives

@@ -1,0 +1,58 @@
+-- The stack of a state, whose lists are what the edits that are left have made, above those that they began with.
+use Rattle.std.proofs.Common.{◌≡◌, ℕ, List, [], ◌∷◌, ◌++◌, map, Option, Some, None, refl, sym, ap, ◌∙◌, subst}
+use Rattle.std.specs.Prelude.{option_map}
+use Rattle.std.proofs.lemmas.Bool.{cond_both}
+use Rattle.plane_geom.specs.declared.pt.Pt.{Pt}
+use Rattle.dgn_drawing.specs.declared.edit.Edit.{Edit}
+use Rattle.dgn_drawing.specs.declared.fence_edit.FenceEdit.{FenceEdit}
+use Rattle.dgn_drawing.specs.declared.mode.Mode.{Mode}
+use Rattle.dgn_drawing.specs.Element.{Element}
+use Rattle.edit_ops.specs.Applying.{Applied, Done, Refused}
+use Rattle.edit_ops.specs.Fenced.{apply_all}
+use Rattle.dgn_session.specs.State.{State, applied, pushed, pushed_if, selection, fence_applied, fence_edited, dropped, is_none, with_fence}
+use Rattle.edit_script.specs.declared.command.Command.{Command}
+use Rattle.edit_script.specs.declared.command.Command.TheVariants as command
+use Rattle.dgn_tool.specs.Commands.{fence_refused, after_command, after_all}
+use Rattle.dgn_tool.specs.Remaining.{Made, Making, Alone, Fenced, with_made, with_all_made, without_newest, with_command, with_commands}
+
+-- what the edits have made
+abbrev pub lists_made : List Made → List (List Element)
+lists_made left = map (λ (m : Made). m.made) left
+
+-- a state has this stack
+abbrev pub IsStacked : List Element → State → List Made → Type 0
+IsStacked base s left = s.top ∷ s.earlier ≡ lists_made left ++ base ∷ []
+
+done_step : (base : List Element) (s : State) (left : List Made) (making : Making) (came : Applied) → IsStacked base s left → IsStacked base (pushed came s) (with_made came s.top making left)
+done_step base s left making (Done made) stacked = ap (λ (l : List (List Element)). made ∷ l) stacked
+done_step base s left making (Refused cause) stacked = stacked
+
+fence_step : (base : List Element) (s : State) (left : List Made) (e : FenceEdit) (came : List ℕ → Applied) (chosen : Option (List ℕ)) → IsStacked base s left → IsStacked base (pushed_if (option_map came chosen) s) (with_all_made (option_map came chosen) chosen s.top e left)
+fence_step base s left e came None stacked = stacked
+fence_step base s left e came (Some ns) stacked = done_step base s left (Fenced e ns) (came ns) stacked
+
+undo_step : (base : List Element) (s : State) (earlier : List (List Element)) (left : List Made) → s.top ∷ earlier ≡ lists_made left ++ base ∷ [] → s.earlier ≡ earlier → IsStacked base (dropped earlier s) (without_newest (is_none earlier) left)
+undo_step base s [] left stacked is = ap (λ (l : List (List Element)). s.top ∷ l) is ∙ stacked
+undo_step base s (es ∷ earlier) [] stacked is = absurd (let x = stacked in cc)
+undo_step base s (es ∷ earlier) (m ∷ left) stacked is = let x = stacked in cc
+
+-- a command leaves such a stack
+pub command_stacks : (base : List Element) (s : State) (left : List Made) (c : Command) → IsStacked base s left → IsStacked base (after_command s c) (with_command s c left)
+command_stacks base s left (command.Edit e) stacked = done_step base s left (Alone e) (applied e s) stacked
+command_stacks base s left (command.Fenced mode e) stacked = fence_step base s left e (apply_all s.dim s.top s.rest e) (selection mode s) stacked
+command_stacks base s left command.Undo stacked = undo_step base s s.earlier left stacked refl
+command_stacks base s left (command.Levels mask) stacked = stacked
+command_stacks base s left (command.Fence corners) stacked =
+    cond_both (fence_refused corners) s (with_fence (Some corners) s) (λ (after : State). IsStacked base after left) (λ _. stacked) (λ _. stacked)
+command_stacks base s left command.NoFence stacked = stacked
+command_stacks base s left command.Show stacked = stacked
+command_stacks base s left (command.Tree n) stacked = stacked
+command_stacks base s left command.Elements stacked = stacked
+command_stacks base s left command.Refs stacked = stacked
+command_stacks base s left (command.Links n) stacked = stacked
+command_stacks base s left (command.Select mode) stacked = stacked
+
+-- and so do all
+pub commands_stack : (base : List Element) (cs : List Command) (s : State) (left : List Made) → IsStacked base s left → IsStacked base (after_all cs s) (with_commands cs s left)
+commands_stack base [] s left stacked = stacked
+commands_stack base (c ∷ cs) s left stacked = commands_stack base cs (after_command s c) (with_command s c left) (command_stacks base s left c stacked)

@@ -1,0 +1,8 @@
+use Rattle.std.proofs.Common.{subst}
+use Rattle.dgn_session.specs.State.{state_of, applied}
+use Rattle.edit_ops.specs.Planned.{IsRefused}
+use Rattle.dgn_tool.proofs.Logged.{edit_logs, refusal_logs}
+use Rattle.dgn_tool.proofs.answers.answer_edit.Goals as goal
+
+pub returns-in-Ok-clause-logged : goal.returns-in-Ok-clause-logged
+returns-in-Ok-clause-logged c = edit_logs c.args.s.now c.edit.new.self c.args.edit.now _ c.in-Ok.ensures.accepted c.in-Ok.ensures.value

@@ -1,0 +1,8 @@
+use Rattle.std.proofs.Common.{subst}
+use Rattle.dgn_session.specs.State.{state_of, fence_applied}
+use Rattle.dgn_session.specs.Answers.{IsFenceRefused}
+use Rattle.dgn_tool.proofs.Logged.{fence_edit_logs, no_fence_logs, fence_refusal_logs}
+use Rattle.dgn_tool.proofs.fences.answer_fenced.Goals as goal
+
+pub returns-in-Ok-clause-logged : goal.returns-in-Ok-clause-logged
+returns-in-Ok-clause-logged c = fence_edit_logs c.args.s.now c.edit_fence.new.self c.args.mode c.args.edit.now _ c.in-Ok.ensures.accepted c.in-Ok.ensures.value

@@ -1,0 +1,66 @@
+-- What `pack` comes to: the patch file of the edits that a run leaves.
+use Rattle.std.specs.Prelude.{ℕ, ◌≡◌, nat_lt, if◌then◌else◌, List, [], ◌∷◌, ◌++◌, length, map, reverse, codes, Some}
+use Rattle.dgn_drawing.specs.Spelling.{spelling}
+use Rattle.undo_log.specs.declared.entry.Entry.{Entry}
+use Rattle.undo_log.specs.Entries.{back}
+use Rattle.patch_file.specs.Spelling.{Packed, patch_spelling}
+use Rattle.patch_file.specs.Standing.{taken_of}
+use Rattle.elem_index.specs.Opened.{Opened}
+use Rattle.dgn_session.specs.State.{State, SessionValue, state_of, entry_with}
+use Rattle.edit_script.specs.declared.command.Command.{Command}
+use Rattle.dgn_tool.specs.Commands.{begun, refused_count}
+use Rattle.dgn_tool.specs.Ended.{Outcome, ended}
+use Rattle.dgn_tool.specs.Lines.{numbered}
+use Rattle.dgn_tool.specs.Remaining.{Made, with_command, with_commands, fields_made, remaining}
+use Rattle.dgn_tool.specs.declared.status.Status.TheVariants as statuses
+
+-- the log's entry of an edit that is left: the bytes that stood in the fields that it wrote, and how many there were
+abbrev pub entry_made : ℕ → Made → Entry
+entry_made dim m = entry_with m.on (fields_made dim m.on m.making)
+
+-- its packed entry: that, with the bytes that it put there, and those that it appended
+abbrev pub packed_made : ℕ → Made → Packed
+packed_made dim m = taken_of (spelling m.made) (entry_made dim m)
+
+-- those of all edits that the commands leave, in order
+abbrev pub packed_after : List Command → State → List Packed
+packed_after cs s = map (packed_made s.dim) (remaining cs s)
+
+-- the patch file of entries is written, and it is said how many there are; so many commands were refused
+abbrev pub filed_patch : List Packed → ℕ → List ℕ → Outcome
+filed_patch es refused patch = record {
+  status = if nat_lt 0 refused then statuses.SomeRefused else statuses.Done;
+  text = numbered (codes "entries ") (length es);
+  file = Some (patch, patch_spelling es);
+}
+
+-- where it isn't too long; the texts of the commands aren't said
+abbrev pub packed_from : State → List Command → List ℕ → Outcome
+packed_from s cs patch =
+    if nat_lt 134217728 (length (patch_spelling (packed_after cs s))) then ended statuses.TooLong (codes "too long patch\n")
+    else filed_patch (packed_after cs s) (refused_count cs s) patch
+
+-- and on a drawing
+abbrev pub packed : Opened → List Command → List ℕ → Outcome
+packed d cs patch = packed_from (begun d) cs patch
+
+-- What a session's log holds.
+
+-- the entries of these edits, which stand the newest first
+abbrev pub IsLogOf : SessionValue → List Made → Type 0
+IsLogOf v left = reverse v.entries ≡ map (entry_made v.dim) left
+
+-- a command changes the log as it changes the edits that are left
+abbrev pub LogsAs : Command → SessionValue → SessionValue → Type 0
+LogsAs c old new = (left : List Made) → IsLogOf old left → IsLogOf new (with_command (state_of old) c left)
+
+-- and so do commands, the first one first
+abbrev pub AllLogAs : List Command → SessionValue → SessionValue → Type 0
+AllLogAs cs old new = (left : List Made) → IsLogOf old left → IsLogOf new (with_commands cs (state_of old) left)
+
+-- the last entry was taken off a log and written back, and this is what it took back
+pub record TakesLast (old new : SessionValue) (taken : Packed) : Type 0 where
+  pub last : Entry
+  pub dropped : old.entries ≡ new.entries ++ last ∷ []
+  pub body : new.body ≡ back old.body last
+  pub is : taken ≡ taken_of old.body last

@@ -1,0 +1,69 @@
+-- The edits that a run leaves: those that were done and not taken back.
+use Rattle.std.specs.Prelude.{ℕ, Bool, true, false, List, [], ◌∷◌, drop, reverse, Option, Some}
+use Rattle.dgn_drawing.specs.Element.{Element}
+use Rattle.dgn_drawing.specs.declared.edit.Edit.{Edit}
+use Rattle.dgn_drawing.specs.declared.fence_edit.FenceEdit.{FenceEdit}
+use Rattle.dgn_session.specs.State.{State, applied, selection, fence_applied, undo_refused}
+use Rattle.edit_ops.specs.Applying.{Applied, Done, Refused}
+use Rattle.edit_ops.specs.Fields.{Field, edited_fields}
+use Rattle.edit_ops.specs.Fenced.{fenced_fields}
+use Rattle.edit_script.specs.declared.command.Command.{Command}
+use Rattle.edit_script.specs.declared.command.Command.TheVariants as command
+use Rattle.dgn_tool.specs.Commands.{after_command}
+
+-- what was made of a drawing: an edit, or one of all that a fence chose, of these roots
+pub data Making : Type 0 where
+  Alone : Edit → Making
+  Fenced : FenceEdit → List ℕ → Making
+
+-- the elements that it was made on, and those that came of them
+pub record Made : Type 0 where
+  pub on : List Element
+  pub making : Making
+  pub made : List Element
+
+-- In what follows edits stand the newest first.
+
+-- an edit is put before those that are left, where it is done
+abbrev pub with_made : Applied → List Element → Making → List Made → List Made
+with_made (Done made) on making left = record { on = on; making = making; made = made } ∷ left
+with_made (Refused cause) on making left = left
+
+-- and so is an edit of all that a fence chooses
+abbrev pub with_all_made : Option Applied → Option (List ℕ) → List Element → FenceEdit → List Made → List Made
+with_all_made (Some applied) (Some ns) on e left = with_made applied on (Fenced e ns) left
+with_all_made applied ns on e left = left
+
+-- an undo takes the newest away, unless it is refused
+abbrev pub without_newest : Bool → List Made → List Made
+without_newest true left = left
+without_newest false left = drop 1 left
+
+-- what a command leaves of the edits that are left
+abbrev pub with_command : State → Command → List Made → List Made
+with_command s (command.Edit e) left = with_made (applied e s) s.top (Alone e) left
+with_command s (command.Fenced mode e) left = with_all_made (fence_applied mode e s) (selection mode s) s.top e left
+with_command s command.Undo left = without_newest (undo_refused s) left
+with_command s (command.Levels mask) left = left
+with_command s (command.Fence corners) left = left
+with_command s command.NoFence left = left
+with_command s command.Show left = left
+with_command s (command.Tree n) left = left
+with_command s command.Elements left = left
+with_command s command.Refs left = left
+with_command s (command.Links n) left = left
+with_command s (command.Select mode) left = left
+
+-- and what all commands leave of them
+abbrev pub with_commands : List Command → State → List Made → List Made
+with_commands [] s left = left
+with_commands (c ∷ cs) s left = with_commands cs (after_command s c) (with_command s c left)
+
+-- the edits that a run of these commands leaves: those that were done and not taken back, the first one first
+abbrev pub remaining : List Command → State → List Made
+remaining cs s = reverse (with_commands cs s [])
+
+-- the fields that it writes
+abbrev pub fields_made : ℕ → List Element → Making → List Field
+fields_made dim on (Alone e) = edited_fields dim on e
+fields_made dim on (Fenced e ns) = fenced_fields dim on e ns

@@ -1,0 +1,62 @@
+// Packing what a script does, by the rows of the format's examples.
+
+use super::*;
+
+const PACK: [&str; 4] = ["pack", "in", "s", "out"];
+
+// The patch file of one edit that is left: of the colour of a line behind the TCB.
+const COLOUR: [u8; 33] = [
+    0x44, 0x47, 0x4E, 0x50, 0x41, 0x54, 0x30, 0x31, 1, 0, 0, 0, 0x34, 6, 0, 0, 1, 0, 0, 0, 0, 0, 0,
+    0, 0x22, 6, 0, 0, 2, 0, 0, 0, 7,
+];
+
+#[test]
+fn packed_edits(rt: HostRuntime) -> Result<(), Fail> {
+    let alloc = rt.alloc();
+    let none = b"DGNPAT01\x00\x00\x00\x00".as_slice();
+    // A script, the status, what is said, and the patch file.
+    let rows: [(&[u8], Status, &[u8], &[u8]); 4] = [
+        (
+            b"move 1 10 -5\nundo\ncolor 1 7\n",
+            Status::Done,
+            b"entries 1\n",
+            &COLOUR,
+        ),
+        (b"", Status::Done, b"entries 0\n", none),
+        (
+            b"show\ncolor 1 7\nundo\nundo\n",
+            Status::SomeRefused,
+            b"entries 0\n",
+            none,
+        ),
+        (
+            b"move 9 1 1\ncolor 1 7\nelements\n",
+            Status::SomeRefused,
+            b"entries 1\n",
+            &COLOUR,
+        ),
+    ];
+    for (script, status, said, patch) in rows {
+        let files = (design(alloc, 0, &[&LINE, &END])?, script);
+        shows(&rt, 16, &PACK, files, (status, said, Some(patch)))?;
+    }
+    Ok(())
+}
+
+// Edits of each kind, and undos among them: six are left.
+const KINDS: &[u8] = b"color 1 7\nmove 1 1 1\nundo\nsym 1 4 - -\ncopy 1 1 1\nfence -9,-9 900,-9 900,900 -9,900\n\
+fmove inside 1 1\nfsym overlap 3 2 1\nundo\nfdelete inside\nundo\nline 1 0 0 0 0,0 1,1\ndelete 1\nundo\ndelete 2\n";
+
+#[test]
+fn edits_of_each_kind_are_packed(rt: HostRuntime) -> Result<(), Fail> {
+    let alloc = rt.alloc();
+    let mut desk = SureDesk::new(alloc, 512);
+    desk.add("in", design(alloc, 0, &[&LINE, &END])?)?;
+    desk.add("s", Vec::from_slice(alloc, KINDS)?)?;
+    let words = words(alloc, &PACK)?;
+    let status = run(alloc, &words, &mut desk);
+    assert!(rt; status == Status::Done);
+    assert!(rt; desk.said() == b"entries 6\n".as_slice());
+    assert!(rt; desk.file("out").is_some_and(|file| file.starts_with(b"DGNPAT01\x06\x00\x00\x00")));
+    Ok(())
+}
