@@ -11,3 +11,4 @@ pub mod Choosing
 pub mod Chosen
 pub mod Restored
 pub mod Blocks
+pub mod Refitted

@@ -30,7 +30,7 @@ pub fence_edits_are_undone : FenceEditsAreUndone
 fence_edits_are_undone s mode e made done =
     (ap (λ (a : Option Applied). undone (pushed_if a s)) done, ap (λ (a : Option Applied). undo_refused (pushed_if a s)) done)
 
-pushed_stays : (s : State) (a : Applied) → opened_in (pushed a s) ≡ opened_in s
+pub pushed_stays : (s : State) (a : Applied) → opened_in (pushed a s) ≡ opened_in s
 pushed_stays s (Done made) = refl
 pushed_stays s (Refused cause) = refl
 

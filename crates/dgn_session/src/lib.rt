@@ -11,6 +11,7 @@ mod fence_edit_fault;
 pub mod laws;
 mod nesting;
 mod nothing;
+mod ranges;
 mod room;
 mod select_fault;
 mod selecting;

@@ -1,7 +1,6 @@
-use Rattle.std.proofs.Common.{◌∙◌, sym, ap, subst, arith, length, map, take, List}
+use Rattle.std.proofs.Common.{◌∙◌, sym, ap, subst, arith, length, take}
 use Rattle.std.specs.List.{AllByRecursion}
 use Rattle.std.proofs.lemmas.List.{length-map, length-take}
-use Rattle.dgn_drawing.specs.Element.{Element}
 use Rattle.dgn_drawing.specs.declared.row.Row.{Row}
 use Rattle.dgn_drawing.specs.Rows.{row_of}
 use Rattle.dgn_drawing.specs.Nesting.{BeginsFree, itself}
