@@ -11,6 +11,7 @@ mod fit_fault;
 mod fitting;
 mod hulls;
 mod keep;
+pub mod laws;
 mod open_box;
 mod reading;
 mod seat;

@@ -54,7 +54,7 @@ begins_as dim x xs made t axes good first begins =
     )
 
 -- a change of a later element and of the headers above it leaves the first element
-first_stays : (x : Element) (xs : List Element) (n : ℕ) (above : Element → Element) (other : Forest Element → Forest Element) → 0 < n → BeginsWith x (flat (exchange above other n (forest row_of (x ∷ xs))))
+pub first_stays : (x : Element) (xs : List Element) (n : ℕ) (above : Element → Element) (other : Forest Element → Forest Element) → 0 < n → BeginsWith x (flat (exchange above other n (forest row_of (x ∷ xs))))
 first_stays x xs zero above other later = absurd (omega arith)
 first_stays x xs (suc n) above other later =
     let past : nat_lt n 0 ≡ false = le-ltb n 0 (omega arith) in
