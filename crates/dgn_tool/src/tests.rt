@@ -611,7 +611,8 @@ fn words_of_the_command_line(rt: HostRuntime) -> Result<(), Fail> {
         &["pack", "in", "s", "in"],
         &["pack", "in", "s"],
     ];
-    let usage = b"usage: dgnedit edit IN SCRIPT OUT, check IN, gen SEED COUNT OUT, pack IN SCRIPT PATCH, apply IN PATCH OUT\n";
+    let usage =
+        b"usage: dgnedit edit IN SCRIPT OUT, check IN, gen SEED COUNT OUT, pack IN SCRIPT PATCH, apply IN PATCH OUT\n";
     for row in rows {
         let files = (design(alloc, 0, &[])?, b"".as_slice());
         shows(
