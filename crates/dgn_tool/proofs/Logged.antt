@@ -13,7 +13,7 @@ use Rattle.edit_ops.specs.declared.cause.Cause.{Cause}
 use Rattle.dgn_session.specs.State.{State, SessionValue, state_of, applied, entry, fence_entry, value_with, selection, fence_applied, earlier_of, is_none, undo_refused}
 use Rattle.edit_script.specs.declared.command.Command.{Command}
 use Rattle.edit_script.specs.declared.command.Command.TheVariants as command
-use Rattle.dgn_tool.specs.Commands.{after_command, after_all}
+use Rattle.dgn_tool.specs.Commands.{after_command}
 use Rattle.dgn_tool.specs.Remaining.{Made, Alone, Fenced, with_made, with_all_made, without_newest, with_command, with_commands}
 use Rattle.dgn_tool.specs.Packing.{entry_made, IsLogOf, LogsAs, AllLogAs}
 use Rattle.dgn_tool.proofs.Undone.{not_refused}

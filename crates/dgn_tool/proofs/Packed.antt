@@ -17,7 +17,6 @@ use Rattle.dgn_session.specs.State.{State, SessionValue, state_of, earlier_of}
 use Rattle.dgn_session.specs.Kept.{AreKept}
 use Rattle.dgn_session.specs.Laws.{IsSound}
 use Rattle.dgn_session.proofs.Steps.{bodies_first}
-use Rattle.dgn_session.proofs.Cutting.{opens_kept}
 use Rattle.edit_script.specs.declared.command.Command.{Command}
 use Rattle.dgn_tool.specs.Commands.{begun, after_all, refused_count}
 use Rattle.dgn_tool.specs.Ended.{ended}

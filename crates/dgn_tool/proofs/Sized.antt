@@ -1,17 +1,16 @@
 -- The fields that edits write have one to four bytes.
-use Rattle.std.proofs.Common.{ℕ, ◌+◌, ◌≤◌, List, [], ◌∷◌, ◌++◌, map, sym, subst, arith}
+use Rattle.std.proofs.Common.{ℕ, ◌≤◌, List, [], ◌∷◌, ◌++◌, arith}
 use Rattle.std.specs.List.{flat_map, AllByRecursion}
 use Rattle.std.proofs.lemmas.List.Concat.{flat_map-cons}
 use Rattle.dgn_layout.specs.declared.spot.Spot.{Spot}
 use Rattle.dgn_layout.specs.Spots.{range_spots, spots_of}
 use Rattle.dgn_drawing.specs.declared.edit.Edit.{Edit}
 use Rattle.dgn_drawing.specs.declared.edit.Edit.TheVariants as edit
-use Rattle.dgn_drawing.specs.declared.fence_edit.FenceEdit.{FenceEdit}
 use Rattle.dgn_drawing.specs.Element.{Element}
 use Rattle.dgn_drawing.specs.Spelling.{spell}
 use Rattle.edit_ops.specs.Trees.{Live, live_tree, above_tree}
 use Rattle.edit_ops.specs.Fields.{Field, spot_fields, fields_at, above_fields_at, part_fields, edited_fields}
-use Rattle.edit_ops.specs.Fenced.{edits_at, fenced_fields}
+use Rattle.edit_ops.specs.Fenced.{edits_at}
 use Rattle.dgn_tool.specs.Remaining.{Making, Alone, Fenced, fields_made}
 
 pub record HasFew (f : Field) : Type 0 where

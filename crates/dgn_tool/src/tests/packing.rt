@@ -44,7 +44,8 @@ fn packed_edits(rt: HostRuntime) -> Result<(), Fail> {
 }
 
 // Edits of each kind, and undos among them: six are left.
-const KINDS: &[u8] = b"color 1 7\nmove 1 1 1\nundo\nsym 1 4 - -\ncopy 1 1 1\nfence -9,-9 900,-9 900,900 -9,900\n\
+const KINDS: &[u8] =
+    b"color 1 7\nmove 1 1 1\nundo\nsym 1 4 - -\ncopy 1 1 1\nfence -9,-9 900,-9 900,900 -9,900\n\
 fmove inside 1 1\nfsym overlap 3 2 1\nundo\nfdelete inside\nundo\nline 1 0 0 0 0,0 1,1\ndelete 1\nundo\ndelete 2\n";
 
 #[test]
@@ -57,6 +58,9 @@ fn edits_of_each_kind_are_packed(rt: HostRuntime) -> Result<(), Fail> {
     let status = run(alloc, &words, &mut desk);
     assert!(rt; status == Status::Done);
     assert!(rt; desk.said() == b"entries 6\n".as_slice());
-    assert!(rt; desk.file("out").is_some_and(|file| file.starts_with(b"DGNPAT01\x06\x00\x00\x00")));
+    assert!(rt;
+        desk.file("out")
+            .is_some_and(|file| file.starts_with(b"DGNPAT01\x06\x00\x00\x00"))
+    );
     Ok(())
 }
