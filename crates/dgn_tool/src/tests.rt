@@ -600,7 +600,7 @@ fn length_limits(rt: HostRuntime) -> Result<(), Fail> {
 #[test]
 fn words_of_the_command_line(rt: HostRuntime) -> Result<(), Fail> {
     let alloc = rt.alloc();
-    let rows: [&[&str]; 12] = [
+    let rows: [&[&str]; 14] = [
         &[],
         &["check"],
         &["check", "in", "out"],
