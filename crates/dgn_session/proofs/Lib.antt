@@ -9,6 +9,5 @@ pub mod Steps
 pub mod Carried
 pub mod Chosen
 pub mod Restored
-pub mod Blocks
 pub mod Lone
 pub mod Appending
