@@ -9,9 +9,10 @@ use Rattle.dgn_desk.specs.declared.stop.Stop.{Stop}
 use Rattle.dgn_drawing.specs.Shown.{shown}
 use Rattle.dgn_drawing.specs.Spelling.{spelling}
 use Rattle.dgn_session.specs.State.{State}
-use Rattle.dgn_tool.specs.Commands.{begun, after_all}
+use Rattle.dgn_tool.specs.Commands.{begun}
+use Rattle.dgn_tool.specs.Given.{after_all}
 use Rattle.dgn_tool.specs.Filling.{is_blocks, left_in_block, filling, file_made}
-use Rattle.dgn_tool.specs.Generation.{fixed_commands, sizes_of, summary, generated_from, drawing_of, generation}
+use Rattle.dgn_tool.specs.Generation.{fixed_steps, sizes_of, summary, generated_from, drawing_of, generation}
 use Rattle.dgn_tool.specs.Lines.{numbered}
 use Rattle.dgn_tool.specs.Ended.{file_after}
 use Rattle.dgn_tool.specs.Outcome.{Leaves, Stops, IsFrontOf, ComesTo, IsStopped}
@@ -28,48 +29,48 @@ module _ (s : State) (t output : List ℕ) where
       record { content = c; told_is = e; front = []; is_front = (summary s t, refl); said_is = sym (append-nil c.said); files_are = inl refl }
 
   -- or a front of it was
-  written_front : (front : List ℕ) (old now : Option Content) → IsFrontOf (file_after s t fixed_commands) front → now ≡ option_map (filed output front) old → IfSome old (λ c. Stops (generated_from s t output) c now)
+  written_front : (front : List ℕ) (old now : Option Content) → IsFrontOf (file_after s t fixed_steps) front → now ≡ option_map (filed output front) old → IfSome old (λ c. Stops (generated_from s t output) c now)
   written_front front None now is e = tt
   written_front front (Some c) now is e =
       record { content = filed output front c; told_is = e; front = []; is_front = (summary s t, refl); said_is = sym (append-nil c.said); files_are = inr (front, is, refl) }
 
-  written_part : (bytes : List ℕ) (stop : Stop) (old now : Option Content) → bytes ≡ file_after s t fixed_commands → FilesAll (Err stop) output bytes old now → IfSome old (λ c. Stops (generated_from s t output) c now)
+  written_part : (bytes : List ℕ) (stop : Stop) (old now : Option Content) → bytes ≡ file_after s t fixed_steps → FilesAll (Err stop) output bytes old now → IfSome old (λ c. Stops (generated_from s t output) c now)
   written_part bytes stop old now is (inl e) = unwritten old now e
   written_part bytes stop old now is (inr part) =
       written_front (take part.0 bytes) old now (subst (λ (b : List ℕ). IsFrontOf b (take part.0 bytes)) is (is_taken bytes part.0)) part.2
 
   -- the file was written, and a front of the summary said
-  said_front : (front bytes : List ℕ) (old mid now : Option Content) → bytes ≡ file_after s t fixed_commands → mid ≡ option_map (filed output bytes) old → IsFrontOf (summary s t) front → now ≡ option_map (spoken front) mid → IfSome old (λ c. Stops (generated_from s t output) c now)
+  said_front : (front bytes : List ℕ) (old mid now : Option Content) → bytes ≡ file_after s t fixed_steps → mid ≡ option_map (filed output bytes) old → IsFrontOf (summary s t) front → now ≡ option_map (spoken front) mid → IfSome old (λ c. Stops (generated_from s t output) c now)
   said_front front bytes None mid now is filed_is part e = tt
   said_front front bytes (Some c) mid now is filed_is part e =
       record {
-        content = spoken front (filed output (file_after s t fixed_commands) c);
+        content = spoken front (filed output (file_after s t fixed_steps) c);
         told_is = rw (e, filed_is, is) refl;
         front = front;
         is_front = part;
         said_is = refl;
-        files_are = inr (file_after s t fixed_commands, ([], sym (append-nil (file_after s t fixed_commands))), refl);
+        files_are = inr (file_after s t fixed_steps, ([], sym (append-nil (file_after s t fixed_steps))), refl);
       }
 
-  said_part : (text bytes : List ℕ) (stop : Stop) (old mid now : Option Content) → bytes ≡ file_after s t fixed_commands → text ≡ summary s t → mid ≡ option_map (filed output bytes) old → SaysAll (Err stop) text mid now → IfSome old (λ c. Stops (generated_from s t output) c now)
+  said_part : (text bytes : List ℕ) (stop : Stop) (old mid now : Option Content) → bytes ≡ file_after s t fixed_steps → text ≡ summary s t → mid ≡ option_map (filed output bytes) old → SaysAll (Err stop) text mid now → IfSome old (λ c. Stops (generated_from s t output) c now)
   said_part text bytes stop old mid now is told filed_is says =
       said_front (take says.0 text) bytes old mid now is filed_is (subst (λ (b : List ℕ). IsFrontOf b (take says.0 text)) told (is_taken text says.0)) says.2
 
   -- all was written and said
-  said_all : (text bytes : List ℕ) (old mid now : Option Content) → bytes ≡ file_after s t fixed_commands → text ≡ summary s t → mid ≡ option_map (filed output bytes) old → now ≡ option_map (spoken text) mid → IfSome old (λ c. Leaves (generated_from s t output) statuses.Done c now)
+  said_all : (text bytes : List ℕ) (old mid now : Option Content) → bytes ≡ file_after s t fixed_steps → text ≡ summary s t → mid ≡ option_map (filed output bytes) old → now ≡ option_map (spoken text) mid → IfSome old (λ c. Leaves (generated_from s t output) statuses.Done c now)
   said_all text bytes None mid now is told filed_is e = tt
   said_all text bytes (Some c) mid now is told filed_is e =
       record {
         status_is = refl;
-        content = spoken (summary s t) (filed output (file_after s t fixed_commands) c);
+        content = spoken (summary s t) (filed output (file_after s t fixed_steps) c);
         told_is = rw (e, filed_is, is, told) refl;
         said_is = refl;
         files_are = refl;
       }
 
-  module _ (new : State) (tail text : List ℕ) (before : ℕ) (old : Option Content) (drawn : new ≡ after_all fixed_commands s) (back : tail ≡ t) (begins : before ≡ length (spelling s.top)) where
-    made : file_made before tail (spelling new.top) ≡ file_after s t fixed_commands
-    made = made_so s new t tail fixed_commands before drawn back begins
+  module _ (new : State) (tail text : List ℕ) (before : ℕ) (old : Option Content) (drawn : new ≡ after_all fixed_steps s) (back : tail ≡ t) (begins : before ≡ length (spelling s.top)) where
+    made : file_made before tail (spelling new.top) ≡ file_after s t fixed_steps
+    made = made_so s new t tail fixed_steps before drawn back begins
 
     pub tried : (mid now : Option Content) → text ≡ summary s t → mid ≡ option_map (filed output (file_made before tail (spelling new.top))) old → now ≡ option_map (spoken text) mid → ComesTo statuses.Done (λ _. generated_from s t output) old now
     tried mid now told filed_is said =

@@ -3,6 +3,7 @@
 mod faults;
 mod fences;
 mod hostile;
+mod imports;
 mod made;
 mod packing;
 mod patches;
@@ -600,7 +601,7 @@ fn length_limits(rt: HostRuntime) -> Result<(), Fail> {
 #[test]
 fn words_of_the_command_line(rt: HostRuntime) -> Result<(), Fail> {
     let alloc = rt.alloc();
-    let rows: [&[&str]; 12] = [
+    let rows: [&[&str]; 14] = [
         &[],
         &["check"],
         &["check", "in", "out"],
