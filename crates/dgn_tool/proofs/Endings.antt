@@ -191,7 +191,7 @@ script_too_long script go_on h =
     rw test refl
 
 -- SCRIPT has no more bytes than it may
-script_reads : (script : List ℕ) (go_on : List Command → Outcome) (found : Result (List Command) ScriptFault) → length script ≤ 1048576 → commands_of script ≡ found → scripted script go_on ≡ script_outcome found go_on
+pub script_reads : (script : List ℕ) (go_on : List Command → Outcome) (found : Result (List Command) ScriptFault) → length script ≤ 1048576 → commands_of script ≡ found → scripted script go_on ≡ script_outcome found go_on
 script_reads script go_on found h e =
     let test : nat_lt 1048576 (length script) ≡ false = grind (arith, nat_tests) in
     rw (test, e) refl
@@ -217,13 +217,8 @@ pub reads_so : (name text : List ℕ) (cs : List Command) (old : Option Content)
 reads_so name text cs None whole within reads = tt
 reads_so name text cs (Some c) whole within reads = (subst (λ b. length {A = ℕ} b ≤ 1048576) whole within, ap commands_of (sym whole) ∙ reads)
 
--- and a run goes on with its commands
-pub goes_on_with : (name : List ℕ) (cs : List Command) (go_on : List Command → Outcome) (old : Option Content) → ReadsAs name old cs → IfSome old (λ c. scripted (bytes_of c.files name) go_on ≡ go_on cs)
-goes_on_with name cs go_on None reads = tt
-goes_on_with name cs go_on (Some c) reads = script_reads (bytes_of c.files name) go_on (Ok cs) reads.0 reads.1
-
 -- an IN within its limit that opens comes to SCRIPT
-comes : (input : List ℕ) (d : Opened) → length input ≤ 67108864 → opening input ≡ Ok d → IsTrue (comes_to_script input)
+pub comes : (input : List ℕ) (d : Opened) → length input ≤ 67108864 → opening input ≡ Ok d → IsTrue (comes_to_script input)
 comes input d within opens =
     let test : nat_le (length input) 67108864 ≡ true = grind (arith, nat_tests) in
     rw (test, opens) refl
@@ -250,8 +245,3 @@ counts_so name d count (Some c) opens is =
 pub counts : (name text : List ℕ) (count : ℕ) (old : Option Content) → IfSome old (λ c. text ≡ bytes_of c.files name) → length text ≤ 67108864 → HasCount text count → IfSome old (λ c. input_outcome (bytes_of c.files name) checked ≡ ended statuses.Done (numbered (codes "elements ") count))
 counts name text count old whole within has =
     counts_so name has.opened count old (opens_so name text has.opened old whole within has.found) has.counted
-
--- and a run that reads SCRIPT goes on with it
-pub goes_on : (name script : List ℕ) (go_on : Opened → List Command → Outcome) (d : Opened) (old : Option Content) → OpensAs name old d → IfSome old (λ c. input_outcome (bytes_of c.files name) (λ x. scripted (bytes_of c.files script) (go_on x)) ≡ scripted (bytes_of c.files script) (go_on d))
-goes_on name script go_on d None opens = tt
-goes_on name script go_on d (Some c) opens = input_opens (bytes_of c.files name) (λ x. scripted (bytes_of c.files script) (go_on x)) (Ok d) opens.0 opens.1

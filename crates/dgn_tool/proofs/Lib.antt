@@ -1,5 +1,6 @@
 mod Untouched
 mod Endings
+mod Stepping
 mod Ran
 mod Tallied
 mod Finished
@@ -13,6 +14,11 @@ mod Links
 mod Tried
 mod Logged
 mod Stacked
+mod Appending
+mod SecondsRead
+mod Names
+mod Imported
+mod InputsRead
 mod Linked
 mod Packed
 mod Sized

@@ -6,7 +6,10 @@ use Rattle.std.proofs.lemmas.List.Elements.{All-head, All-tail}
 use Rattle.patch_bytes.specs.Puts.{write}
 use Rattle.dgn_drawing.specs.Element.{Element}
 use Rattle.dgn_drawing.specs.Spelling.{spelling}
-use Rattle.dgn_drawing.specs.Opening.{Opens}
+use Rattle.dgn_drawing.specs.Opening.{Opens, elements_of}
+use Rattle.dgn_drawing.specs.Values.{Displacement}
+use Rattle.dgn_import.specs.Seconds.{SecondValue}
+use Rattle.dgn_import.specs.Gathering.{AreTrees}
 use Rattle.plane_geom.specs.declared.pt.Pt.{Pt}
 use Rattle.dgn_drawing.specs.declared.edit.Edit.{Edit}
 use Rattle.dgn_drawing.specs.declared.fence_edit.FenceEdit.{FenceEdit}
@@ -24,10 +27,13 @@ use Rattle.edit_ops.proofs.Reopened.{edited_opens, edited_fits, changes_fields}
 use Rattle.edit_ops.proofs.Fenced.{fenced_opens, fenced_fits, fenced_changes, fenced_apart}
 use Rattle.edit_script.specs.declared.command.Command.{Command}
 use Rattle.edit_script.specs.declared.command.Command.TheVariants as command
-use Rattle.dgn_tool.specs.Commands.{fence_refused, after_command, after_all}
-use Rattle.dgn_tool.specs.Remaining.{Made, Alone, Fenced, fields_made, with_made, with_all_made, without_newest, with_command, with_commands}
+use Rattle.dgn_tool.specs.Commands.{fence_refused, after_command}
+use Rattle.dgn_tool.specs.Imports.{Importing, Appends, Declines, importing_of, import_left}
+use Rattle.dgn_tool.specs.Given.{Given, Plain, Import, after_step, after_all}
+use Rattle.dgn_tool.specs.Remaining.{Made, Alone, Fenced, Imported, fields_made, with_made, with_all_made, without_newest, with_import, with_command, with_step, with_steps}
 use Rattle.dgn_tool.specs.Laws.{IsOutside, IsEditIn}
-use Rattle.dgn_tool.proofs.Stacked.{IsStacked, command_stacks}
+use Rattle.dgn_tool.proofs.Appending.{IsStep, import_behind, appended}
+use Rattle.dgn_tool.proofs.Stacked.{lists_made, IsStacked, step_stacks}
 
 -- an edit made elements of others: they open with the tail, have no fewer bytes, the same ones at each place that it
 -- doesn't write, and there what it writes; its fields rise; and they keep the limit of a design file where those did
@@ -107,6 +113,24 @@ module _ (dim rest : ℕ) (t : List ℕ) (base : List Element) where
       roots_link on left e (selected dim mask corners mode on) (apply_all dim on rest e (selected dim mask corners mode on)) fits
       ((λ n. takes mode corners (tree_shown dim mask on n)), refl) refl top linked
 
+  -- an import puts trees behind
+  import_links : (on : List Element) (left : List Made) (b : List ℕ) → AreTrees dim b → length (spelling on) + rest + length b ≤ 67108864 → on ≡ top_of base left → AreLinked dim rest t base left
+      → AreLinked dim rest t base (record { on = on; making = Imported (elements_of dim b); made = on ++ elements_of dim b } ∷ left)
+  import_links on left b trees few top linked =
+      let behind = import_behind dim t on b trees (opens_on on left top linked) in
+      (
+        record {
+          opens = behind.opens;
+          long = omega (arith, behind.long);
+          same = λ p below _. behind.same p below;
+          rise = omega arith;
+          written = behind.written;
+          fits = λ _. omega (arith, behind.long, few);
+        },
+        top,
+        linked,
+      )
+
   -- an undo takes the newest away
   undo_links : (refused : Bool) (left : List Made) → AreLinked dim rest t base left → AreLinked dim rest t base (without_newest refused left)
   undo_links true left linked = linked
@@ -115,6 +139,7 @@ module _ (dim rest : ℕ) (t : List ℕ) (base : List Element) where
 
 -- a command leaves such edits
 command_links : (t : List ℕ) (base : List Element) (s : State) (left : List Made) (c : Command) → IsEditIn c → IsStacked base s left → AreLinked s.dim s.rest t base left → AreLinked s.dim s.rest t base (with_command s c left)
+command_links t base s left (command.Import name by) fits stacked linked = linked
 command_links t base s left (command.Edit e) fits stacked linked = edit_links s.dim s.rest t base s.top left e (applied e s) fits refl (stack_top base s left stacked) linked
 command_links t base s left (command.Fenced mode e) fits stacked linked = fence_links s.dim s.rest t base s.top left s.mask mode e s.fence fits (stack_top base s left stacked) linked
 command_links t base s left command.Undo fits stacked linked = undo_links s.dim s.rest t base (undo_refused s) left linked
@@ -127,6 +152,18 @@ command_links t base s left command.Elements fits stacked linked = linked
 command_links t base s left command.Refs fits stacked linked = linked
 command_links t base s left (command.Links n) fits stacked linked = linked
 command_links t base s left (command.Select mode) fits stacked linked = linked
+
+-- a step leaves such edits
+import_leaves : (t : List ℕ) (base : List Element) (s : State) (left : List Made) (v : SecondValue) (by : Option Displacement) (came : Importing) → importing_of s v by ≡ came → IsStep (Import v by)
+    → IsStacked base s left → AreLinked s.dim s.rest t base left → AreLinked s.dim s.rest t base (with_import came s left)
+import_leaves t base s left v by (Appends b count) is fits stacked linked =
+    let so = appended s v by b count is fits in
+    import_links s.dim s.rest t base s.top left b so.0 so.1 (stack_top base s left stacked) linked
+import_leaves t base s left v by (Declines line) is fits stacked linked = linked
+
+step_links : (t : List ℕ) (base : List Element) (s : State) (left : List Made) (g : Given) → IsStep g → IsStacked base s left → AreLinked s.dim s.rest t base left → AreLinked s.dim s.rest t base (with_step s g left)
+step_links t base s left (Plain c) fits stacked linked = command_links t base s left c fits stacked linked
+step_links t base s left (Import v by) fits stacked linked = import_leaves t base s left v by (importing_of s v by) refl fits stacked linked
 
 -- What no command changes of a state.
 module _ {X : Type 0} (part : State → X) (stack : (top : List Element) (earlier : List (List Element)) (s : State) → part (with_stack top earlier s) ≡ part s)
@@ -144,6 +181,7 @@ module _ {X : Type 0} (part : State → X) (stack : (top : List Element) (earlie
   dropped_keeps (es ∷ earlier) s = stack es earlier s
 
   command_keeps : (s : State) (c : Command) → part (after_command s c) ≡ part s
+  command_keeps s (command.Import name by) = refl
   command_keeps s (command.Edit e) = pushed_keeps (applied e s) s
   command_keeps s (command.Fenced mode e) = pushed_if_keeps (fence_applied mode e s) s
   command_keeps s command.Undo = dropped_keeps s.earlier s
@@ -157,30 +195,38 @@ module _ {X : Type 0} (part : State → X) (stack : (top : List Element) (earlie
   command_keeps s (command.Links n) = refl
   command_keeps s (command.Select mode) = refl
 
-  commands_keep : (cs : List Command) (s : State) → part (after_all cs s) ≡ part s
-  commands_keep [] s = refl
-  commands_keep (c ∷ cs) s = commands_keep cs (after_command s c) ∙ command_keeps s c
+  import_keeps : (came : Importing) (s : State) → part (import_left came s) ≡ part s
+  import_keeps (Appends b count) s = stack (s.top ++ elements_of s.dim b) (s.top ∷ s.earlier) s
+  import_keeps (Declines line) s = refl
+
+  step_keeps : (s : State) (g : Given) → part (after_step s g) ≡ part s
+  step_keeps s (Plain c) = command_keeps s c
+  step_keeps s (Import v by) = import_keeps (importing_of s v by) s
+
+  steps_keep : (gs : List Given) (s : State) → part (after_all gs s) ≡ part s
+  steps_keep [] s = refl
+  steps_keep (g ∷ gs) s = steps_keep gs (after_step s g) ∙ step_keeps s g
 
 -- the dimension, and the length of the tail
-command_dim : (s : State) (c : Command) → (after_command s c).dim ≡ s.dim
-command_dim s c = command_keeps (λ (x : State). x.dim) (λ _ _ _. refl) (λ _ _. refl) (λ _ _. refl) s c
+step_dim : (s : State) (g : Given) → (after_step s g).dim ≡ s.dim
+step_dim s g = step_keeps (λ (x : State). x.dim) (λ _ _ _. refl) (λ _ _. refl) (λ _ _. refl) s g
 
-command_rest : (s : State) (c : Command) → (after_command s c).rest ≡ s.rest
-command_rest s c = command_keeps (λ (x : State). x.rest) (λ _ _ _. refl) (λ _ _. refl) (λ _ _. refl) s c
+step_rest : (s : State) (g : Given) → (after_step s g).rest ≡ s.rest
+step_rest s g = step_keeps (λ (x : State). x.rest) (λ _ _ _. refl) (λ _ _. refl) (λ _ _. refl) s g
 
-pub commands_dim : (cs : List Command) (s : State) → (after_all cs s).dim ≡ s.dim
-commands_dim cs s = commands_keep (λ (x : State). x.dim) (λ _ _ _. refl) (λ _ _. refl) (λ _ _. refl) cs s
+pub steps_dim : (gs : List Given) (s : State) → (after_all gs s).dim ≡ s.dim
+steps_dim gs s = steps_keep (λ (x : State). x.dim) (λ _ _ _. refl) (λ _ _. refl) (λ _ _. refl) gs s
 
--- commands leave such edits
-pub commands_link : (t : List ℕ) (base : List Element) (cs : List Command) (s : State) (left : List Made) → All IsEditIn cs → IsStacked base s left → AreLinked s.dim s.rest t base left → AreLinked s.dim s.rest t base (with_commands cs s left)
-commands_link t base [] s left fits stacked linked = linked
-commands_link t base (c ∷ cs) s left fits stacked linked =
-    let next : State = after_command s c in
-    let more : List Made = with_command s c left in
-    let one = command_links t base s left c (All-head IsEditIn c cs fits) stacked linked in
-    let here = subst (λ (n : ℕ). AreLinked n next.rest t base more) (sym (command_dim s c)) (subst (λ (n : ℕ). AreLinked s.dim n t base more) (sym (command_rest s c)) one) in
-    let all = commands_link t base cs next more (All-tail IsEditIn c cs fits) (command_stacks base s left c stacked) here in
-    subst (λ (n : ℕ). AreLinked s.dim n t base (with_commands cs next more)) (command_rest s c) (subst (λ (n : ℕ). AreLinked n next.rest t base (with_commands cs next more)) (command_dim s c) all)
+-- steps leave such edits
+pub steps_link : (t : List ℕ) (base : List Element) (gs : List Given) (s : State) (left : List Made) → All IsStep gs → IsStacked base s left → AreLinked s.dim s.rest t base left → AreLinked s.dim s.rest t base (with_steps gs s left)
+steps_link t base [] s left fits stacked linked = linked
+steps_link t base (g ∷ gs) s left fits stacked linked =
+    let next : State = after_step s g in
+    let more : List Made = with_step s g left in
+    let one = step_links t base s left g (All-head IsStep g gs fits) stacked linked in
+    let here = subst (λ (n : ℕ). AreLinked n next.rest t base more) (sym (step_dim s g)) (subst (λ (n : ℕ). AreLinked s.dim n t base more) (sym (step_rest s g)) one) in
+    let all = steps_link t base gs next more (All-tail IsStep g gs fits) (step_stacks base s left g stacked) here in
+    subst (λ (n : ℕ). AreLinked s.dim n t base (with_steps gs next more)) (step_rest s g) (subst (λ (n : ℕ). AreLinked n next.rest t base (with_steps gs next more)) (step_dim s g) all)
 
 -- they have no fewer bytes than the lowest
 pub linked_long : (dim rest : ℕ) (t : List ℕ) (base : List Element) (left : List Made) → AreLinked dim rest t base left → length (spelling base) ≤ length (spelling (top_of base left))

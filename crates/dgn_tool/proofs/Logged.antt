@@ -8,14 +8,17 @@ use Rattle.dgn_drawing.specs.declared.edit.Edit.{Edit}
 use Rattle.dgn_drawing.specs.declared.fence_edit.FenceEdit.{FenceEdit}
 use Rattle.dgn_drawing.specs.declared.mode.Mode.{Mode}
 use Rattle.dgn_drawing.specs.Element.{Element}
+use Rattle.dgn_drawing.specs.Opening.{elements_of}
+use Rattle.dgn_session.specs.Imported.{import_entry}
 use Rattle.edit_ops.specs.Applying.{Applied, Done, Refused}
 use Rattle.edit_ops.specs.declared.cause.Cause.{Cause}
 use Rattle.dgn_session.specs.State.{State, SessionValue, state_of, applied, entry, fence_entry, value_with, selection, fence_applied, earlier_of, is_none, undo_refused}
 use Rattle.edit_script.specs.declared.command.Command.{Command}
 use Rattle.edit_script.specs.declared.command.Command.TheVariants as command
-use Rattle.dgn_tool.specs.Commands.{after_command}
-use Rattle.dgn_tool.specs.Remaining.{Made, Alone, Fenced, with_made, with_all_made, without_newest, with_command, with_commands}
-use Rattle.dgn_tool.specs.Packing.{entry_made, IsLogOf, LogsAs, AllLogAs}
+use Rattle.dgn_tool.specs.Imports.{Appends, Declines}
+use Rattle.dgn_tool.specs.Given.{Given, after_step}
+use Rattle.dgn_tool.specs.Remaining.{Made, Alone, Fenced, Imported, with_made, with_all_made, without_newest, with_step, with_steps}
+use Rattle.dgn_tool.specs.Packing.{entry_made, IsLogOf, LogsAs, ImportLogsAs, StepLogsAs, AllLogAs}
 use Rattle.dgn_tool.proofs.Undone.{not_refused}
 
 -- the same entries
@@ -96,25 +99,35 @@ nothing_logs old new none is left log =
     subst (λ (r : Bool). IsLogOf new (without_newest r left)) (sym refused)
     (subst (λ (v : SessionValue). IsLogOf v left) (sym is) log)
 
--- commands, one after the other: what those that ran have left, and what those that are left will
-pub record LogsSo (all rest : List Command) (from v : SessionValue) : Type 0 where
-  pub so : (left : List Made) → IsLogOf from left → (now : List Made) × IsLogOf v now × (with_commands all (state_of from) left ≡ with_commands rest (state_of v) now)
+-- an import of trees with these bytes
+pub import_logs : (old new : SessionValue) (b body : List ℕ) (count : ℕ) → new ≡ value_with body (old.entries ++ import_entry (state_of old).top ∷ []) old → ImportLogsAs (Appends b count) old new
+import_logs old new b body count is left log =
+    let more : List Element = elements_of old.dim b in
+    log_more old new left (record { on = (state_of old).top; making = Imported more; made = (state_of old).top ++ more }) (ap (λ (v : SessionValue). v.entries) is) (ap (λ (v : SessionValue). v.dim) is) log
 
-pub logs_none : (all : List Command) (v : SessionValue) → LogsSo all all v v
+-- one that is refused
+pub import_refusal_logs : (old new : SessionValue) (line : List ℕ) → new ≡ old → ImportLogsAs (Declines line) old new
+import_refusal_logs old new line is left log = subst (λ (v : SessionValue). IsLogOf v left) (sym is) log
+
+-- steps, one after the other: what those that ran have left, and what those that are left will
+pub record LogsSo (all rest : List Given) (from v : SessionValue) : Type 0 where
+  pub so : (left : List Made) → IsLogOf from left → (now : List Made) × IsLogOf v now × (with_steps all (state_of from) left ≡ with_steps rest (state_of v) now)
+
+pub logs_none : (all : List Given) (v : SessionValue) → LogsSo all all v v
 logs_none all v = record { so = λ left log. (left, log, refl) }
 
-pub logs_more : (all rest : List Command) (c : Command) (from v new : SessionValue) → LogsSo all (c ∷ rest) from v → LogsAs c v new → state_of new ≡ after_command (state_of v) c → LogsSo all rest from new
+pub logs_more : (all rest : List Given) (c : Given) (from v new : SessionValue) → LogsSo all (c ∷ rest) from v → StepLogsAs c v new → state_of new ≡ after_step (state_of v) c → LogsSo all rest from new
 logs_more all rest c from v new logs one is =
     record {
       so = λ left log.
           let before = logs.so left log in (
-            with_command (state_of v) c before.0,
+            with_step (state_of v) c before.0,
             one before.0 before.1,
-            before.2 ∙ ap (λ (s : State). with_commands rest s (with_command (state_of v) c before.0)) (sym is),
+            before.2 ∙ ap (λ (s : State). with_steps rest s (with_step (state_of v) c before.0)) (sym is),
           );
     }
 
-pub logs_all : (all rest : List Command) (from v : SessionValue) → LogsSo all rest from v → rest ≡ [] → AllLogAs all from v
+pub logs_all : (all rest : List Given) (from v : SessionValue) → LogsSo all rest from v → rest ≡ [] → AllLogAs all from v
 logs_all all rest from v logs none left log =
     let end = logs.so left log in
-    subst (IsLogOf v) (sym (end.2 ∙ ap (λ (cs : List Command). with_commands cs (state_of v) end.0) none)) end.1
+    subst (IsLogOf v) (sym (end.2 ∙ ap (λ (cs : List Given). with_steps cs (state_of v) end.0) none)) end.1

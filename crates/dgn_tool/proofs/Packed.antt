@@ -17,15 +17,16 @@ use Rattle.dgn_session.specs.State.{State, SessionValue, state_of, earlier_of}
 use Rattle.dgn_session.specs.Kept.{AreKept}
 use Rattle.dgn_session.specs.Laws.{IsSound}
 use Rattle.dgn_session.proofs.Steps.{bodies_first}
-use Rattle.edit_script.specs.declared.command.Command.{Command}
-use Rattle.dgn_tool.specs.Commands.{begun, after_all, refused_count}
+use Rattle.dgn_session.proofs.Cutting.{opens_kept}
+use Rattle.dgn_tool.specs.Commands.{begun}
+use Rattle.dgn_tool.specs.Given.{Given, after_all, refused_count}
 use Rattle.dgn_tool.specs.Ended.{ended}
 use Rattle.dgn_tool.specs.Lines.{numbered}
 use Rattle.dgn_tool.specs.declared.status.Status.TheVariants as statuses
-use Rattle.dgn_tool.specs.Remaining.{Made, with_commands}
+use Rattle.dgn_tool.specs.Remaining.{Made, with_steps}
 use Rattle.dgn_tool.specs.Packing.{entry_made, packed_made, packed_after, filed_patch, packed_from, IsLogOf, AllLogAs, TakesLast}
-use Rattle.dgn_tool.proofs.Stacked.{lists_made, IsStacked, commands_stack}
-use Rattle.dgn_tool.proofs.Linked.{commands_dim}
+use Rattle.dgn_tool.proofs.Stacked.{lists_made, IsStacked, steps_stack}
+use Rattle.dgn_tool.proofs.Linked.{steps_dim}
 
 -- lists that are the same begin and go on with the same
 heads : {X : Type 0} (x y : X) (xs ys : List X) → x ∷ xs ≡ y ∷ ys → x ≡ y
@@ -50,15 +51,15 @@ taken_are dim tail b base (m ∷ left) kept lists =
     ∙ ap (map (packed_made dim)) (sym (reverse-append (m ∷ []) left))
 
 -- what is taken off a session that ran these commands
-pub packs : (cs : List Command) (from v : SessionValue) (d : Opened) → state_of from ≡ begun d → from.entries ≡ [] → AllLogAs cs from v → state_of v ≡ after_all cs (state_of from) → IsSound v
+pub packs : (cs : List Given) (from v : SessionValue) (d : Opened) → state_of from ≡ begun d → from.entries ≡ [] → AllLogAs cs from v → state_of v ≡ after_all cs (state_of from) → IsSound v
     → all_taken v.body (reverse v.entries) ≡ packed_after cs (begun d)
 packs cs from v d begins none logs after sound =
     let base : List Element = (state_of from).top in
-    let left : List Made = with_commands cs (state_of from) [] in
+    let left : List Made = with_steps cs (state_of from) [] in
     let log : IsLogOf v left = logs [] (ap (λ (es : List Entry). reverse es) none) in
     let start : IsStacked base (state_of from) [] = ap (λ (es : List Entry). base ∷ earlier_of from.dim from.body (reverse es)) none in
-    let stacked : IsStacked base (state_of v) left = subst (λ (s : State). IsStacked base s left) (sym after) (commands_stack base cs (state_of from) [] start) in
-    let dim : v.dim ≡ from.dim = ap (λ (s : State). s.dim) after ∙ commands_dim cs (state_of from) in
+    let stacked : IsStacked base (state_of v) left = subst (λ (s : State). IsStacked base s left) (sym after) (steps_stack base cs (state_of from) [] start) in
+    let dim : v.dim ≡ from.dim = ap (λ (s : State). s.dim) after ∙ steps_dim cs (state_of from) in
     let lists = bodies_first v.dim v.body (reverse v.entries) ∙ stacked in
     ap (all_taken v.body) log
     ∙ taken_are v.dim v.tail v.body base left (subst (AreKept v.dim v.tail v.body) log sound)
@@ -138,14 +139,14 @@ line_said empty line bytes entries none spelled same =
     ∙ ap (numbered (codes "entries ")) (sym (length-map entries packed_of))
 
 -- the outcome of a patch file that isn't too long, and of one that is
-pub packed_short : (cs : List Command) (s : State) (es : List Packed) (refused : ℕ) (patch : List ℕ) → es ≡ packed_after cs s → refused ≡ refused_count cs s → length (patch_spelling es) ≤ 134217728 → filed_patch es refused patch ≡ packed_from s cs patch
+pub packed_short : (cs : List Given) (s : State) (es : List Packed) (refused : ℕ) (patch : List ℕ) → es ≡ packed_after cs s → refused ≡ refused_count cs s → length (patch_spelling es) ≤ 134217728 → filed_patch es refused patch ≡ packed_from s cs patch
 packed_short cs s es refused patch same count short =
     let within : length (patch_spelling (packed_after cs s)) ≤ 134217728 = subst (λ (ps : List Packed). length (patch_spelling ps) ≤ 134217728) same short in
     let test : nat_lt 134217728 (length (patch_spelling (packed_after cs s))) ≡ false = grind (arith, nat_tests) in
     ap (λ (ps : List Packed). filed_patch ps refused patch) same ∙ ap (λ (n : ℕ). filed_patch (packed_after cs s) n patch) count
     ∙ sym (ap (λ (b : Bool). cond b (ended statuses.TooLong (codes "too long patch\n")) (filed_patch (packed_after cs s) (refused_count cs s) patch)) test)
 
-pub packed_long : (cs : List Command) (s : State) (es : List Packed) (patch : List ℕ) → es ≡ packed_after cs s → 134217728 < length (patch_spelling es) → ended statuses.TooLong (codes "too long patch\n") ≡ packed_from s cs patch
+pub packed_long : (cs : List Given) (s : State) (es : List Packed) (patch : List ℕ) → es ≡ packed_after cs s → 134217728 < length (patch_spelling es) → ended statuses.TooLong (codes "too long patch\n") ≡ packed_from s cs patch
 packed_long cs s es patch same long =
     let over : 134217728 < length (patch_spelling (packed_after cs s)) = subst (λ (ps : List Packed). 134217728 < length (patch_spelling ps)) same long in
     let test : nat_lt 134217728 (length (patch_spelling (packed_after cs s))) ≡ true = grind (arith, nat_tests) in

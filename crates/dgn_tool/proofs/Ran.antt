@@ -1,5 +1,4 @@
--- The commands of a script, one after the other: what those that ran have said and done, and what those
--- that are left will.
+-- The steps of a run, one after the other: what those that ran have said and done, and what those that are left will.
 use Rattle.std.proofs.Common.{◌≡◌, ℕ, ◌+◌, ◌≤◌, Bool, true, false, Result, Ok, Err, OnErr, List, [], ◌∷◌, ◌++◌, take, drop, arith, Option, Some, None, refl, sym, ap, ◌∙◌, append_assoc}
 use Rattle.std.specs.Prelude.{option_map}
 use Rattle.std.specs.Int.{from_bool}
@@ -7,12 +6,11 @@ use Rattle.std.proofs.lemmas.List.{append-nil, take-append-drop}
 use Rattle.dgn_desk.specs.Content.{Content, spoken}
 use Rattle.dgn_desk.proofs.Telling.{spoken-append}
 use Rattle.dgn_session.specs.State.{State}
-use Rattle.edit_script.specs.declared.command.Command.{Command}
-use Rattle.dgn_tool.specs.Commands.{text_of, is_refused, after_command, after_all, texts_of, refused_count}
+use Rattle.dgn_tool.specs.Given.{Given, step_text, step_refused, after_step, after_all, texts_of, refused_count}
 use Rattle.dgn_tool.specs.Outcome.{SaysFront}
 
 -- the commands before these are done
-pub record Ran (all left : List Command) (refused : ℕ) (from s : State) (old now : Option Content) : Type 0 where
+pub record Ran (all left : List Given) (refused : ℕ) (from s : State) (old now : Option Content) : Type 0 where
   pub done : List ℕ
   pub texts : texts_of all from ≡ done ++ texts_of left s
   pub said : now ≡ option_map (spoken done) old
@@ -28,7 +26,7 @@ sum_front : (a : ℕ) → 0 + a ≡ a
 sum_front a = omega arith
 
 -- no command is done
-pub ran_none : (all : List Command) (s : State) (old : Option Content) → Ran all all 0 s s old old
+pub ran_none : (all : List Given) (s : State) (old : Option Content) → Ran all all 0 s s old old
 ran_none all s old = record { done = []; texts = refl; said = spoken-nil old; count = sym (sum_front (refused_count all s)); state = refl }
 
 sum_moved : (a b c : ℕ) → a + (b + c) ≡ (a + b) + c
@@ -38,11 +36,11 @@ sum_zero : (a : ℕ) → a + 0 ≡ a
 sum_zero a = omega arith
 
 -- one more command
-pub ran_more : (all left : List Command) (c : Command) (refused : ℕ) (was : Bool) (line : List ℕ) (from s new : State) (old now then : Option Content) → Ran all (c ∷ left) refused from s old now
-    → new ≡ after_command s c → line ≡ text_of s c → then ≡ option_map (spoken line) now → was ≡ is_refused s c
+pub ran_more : (all left : List Given) (c : Given) (refused : ℕ) (was : Bool) (line : List ℕ) (from s new : State) (old now then : Option Content) → Ran all (c ∷ left) refused from s old now
+    → new ≡ after_step s c → line ≡ step_text s c → then ≡ option_map (spoken line) now → was ≡ step_refused s c
     → Ran all left (refused + from_bool was) from new old then
 ran_more all left c refused was line from s new old now then ran new_is line_is says was_is =
-    let text : List ℕ = text_of s c in
+    let text : List ℕ = step_text s c in
     let said_line : then ≡ option_map (spoken text) now = says ∙ ap (λ (l : List ℕ). option_map (spoken l) now) line_is in
     record {
       done = ran.done ++ text;
@@ -51,34 +49,34 @@ ran_more all left c refused was line from s new old now then ran new_is line_is 
           ∙ sym (append_assoc ran.done text (texts_of left new));
       said = said_line ∙ ap (option_map (spoken text)) ran.said ∙ spoken-append ran.done text old;
       count = ran.count
-          ∙ ap (λ (t : State). refused + (from_bool (is_refused s c) + refused_count left t)) (sym new_is)
-          ∙ sum_moved refused (from_bool (is_refused s c)) (refused_count left new)
+          ∙ ap (λ (t : State). refused + (from_bool (step_refused s c) + refused_count left t)) (sym new_is)
+          ∙ sum_moved refused (from_bool (step_refused s c)) (refused_count left new)
           ∙ ap (λ (b : Bool). (refused + from_bool b) + refused_count left new) (sym was_is);
       state = ran.state ∙ ap (after_all left) (sym new_is);
     }
 
 -- where no command is left, all is done
-pub ran_all : (all left : List Command) (refused : ℕ) (from s : State) (old now : Option Content) → Ran all left refused from s old now → left ≡ [] → refused ≡ refused_count all from
+pub ran_all : (all left : List Given) (refused : ℕ) (from s : State) (old now : Option Content) → Ran all left refused from s old now → left ≡ [] → refused ≡ refused_count all from
 ran_all all left refused from s old now ran none =
-    sym (ran.count ∙ ap (λ (cs : List Command). refused + refused_count cs s) none ∙ sum_zero refused)
+    sym (ran.count ∙ ap (λ (cs : List Given). refused + refused_count cs s) none ∙ sum_zero refused)
 
-pub ran_said : (all left : List Command) (refused : ℕ) (from s : State) (old now : Option Content) → Ran all left refused from s old now → left ≡ [] → now ≡ option_map (spoken (texts_of all from)) old
+pub ran_said : (all left : List Given) (refused : ℕ) (from s : State) (old now : Option Content) → Ran all left refused from s old now → left ≡ [] → now ≡ option_map (spoken (texts_of all from)) old
 ran_said all left refused from s old now ran none =
-    let whole : texts_of all from ≡ ran.done = ran.texts ∙ ap (λ (cs : List Command). ran.done ++ texts_of cs s) none ∙ append-nil ran.done in
+    let whole : texts_of all from ≡ ran.done = ran.texts ∙ ap (λ (cs : List Given). ran.done ++ texts_of cs s) none ∙ append-nil ran.done in
     ran.said ∙ ap (λ (t : List ℕ). option_map (spoken t) old) (sym whole)
 
-pub ran_state : (all left : List Command) (refused : ℕ) (from s : State) (old now : Option Content) → Ran all left refused from s old now → left ≡ [] → s ≡ after_all all from
+pub ran_state : (all left : List Given) (refused : ℕ) (from s : State) (old now : Option Content) → Ran all left refused from s old now → left ≡ [] → s ≡ after_all all from
 ran_state all left refused from s old now ran none =
-    sym (ran.state ∙ ap (λ (cs : List Command). after_all cs s) none)
+    sym (ran.state ∙ ap (λ (cs : List Given). after_all cs s) none)
 
 -- where the run stops before a command is said, those before it were said
-pub ran_so_far : (all left : List Command) (refused : ℕ) (from s : State) (old now : Option Content) → Ran all left refused from s old now → SaysFront (texts_of all from) old now
+pub ran_so_far : (all left : List Given) (refused : ℕ) (from s : State) (old now : Option Content) → Ran all left refused from s old now → SaysFront (texts_of all from) old now
 ran_so_far all left refused from s old now ran = (ran.done, (texts_of left s, ran.texts), ran.said)
 
 -- and where the desk stops in the midst of its text, a front of that too
-pub ran_part : (all left : List Command) (c : Command) (refused count : ℕ) (line : List ℕ) (from s : State) (old now then : Option Content) → Ran all (c ∷ left) refused from s old now → line ≡ text_of s c → then ≡ option_map (spoken (take count line)) now → SaysFront (texts_of all from) old then
+pub ran_part : (all left : List Given) (c : Given) (refused count : ℕ) (line : List ℕ) (from s : State) (old now then : Option Content) → Ran all (c ∷ left) refused from s old now → line ≡ step_text s c → then ≡ option_map (spoken (take count line)) now → SaysFront (texts_of all from) old then
 ran_part all left c refused count line from s old now then ran line_is says =
-    let more : List ℕ = texts_of left (after_command s c) in (
+    let more : List ℕ = texts_of left (after_step s c) in (
       ran.done ++ take count line,
       (
         drop count line ++ more,

@@ -19,15 +19,16 @@ use Rattle.dgn_session.specs.State.{State}
 use Rattle.dgn_session.proofs.Leading.{leads_back}
 use Rattle.dgn_session.proofs.Rising.{rise_long, filled_rise, olds_filled}
 use Rattle.edit_ops.specs.Fields.{Field, Rise, filled}
-use Rattle.edit_script.specs.declared.command.Command.{Command}
-use Rattle.dgn_tool.specs.Commands.{begun, after_all}
-use Rattle.dgn_tool.specs.Remaining.{Made, fields_made, with_commands}
+use Rattle.dgn_tool.specs.Commands.{begun}
+use Rattle.dgn_tool.specs.Given.{Given, after_all}
+use Rattle.dgn_tool.specs.Remaining.{Made, fields_made, with_steps}
 use Rattle.dgn_tool.specs.Packing.{entry_made, packed_made, packed_after}
 use Rattle.dgn_tool.specs.Applied.{AllFit}
-use Rattle.dgn_tool.specs.Laws.{IsEditIn, PacksAgain, AppliedGivesTheSame}
+use Rattle.dgn_tool.specs.Laws.{steps_of, PacksAgain, AppliedGivesTheSame}
 use Rattle.dgn_tool.proofs.Sized.{HasFew, made_few}
-use Rattle.dgn_tool.proofs.Stacked.{IsStacked, commands_stack}
-use Rattle.dgn_tool.proofs.Linked.{IsLink, top_of, AreLinked, stack_top, commands_link, linked_fits}
+use Rattle.dgn_tool.proofs.Stacked.{IsStacked, steps_stack}
+use Rattle.dgn_tool.proofs.Appending.{IsStep, steps_given}
+use Rattle.dgn_tool.proofs.Linked.{IsLink, top_of, AreLinked, stack_top, steps_link, linked_fits}
 
 -- there are no more entries than bytes
 few_packed : (es : List Packed) → length es ≤ length (flat_map entry_spelling es)
@@ -155,13 +156,13 @@ module _ (dim rest : ℕ) (t : List ℕ) (base : List Element) where
       subst (AllByRecursion IsEntry) (sym (packed_newest dim m left))
       (entries_more (packed_all dim left) (packed_made dim m) (entries_all left linked.2 few_bytes) (is_entry dim rest t m linked.0 (omega arith)))
 
--- the same of commands
-packs_again : (t : List ℕ) (cs : List Command) (s : State) → s.earlier ≡ [] → s.rest ≡ length t → All IsEditIn cs → Opens (spelling s.top ++ t) s.dim s.top t → length (spelling s.top) + length t ≤ 67108864 → PacksAgain s t cs
+-- the same of steps
+packs_again : (t : List ℕ) (cs : List Given) (s : State) → s.earlier ≡ [] → s.rest ≡ length t → All IsStep cs → Opens (spelling s.top ++ t) s.dim s.top t → length (spelling s.top) + length t ≤ 67108864 → PacksAgain s t cs
 packs_again t cs s none tail fits opens few_bytes =
-    let left : List Made = with_commands cs s [] in
+    let left : List Made = with_steps cs s [] in
     let start : IsStacked s.top s [] = ap (λ (earlier : List (List Element)). s.top ∷ earlier) none in
-    let linked = commands_link t s.top cs s [] fits start opens in
-    let top : (after_all cs s).top ≡ top_of s.top left = stack_top s.top (after_all cs s) left (commands_stack s.top cs s [] start) in
+    let linked = steps_link t s.top cs s [] fits start opens in
+    let top : (after_all cs s).top ≡ top_of s.top left = stack_top s.top (after_all cs s) left (steps_stack s.top cs s [] start) in
     let within : length (spelling s.top) + s.rest ≤ 67108864 = subst (λ (n : ℕ). length (spelling s.top) + n ≤ 67108864) (sym tail) few_bytes in
     let stands = stand_all s.dim s.rest t s.top left linked in
     record {
@@ -176,7 +177,7 @@ packs_again t cs s none tail fits opens few_bytes =
     }
 
 pub applied_gives_the_same : AppliedGivesTheSame
-applied_gives_the_same f d cs opens short fits =
+applied_gives_the_same f d cs files opens short fits bytes =
     let whole : f ≡ spelling d.elements ++ d.tail = opens.whole in
-    packs_again d.tail cs (begun d) refl refl fits (subst (λ (g : List ℕ). Opens g d.dim d.elements d.tail) opens.whole opens)
+    packs_again d.tail (steps_of cs files) (begun d) refl refl (steps_given cs files fits bytes) (subst (λ (g : List ℕ). Opens g d.dim d.elements d.tail) opens.whole opens)
     (omega (arith, ap (length {A = ℕ}) whole, length-append (spelling d.elements) d.tail))

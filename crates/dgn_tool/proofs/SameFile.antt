@@ -11,6 +11,7 @@ use Rattle.dgn_tool.specs.Filling.{file_made}
 use Rattle.dgn_tool.specs.Lines.{numbered}
 use Rattle.dgn_tool.specs.Ended.{Outcome}
 use Rattle.dgn_tool.specs.Packing.{packed_after}
+use Rattle.dgn_tool.specs.Laws.{steps_of}
 use Rattle.dgn_tool.specs.PatchLaws.{Applies, WritesTheSame}
 use Rattle.dgn_tool.specs.declared.status.Status.TheVariants as statuses
 use Rattle.std.specs.Prelude.{codes, Some}
@@ -18,9 +19,9 @@ use Rattle.dgn_tool.proofs.PatchEndings.{applies_all}
 use Rattle.dgn_tool.proofs.Repacked.{applied_gives_the_same}
 
 pub writes_the_same : WritesTheSame
-writes_the_same words files d cs output a fits =
-    let es : List Packed = packed_after cs (begun d) in
-    let again = applied_gives_the_same (bytes_of files a.input) d cs (opens-opening (bytes_of files a.input) d a.bytes a.opens) a.few fits in
+writes_the_same words files d cs seconds output a fits bytes =
+    let es : List Packed = packed_after (steps_of cs seconds) (begun d) in
+    let again = applied_gives_the_same (bytes_of files a.input) d cs seconds (opens-opening (bytes_of files a.input) d a.bytes a.opens) a.few fits bytes in
     let short = subst (λ (f : List ℕ). length f ≤ 134217728) a.packed a.short in
     let reads : patch_of (bytes_of files a.patch) ≡ Ok es = ap patch_of a.packed ∙ patch_again es (again.entries short) in
     let so : Applies words files d es output = record {

@@ -10,8 +10,8 @@ use Rattle.dgn_drawing.specs.Element.{Element}
 use Rattle.dgn_drawing.specs.Spelling.{spell}
 use Rattle.edit_ops.specs.Trees.{Live, live_tree, above_tree}
 use Rattle.edit_ops.specs.Fields.{Field, spot_fields, fields_at, above_fields_at, part_fields, edited_fields}
-use Rattle.edit_ops.specs.Fenced.{edits_at}
-use Rattle.dgn_tool.specs.Remaining.{Making, Alone, Fenced, fields_made}
+use Rattle.edit_ops.specs.Fenced.{edits_at, fenced_fields}
+use Rattle.dgn_tool.specs.Remaining.{Making, Alone, Fenced, Imported, fields_made}
 
 pub record HasFew (f : Field) : Type 0 where
   pub least : 1 ≤ f.len
@@ -59,3 +59,4 @@ edited_few dim es (edit.Append new) = tt
 pub made_few : (dim : ℕ) (on : List Element) (making : Making) → AllByRecursion HasFew (fields_made dim on making)
 made_few dim on (Alone e) = edited_few dim on e
 made_few dim on (Fenced e ns) = all_few (edited_fields dim on) (edits_at e ns) (λ one. edited_few dim on one)
+made_few dim on (Imported new) = tt

@@ -4,13 +4,16 @@ use Rattle.std.specs.Prelude.{option_map}
 use Rattle.std.proofs.lemmas.Bool.{cond_both}
 use Rattle.dgn_drawing.specs.declared.fence_edit.FenceEdit.{FenceEdit}
 use Rattle.dgn_drawing.specs.Element.{Element}
+use Rattle.dgn_drawing.specs.Opening.{elements_of}
 use Rattle.edit_ops.specs.Applying.{Applied, Done, Refused}
 use Rattle.edit_ops.specs.Fenced.{apply_all}
 use Rattle.dgn_session.specs.State.{State, applied, pushed, pushed_if, selection, dropped, is_none, with_fence}
 use Rattle.edit_script.specs.declared.command.Command.{Command}
 use Rattle.edit_script.specs.declared.command.Command.TheVariants as command
-use Rattle.dgn_tool.specs.Commands.{fence_refused, after_command, after_all}
-use Rattle.dgn_tool.specs.Remaining.{Made, Making, Alone, Fenced, with_made, with_all_made, without_newest, with_command, with_commands}
+use Rattle.dgn_tool.specs.Commands.{fence_refused, after_command}
+use Rattle.dgn_tool.specs.Imports.{Importing, Appends, Declines, importing_of, import_left}
+use Rattle.dgn_tool.specs.Given.{Given, Plain, Import, after_step, after_all}
+use Rattle.dgn_tool.specs.Remaining.{Made, Making, Alone, Fenced, with_made, with_all_made, without_newest, with_import, with_command, with_step, with_steps}
 
 -- what the edits have made
 abbrev pub lists_made : List Made → List (List Element)
@@ -34,7 +37,8 @@ undo_step base s (es ∷ earlier) [] stacked is = absurd (let x = stacked in cc)
 undo_step base s (es ∷ earlier) (m ∷ left) stacked is = let x = stacked in cc
 
 -- a command leaves such a stack
-pub command_stacks : (base : List Element) (s : State) (left : List Made) (c : Command) → IsStacked base s left → IsStacked base (after_command s c) (with_command s c left)
+command_stacks : (base : List Element) (s : State) (left : List Made) (c : Command) → IsStacked base s left → IsStacked base (after_command s c) (with_command s c left)
+command_stacks base s left (command.Import name by) stacked = stacked
 command_stacks base s left (command.Edit e) stacked = done_step base s left (Alone e) (applied e s) stacked
 command_stacks base s left (command.Fenced mode e) stacked = fence_step base s left e (apply_all s.dim s.top s.rest e) (selection mode s) stacked
 command_stacks base s left command.Undo stacked = undo_step base s s.earlier left stacked refl
@@ -49,7 +53,17 @@ command_stacks base s left command.Refs stacked = stacked
 command_stacks base s left (command.Links n) stacked = stacked
 command_stacks base s left (command.Select mode) stacked = stacked
 
+-- so does an import
+import_step : (base : List Element) (s : State) (left : List Made) (came : Importing) → IsStacked base s left → IsStacked base (import_left came s) (with_import came s left)
+import_step base s left (Appends b count) stacked = ap (λ (l : List (List Element)). (s.top ++ elements_of s.dim b) ∷ l) stacked
+import_step base s left (Declines line) stacked = stacked
+
+-- so does a step
+pub step_stacks : (base : List Element) (s : State) (left : List Made) (g : Given) → IsStacked base s left → IsStacked base (after_step s g) (with_step s g left)
+step_stacks base s left (Plain c) stacked = command_stacks base s left c stacked
+step_stacks base s left (Import v by) stacked = import_step base s left (importing_of s v by) stacked
+
 -- and so do all
-pub commands_stack : (base : List Element) (cs : List Command) (s : State) (left : List Made) → IsStacked base s left → IsStacked base (after_all cs s) (with_commands cs s left)
-commands_stack base [] s left stacked = stacked
-commands_stack base (c ∷ cs) s left stacked = commands_stack base cs (after_command s c) (with_command s c left) (command_stacks base s left c stacked)
+pub steps_stack : (base : List Element) (gs : List Given) (s : State) (left : List Made) → IsStacked base s left → IsStacked base (after_all gs s) (with_steps gs s left)
+steps_stack base [] s left stacked = stacked
+steps_stack base (g ∷ gs) s left stacked = steps_stack base gs (after_step s g) (with_step s g left) (step_stacks base s left g stacked)

@@ -9,9 +9,10 @@ use Rattle.dgn_desk.specs.declared.stop.Stop.{Stop}
 use Rattle.dgn_drawing.specs.Shown.{shown}
 use Rattle.dgn_drawing.specs.Spelling.{spelling}
 use Rattle.dgn_session.specs.State.{State}
-use Rattle.dgn_tool.specs.Commands.{begun, after_all}
+use Rattle.dgn_tool.specs.Commands.{begun}
+use Rattle.dgn_tool.specs.Given.{after_all}
 use Rattle.dgn_tool.specs.Filling.{is_blocks, left_in_block, filling, file_made}
-use Rattle.dgn_tool.specs.Generation.{fixed_commands, sizes_of, summary, generated_from, drawing_of, generation}
+use Rattle.dgn_tool.specs.Generation.{fixed_steps, sizes_of, summary, generated_from, drawing_of, generation}
 use Rattle.dgn_tool.specs.Lines.{numbered}
 use Rattle.dgn_tool.specs.Ended.{file_after}
 use Rattle.dgn_tool.specs.Outcome.{ComesTo, IsStopped}
@@ -22,25 +23,25 @@ use Rattle.dgn_tool.proofs.Filed.{filed_and_said}
 use Rattle.dgn_tool.proofs.Finished.{made_so}
 
 module _ (s : State) (t output : List ℕ) where
-  module _ (new : State) (tail text : List ℕ) (before : ℕ) (old : Option Content) (drawn : new ≡ after_all fixed_commands s) (back : tail ≡ t) (begins : before ≡ length (spelling s.top)) where
-    made : file_made before tail (spelling new.top) ≡ file_after s t fixed_commands
-    made = made_so s new t tail fixed_commands before drawn back begins
+  module _ (new : State) (tail text : List ℕ) (before : ℕ) (old : Option Content) (drawn : new ≡ after_all fixed_steps s) (back : tail ≡ t) (begins : before ≡ length (spelling s.top)) where
+    made : file_made before tail (spelling new.top) ≡ file_after s t fixed_steps
+    made = made_so s new t tail fixed_steps before drawn back begins
 
     -- the file that is written is that after the fixed commands
-    made_is : (mid : Option Content) → mid ≡ option_map (filed output (file_made before tail (spelling new.top))) old → mid ≡ option_map (filed output (file_after s t fixed_commands)) old
+    made_is : (mid : Option Content) → mid ≡ option_map (filed output (file_made before tail (spelling new.top))) old → mid ≡ option_map (filed output (file_after s t fixed_steps)) old
     made_is mid filed_is = filed_is ∙ ap (λ (b : List ℕ). option_map (filed output b) old) made
 
     pub tried : (mid now : Option Content) → text ≡ summary s t → mid ≡ option_map (filed output (file_made before tail (spelling new.top))) old → now ≡ option_map (spoken text) mid → ComesTo statuses.Done (λ _. generated_from s t output) old now
     tried mid now told filed_is said =
-        filed_and_said statuses.Done (summary s t) output (file_after s t fixed_commands) old mid now tt (made_is mid filed_is) (said ∙ ap (λ (b : List ℕ). option_map (spoken b) mid) told)
+        filed_and_said statuses.Done (summary s t) output (file_after s t fixed_steps) old mid now tt (made_is mid filed_is) (said ∙ ap (λ (b : List ℕ). option_map (spoken b) mid) told)
 
     pub stopped_saying : (stop : Stop) (status : Status) (mid now : Option Content) → IsStopped status → text ≡ summary s t → mid ≡ option_map (filed output (file_made before tail (spelling new.top))) old → SaysAll (Err stop) text mid now → ComesTo status (λ _. generated_from s t output) old now
     stopped_saying stop status mid now stopped told filed_is said =
-        file.stopped_saying statuses.Done (summary s t) output (file_after s t fixed_commands) stop status old mid now stopped (made_is mid filed_is) (subst (λ (b : List ℕ). SaysAll (Err stop) b mid now) told said)
+        file.stopped_saying statuses.Done (summary s t) output (file_after s t fixed_steps) stop status old mid now stopped (made_is mid filed_is) (subst (λ (b : List ℕ). SaysAll (Err stop) b mid now) told said)
 
     pub stopped_filing : (stop : Stop) (status : Status) (now : Option Content) → IsStopped status → FilesAll (Err stop) output (file_made before tail (spelling new.top)) old now → ComesTo status (λ _. generated_from s t output) old now
     stopped_filing stop status now stopped filed_is =
-        file.stopped_filing statuses.Done (summary s t) output (file_after s t fixed_commands) stop status old now stopped (subst (λ (b : List ℕ). FilesAll (Err stop) output b old now) made filed_is)
+        file.stopped_filing statuses.Done (summary s t) output (file_after s t fixed_steps) stop status old now stopped (subst (λ (b : List ℕ). FilesAll (Err stop) output b old now) made filed_is)
 
 -- a session on the drawing of a seed and a count comes to what is generated
 pub generates : (seed count : ℕ) (s : State) (t output : List ℕ) (status : Status) (old now : Option Content) → s ≡ begun (drawing_of seed count) → t ≡ (drawing_of seed count).tail → ComesTo status (λ _. generated_from s t output) old now → ComesTo status (λ _. generation seed count output) old now

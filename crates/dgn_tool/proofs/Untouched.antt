@@ -8,14 +8,15 @@ use Rattle.dgn_drawing.specs.Element.{Element}
 use Rattle.dgn_drawing.specs.Spelling.{spelling}
 use Rattle.dgn_drawing.specs.Opening.{Opens}
 use Rattle.dgn_session.specs.State.{State}
-use Rattle.edit_script.specs.declared.command.Command.{Command}
-use Rattle.dgn_tool.specs.Commands.{begun, after_all}
+use Rattle.dgn_tool.specs.Commands.{begun}
+use Rattle.dgn_tool.specs.Given.{Given, after_all}
 use Rattle.dgn_tool.specs.Filling.{filling}
-use Rattle.dgn_tool.specs.Remaining.{Made, with_commands}
-use Rattle.dgn_tool.specs.Laws.{behind_after, IsOutside, IsEditIn, IsEditedFile, UntouchedBytesStay}
+use Rattle.dgn_tool.specs.Remaining.{Made, with_steps}
+use Rattle.dgn_tool.specs.Laws.{steps_of, behind_after, IsOutside, IsEditedFile, UntouchedBytesStay}
 use Rattle.dgn_tool.proofs.Filled.{filled_opens, none_fills}
-use Rattle.dgn_tool.proofs.Stacked.{IsStacked, commands_stack}
-use Rattle.dgn_tool.proofs.Linked.{top_of, top_opens, stack_top, commands_link, linked_long, linked_same}
+use Rattle.dgn_tool.proofs.Stacked.{IsStacked, steps_stack}
+use Rattle.dgn_tool.proofs.Appending.{IsStep, steps_given}
+use Rattle.dgn_tool.proofs.Linked.{top_of, top_opens, stack_top, steps_link, linked_long, linked_same}
 
 -- what holds of each of a list from behind holds of each
 all_back : (P : Made → Type 0) (ms : List Made) → All P (reverse ms) → All P ms
@@ -25,13 +26,13 @@ all_back P (m ∷ ms) all =
     All-cons P m ms parts.1 (all_back P ms parts.0)
 
 -- the same of the file, whose tail stands behind the elements
-edited_file : (t : List ℕ) (cs : List Command) (s : State) → s.earlier ≡ [] → All IsEditIn cs → Opens (spelling s.top ++ t) s.dim s.top t → IsEditedFile (spelling s.top ++ t) s t cs
+edited_file : (t : List ℕ) (cs : List Given) (s : State) → s.earlier ≡ [] → All IsStep cs → Opens (spelling s.top ++ t) s.dim s.top t → IsEditedFile (spelling s.top ++ t) s t cs
 edited_file t cs s none fits opens =
-    let left : List Made = with_commands cs s [] in
+    let left : List Made = with_steps cs s [] in
     let end : State = after_all cs s in
     let start : IsStacked s.top s [] = ap (λ (earlier : List (List Element)). s.top ∷ earlier) none in
-    let linked = commands_link t s.top cs s [] fits start opens in
-    let top : top_of s.top left ≡ end.top = sym (stack_top s.top end left (commands_stack s.top cs s [] start)) in
+    let linked = steps_link t s.top cs s [] fits start opens in
+    let top : top_of s.top left ≡ end.top = sym (stack_top s.top end left (steps_stack s.top cs s [] start)) in
     let long : length (spelling s.top) ≤ length (spelling end.top) = subst (λ (es : List Element). length (spelling s.top) ≤ length (spelling es)) top (linked_long s.dim s.rest t s.top left linked) in
     record {
       opens = filled_opens s.dim end.top t (filling (length (spelling s.top)) t (length (spelling end.top))) (none_fills (length (spelling s.top)) t (length (spelling end.top)))
@@ -46,6 +47,6 @@ edited_file t cs s none fits opens =
 
 -- what the commands of a script make of a file that opens
 pub untouched : UntouchedBytesStay
-untouched f d cs opens fits =
-    subst (λ (g : List ℕ). IsEditedFile g (begun d) d.tail cs) (sym opens.whole)
-    (edited_file d.tail cs (begun d) refl fits (subst (λ (g : List ℕ). Opens g d.dim d.elements d.tail) opens.whole opens))
+untouched f d cs files opens fits bytes =
+    subst (λ (g : List ℕ). IsEditedFile g (begun d) d.tail (steps_of cs files)) (sym opens.whole)
+    (edited_file d.tail (steps_of cs files) (begun d) refl (steps_given cs files fits bytes) (subst (λ (g : List ℕ). Opens g d.dim d.elements d.tail) opens.whole opens))

@@ -1,6 +1,5 @@
 -- What commands do to the state of a session, and what they say.
-use Rattle.std.specs.Prelude.{ℕ, nat_lt, ◌+◌, Bool, true, false, not, ◌||◌, if◌then◌else◌, Option, Some, None, List, [], ◌∷◌, ◌++◌, length, slice_get, codes}
-use Rattle.std.specs.Int.{from_bool}
+use Rattle.std.specs.Prelude.{ℕ, nat_lt, Bool, true, false, not, ◌||◌, if◌then◌else◌, Option, Some, None, List, [], ◌∷◌, ◌++◌, length, slice_get, codes}
 use Rattle.dgn_drawing.specs.Element.{Element}
 use Rattle.dgn_drawing.specs.Shown.{shown}
 use Rattle.dgn_session.specs.State as machine
@@ -87,8 +86,14 @@ fence_refused corners = has_few corners || has_many corners
 abbrev pub fence_set : List Pt → State → State
 fence_set corners s = if fence_refused corners then s else with_fence (Some corners) s
 
+-- whether a command is an import, which is run with its second file, as a step of a run (`Given`): here it is none
+abbrev pub is_import : Command → Bool
+is_import (command.Import name by) = true
+is_import other = false
+
 -- what a command says
 abbrev pub text_of : State → Command → List ℕ
+text_of s (command.Import name by) = []
 text_of s (command.Edit e) = edit_said (applied e s)
 text_of s (command.Fenced mode e) = fenced_said (fence_applied mode e s) (selection mode s)
 text_of s command.Undo = undo_said (undo_refused s)
@@ -104,6 +109,7 @@ text_of s (command.Select mode) = selection_said (selection mode s)
 
 -- whether it is refused
 abbrev pub is_refused : State → Command → Bool
+is_refused s (command.Import name by) = false
 is_refused s (command.Edit e) = machine.is_refused (applied e s)
 is_refused s (command.Fenced mode e) = fenced_refused (fence_applied mode e s)
 is_refused s command.Undo = undo_refused s
@@ -119,6 +125,7 @@ is_refused s (command.Select mode) = selection_refused (selection mode s)
 
 -- what a command leaves: one that is refused leaves all as it was, and so does a listing
 abbrev pub after_command : State → Command → State
+after_command s (command.Import name by) = s
 after_command s (command.Edit e) = edited e s
 after_command s (command.Fenced mode e) = fence_edited mode e s
 after_command s command.Undo = undone s
@@ -132,21 +139,6 @@ after_command s command.Refs = s
 after_command s (command.Links n) = s
 after_command s (command.Select mode) = s
 
--- what all commands leave, the first one first
-abbrev pub after_all : List Command → State → State
-after_all [] s = s
-after_all (c ∷ cs) s = after_all cs (after_command s c)
-
--- what all commands say
-abbrev pub texts_of : List Command → State → List ℕ
-texts_of [] s = []
-texts_of (c ∷ cs) s = text_of s c ++ texts_of cs (after_command s c)
-
--- how many commands are refused
-abbrev pub refused_count : List Command → State → ℕ
-refused_count [] s = 0
-refused_count (c ∷ cs) s = from_bool (is_refused s c) + refused_count cs (after_command s c)
-
 -- how many trees an edit of all that a fence chooses has changed or copied, where it is done
 abbrev pub trees_edited : Option Applied → Option (List ℕ) → ℕ
 trees_edited (Some (Done made)) (Some ns) = length ns
@@ -155,8 +147,3 @@ trees_edited applied ns = 0
 abbrev pub trees_of : State → Command → ℕ
 trees_of s (command.Fenced mode e) = trees_edited (fence_applied mode e s) (selection mode s)
 trees_of s other = 0
-
--- and how many each of all commands
-abbrev pub trees_of_all : List Command → State → List ℕ
-trees_of_all [] s = []
-trees_of_all (c ∷ cs) s = trees_of s c ∷ trees_of_all cs (after_command s c)

@@ -12,7 +12,8 @@ use Rattle.elem_index.specs.Opened.{Opened}
 use Rattle.edit_script.specs.Script.{commands_of}
 use Rattle.edit_script.specs.declared.command.Command.{Command}
 use Rattle.edit_script.specs.declared.command.Command.TheVariants as command
-use Rattle.dgn_tool.specs.Commands.{begun, after_all, refused_count, trees_of_all}
+use Rattle.dgn_tool.specs.Commands.{begun}
+use Rattle.dgn_tool.specs.Given.{Given, given_all, after_all, refused_count, trees_of_all}
 use Rattle.dgn_tool.specs.Filling.{file_made}
 use Rattle.dgn_tool.specs.Generator.{generated_elements}
 use Rattle.dgn_tool.specs.Lines.{numbered}
@@ -51,6 +52,10 @@ fixed_commands =
     ∷ command.Edit (edit.Delete 0)
     ∷ []
 
+-- its steps: no command is an import
+abbrev pub fixed_steps : List Given
+fixed_steps = given_all fixed_commands []
+
 abbrev pub FixedScriptReads : Type 0
 FixedScriptReads = commands_of fixed_script ≡ Ok fixed_commands
 
@@ -74,15 +79,15 @@ counts_of trees commands refused =
 -- the summary of a drawing with this tail on which the fixed commands are run
 abbrev pub summary : State → List ℕ → List ℕ
 summary s tail =
-    sizes_of (length (spelling s.top)) tail (after_all fixed_commands s)
-    ++ counts_of (trees_of_all fixed_commands s) (length fixed_commands) (refused_count fixed_commands s)
+    sizes_of (length (spelling s.top)) tail (after_all fixed_steps s)
+    ++ counts_of (trees_of_all fixed_steps s) (length fixed_commands) (refused_count fixed_steps s)
 
 -- what a drawing with this tail comes to that is generated: the fixed commands are run on it, and its summary is said
 abbrev pub generated_from : State → List ℕ → List ℕ → Outcome
 generated_from s tail output = record {
   status = statuses.Done;
   text = summary s tail;
-  file = Some (output, file_after s tail fixed_commands);
+  file = Some (output, file_after s tail fixed_steps);
 }
 
 -- the drawing of a seed and a count

@@ -1,10 +1,13 @@
--- What holds of every drawing that opens and every list of commands, each the contract of a function in
--- `laws`.
-use Rattle.std.specs.Prelude.{ℕ, ◌≡◌, ◌<◌, ◌≤◌, List, [], ◌∷◌, ◌++◌, length, slice_index, All}
+-- What holds of every drawing that opens, every list of commands and every list of second files for their imports, each
+-- the contract of a function in `laws`.
+use Rattle.std.specs.Prelude.{ℕ, ◌≡◌, ◌<◌, ◌≤◌, List, [], ◌∷◌, ◌++◌, length, map, slice_index, All, IfSome}
 use Rattle.patch_file.specs.Spelling.{AreEntries, patch_spelling}
 use Rattle.patch_file.specs.Standing.{AllStand, put_all}
 use Rattle.dgn_drawing.specs.Spelling.{spelling}
 use Rattle.dgn_drawing.specs.Opening.{Opens}
+use Rattle.dgn_drawing.specs.Values.{IsShift}
+use Rattle.dgn_drawing.specs.WellFormed.{IsBytes}
+use Rattle.dgn_import.specs.Seconds.{second_of}
 use Rattle.dgn_session.specs.State.{State}
 use Rattle.edit_ops.specs.Applying.{IsEdit}
 use Rattle.edit_ops.specs.Fields.{IsIn}
@@ -12,7 +15,8 @@ use Rattle.edit_ops.specs.Fenced.{IsFenceEdit}
 use Rattle.edit_script.specs.declared.command.Command.{Command}
 use Rattle.edit_script.specs.declared.command.Command.TheVariants as command
 use Rattle.elem_index.specs.Opened.{Opened}
-use Rattle.dgn_tool.specs.Commands.{begun, after_all}
+use Rattle.dgn_tool.specs.Commands.{begun}
+use Rattle.dgn_tool.specs.Given.{Given, given_all, after_all}
 use Rattle.dgn_tool.specs.Filling.{filling}
 use Rattle.dgn_tool.specs.Ended.{file_after}
 use Rattle.dgn_tool.specs.Applied.{AllFit}
@@ -27,35 +31,41 @@ IsOutside dim p m = All (λ f. ¬ IsIn f p) (fields_made dim m.on m.making)
 abbrev pub IsEditIn : Command → Type 0
 IsEditIn (command.Edit e) = IsEdit e
 IsEditIn (command.Fenced mode e) = IsFenceEdit e
+IsEditIn (command.Import name by) = IfSome by IsShift
 IsEditIn other = Unit {0}
 
--- what stands behind the elements in the file that the commands make: the tail, and what fills its last block
-abbrev pub behind_after : State → List ℕ → List Command → List ℕ
-behind_after s t cs = t ++ filling (length (spelling s.top)) t (length (spelling (after_all cs s).top))
+-- the steps of these commands with these second files
+abbrev pub steps_of : List Command → List (List ℕ) → List Given
+steps_of cs files = given_all cs (map second_of files)
 
--- the file that the commands make of an opened one opens with the elements after them and the same tail, with what fills
+-- what stands behind the elements in the file that the steps make: the tail, and what fills its last block
+abbrev pub behind_after : State → List ℕ → List Given → List ℕ
+behind_after s t gs = t ++ filling (length (spelling s.top)) t (length (spelling (after_all gs s).top))
+
+-- the file that the steps make of an opened one opens with the elements after them and the same tail, with what fills
 -- its last block behind; its elements have no fewer bytes; and it has the file's byte at each place in the elements of the
 -- file that no edit that is left writes
-pub record IsEditedFile (f : List ℕ) (s : State) (t : List ℕ) (cs : List Command) : Type 0 where
-  pub opens : Opens (file_after s t cs) s.dim (after_all cs s).top (behind_after s t cs)
-  pub long : length (spelling s.top) ≤ length (spelling (after_all cs s).top)
-  pub stays : (p : ℕ) → p < length (spelling s.top) → All (IsOutside s.dim p) (remaining cs s)
-      → slice_index (file_after s t cs) p ≡ slice_index f p
+pub record IsEditedFile (f : List ℕ) (s : State) (t : List ℕ) (gs : List Given) : Type 0 where
+  pub opens : Opens (file_after s t gs) s.dim (after_all gs s).top (behind_after s t gs)
+  pub long : length (spelling s.top) ≤ length (spelling (after_all gs s).top)
+  pub stays : (p : ℕ) → p < length (spelling s.top) → All (IsOutside s.dim p) (remaining gs s)
+      → slice_index (file_after s t gs) p ≡ slice_index f p
 
 abbrev pub UntouchedBytesStay : Type 0
 UntouchedBytesStay =
-    (f : List ℕ) (d : Opened) (cs : List Command)
-    → Opens f d.dim d.elements d.tail → All IsEditIn cs → IsEditedFile f (begun d) d.tail cs
+    (f : List ℕ) (d : Opened) (cs : List Command) (files : List (List ℕ))
+    → Opens f d.dim d.elements d.tail → All IsEditIn cs → All IsBytes files → IsEditedFile f (begun d) d.tail (steps_of cs files)
 
--- the packed entries of the commands stand, one after the other, on the elements of the file, and make of them those after
--- the commands; what each makes keeps the limit; and where their patch file does, it is read to them again
-pub record PacksAgain (s : State) (t : List ℕ) (cs : List Command) : Type 0 where
-  pub stand : AllStand (spelling s.top) (packed_after cs s)
-  pub gives : put_all (spelling s.top) (packed_after cs s) ≡ spelling (after_all cs s).top
-  pub fit : AllFit (length t) (spelling s.top) (packed_after cs s)
-  pub entries : length (patch_spelling (packed_after cs s)) ≤ 134217728 → AreEntries (packed_after cs s)
+-- the packed entries of the steps stand, one after the other, on the elements of the file, and make of them those after
+-- the steps; what each makes keeps the limit; and where their patch file does, it is read to them again
+pub record PacksAgain (s : State) (t : List ℕ) (gs : List Given) : Type 0 where
+  pub stand : AllStand (spelling s.top) (packed_after gs s)
+  pub gives : put_all (spelling s.top) (packed_after gs s) ≡ spelling (after_all gs s).top
+  pub fit : AllFit (length t) (spelling s.top) (packed_after gs s)
+  pub entries : length (patch_spelling (packed_after gs s)) ≤ 134217728 → AreEntries (packed_after gs s)
 
 abbrev pub AppliedGivesTheSame : Type 0
 AppliedGivesTheSame =
-    (f : List ℕ) (d : Opened) (cs : List Command)
-    → Opens f d.dim d.elements d.tail → length f ≤ 67108864 → All IsEditIn cs → PacksAgain (begun d) d.tail cs
+    (f : List ℕ) (d : Opened) (cs : List Command) (files : List (List ℕ))
+    → Opens f d.dim d.elements d.tail → length f ≤ 67108864 → All IsEditIn cs → All IsBytes files
+    → PacksAgain (begun d) d.tail (steps_of cs files)

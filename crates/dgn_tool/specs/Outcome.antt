@@ -1,7 +1,8 @@
 -- What a run comes to: a status, what is said, and the file that is written, computed from the words of
 -- the command line and the files that they name.
-use Rattle.std.specs.Prelude.{ℕ, ◌≡◌, ◌⊎◌, ◌≤◌, nat_lt, nat_le, Bool, ◌&&◌, if◌then◌else◌, List, [], ◌++◌, length, codes, Option, Some, None, Result, Ok, Err, IsSome, IfSome, IsTrue, option_map, ⊤}
+use Rattle.std.specs.Prelude.{ℕ, ◌≡◌, ◌⊎◌, ◌≤◌, nat_lt, nat_le, Bool, false, ◌&&◌, if◌then◌else◌, List, [], ◌++◌, length, codes, Option, Some, None, Result, Ok, Err, IsSome, IfSome, IsTrue, option_map, ⊤}
 use Rattle.std.specs.FinMap as maps
+use Rattle.std.specs.List.{list_all}
 use Rattle.std.specs.Result.{is_ok}
 use Rattle.dgn_desk.specs.Content.{Files, Content, bytes_of, with_file, spoken}
 use Rattle.dgn_drawing.specs.Opening.{Fault, NotDesign, Cut, Short, Attr}
@@ -17,21 +18,23 @@ use Rattle.dgn_tool.specs.Generation.{generation}
 use Rattle.dgn_tool.specs.Packing.{packed}
 use Rattle.dgn_tool.specs.Applied.{patched}
 use Rattle.dgn_tool.specs.Lines.{numbered}
-use Rattle.dgn_tool.specs.Commands.{begun, texts_of, refused_count}
+use Rattle.dgn_tool.specs.Commands.{begun}
+use Rattle.dgn_tool.specs.Given.{Given, texts_of, refused_count}
+use Rattle.dgn_tool.specs.SecondFiles.{is_within, files_named, stepped, HasSeconds}
 use Rattle.dgn_tool.specs.declared.status.Status.{Status}
 use Rattle.dgn_tool.specs.declared.status.Status.TheVariants as statuses
 
--- what the commands come to in a state, with this tail: their texts, and the file of the drawing after them
-abbrev pub told_from : State → List ℕ → List Command → List ℕ → Outcome
-told_from s tail cs output = record {
-  status = if nat_lt 0 (refused_count cs s) then statuses.SomeRefused else statuses.Done;
-  text = texts_of cs s;
-  file = Some (output, file_after s tail cs);
+-- what the steps come to in a state, with this tail: their texts, and the file of the drawing after them
+abbrev pub told_from : State → List ℕ → List Given → List ℕ → Outcome
+told_from s tail gs output = record {
+  status = if nat_lt 0 (refused_count gs s) then statuses.SomeRefused else statuses.Done;
+  text = texts_of gs s;
+  file = Some (output, file_after s tail gs);
 }
 
 -- and on a drawing
-abbrev pub told : Opened → List Command → List ℕ → Outcome
-told d cs output = told_from (begun d) d.tail cs output
+abbrev pub told : Opened → List Given → List ℕ → Outcome
+told d gs output = told_from (begun d) d.tail gs output
 
 -- what a script comes to that reads so, where its commands go on so; its reading alone never wants memory
 abbrev pub script_outcome : Result (List Command) ScriptFault → (List Command → Outcome) → Outcome
@@ -67,13 +70,18 @@ input_outcome input go_on =
     if nat_lt 67108864 (length input) then ended statuses.TooLong (codes "too long design\n")
     else opened_outcome (opening input) go_on
 
+-- what a run comes to that reads IN, SCRIPT and the second files of its imports, where it goes on so
+abbrev pub run_outcome : List ℕ → List ℕ → Files → (Opened → List Given → Outcome) → Outcome
+run_outcome input script files go_on =
+    input_outcome (bytes_of files input) (λ d. scripted (bytes_of files script) (λ cs. stepped cs files (go_on d)))
+
 -- what a run with this request comes to
 abbrev pub outcome_of : Option Request → Files → Outcome
 outcome_of None files = ended statuses.Usage (codes "usage: dgnedit edit IN SCRIPT OUT, check IN, gen SEED COUNT OUT, pack IN SCRIPT PATCH, apply IN PATCH OUT\n")
-outcome_of (Some (Edit input script output)) files = input_outcome (bytes_of files input) (λ d. scripted (bytes_of files script) (λ cs. told d cs output))
+outcome_of (Some (Edit input script output)) files = run_outcome input script files (λ d gs. told d gs output)
 outcome_of (Some (Check input)) files = input_outcome (bytes_of files input) checked
 outcome_of (Some (Gen seed count output)) files = generation seed count output
-outcome_of (Some (Pack input script patch)) files = input_outcome (bytes_of files input) (λ d. scripted (bytes_of files script) (λ cs. packed d cs patch))
+outcome_of (Some (Pack input script patch)) files = run_outcome input script files (λ d gs. packed d gs patch)
 outcome_of (Some (Apply input patch output)) files = input_outcome (bytes_of files input) (λ d. patched d (bytes_of files patch) output)
 
 -- what a run with these words comes to
@@ -152,6 +160,24 @@ abbrev pub EndsScript : List ℕ → Option Content → Option Content → Statu
 EndsScript name old now status =
     (go_on : Files → List Command → Outcome) → ComesTo status (λ files. scripted (bytes_of files name) (go_on files)) old now
 
+-- a run that reads the files of these names first came to this, where it would have come to the line of one that is too
+-- long
+abbrev pub EndsNamed : List (List ℕ) → Option Content → Option Content → Status → Type 0
+EndsNamed names old now status =
+    (o : Files → Outcome)
+    → IfSome old (λ c. list_all is_within (files_named names c.files) ≡ false → o c.files ≡ ended statuses.TooLong (codes "too long import\n"))
+    → ComesTo status o old now
+
+-- a run that reads IN, SCRIPT and the second files first came to this, whatever it would have gone on with
+abbrev pub EndsInputs : List ℕ → List ℕ → Option Content → Option Content → Status → Type 0
+EndsInputs input script old now status =
+    (go_on : Opened → List Given → Outcome) → ComesTo status (λ files. run_outcome input script files go_on) old now
+
+-- it goes on with this drawing and these steps, where the desk told the files
+abbrev pub GoesOn : List ℕ → List ℕ → Option Content → Opened → List Given → Type 0
+GoesOn input script old d gs =
+    (go_on : Opened → List Given → Outcome) → IfSome old (λ c. run_outcome input script c.files go_on ≡ go_on d gs)
+
 -- the named SCRIPT is within its limit and reads as these commands, where the desk told it
 abbrev pub ReadsAs : List ℕ → Option Content → List Command → Type 0
 ReadsAs name old cs =
@@ -176,13 +202,19 @@ comes_to_script input = nat_le (length input) 67108864 && is_ok (opening input)
 abbrev pub HasBoth : List ℕ → List ℕ → Files → Type 0
 HasBoth input script files = IsSome (maps.get files input) × (IsTrue (comes_to_script (bytes_of files input)) → IsSome (maps.get files script))
 
+-- and so are the second files of the imports, where SCRIPT is within its limit and read to commands
+abbrev pub HasAll : List ℕ → List ℕ → Files → Type 0
+HasAll input script files =
+    HasBoth input script files
+    × (IsTrue (comes_to_script (bytes_of files input)) → length (bytes_of files script) ≤ 1048576 → HasSeconds (commands_of (bytes_of files script)) files)
+
 -- the files that a run with this request comes to read are there
 abbrev pub HasFiles : Option Request → Files → Type 0
 HasFiles None files = ⊤
-HasFiles (Some (Edit input script output)) files = HasBoth input script files
+HasFiles (Some (Edit input script output)) files = HasAll input script files
 HasFiles (Some (Check input)) files = IsSome (maps.get files input)
 HasFiles (Some (Gen seed count output)) files = ⊤
-HasFiles (Some (Pack input script patch)) files = HasBoth input script files
+HasFiles (Some (Pack input script patch)) files = HasAll input script files
 HasFiles (Some (Apply input patch output)) files = HasBoth input patch files
 
 -- a request that reads a file

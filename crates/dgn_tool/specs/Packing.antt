@@ -8,10 +8,12 @@ use Rattle.patch_file.specs.Standing.{taken_of}
 use Rattle.elem_index.specs.Opened.{Opened}
 use Rattle.dgn_session.specs.State.{State, SessionValue, state_of, entry_with}
 use Rattle.edit_script.specs.declared.command.Command.{Command}
-use Rattle.dgn_tool.specs.Commands.{begun, refused_count}
+use Rattle.dgn_tool.specs.Commands.{begun}
+use Rattle.dgn_tool.specs.Imports.{Importing}
+use Rattle.dgn_tool.specs.Given.{Given, refused_count}
 use Rattle.dgn_tool.specs.Ended.{Outcome, ended}
 use Rattle.dgn_tool.specs.Lines.{numbered}
-use Rattle.dgn_tool.specs.Remaining.{Made, with_command, with_commands, fields_made, remaining}
+use Rattle.dgn_tool.specs.Remaining.{Made, with_command, with_import, with_step, with_steps, fields_made, remaining}
 use Rattle.dgn_tool.specs.declared.status.Status.TheVariants as statuses
 
 -- the log's entry of an edit that is left: the bytes that stood in the fields that it wrote, and how many there were
@@ -22,11 +24,11 @@ entry_made dim m = entry_with m.on (fields_made dim m.on m.making)
 abbrev pub packed_made : ℕ → Made → Packed
 packed_made dim m = taken_of (spelling m.made) (entry_made dim m)
 
--- those of all edits that the commands leave, in order
-abbrev pub packed_after : List Command → State → List Packed
-packed_after cs s = map (packed_made s.dim) (remaining cs s)
+-- those of all edits that the steps leave, in order
+abbrev pub packed_after : List Given → State → List Packed
+packed_after gs s = map (packed_made s.dim) (remaining gs s)
 
--- the patch file of entries is written, and it is said how many there are; so many commands were refused
+-- the patch file of entries is written, and it is said how many there are; so many steps were refused
 abbrev pub filed_patch : List Packed → ℕ → List ℕ → Outcome
 filed_patch es refused patch = record {
   status = if nat_lt 0 refused then statuses.SomeRefused else statuses.Done;
@@ -34,15 +36,15 @@ filed_patch es refused patch = record {
   file = Some (patch, patch_spelling es);
 }
 
--- where it isn't too long; the texts of the commands aren't said
-abbrev pub packed_from : State → List Command → List ℕ → Outcome
-packed_from s cs patch =
-    if nat_lt 134217728 (length (patch_spelling (packed_after cs s))) then ended statuses.TooLong (codes "too long patch\n")
-    else filed_patch (packed_after cs s) (refused_count cs s) patch
+-- where it isn't too long; the texts of the steps aren't said
+abbrev pub packed_from : State → List Given → List ℕ → Outcome
+packed_from s gs patch =
+    if nat_lt 134217728 (length (patch_spelling (packed_after gs s))) then ended statuses.TooLong (codes "too long patch\n")
+    else filed_patch (packed_after gs s) (refused_count gs s) patch
 
 -- and on a drawing
-abbrev pub packed : Opened → List Command → List ℕ → Outcome
-packed d cs patch = packed_from (begun d) cs patch
+abbrev pub packed : Opened → List Given → List ℕ → Outcome
+packed d gs patch = packed_from (begun d) gs patch
 
 -- What a session's log holds.
 
@@ -54,9 +56,17 @@ IsLogOf v left = reverse v.entries ≡ map (entry_made v.dim) left
 abbrev pub LogsAs : Command → SessionValue → SessionValue → Type 0
 LogsAs c old new = (left : List Made) → IsLogOf old left → IsLogOf new (with_command (state_of old) c left)
 
--- and so do commands, the first one first
-abbrev pub AllLogAs : List Command → SessionValue → SessionValue → Type 0
-AllLogAs cs old new = (left : List Made) → IsLogOf old left → IsLogOf new (with_commands cs (state_of old) left)
+-- an import changes it so too
+abbrev pub ImportLogsAs : Importing → SessionValue → SessionValue → Type 0
+ImportLogsAs came old new = (left : List Made) → IsLogOf old left → IsLogOf new (with_import came (state_of old) left)
+
+-- a step changes the log as it changes the edits that are left
+abbrev pub StepLogsAs : Given → SessionValue → SessionValue → Type 0
+StepLogsAs g old new = (left : List Made) → IsLogOf old left → IsLogOf new (with_step (state_of old) g left)
+
+-- and so do steps, the first one first
+abbrev pub AllLogAs : List Given → SessionValue → SessionValue → Type 0
+AllLogAs gs old new = (left : List Made) → IsLogOf old left → IsLogOf new (with_steps gs (state_of old) left)
 
 -- the last entry was taken off a log and written back, and this is what it took back
 pub record TakesLast (old new : SessionValue) (taken : Packed) : Type 0 where

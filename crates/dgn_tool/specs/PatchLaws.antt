@@ -14,7 +14,8 @@ use Rattle.dgn_tool.specs.Filling.{file_made}
 use Rattle.dgn_tool.specs.Lines.{numbered}
 use Rattle.dgn_tool.specs.Request.{Apply, request_of}
 use Rattle.dgn_tool.specs.Ended.{Outcome, ended}
-use Rattle.dgn_tool.specs.Laws.{IsEditIn}
+use Rattle.dgn_tool.specs.Given.{Given}
+use Rattle.dgn_tool.specs.Laws.{IsEditIn, steps_of}
 use Rattle.dgn_tool.specs.Outcome.{told, outcome}
 use Rattle.dgn_tool.specs.Packing.{packed_after}
 use Rattle.dgn_tool.specs.declared.status.Status.TheVariants as statuses
@@ -70,8 +71,8 @@ AppliesAll =
       file = Some (output, file_made (length (spelling d.elements)) d.tail (put_all (spelling d.elements) es));
     }
 
--- the words ask to apply what `pack` makes of these commands to the same file, into OUT
-pub record AppliesPacked (words : List (List ℕ)) (files : Files) (d : Opened) (cs : List Command) (output : List ℕ) : Type 0 where
+-- the words ask to apply what `pack` makes of these steps to the same file, into OUT
+pub record AppliesPacked (words : List (List ℕ)) (files : Files) (d : Opened) (gs : List Given) (output : List ℕ) : Type 0 where
   pub input : List ℕ
   pub patch : List ℕ
   pub asked : request_of words ≡ Some (Apply input patch output)
@@ -79,16 +80,16 @@ pub record AppliesPacked (words : List (List ℕ)) (files : Files) (d : Opened) 
   pub few : length (bytes_of files input) ≤ 67108864
   pub opens : opening (bytes_of files input) ≡ Ok d
   pub short : length (bytes_of files patch) ≤ 134217728
-  pub packed : bytes_of files patch ≡ patch_spelling (packed_after cs (begun d))
+  pub packed : bytes_of files patch ≡ patch_spelling (packed_after gs (begun d))
 
--- it writes the file that `edit` writes with these commands
+-- it writes the file that `edit` writes with these commands and second files
 abbrev pub WritesTheSame : Type 0
 WritesTheSame =
-    (words : List (List ℕ)) (files : Files) (d : Opened) (cs : List Command) (output : List ℕ)
-    → AppliesPacked words files d cs output → All IsEditIn cs
+    (words : List (List ℕ)) (files : Files) (d : Opened) (cs : List Command) (seconds : List (List ℕ)) (output : List ℕ)
+    → AppliesPacked words files d (steps_of cs seconds) output → All IsEditIn cs → All IsBytes seconds
     → outcome words files
     ≡ record {
       status = statuses.Done;
-      text = numbered (codes "applied ") (length (packed_after cs (begun d)));
-      file = (told d cs output).file;
+      text = numbered (codes "applied ") (length (packed_after (steps_of cs seconds) (begun d)));
+      file = (told d (steps_of cs seconds) output).file;
     }

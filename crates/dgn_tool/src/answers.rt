@@ -1,7 +1,7 @@
 ghost use Rattle.std.specs.Prelude.{◌≡◌, ◌+◌, ◌≤◌, ◌++◌, codes, false, length, vec_len, vec_capacity, IfOk, OnOk, OnErr};
 ghost use Rattle.dgn_listing.specs.Lines.{AppendsFrontOf};
 ghost use Rattle.dgn_session.specs.State.{state_of, applied, edited, undone, undo_refused, with_mask, is_refused as is_refusal};
-ghost use Rattle.dgn_tool.specs.Commands.{edit_said, undo_said, text_of, is_refused, after_command, trees_of};
+ghost use Rattle.dgn_tool.specs.Commands.{edit_said, undo_said, is_import, text_of, is_refused, after_command, trees_of};
 ghost use Rattle.dgn_tool.specs.Packing.{LogsAs};
 ghost use Rattle.edit_script.specs.declared.command.Command.{Command};
 
@@ -18,7 +18,8 @@ use std::alloc::{AllocError, Global};
 // The room that a command makes for its text before it changes the session. No line that it says then is longer.
 pub(crate) const ROOM: usize = 64;
 
-/// Runs one command in a session, appends what it says, and answers whether it was refused.
+/// Runs one command in a session that is no import (`answer_import`), appends what it says, and answers whether it was
+/// refused.
 ///
 /// Where there is no memory, the session is as before, and `out` has grown by some first part of what the command says:
 /// a command that changes the session makes room for its text first.
@@ -28,6 +29,7 @@ pub fn answer(
     c: &Command,
     out: &mut Vec<u8>,
 ) -> Result<bool, AllocError>
+    requires { is_import c.now ≡ false }
     ensures text { OnOk result (out.new.items ≡ out.old.items ++ text_of (state_of s.old) c.now) }
     ensures refused { IfOk result (λ refused. refused ≡ is_refused (state_of s.old) c.now) }
     ensures state { OnOk result (state_of s.new ≡ after_command (state_of s.old) c.now) }
@@ -46,6 +48,7 @@ pub(crate) fn respond(
     c: &Command,
     out: &mut Vec<u8>,
 ) -> Result<Answered, AllocError>
+    requires { is_import c.now ≡ false }
     ensures text { OnOk result (out.new.items ≡ out.old.items ++ text_of (state_of s.old) c.now) }
     ensures refused { IfOk result (λ a. a.refused ≡ is_refused (state_of s.old) c.now) }
     ensures trees { IfOk result (λ a. a.trees ≡ trees_of (state_of s.old) c.now) }
@@ -68,6 +71,7 @@ pub(crate) fn respond(
         Command::Refs => answer_refs(alloc, s.design(), out)?,
         Command::Links(n) => answer_links(alloc, s.design(), *n, out)?,
         Command::Select(mode) => answer_select(alloc, s, *mode, out)?,
+        Command::Import(_, _) => unreachable!(),
     };
     Ok(Answered { refused, trees: 0 })
 }

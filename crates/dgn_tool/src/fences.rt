@@ -60,8 +60,8 @@ pub(crate) fn answer_fenced(
     }
 }
 
-// Appends that so many trees were edited. There is room for it.
-fn put_count(out: &mut Vec<u8>, count: u32)
+// Appends that so many trees were edited, or appended. There is room for it.
+pub(crate) fn put_count(out: &mut Vec<u8>, count: u32)
     requires { vec_len out.old + 64 ≤ vec_capacity out.old }
     ensures { out.new.items ≡ out.old.items ++ numbered (codes "ok ") count }
 {

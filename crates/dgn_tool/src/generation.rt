@@ -4,8 +4,9 @@ ghost use Rattle.std.specs.Prelude.{◌≡◌, ◌≤◌, ◌++◌, length, slic
 ghost use Rattle.dgn_desk.specs.Desk.{Rose};
 ghost use Rattle.dgn_drawing.specs.Spelling.{spelling};
 ghost use Rattle.dgn_session.specs.State.{state_of};
-ghost use Rattle.dgn_tool.specs.Commands.{begun, after_all};
-ghost use Rattle.dgn_tool.specs.Generation.{fixed_commands, sizes_of, counts_of, summary, generated_from, drawing_of, generation};
+ghost use Rattle.dgn_tool.specs.Commands.{begun};
+ghost use Rattle.dgn_tool.specs.Given.{after_all};
+ghost use Rattle.dgn_tool.specs.Generation.{fixed_commands, fixed_steps, sizes_of, counts_of, summary, generated_from, drawing_of, generation};
 ghost use Rattle.dgn_tool.specs.Outcome.{IsEnding, ComesTo, IsFaultless};
 
 use crate::ending::stopped;
@@ -103,11 +104,11 @@ fn summarize(alloc: Global, session: &mut Session, before: usize) -> Result<Vec<
     requires before { before ≡ length (spelling (state_of session.old).top) }
     requires few { before ≤ 67108864 }
     ensures text { IfOk result (λ text. text.items ≡ summary (state_of session.old) session.old.tail) }
-    ensures state { OnOk result (state_of session.new ≡ after_all fixed_commands (state_of session.old)) }
+    ensures state { OnOk result (state_of session.new ≡ after_all fixed_steps (state_of session.old)) }
     ensures tail { OnOk result (session.new.tail ≡ session.old.tail) }
 {
     let commands = fixed_script(alloc)?;
-    let counts = run_unsaid(alloc, session, &commands)?;
+    let counts = run_unsaid(alloc, session, &commands, &mut Vec::new(alloc))?;
     let mut text = Vec::new(alloc);
     push_sizes(alloc, &mut text, session, before)?;
     push_counts(alloc, &mut text, &counts, commands.len())?;

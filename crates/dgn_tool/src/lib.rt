@@ -1,5 +1,5 @@
 //! The editor's top calls: `run` reads a design file and a script, runs the commands in a session and writes the file;
-//! `answer` runs one command in a session.
+//! `answer` runs one command in a session, and `answer_import` one that is an import.
 #![tactic(auto)]
 
 mod answered;
@@ -11,6 +11,8 @@ mod fences;
 mod filling;
 mod generation;
 mod generator;
+mod importing;
+mod inputs;
 pub mod laws;
 mod lines;
 mod listings;
@@ -19,12 +21,15 @@ mod packing;
 mod put_end;
 mod putting;
 mod request;
+mod seconds;
 mod status;
+mod steps;
 mod tally;
 mod top;
 
 pub use answers::answer;
 pub use generator::generate;
+pub use importing::answer_import;
 pub use status::Status;
 pub use top::run;
 

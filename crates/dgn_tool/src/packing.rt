@@ -1,7 +1,9 @@
 // Packing what the commands of a script do to a drawing.
 
 ghost use Rattle.std.specs.Prelude.{◌≡◌, ◌≤◌, ◌<◌, ◌++◌, codes, length, reverse, IfOk, OnOk, IfSome, IsTrue};
-ghost use Rattle.dgn_desk.specs.Content.{bytes_of, OnlyLeftDiffers, HasFile};
+ghost use Rattle.std.specs.List.{AllByRecursion};
+ghost use Rattle.dgn_desk.specs.Content.{OnlyLeftDiffers};
+ghost use Rattle.dgn_import.specs.Seconds.{IsSound as IsSoundSecond};
 ghost use Rattle.dgn_desk.specs.Desk.{Rose};
 ghost use Rattle.elem_index.specs.Design.{IsWhole};
 ghost use Rattle.elem_index.specs.Answers.{opened_of};
@@ -9,18 +11,20 @@ ghost use Rattle.dgn_session.specs.Laws.{IsSound};
 ghost use Rattle.patch_file.specs.Spelling.{patch_spelling};
 ghost use Rattle.patch_file.specs.Standing.{all_taken};
 ghost use Rattle.patch_file.specs.PatchView.{packed_of, all_packed};
-ghost use Rattle.dgn_tool.specs.Commands.{begun, refused_count};
+ghost use Rattle.dgn_tool.specs.Commands.{begun};
+ghost use Rattle.dgn_tool.specs.Given.{given_all, refused_count};
 ghost use Rattle.dgn_tool.specs.Lines.{numbered};
 ghost use Rattle.dgn_tool.specs.Packing.{packed, packed_from, packed_after, filed_patch, TakesLast};
-ghost use Rattle.dgn_tool.specs.Outcome.{input_outcome, scripted, IsEnding, ComesTo, IsFaultless, HasBoth};
+ghost use Rattle.dgn_tool.specs.Outcome.{run_outcome, IsEnding, ComesTo, IsFaultless, HasAll};
+ghost use Rattle.dgn_tool.specs.SecondFiles.{waiting};
 
 use crate::ending::{end, stopped};
+use crate::inputs::{Inputs, read_inputs};
 use crate::lines::push_numbered;
-use crate::opening::open_design;
 use crate::status::Status;
 use crate::tally::run_unsaid;
-use crate::top::read_commands;
 use dgn_desk::{Desk, say_all, write_file};
+use dgn_import::Second;
 use dgn_session::Session;
 use edit_script::Command;
 use elem_index::Design;
@@ -39,7 +43,7 @@ struct Packed {
     entries: Vec<PatchEntry>,
 }
 
-// Reads and opens IN, and goes on with it.
+// Reads what the script is run with, and packs what it does to the design.
 pub(crate) fn pack<D: Desk>(
     alloc: Global,
     desk: &mut D,
@@ -48,7 +52,7 @@ pub(crate) fn pack<D: Desk>(
     patch: &str,
 ) -> Status
     ensures outcome { ComesTo result
-        (λ files. input_outcome (bytes_of files input.now) (λ d. scripted (bytes_of files script.now) (λ cs. packed d cs patch.now)))
+        (λ files. run_outcome input.now script.now files (λ d gs. packed d gs patch.now))
         (D.content desk.old) (D.content desk.new) }
     ensures counted { IsEnding result → (D.read_faults desk.new ≡ D.read_faults desk.old)
         × (D.write_faults desk.new ≡ D.write_faults desk.old) }
@@ -57,37 +61,14 @@ pub(crate) fn pack<D: Desk>(
     ensures unread { result ≡ Status.ReadFault → OnlyLeftDiffers (D.content desk.old) (D.content desk.new) }
     ensures write { result ≡ Status.WriteFault → Rose (D.write_faults desk.old) (D.write_faults desk.new) }
     ensures able { IsTrue (D.willing desk.old)
-        → IfSome (D.content desk.old) (λ c. HasBoth input.now script.now c.files) → IsFaultless result }
+        → IfSome (D.content desk.old) (λ c. HasAll input.now script.now c.files) → IsFaultless result }
 {
-    let design = match open_design(alloc, desk, input) {
-        Ok(design) => design,
-        Err(status) => return status,
-    };
-    pack_design(alloc, desk, design, script, patch)
-}
-
-// Reads SCRIPT and packs what it does to the design.
-fn pack_design<D: Desk>(
-    alloc: Global,
-    desk: &mut D,
-    design: Design,
-    script: &str,
-    patch: &str,
-) -> Status
-    requires { IsWhole design }
-    ensures outcome { ComesTo result
-        (λ files. scripted (bytes_of files script.now) (λ cs. packed (opened_of design) cs patch.now))
-        (D.content desk.old) (D.content desk.new) }
-    ensures counted { IsEnding result → (D.read_faults desk.new ≡ D.read_faults desk.old)
-        × (D.write_faults desk.new ≡ D.write_faults desk.old) }
-    ensures usage { result ≡ Status.Usage → ⊥ }
-    ensures read { result ≡ Status.ReadFault → Rose (D.read_faults desk.old) (D.read_faults desk.new) }
-    ensures unread { result ≡ Status.ReadFault → OnlyLeftDiffers (D.content desk.old) (D.content desk.new) }
-    ensures write { result ≡ Status.WriteFault → Rose (D.write_faults desk.old) (D.write_faults desk.new) }
-    ensures able { IsTrue (D.willing desk.old) → HasFile script.now (D.content desk.old) → IsFaultless result }
-{
-    match read_commands(alloc, desk, script) {
-        Ok(commands) => pack_commands(alloc, desk, design, &commands, patch),
+    match read_inputs(alloc, desk, input, script) {
+        Ok(Inputs {
+            design,
+            commands,
+            mut seconds,
+        }) => pack_commands(alloc, desk, design, &commands, &mut seconds, patch),
         Err(status) => status,
     }
 }
@@ -98,10 +79,13 @@ fn pack_commands<D: Desk>(
     desk: &mut D,
     design: Design,
     commands: &[Command],
+    seconds: &mut Vec<Second>,
     patch: &str,
 ) -> Status
-    requires { IsWhole design }
-    ensures outcome { ComesTo result (λ _. packed (opened_of design) commands.now patch.now)
+    requires whole { IsWhole design }
+    requires sound { AllByRecursion IsSoundSecond seconds.old.items }
+    ensures outcome { ComesTo result
+        (λ _. packed (opened_of design) (given_all commands.now (waiting seconds.old.items)) patch.now)
         (D.content desk.old) (D.content desk.new) }
     ensures counted { IsEnding result → (D.read_faults desk.new ≡ D.read_faults desk.old)
         × (D.write_faults desk.new ≡ D.write_faults desk.old) }
@@ -110,7 +94,7 @@ fn pack_commands<D: Desk>(
     ensures write { result ≡ Status.WriteFault → Rose (D.write_faults desk.old) (D.write_faults desk.new) }
     ensures able { IsTrue (D.willing desk.old) → IsFaultless result }
 {
-    let did = match pack_edits(alloc, design, commands) {
+    let did = match pack_edits(alloc, design, commands, seconds) {
         Ok(did) => did,
         Err(_) => return Status::Memory,
     };
@@ -121,13 +105,21 @@ fn pack_commands<D: Desk>(
 }
 
 // Runs the commands on the design, and takes off it what those edits did that are left.
-fn pack_edits(alloc: Global, design: Design, commands: &[Command]) -> Result<Packed, AllocError>
-    requires { IsWhole design }
-    ensures refused { IfOk result (λ p. p.refused ≡ refused_count commands.now (begun (opened_of design))) }
-    ensures entries { IfOk result (λ p. all_packed p.entries.items ≡ packed_after commands.now (begun (opened_of design))) }
+fn pack_edits(
+    alloc: Global,
+    design: Design,
+    commands: &[Command],
+    seconds: &mut Vec<Second>,
+) -> Result<Packed, AllocError>
+    requires whole { IsWhole design }
+    requires sound { AllByRecursion IsSoundSecond seconds.old.items }
+    ensures refused { IfOk result (λ p. p.refused
+        ≡ refused_count (given_all commands.now (waiting seconds.old.items)) (begun (opened_of design))) }
+    ensures entries { IfOk result (λ p. all_packed p.entries.items
+        ≡ packed_after (given_all commands.now (waiting seconds.old.items)) (begun (opened_of design))) }
 {
     let mut session = Session::start(alloc, design)?;
-    let tally = run_unsaid(alloc, &mut session, commands)?;
+    let tally = run_unsaid(alloc, &mut session, commands, seconds)?;
     let entries = take_all(alloc, &mut session)?;
     Ok(Packed {
         refused: tally.refused,

@@ -21,8 +21,8 @@ pub enum Status {
     WriteFault,
     /// There was no memory.
     Memory,
-    /// IN has more than 67108864 bytes, SCRIPT more than 1048576, or PATCH more than 134217728; or body and tail
-    /// would have more than 67108864 after an entry of the patch file.
+    /// IN or a file that an import names has more than 67108864 bytes, SCRIPT more than 1048576, or PATCH more than
+    /// 134217728; or body and tail would have more than 67108864 after an entry of the patch file.
     TooLong,
     /// PATCH is no patch file: a piece of it is cut off or breaks its rule, or bytes stand behind the last entry.
     BadPatch,

@@ -1,11 +1,15 @@
 // Running commands of which nothing is said.
 
 ghost use Rattle.std.specs.Prelude.{◌≡◌, IfOk, OnOk};
+ghost use Rattle.std.specs.List.{AllByRecursion};
+ghost use Rattle.dgn_import.specs.Seconds.{IsSound};
 ghost use Rattle.dgn_session.specs.State.{state_of};
-ghost use Rattle.dgn_tool.specs.Commands.{after_all, refused_count, trees_of_all};
+ghost use Rattle.dgn_tool.specs.Given.{given_all, after_all, refused_count, trees_of_all};
 ghost use Rattle.dgn_tool.specs.Packing.{AllLogAs};
+ghost use Rattle.dgn_tool.specs.SecondFiles.{waiting};
 
-use crate::answers::respond;
+use crate::steps::take_step;
+use dgn_import::Second;
 use dgn_session::Session;
 use edit_script::Command;
 use std::alloc::{AllocError, Global};
@@ -19,16 +23,18 @@ pub(crate) struct Tally {
     pub(crate) trees: Vec<u32>,
 }
 
-// Runs the commands in order in a session.
+// Runs the commands in order in a session, each import with the next of the second files.
 pub(crate) fn run_unsaid(
     alloc: Global,
     session: &mut Session,
     commands: &[Command],
+    seconds: &mut Vec<Second>,
 ) -> Result<Tally, AllocError>
-    ensures refused { IfOk result (λ t. t.refused ≡ refused_count commands.now (state_of session.old)) }
-    ensures trees { IfOk result (λ t. t.trees.items ≡ trees_of_all commands.now (state_of session.old)) }
-    ensures state { OnOk result (state_of session.new ≡ after_all commands.now (state_of session.old)) }
-    ensures logged { OnOk result (AllLogAs commands.now session.old session.new) }
+    requires { AllByRecursion IsSound seconds.old.items }
+    ensures refused { IfOk result (λ t. t.refused ≡ refused_count (given_all commands.now (waiting seconds.old.items)) (state_of session.old)) }
+    ensures trees { IfOk result (λ t. t.trees.items ≡ trees_of_all (given_all commands.now (waiting seconds.old.items)) (state_of session.old)) }
+    ensures state { OnOk result (state_of session.new ≡ after_all (given_all commands.now (waiting seconds.old.items)) (state_of session.old)) }
+    ensures logged { OnOk result (AllLogAs (given_all commands.now (waiting seconds.old.items)) session.old session.new) }
     ensures tail { session.new.tail ≡ session.old.tail }
 {
     let mut out = Vec::new(alloc);
@@ -36,7 +42,7 @@ pub(crate) fn run_unsaid(
     let mut refused = 0;
     'commands: for command in commands {
         out.clear();
-        let answered = respond(alloc, session, command, &mut out)?;
+        let answered = take_step(alloc, session, command, seconds, &mut out)?;
         refused += u64::from(answered.refused);
         trees.push(answered.trees)?;
     }

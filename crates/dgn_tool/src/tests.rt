@@ -3,6 +3,7 @@
 mod faults;
 mod fences;
 mod hostile;
+mod imports;
 mod made;
 mod packing;
 mod patches;

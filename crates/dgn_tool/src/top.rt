@@ -1,4 +1,6 @@
 ghost use Rattle.std.specs.Prelude.{◌≡◌, ◌≤◌, map, string_bytes, IfOk, IfErr, IsErrOf, OnOk, IsNone, IfSome, IsTrue};
+ghost use Rattle.std.specs.List.{AllByRecursion};
+ghost use Rattle.dgn_import.specs.Seconds.{IsSound};
 ghost use Rattle.dgn_desk.specs.Content.{bytes_of, OnlyLeftDiffers, HasFile};
 ghost use Rattle.dgn_desk.specs.Desk.{Rose, Counts, FilesAll, StaysWilling, DoesNotFail};
 ghost use Rattle.dgn_drawing.specs.Spelling.{spelling};
@@ -6,20 +8,24 @@ ghost use Rattle.elem_index.specs.Design.{IsWhole};
 ghost use Rattle.elem_index.specs.Answers.{opened_of};
 ghost use Rattle.dgn_session.specs.State.{state_of};
 ghost use Rattle.dgn_tool.specs.Filling.{file_made};
+ghost use Rattle.dgn_tool.specs.Given.{given_all};
 ghost use Rattle.dgn_tool.specs.Request.{request_of};
-ghost use Rattle.dgn_tool.specs.Outcome.{outcome, input_outcome, scripted, told, told_from, checked};
-ghost use Rattle.dgn_tool.specs.Outcome.{IsEnding, EndsAs, StoppedAs, ComesTo, IsFaultless, HasBoth, HasFiles, Reads, EndsScript, ReadsAs};
+ghost use Rattle.dgn_tool.specs.Outcome.{outcome, input_outcome, run_outcome, told, told_from, checked};
+ghost use Rattle.dgn_tool.specs.Outcome.{IsEnding, EndsAs, StoppedAs, ComesTo, IsFaultless, HasAll, HasFiles, Reads, EndsScript, ReadsAs};
+ghost use Rattle.dgn_tool.specs.SecondFiles.{waiting};
 
 use crate::applying::apply;
 use crate::commands::run_all;
 use crate::ending::{end, end_numbered, stopped};
 use crate::filling::write_filled;
 use crate::generation::generate_file;
-use crate::opening::{end_bad_design, open_design, read_input};
+use crate::inputs::{Inputs, read_inputs};
+use crate::opening::{end_bad_design, read_input};
 use crate::packing::pack;
 use crate::request::{Request, read_words};
 use crate::status::Status;
 use dgn_desk::{Desk, ReadEnd, Stop, read_all};
+use dgn_import::Second;
 use dgn_session::Session;
 use edit_script::{Command, ScriptFault, read_script};
 use elem_index::{Design, count_elements};
@@ -31,8 +37,8 @@ const MOST_SCRIPT: usize = 1048576;
 /// Runs the program with these words, those of the command line behind the program's name, over this
 /// desk, and answers how it ended.
 ///
-/// `edit IN SCRIPT OUT` reads the design file IN and the script SCRIPT whole, runs the commands of the
-/// script and writes OUT. `check IN` reads IN and says how many elements it has. `gen SEED COUNT OUT`
+/// `edit IN SCRIPT OUT` reads the design file IN and the script SCRIPT whole, and then the second files of the script's
+/// imports in their order, runs the commands of the script and writes OUT. `check IN` reads IN and says how many elements it has. `gen SEED COUNT OUT`
 /// generates a drawing, runs a fixed script on it, writes OUT and says a summary; it reads nothing.
 /// `pack IN SCRIPT PATCH` reads and runs as `edit`, and writes what the edits that are left did as a patch file.
 /// `apply IN PATCH OUT` reads IN and the patch file PATCH whole, puts the entries of the patch file on the elements one
@@ -124,10 +130,10 @@ fn check<D: Desk>(alloc: Global, desk: &mut D, input: &str) -> Status
     }
 }
 
-// Reads and opens IN, and goes on with it.
+// Reads what the script is run with, and runs it on the design.
 fn edit<D: Desk>(alloc: Global, desk: &mut D, input: &str, script: &str, output: &str) -> Status
     ensures outcome { ComesTo result
-        (λ files. input_outcome (bytes_of files input.now) (λ d. scripted (bytes_of files script.now) (λ cs. told d cs output.now)))
+        (λ files. run_outcome input.now script.now files (λ d gs. told d gs output.now))
         (D.content desk.old) (D.content desk.new) }
     ensures counted { IsEnding result → (D.read_faults desk.new ≡ D.read_faults desk.old)
         × (D.write_faults desk.new ≡ D.write_faults desk.old) }
@@ -136,37 +142,14 @@ fn edit<D: Desk>(alloc: Global, desk: &mut D, input: &str, script: &str, output:
     ensures unread { result ≡ Status.ReadFault → OnlyLeftDiffers (D.content desk.old) (D.content desk.new) }
     ensures write { result ≡ Status.WriteFault → Rose (D.write_faults desk.old) (D.write_faults desk.new) }
     ensures able { IsTrue (D.willing desk.old)
-        → IfSome (D.content desk.old) (λ c. HasBoth input.now script.now c.files) → IsFaultless result }
+        → IfSome (D.content desk.old) (λ c. HasAll input.now script.now c.files) → IsFaultless result }
 {
-    let design = match open_design(alloc, desk, input) {
-        Ok(design) => design,
-        Err(status) => return status,
-    };
-    edit_design(alloc, desk, design, script, output)
-}
-
-// Reads SCRIPT and runs it on the design.
-fn edit_design<D: Desk>(
-    alloc: Global,
-    desk: &mut D,
-    design: Design,
-    script: &str,
-    output: &str,
-) -> Status
-    requires { IsWhole design }
-    ensures outcome { ComesTo result
-        (λ files. scripted (bytes_of files script.now) (λ cs. told (opened_of design) cs output.now))
-        (D.content desk.old) (D.content desk.new) }
-    ensures counted { IsEnding result → (D.read_faults desk.new ≡ D.read_faults desk.old)
-        × (D.write_faults desk.new ≡ D.write_faults desk.old) }
-    ensures usage { result ≡ Status.Usage → ⊥ }
-    ensures read { result ≡ Status.ReadFault → Rose (D.read_faults desk.old) (D.read_faults desk.new) }
-    ensures unread { result ≡ Status.ReadFault → OnlyLeftDiffers (D.content desk.old) (D.content desk.new) }
-    ensures write { result ≡ Status.WriteFault → Rose (D.write_faults desk.old) (D.write_faults desk.new) }
-    ensures able { IsTrue (D.willing desk.old) → HasFile script.now (D.content desk.old) → IsFaultless result }
-{
-    match read_commands(alloc, desk, script) {
-        Ok(commands) => run_script(alloc, desk, design, &commands, output),
+    match read_inputs(alloc, desk, input, script) {
+        Ok(Inputs {
+            design,
+            commands,
+            mut seconds,
+        }) => run_script(alloc, desk, design, &commands, &mut seconds, output),
         Err(status) => status,
     }
 }
@@ -216,11 +199,13 @@ fn run_script<D: Desk>(
     desk: &mut D,
     design: Design,
     commands: &[Command],
+    seconds: &mut Vec<Second>,
     output: &str,
 ) -> Status
-    requires { IsWhole design }
+    requires whole { IsWhole design }
+    requires sound { AllByRecursion IsSound seconds.old.items }
     ensures outcome { ComesTo result
-        (λ _. told (opened_of design) commands.now output.now)
+        (λ _. told (opened_of design) (given_all commands.now (waiting seconds.old.items)) output.now)
         (D.content desk.old) (D.content desk.new) }
     ensures counted { IsEnding result → (D.read_faults desk.new ≡ D.read_faults desk.old)
         × (D.write_faults desk.new ≡ D.write_faults desk.old) }
@@ -230,7 +215,7 @@ fn run_script<D: Desk>(
     ensures able { IsTrue (D.willing desk.old) → IsFaultless result }
 {
     match Session::start(alloc, design) {
-        Ok(mut session) => finish(alloc, desk, &mut session, commands, output),
+        Ok(mut session) => finish(alloc, desk, &mut session, commands, seconds, output),
         Err(_) => Status::Memory,
     }
 }
@@ -261,10 +246,13 @@ fn finish<D: Desk>(
     desk: &mut D,
     session: &mut Session,
     commands: &[Command],
+    seconds: &mut Vec<Second>,
     output: &str,
 ) -> Status
+    requires { AllByRecursion IsSound seconds.old.items }
     ensures outcome { ComesTo result
-        (λ _. told_from (state_of session.old) session.old.tail commands.now output.now)
+        (λ _. told_from (state_of session.old) session.old.tail
+            (given_all commands.now (waiting seconds.old.items)) output.now)
         (D.content desk.old) (D.content desk.new) }
     ensures counted { IsEnding result → (D.read_faults desk.new ≡ D.read_faults desk.old)
         × (D.write_faults desk.new ≡ D.write_faults desk.old) }
@@ -274,7 +262,7 @@ fn finish<D: Desk>(
     ensures able { IsTrue (D.willing desk.old) → IsFaultless result }
 {
     let before = session.design().body.len();
-    let refused = match run_all(alloc, desk, session, commands) {
+    let refused = match run_all(alloc, desk, session, commands, seconds) {
         Ok(refused) => refused,
         Err(stop) => return stopped(stop),
     };

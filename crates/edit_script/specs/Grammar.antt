@@ -9,6 +9,7 @@ use Rattle.edit_script.specs.declared.reading.Reading.TheVariants.{Nothing, Asks
 use Rattle.edit_script.specs.Words.{from_word, first_word, behind_word, words_of}
 use Rattle.edit_script.specs.Levels.{mask_named}
 use Rattle.edit_script.specs.Appends.{line_command, string_command, shape_command, text_command}
+use Rattle.edit_script.specs.Imports.{import_command}
 use Rattle.edit_script.specs.Edits.{one_element, color_command, move_command, copy_command, sym_command, delete_command}
 use Rattle.edit_script.specs.Fences.{fence_command, select_command, fmove_command, fcopy_command, fsym_command, fdelete_command}
 
@@ -48,8 +49,8 @@ listing_reading name rest =
     else if bytes_eq name (codes "select") then asking (select_command (words_of rest))
     else fence_reading name rest
 
--- what a line says that begins with this word, which is no name of an append and not `fence`, and goes on with
--- these bytes
+-- what a line says that begins with this word, which is no name of an append and not `fence` or `import`, and goes on
+-- with these bytes
 abbrev pub other_reading : List ℕ → List ℕ → Reading
 other_reading name rest =
     if bytes_eq name (codes "color") then asking (color_command (words_of rest))
@@ -69,6 +70,7 @@ reading_of name rest =
     else if bytes_eq name (codes "shape") then asking (shape_command (words_of rest))
     else if bytes_eq name (codes "text") then asking (text_command rest)
     else if bytes_eq name (codes "fence") then asking (fence_command (words_of rest))
+    else if bytes_eq name (codes "import") then asking (import_command (words_of rest))
     else other_reading name rest
 
 -- an empty line, or one of blanks alone

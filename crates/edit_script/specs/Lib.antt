@@ -6,6 +6,7 @@ pub mod Points
 pub mod Appends
 pub mod Edits
 pub mod Fences
+pub mod Imports
 pub mod Grammar
 pub mod Script
 pub mod Laws

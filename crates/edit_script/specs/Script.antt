@@ -1,5 +1,5 @@
 -- What a whole script says: the commands of its lines in their order, or the fault of the first line that
--- is bad. Lines are numbered from 1, and every line counts.
+-- is bad. Lines are numbered from 1, and every line counts. A fifth line that asks for an import is bad.
 use Rattle.std.specs.Prelude.{ℕ, ◌+◌, ◌≡◌, List, [], ◌∷◌, Result, Ok, Err}
 use Rattle.edit_script.specs.declared.command.Command.{Command}
 use Rattle.edit_script.specs.declared.fault.ScriptFault.{ScriptFault}
@@ -7,6 +7,7 @@ use Rattle.edit_script.specs.declared.fault.ScriptFault.TheVariants as fault
 use Rattle.edit_script.specs.declared.reading.Reading.{Reading}
 use Rattle.edit_script.specs.declared.reading.Reading.TheVariants.{Nothing, Asks, Bad}
 use Rattle.edit_script.specs.Lines.{lines_of}
+use Rattle.edit_script.specs.Imports.{limited, imports_with}
 use Rattle.edit_script.specs.Grammar.{command_of}
 
 -- a command before those of the lines behind it
@@ -20,14 +21,15 @@ joined number Nothing more = more
 joined number (Asks c) more = with_first c more
 joined number Bad more = Err (fault.Line number)
 
--- the commands of these lines, of which the first has this number
-abbrev pub commands_from : ℕ → List (List ℕ) → Result (List Command) ScriptFault
-commands_from number [] = Ok []
-commands_from number (line ∷ lines) = joined number (command_of line) (commands_from (number + 1) lines)
+-- the commands of these lines, of which the first has this number and stands behind so many lines that ask for an import
+abbrev pub commands_from : ℕ → ℕ → List (List ℕ) → Result (List Command) ScriptFault
+commands_from number imports [] = Ok []
+commands_from number imports (line ∷ lines) =
+    joined number (limited imports (command_of line)) (commands_from (number + 1) (imports_with imports (command_of line)) lines)
 
 -- the commands of a script, or its first line that is bad
 abbrev pub commands_of : List ℕ → Result (List Command) ScriptFault
-commands_of text = commands_from 1 (lines_of text)
+commands_of text = commands_from 1 0 (lines_of text)
 
 -- what a fault says of a script: Memory says nothing
 abbrev pub Tells : List ℕ → ScriptFault → Type 0

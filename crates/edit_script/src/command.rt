@@ -1,4 +1,5 @@
-use dgn_drawing::{Edit, FenceEdit, Mask, Mode};
+use dgn_drawing::{Edit, FenceEdit, Mask, Mode, Shift};
+use patch_bytes::ByteList;
 use plane_geom::PtList;
 
 /// What one line of a script asks for. Elements are numbered in file order, from 0.
@@ -29,4 +30,6 @@ pub enum Command {
     Links(u32),
     /// Says the numbers of the trees that the fence chooses so.
     Select(Mode),
+    /// Appends the trees of the drawing in the file of this name, displaced so far where that is given.
+    Import(ByteList, Option<Shift>),
 }

@@ -6,6 +6,7 @@ use crate::appends;
 use crate::command::Command;
 use crate::edits::{one_element, read_color, read_copy, read_delete, read_move, read_sym};
 use crate::fences::{read_fcopy, read_fdelete, read_fence, read_fmove, read_fsym, read_select};
+use crate::imports::read_import;
 use crate::levels::read_levels;
 use crate::reading::Reading;
 use crate::words::{first_piece, next_word, strip_blanks};
@@ -37,14 +38,16 @@ fn read_command(alloc: Global, name: &[u8], rest: &[u8]) -> Result<Reading, Allo
         appends::read_text(alloc, rest)?
     } else if name == b"fence".as_slice() {
         read_fence(alloc, rest)?
+    } else if name == b"import".as_slice() {
+        read_import(alloc, rest)?
     } else {
         return Ok(other_command(name, rest));
     };
     Ok(Reading::asking(command))
 }
 
-// What a line says that begins with this word, which is no name of an append and not `fence`, and goes on with these
-// bytes.
+// What a line says that begins with this word, which is no name of an append and not `fence` or `import`, and goes on
+// with these bytes.
 fn other_command(name: &[u8], rest: &[u8]) -> Reading
     ensures { result ≡ other_reading name.now rest.now }
 {

@@ -11,6 +11,7 @@ mod edits;
 mod fault;
 mod fences;
 mod grammar;
+mod imports;
 pub mod laws;
 mod levels;
 mod lines;

@@ -10,7 +10,7 @@ use std::alloc::Global;
 
 /// The commands of a script of at most 1048576 bytes, in the order of its lines.
 ///
-/// `Line` comes exactly where a line is bad, and tells the number of the first. `Memory` comes where there is no
+/// `Line` comes exactly where a line is bad, or a fifth asks for an import, and tells the number of the first. `Memory` comes where there is no
 /// memory for the list of commands, or for the points or the characters of one of them.
 pub fn read_script(alloc: Global, bytes: &[u8]) -> Result<Vec<Command>, ScriptFault>
     requires { length bytes.now ≤ 1048576 }
@@ -20,17 +20,20 @@ pub fn read_script(alloc: Global, bytes: &[u8]) -> Result<Vec<Command>, ScriptFa
     let mut commands = Vec::new(alloc);
     let mut rest = bytes;
     let mut number = 1;
+    let mut imports = 0;
     'lines: while let Some((line, behind)) = next_line(rest) {
         let Ok(reading) = read_line(alloc, line) else {
             return Err(ScriptFault::Memory);
         };
-        match reading {
+        let with_this = reading.imports_with(imports);
+        match reading.limited(imports) {
             Reading::Nothing => {}
             Reading::Asks(command) => commands.push(command).map_err(|_| ScriptFault::Memory)?,
             Reading::Bad => return Err(ScriptFault::Line { number }),
         }
         rest = behind;
         number += 1;
+        imports = with_this;
     }
     Ok(commands)
 }

@@ -709,3 +709,58 @@ fn texts_of_faults(rt: HostRuntime) -> Result<(), Fail> {
     }
     Ok(())
 }
+
+// The lines of an import: its name and its displacement.
+#[test]
+fn imports_that_are_read(rt: HostRuntime) -> Result<(), Fail> {
+    let script = b"import lib\n import ../!~ 1 -2 \nimport # 1 2 3\nundo\nimport lib\n";
+    let wanted: [(&[u8], Option<(u8, [i64; 3])>); 4] = [
+        (b"lib", None),
+        (b"../!~", Some((2, [1, -2, 0]))),
+        (b"#", Some((3, [1, 2, 3]))),
+        (b"lib", None),
+    ];
+    let Ok(commands) = read_script(rt.alloc(), script) else {
+        panic!(rt; "it isn't read");
+    };
+    assert_eq!(rt; commands.len(), 5);
+    let mut read = 0;
+    for command in &commands {
+        if let Command::Import(name, by) = command {
+            assert!(rt; read < 4);
+            let (word, shift) = wanted[read];
+            assert_eq!(rt; name.as_slice(), word);
+            assert_eq!(rt; by.as_ref().map(|by| (by.axes, by.by)), shift);
+            read += 1;
+        }
+    }
+    assert_eq!(rt; read, 4);
+    Ok(())
+}
+
+// A fifth import is a bad line, and so is a name of 256 bytes or of other bytes, and one without a name.
+#[test]
+fn imports_that_are_not_read(rt: HostRuntime) -> Result<(), Fail> {
+    let alloc = rt.alloc();
+    let mut long = Vec::from_slice(alloc, b"import ")?;
+    for _ in 0..255 {
+        long.push(b'a')?;
+    }
+    assert!(rt; long.len() <= 1048576);
+    assert!(rt; read_script(alloc, &long).is_ok());
+    long.push(b'a')?;
+    let rows: [(&[u8], u32); 6] = [
+        (b"import a\nimport b\nimport c\n\nimport d\nimport e\n", 6),
+        (&long, 1),
+        (b"import", 1),
+        (b"import a\tb", 1),
+        (b"import \x7F", 1),
+        (b"import a 1", 1),
+    ];
+    for (script, number) in rows {
+        assert!(rt; script.len() <= 1048576);
+        let fault = read_script(alloc, script).err();
+        assert_eq!(rt; fault, Some(ScriptFault::Line { number }));
+    }
+    Ok(())
+}

@@ -3,4 +3,4 @@ use Rattle.edit_script.proofs.FirstFault.{means}
 use Rattle.edit_script.proofs.laws.first_fault_decides.Goals as goal
 
 pub returns : goal.returns
-returns c = λ text. means (lines_of text) 1
+returns c = λ text. means (lines_of text) 1 0

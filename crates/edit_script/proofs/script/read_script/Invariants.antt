@@ -1,4 +1,4 @@
-use Rattle.std.proofs.Common.{◌≡◌, ◌≤◌, ◌+◌, length}
+use Rattle.std.proofs.Common.{◌≡◌, ◌≤◌, ◌<◌, ◌+◌, length}
 use Rattle.edit_script.specs.Lines.{lines_of}
 use Rattle.edit_script.specs.Script.{commands_from, commands_of}
 use Rattle.edit_script.proofs.InOrder.{behind}
@@ -6,8 +6,9 @@ use Rattle.edit_script.proofs.script.read_script.Given as goal
 
 abbrev pub invariant-lines : goal.invariant-lines
 invariant-lines l = record {
-  reads : behind l.commands.items (commands_from l.number (lines_of l.rest)) ≡ commands_of l.bytes;
+  reads : behind l.commands.items (commands_from l.number l.imports (lines_of l.rest)) ≡ commands_of l.bytes;
   fits : l.number + length l.rest ≤ length l.bytes + 1;
+  few : l.imports < l.number;
 }
 
 abbrev pub decreases-lines : goal.decreases-lines

@@ -1,0 +1,39 @@
+-- What a session answers to an import, by what was gathered for it.
+use Rattle.std.proofs.Common.{◌≡◌, ◌∷◌, ℕ, List, [], Option, refl, sym, ap, ◌∙◌}
+use Rattle.dgn_drawing.specs.Values.{Displacement}
+use Rattle.dgn_drawing.specs.Opening.{elements_of}
+use Rattle.edit_ops.specs.declared.cause.Cause.{Cause}
+use Rattle.edit_script.specs.declared.command.Command.{Command}
+use Rattle.edit_script.specs.declared.command.Command.TheVariants as command
+use Rattle.dgn_import.specs.Seconds.{SecondValue, Drawing, Faulty}
+use Rattle.dgn_import.specs.Gathering.{Gathering, Refused, gathered}
+use Rattle.dgn_import.specs.Laws.{IsOfATree}
+use Rattle.dgn_import.proofs.Refusing.{trees_alone_refuse}
+use Rattle.dgn_session.specs.State.{State}
+use Rattle.dgn_tool.specs.Imports.{importing, importing_of}
+use Rattle.dgn_tool.specs.SecondFiles.{names_of}
+
+-- an import comes to what is gathered for it
+pub came_as : (s : State) (v : SecondValue) (by : Option Displacement) (dim : ℕ) (found : Gathering) → dim ≡ s.dim → gathered dim v by ≡ found → importing_of s v by ≡ importing s found
+came_as s v by dim found same is = ap (λ (d : ℕ). importing s (gathered d v by)) (sym same) ∙ ap (importing s) is
+
+-- a cause that refuses it is that of a tree
+pub of_a_tree : (dim : ℕ) (v : SecondValue) (by : Option Displacement) (c : Cause) → gathered dim v by ≡ Refused c → IsOfATree c
+of_a_tree dim (Drawing own body tail) by c is = trees_alone_refuse dim own (elements_of own body) by c is
+of_a_tree dim (Faulty fault) by c is = absurd (let x = is in cc)
+
+-- a command that is no import names no file
+pub names_none : (c : Command) → ((name : List ℕ) (by : Option Displacement) → ¬ (c ≡ command.Import name by)) → names_of c ≡ []
+names_none (command.Import name by) none = absurd (none name by refl)
+names_none (command.Edit e) none = refl
+names_none (command.Fenced mode e) none = refl
+names_none command.Undo none = refl
+names_none (command.Levels mask) none = refl
+names_none (command.Fence corners) none = refl
+names_none command.NoFence none = refl
+names_none command.Show none = refl
+names_none (command.Tree n) none = refl
+names_none command.Elements none = refl
+names_none command.Refs none = refl
+names_none (command.Links n) none = refl
+names_none (command.Select mode) none = refl

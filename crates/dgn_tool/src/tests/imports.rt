@@ -1,0 +1,169 @@
+// Imports of second drawings, by the rows of the format's examples.
+
+use super::*;
+use dgn_desk::{Act, MemDesk};
+
+// A desk with a design file of a line, this script, and a second file `lib`.
+fn desk_with(alloc: Global, script: &[u8], lib: Vec<u8>) -> Result<SureDesk, AllocError> {
+    let mut desk = SureDesk::new(alloc, 512);
+    desk.add("in", design(alloc, 0, &[&LINE, &END])?)?;
+    desk.add("s", Vec::from_slice(alloc, script)?)?;
+    desk.add("lib", lib)?;
+    Ok(desk)
+}
+
+// A cell of a line and an arc.
+fn library(alloc: Global) -> Result<Vec<u8>, AllocError> {
+    design(alloc, 0, &[&CELL_OF_81, &MEMBER, &ARC, &END])
+}
+
+const SCRIPT: &[u8] = b"import lib\nimport lib 1 1\nshow\nundo\nshow\n";
+
+// What that says: the arc, element 3 of the second file, keeps the cell from being displaced.
+const SAID: &[u8] = b"ok 1\nrefused import floating 3\n1 0 3 1 0 0 0 path 0,0 100,50\n\
+2 0 2 1 0 0 0 cell [ABC       ] 0,0\n3 1 3 1 0 0 0 path 0,0 100,50\n4 1 16 1 0 0 0 box 5,5 9,9\nshown 4\nok\n\
+1 0 3 1 0 0 0 path 0,0 100,50\nshown 1\n";
+
+#[test]
+fn an_import(rt: HostRuntime) -> Result<(), Fail> {
+    let alloc = rt.alloc();
+    let mut desk = desk_with(alloc, SCRIPT, library(alloc)?)?;
+    let status = run(alloc, &words(alloc, &EDIT)?, &mut desk);
+    assert!(rt; status == Status::SomeRefused);
+    assert!(rt; desk.said() == SAID);
+    assert!(rt; desk.file("out") == desk.file("in"));
+    // the patch file of one that is left, applied, gives the file that `edit` writes
+    let mut desk = desk_with(alloc, b"import lib\n", library(alloc)?)?;
+    let status = run(alloc, &words(alloc, &["pack", "in", "s", "p"])?, &mut desk);
+    assert!(rt; status == Status::Done);
+    assert!(rt; desk.said() == b"entries 1\n".as_slice());
+    let words_of_apply = words(alloc, &["apply", "in", "p", "out"])?;
+    assert!(rt; run(alloc, &words_of_apply, &mut desk) == Status::Done);
+    let out = design(alloc, 0, &[&LINE, &CELL_OF_81, &MEMBER, &ARC, &END])?;
+    assert!(rt; desk.file("out") == Some(out.as_slice()));
+    assert!(rt; run(alloc, &words(alloc, &EDIT)?, &mut desk) == Status::Done);
+    assert!(rt; desk.file("out") == Some(out.as_slice()));
+    Ok(())
+}
+
+#[test]
+fn imports_that_are_refused(rt: HostRuntime) -> Result<(), Fail> {
+    let alloc = rt.alloc();
+    let refused = Status::SomeRefused;
+    let three = Vec::from_slice(alloc, &[0x08, 0x09, 0xFE])?;
+    let cut = design(alloc, 0, &[&LINE[..50]])?;
+    // The second file, the status, and what is said.
+    let rows = [
+        (
+            design(alloc, 0x40, &[&SPACE_LINE, &END])?,
+            refused,
+            b"refused import dimension\n".as_slice(),
+        ),
+        (three, refused, b"refused import not-design at 0\n"),
+        (cut, refused, b"refused import cut at 1536\n"),
+        (
+            design(alloc, 0, &[&SHORT_LINE, &END])?,
+            refused,
+            b"refused import short at 1536\n",
+        ),
+        (design(alloc, 0, &[&END])?, Status::Done, b"ok 0\n"),
+        (
+            zeros(alloc, 67108865)?,
+            Status::TooLong,
+            b"too long import\n",
+        ),
+    ];
+    let words = words(alloc, &EDIT)?;
+    for (lib, status, said) in rows {
+        let mut desk = desk_with(alloc, b"import lib\n", lib)?;
+        let ended = run(alloc, &words, &mut desk);
+        assert!(rt; ended == status);
+        assert!(rt; desk.said() == said);
+    }
+    // no file of that name
+    let mut desk = MemDesk::new(alloc, 512);
+    desk.add("in", design(alloc, 0, &[&LINE, &END])?)?;
+    desk.add("s", Vec::from_slice(alloc, b"show\nimport lib\n")?)?;
+    let ended = run(alloc, &words, &mut desk);
+    assert!(rt; ended == Status::ReadFault);
+    assert!(rt; desk.said().is_empty());
+    // a drawing that has no room for a line more
+    let mut full = design(alloc, 0, &[&LINE, &END])?;
+    full.resize(67108864, 0)?;
+    let mut desk = SureDesk::new(alloc, 65536);
+    desk.add("in", full)?;
+    desk.add("s", Vec::from_slice(alloc, b"import lib\n")?)?;
+    desk.add("lib", design(alloc, 0, &[&LINE, &END])?)?;
+    let ended = run(alloc, &words, &mut desk);
+    assert!(rt; ended == refused);
+    assert!(rt; desk.said() == b"refused too-long\n".as_slice());
+    Ok(())
+}
+
+// The calls of a run of two imports in which none fails: IN and the second file have 1590 bytes, and OUT a body of 1692.
+const ACTS: [Act; 30] = [
+    Act::BeginRead,
+    Act::Read,
+    Act::Read,
+    Act::Read,
+    Act::Read,
+    Act::Read,
+    Act::BeginRead,
+    Act::Read,
+    Act::Read,
+    Act::BeginRead,
+    Act::Read,
+    Act::Read,
+    Act::Read,
+    Act::Read,
+    Act::Read,
+    Act::BeginRead,
+    Act::Read,
+    Act::Read,
+    Act::Read,
+    Act::Read,
+    Act::Read,
+    Act::Say,
+    Act::Say,
+    Act::BeginWrite,
+    Act::Write,
+    Act::Write,
+    Act::Write,
+    Act::Write,
+    Act::Write,
+    Act::Write,
+];
+
+// A desk with a drawing, a script of two imports, and their second file.
+fn importing_desk(alloc: Global) -> Result<MemDesk, AllocError> {
+    let mut desk = MemDesk::new(alloc, 512);
+    desk.add("in", design(alloc, 0, &[&LINE, &END])?)?;
+    desk.add("s", Vec::from_slice(alloc, b"import lib\nimport lib 1 1\n")?)?;
+    desk.add("lib", design(alloc, 0, &[&LINE, &END])?)?;
+    Ok(desk)
+}
+
+#[test]
+fn each_call_of_imports_fails_in_turn(rt: HostRuntime) -> Result<(), Fail> {
+    let alloc = rt.alloc();
+    let words = words(alloc, &EDIT)?;
+    let mut whole = importing_desk(alloc)?;
+    assert!(rt; run(alloc, &words, &mut whole) == Status::Done);
+    assert!(rt; whole.said() == b"ok 1\nok 1\n".as_slice());
+    assert!(rt; whole.acts() == ACTS);
+    let mut call = 0;
+    for act in ACTS {
+        let mut desk = importing_desk(alloc)?;
+        desk.fail_at(call)?;
+        let status = run(alloc, &words, &mut desk);
+        if matches!(act, Act::BeginRead | Act::Read) {
+            assert!(rt; status == Status::ReadFault);
+            assert!(rt; desk.said().is_empty() && desk.file("out").is_none());
+        } else {
+            assert!(rt; status == Status::WriteFault);
+        }
+        assert!(rt; whole.said().starts_with(desk.said()));
+        call = call.saturating_add(1);
+    }
+    Ok(())
+}
