@@ -29,4 +29,8 @@ pub enum Command {
     Links(u32),
     /// Says the numbers of the trees that the fence chooses so.
     Select(Mode),
+    /// Says the elements whose stored range isn't the hull of their parts.
+    Audit,
+    /// Writes the hulls of the tree that holds this element.
+    Fit(u32),
 }
