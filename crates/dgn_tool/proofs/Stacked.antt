@@ -6,11 +6,12 @@ use Rattle.dgn_drawing.specs.declared.fence_edit.FenceEdit.{FenceEdit}
 use Rattle.dgn_drawing.specs.Element.{Element}
 use Rattle.edit_ops.specs.Applying.{Applied, Done, Refused}
 use Rattle.edit_ops.specs.Fenced.{apply_all}
+use Rattle.dgn_session.specs.Fits.{fit_applied}
 use Rattle.dgn_session.specs.State.{State, applied, pushed, pushed_if, selection, dropped, is_none, with_fence}
 use Rattle.edit_script.specs.declared.command.Command.{Command}
 use Rattle.edit_script.specs.declared.command.Command.TheVariants as command
 use Rattle.dgn_tool.specs.Commands.{fence_refused, after_command, after_all}
-use Rattle.dgn_tool.specs.Remaining.{Made, Making, Alone, Fenced, with_made, with_all_made, without_newest, with_command, with_commands}
+use Rattle.dgn_tool.specs.Remaining.{Made, Making, Alone, Fenced, Fitted, with_made, with_all_made, without_newest, with_command, with_commands}
 
 -- what the edits have made
 abbrev pub lists_made : List Made → List (List Element)
@@ -48,6 +49,8 @@ command_stacks base s left command.Elements stacked = stacked
 command_stacks base s left command.Refs stacked = stacked
 command_stacks base s left (command.Links n) stacked = stacked
 command_stacks base s left (command.Select mode) stacked = stacked
+command_stacks base s left command.Audit stacked = stacked
+command_stacks base s left (command.Fit n) stacked = done_step base s left (Fitted n) (fit_applied n s) stacked
 
 -- and so do all
 pub commands_stack : (base : List Element) (cs : List Command) (s : State) (left : List Made) → IsStacked base s left → IsStacked base (after_all cs s) (with_commands cs s left)

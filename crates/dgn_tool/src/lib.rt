@@ -18,6 +18,7 @@ mod opening;
 mod packing;
 mod put_end;
 mod putting;
+mod ranges;
 mod request;
 mod status;
 mod tally;
