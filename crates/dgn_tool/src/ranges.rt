@@ -15,7 +15,11 @@ use edit_ops::EditFault;
 use std::alloc::{AllocError, Global};
 
 // Appends the elements whose stored range isn't the hull of their parts, and answers that this is never refused.
-pub(crate) fn answer_audit(alloc: Global, s: &Session, out: &mut Vec<u8>) -> Result<bool, AllocError>
+pub(crate) fn answer_audit(
+    alloc: Global,
+    s: &Session,
+    out: &mut Vec<u8>,
+) -> Result<bool, AllocError>
     ensures text { OnOk result (out.new.items ≡ out.old.items ++ text_of (state_of s.now) Command.Audit) }
     ensures refused { IfOk result (λ refused. refused ≡ false) }
     ensures front { OnErr result

@@ -6,6 +6,7 @@ mod hostile;
 mod made;
 mod packing;
 mod patches;
+mod ranges;
 
 use super::*;
 use dgn_desk::SureDesk;
@@ -600,7 +601,7 @@ fn length_limits(rt: HostRuntime) -> Result<(), Fail> {
 #[test]
 fn words_of_the_command_line(rt: HostRuntime) -> Result<(), Fail> {
     let alloc = rt.alloc();
-    let rows: [&[&str]; 12] = [
+    let rows: [&[&str]; 14] = [
         &[],
         &["check"],
         &["check", "in", "out"],

@@ -144,7 +144,7 @@ fn fails_in_turn<R: Abort + Alloc<A = Global>>(
 fn each_call_fails_in_turn(rt: HostRuntime) -> Result<(), Fail> {
     let alloc = rt.alloc();
     // The words, the calls of the run in which none fails, and what that says.
-    let rows: [(&[&str], &[Act], &[u8]); 4] = [
+    let rows: [(&[&str], &[Act], &[u8]); 5] = [
         (&EDIT, &EDIT_ACTS, SAID),
         (&CHECK, &CHECK_ACTS, b"elements 2\n"),
         (&["pack", "in", "s", "out"], &PACK_ACTS, b"entries 1\n"),
