@@ -2,6 +2,7 @@
 use Rattle.std.proofs.Common.{◌≡◌, ℕ, ◌+◌, ◌<◌, ◌≤◌, Bool, true, false, List, [], ◌∷◌, ◌++◌, length, drop, get_or, refl, sym, ap, ◌∙◌, subst, arith}
 use Rattle.std.specs.Prelude.{All, Option, Some, None, option_map}
 use Rattle.std.proofs.lemmas.Bool.{cond_both}
+use Rattle.std.proofs.lemmas.List.{append-nil, drop_all}
 use Rattle.std.proofs.lemmas.List.Elements.{All-head, All-tail}
 use Rattle.patch_bytes.specs.Puts.{write}
 use Rattle.dgn_drawing.specs.Element.{Element}
@@ -25,12 +26,17 @@ use Rattle.edit_ops.specs.Fenced.{apply_all, AreRoots, IsFenceEdit}
 use Rattle.edit_ops.proofs.Apart.{fields_apart}
 use Rattle.edit_ops.proofs.Reopened.{edited_opens, edited_fits, changes_fields}
 use Rattle.edit_ops.proofs.Fenced.{fenced_opens, fenced_fits, fenced_changes, fenced_apart}
+use Rattle.dgn_audit.specs.Fitting as fit
+use Rattle.dgn_audit.specs.Fitting.{apply_fit, fit_fields}
+use Rattle.dgn_audit.specs.Told.{applied_told}
+use Rattle.dgn_audit.proofs.Kept.{fitted_opens, fits_change}
+use Rattle.dgn_session.specs.Fits.{fit_applied}
 use Rattle.edit_script.specs.declared.command.Command.{Command}
 use Rattle.edit_script.specs.declared.command.Command.TheVariants as command
 use Rattle.dgn_tool.specs.Commands.{fence_refused, after_command}
 use Rattle.dgn_tool.specs.Imports.{Importing, Appends, Declines, importing_of, import_left}
 use Rattle.dgn_tool.specs.Given.{Given, Plain, Import, after_step, after_all}
-use Rattle.dgn_tool.specs.Remaining.{Made, Alone, Fenced, Imported, fields_made, with_made, with_all_made, without_newest, with_import, with_command, with_step, with_steps}
+use Rattle.dgn_tool.specs.Remaining.{Made, Alone, Fenced, Fitted, Imported, fields_made, with_made, with_all_made, without_newest, with_import, with_command, with_step, with_steps}
 use Rattle.dgn_tool.specs.Laws.{IsOutside, IsEditIn}
 use Rattle.dgn_tool.proofs.Appending.{IsStep, import_behind, appended}
 use Rattle.dgn_tool.proofs.Stacked.{lists_made, IsStacked, step_stacks}
@@ -44,6 +50,10 @@ pub record IsLink (dim rest : ℕ) (t : List ℕ) (m : Made) : Type 0 where
   pub rise : Rise 0 (fields_made dim m.on m.making) (length (spelling m.on))
   pub written : spelling m.made ≡ write (spelling m.on) (filled (spelling m.made) (fields_made dim m.on m.making)) ++ drop (length (spelling m.on)) (spelling m.made)
   pub fits : length (spelling m.on) + rest ≤ 67108864 → length (spelling m.made) + rest ≤ 67108864
+
+-- nothing stands behind what is as long
+as_long : (written on made : List ℕ) → length made ≡ length on → written ≡ written ++ drop (length on) made
+as_long written on made long = sym (append-nil written) ∙ ap (λ (b : List ℕ). written ++ b) (sym (drop_all (length on) made (omega (arith, long))))
 
 -- what the edits, which stand the newest first, made of the lowest elements
 abbrev pub top_of : List Element → List Made → List Element
@@ -131,6 +141,25 @@ module _ (dim rest : ℕ) (t : List ℕ) (base : List Element) where
         linked,
       )
 
+  -- and so is a fit
+  fit_links : (on : List Element) (left : List Made) (n : ℕ) (came : fit.FitApplied) → apply_fit dim on n ≡ came → on ≡ top_of base left → AreLinked dim rest t base left → AreLinked dim rest t base (with_made (applied_told came) on (Fitted n) left)
+  fit_links on left n (fit.Refused cause) is top linked = linked
+  fit_links on left n (fit.Done made) is top linked =
+      let opens = opens_on on left top linked in
+      let changed = fits_change (spelling on ++ t) dim on t n made opens is in
+      let long : length (spelling made) ≡ length (spelling on) = changed.long in (
+        record {
+          opens = fitted_opens (spelling on ++ t) dim on t n made opens is;
+          long = omega (arith, long);
+          same = changed.stays;
+          rise = changed.rise;
+          written = changed.written ∙ as_long (write (spelling on) (filled (spelling made) (fit_fields dim on n))) (spelling on) (spelling made) long;
+          fits = λ few. omega (arith, long, few);
+        },
+        top,
+        linked,
+      )
+
   -- an undo takes the newest away
   undo_links : (refused : Bool) (left : List Made) → AreLinked dim rest t base left → AreLinked dim rest t base (without_newest refused left)
   undo_links true left linked = linked
@@ -152,6 +181,8 @@ command_links t base s left command.Elements fits stacked linked = linked
 command_links t base s left command.Refs fits stacked linked = linked
 command_links t base s left (command.Links n) fits stacked linked = linked
 command_links t base s left (command.Select mode) fits stacked linked = linked
+command_links t base s left command.Audit fits stacked linked = linked
+command_links t base s left (command.Fit n) fits stacked linked = fit_links s.dim s.rest t base s.top left n (apply_fit s.dim s.top n) refl (stack_top base s left stacked) linked
 
 -- a step leaves such edits
 import_leaves : (t : List ℕ) (base : List Element) (s : State) (left : List Made) (v : SecondValue) (by : Option Displacement) (came : Importing) → importing_of s v by ≡ came → IsStep (Import v by)
@@ -194,6 +225,8 @@ module _ {X : Type 0} (part : State → X) (stack : (top : List Element) (earlie
   command_keeps s command.Refs = refl
   command_keeps s (command.Links n) = refl
   command_keeps s (command.Select mode) = refl
+  command_keeps s command.Audit = refl
+  command_keeps s (command.Fit n) = pushed_keeps (fit_applied n s) s
 
   import_keeps : (came : Importing) (s : State) → part (import_left came s) ≡ part s
   import_keeps (Appends b count) s = stack (s.top ++ elements_of s.dim b) (s.top ∷ s.earlier) s

@@ -12,12 +12,13 @@ use Rattle.dgn_drawing.specs.Opening.{elements_of}
 use Rattle.dgn_session.specs.Imported.{import_entry}
 use Rattle.edit_ops.specs.Applying.{Applied, Done, Refused}
 use Rattle.edit_ops.specs.declared.cause.Cause.{Cause}
+use Rattle.dgn_session.specs.Fits.{fit_applied, fit_entry}
 use Rattle.dgn_session.specs.State.{State, SessionValue, state_of, applied, entry, fence_entry, value_with, selection, fence_applied, earlier_of, is_none, undo_refused}
 use Rattle.edit_script.specs.declared.command.Command.{Command}
 use Rattle.edit_script.specs.declared.command.Command.TheVariants as command
 use Rattle.dgn_tool.specs.Imports.{Appends, Declines}
 use Rattle.dgn_tool.specs.Given.{Given, after_step}
-use Rattle.dgn_tool.specs.Remaining.{Made, Alone, Fenced, Imported, with_made, with_all_made, without_newest, with_step, with_steps}
+use Rattle.dgn_tool.specs.Remaining.{Made, Alone, Fenced, Fitted, Imported, with_made, with_all_made, without_newest, with_step, with_steps}
 use Rattle.dgn_tool.specs.Packing.{entry_made, IsLogOf, LogsAs, ImportLogsAs, StepLogsAs, AllLogAs}
 use Rattle.dgn_tool.proofs.Undone.{not_refused}
 
@@ -81,6 +82,18 @@ no_fence_logs old new mode e none is left log =
 pub fence_refusal_logs : (old new : SessionValue) (mode : Mode) (e : FenceEdit) (cause : Cause) → fence_applied mode e (state_of old) ≡ Some (Refused cause) → new ≡ old → LogsAs (command.Fenced mode e) old new
 fence_refusal_logs old new mode e cause refused is left log =
     subst (IsLogOf new) (sym (refused_left (fence_applied mode e (state_of old)) (selection mode (state_of old)) (state_of old).top e left (λ made done. absurd (let x = refused in let y = done in cc))))
+    (subst (λ (v : SessionValue). IsLogOf v left) (sym is) log)
+
+-- a fit that is done
+pub fit_logs : (old new : SessionValue) (n : ℕ) (body : List ℕ) → fit_applied n (state_of old) ≡ Done (state_of new).top → new ≡ value_with body (old.entries ++ fit_entry old.dim (state_of old).top n ∷ []) old → LogsAs (command.Fit n) old new
+fit_logs old new n body done is left log =
+    subst (λ (came : Applied). IsLogOf new (with_made came (state_of old).top (Fitted n) left)) (sym done)
+    (log_more old new left (record { on = (state_of old).top; making = Fitted n; made = (state_of new).top }) (ap (λ (v : SessionValue). v.entries) is) (ap (λ (v : SessionValue). v.dim) is) log)
+
+-- one that is refused
+pub fit_refusal_logs : (old new : SessionValue) (n : ℕ) (cause : Cause) → fit_applied n (state_of old) ≡ Refused cause → new ≡ old → LogsAs (command.Fit n) old new
+fit_refusal_logs old new n cause refused is left log =
+    subst (λ (came : Applied). IsLogOf new (with_made came (state_of old).top (Fitted n) left)) (sym refused)
     (subst (λ (v : SessionValue). IsLogOf v left) (sym is) log)
 
 -- an undo

@@ -1,5 +1,5 @@
 -- The fields that edits write have one to four bytes.
-use Rattle.std.proofs.Common.{ℕ, ◌≤◌, List, [], ◌∷◌, ◌++◌, arith}
+use Rattle.std.proofs.Common.{ℕ, ◌≤◌, Option, Some, None, List, [], ◌∷◌, ◌++◌, arith}
 use Rattle.std.specs.List.{flat_map, AllByRecursion}
 use Rattle.std.proofs.lemmas.List.Concat.{flat_map-cons}
 use Rattle.dgn_layout.specs.declared.spot.Spot.{Spot}
@@ -11,7 +11,13 @@ use Rattle.dgn_drawing.specs.Spelling.{spell}
 use Rattle.edit_ops.specs.Trees.{Live, live_tree, above_tree}
 use Rattle.edit_ops.specs.Fields.{Field, spot_fields, fields_at, above_fields_at, part_fields, edited_fields}
 use Rattle.edit_ops.specs.Fenced.{edits_at, fenced_fields}
-use Rattle.dgn_tool.specs.Remaining.{Making, Alone, Fenced, Imported, fields_made}
+use Rattle.dgn_tool.specs.Remaining.{Making, Alone, Fenced, Fitted, Imported, fields_made}
+use Rattle.dgn_drawing.specs.Rows.{row_of}
+use Rattle.dgn_drawing.specs.Numbering.{root_of}
+use Rattle.elem_index.specs.Offsets.{offset_of}
+use Rattle.dgn_audit.specs.declared.finding.Finding.{Finding}
+use Rattle.dgn_audit.specs.Findings.{fitted_in}
+use Rattle.dgn_audit.specs.Fitting.{root_fields}
 
 pub record HasFew (f : Field) : Type 0 where
   pub least : 1 ≤ f.len
@@ -56,7 +62,13 @@ edited_few dim es (edit.Sym n change) = part_few dim es (edit.Sym n change) n
 edited_few dim es (edit.Delete n) = part_few dim es (edit.Delete n) n
 edited_few dim es (edit.Append new) = tt
 
+root_few : (dim : ℕ) (es : List Element) (root : Option ℕ) → AllByRecursion HasFew (root_fields dim es root)
+root_few dim es None = tt
+root_few dim es (Some root) =
+    all_few (λ (f : Finding). spot_fields (offset_of es f.number) (range_spots dim)) (fitted_in dim es root) (λ f. spots_few (offset_of es f.number) (range_spots dim))
+
 pub made_few : (dim : ℕ) (on : List Element) (making : Making) → AllByRecursion HasFew (fields_made dim on making)
 made_few dim on (Alone e) = edited_few dim on e
 made_few dim on (Fenced e ns) = all_few (edited_fields dim on) (edits_at e ns) (λ one. edited_few dim on one)
 made_few dim on (Imported new) = tt
+made_few dim on (Fitted n) = root_few dim on (root_of row_of on n)

@@ -7,13 +7,14 @@ use Rattle.dgn_drawing.specs.Element.{Element}
 use Rattle.dgn_drawing.specs.Opening.{elements_of}
 use Rattle.edit_ops.specs.Applying.{Applied, Done, Refused}
 use Rattle.edit_ops.specs.Fenced.{apply_all}
+use Rattle.dgn_session.specs.Fits.{fit_applied}
 use Rattle.dgn_session.specs.State.{State, applied, pushed, pushed_if, selection, dropped, is_none, with_fence}
 use Rattle.edit_script.specs.declared.command.Command.{Command}
 use Rattle.edit_script.specs.declared.command.Command.TheVariants as command
 use Rattle.dgn_tool.specs.Commands.{fence_refused, after_command}
 use Rattle.dgn_tool.specs.Imports.{Importing, Appends, Declines, importing_of, import_left}
 use Rattle.dgn_tool.specs.Given.{Given, Plain, Import, after_step, after_all}
-use Rattle.dgn_tool.specs.Remaining.{Made, Making, Alone, Fenced, with_made, with_all_made, without_newest, with_import, with_command, with_step, with_steps}
+use Rattle.dgn_tool.specs.Remaining.{Made, Making, Alone, Fenced, Fitted, with_made, with_all_made, without_newest, with_import, with_command, with_step, with_steps}
 
 -- what the edits have made
 abbrev pub lists_made : List Made → List (List Element)
@@ -52,6 +53,8 @@ command_stacks base s left command.Elements stacked = stacked
 command_stacks base s left command.Refs stacked = stacked
 command_stacks base s left (command.Links n) stacked = stacked
 command_stacks base s left (command.Select mode) stacked = stacked
+command_stacks base s left command.Audit stacked = stacked
+command_stacks base s left (command.Fit n) stacked = done_step base s left (Fitted n) (fit_applied n s) stacked
 
 -- so does an import
 import_step : (base : List Element) (s : State) (left : List Made) (came : Importing) → IsStacked base s left → IsStacked base (import_left came s) (with_import came s left)

@@ -3,9 +3,12 @@ use Rattle.std.specs.Prelude.{ℕ, nat_lt, Bool, true, false, not, ◌||◌, if�
 use Rattle.dgn_drawing.specs.Element.{Element}
 use Rattle.dgn_drawing.specs.Shown.{shown}
 use Rattle.dgn_session.specs.State as machine
+use Rattle.dgn_audit.specs.Findings.{findings}
+use Rattle.dgn_session.specs.Fits.{fit_applied, fit_made}
 use Rattle.dgn_session.specs.State.{State, applied, edited, selection, fence_applied, fence_edited, undone, undo_refused, with_mask, with_fence}
 use Rattle.dgn_listing.specs.CauseTexts.{cause_text}
 use Rattle.dgn_listing.specs.ElementTexts.{elements_text}
+use Rattle.dgn_listing.specs.FindingTexts.{findings_text}
 use Rattle.dgn_listing.specs.ItemTexts.{items_text}
 use Rattle.dgn_listing.specs.LinkTexts.{links_text}
 use Rattle.dgn_listing.specs.RefTexts.{refs_text}
@@ -106,6 +109,8 @@ text_of s command.Elements = elements_text s.top
 text_of s command.Refs = refs_text s.top
 text_of s (command.Links n) = links_said s.top n
 text_of s (command.Select mode) = selection_said (selection mode s)
+text_of s command.Audit = findings_text (findings s.dim s.top)
+text_of s (command.Fit n) = edit_said (fit_applied n s)
 
 -- whether it is refused
 abbrev pub is_refused : State → Command → Bool
@@ -122,6 +127,8 @@ is_refused s command.Elements = false
 is_refused s command.Refs = false
 is_refused s (command.Links n) = not (nat_lt n (length s.top))
 is_refused s (command.Select mode) = selection_refused (selection mode s)
+is_refused s command.Audit = false
+is_refused s (command.Fit n) = machine.is_refused (fit_applied n s)
 
 -- what a command leaves: one that is refused leaves all as it was, and so does a listing
 abbrev pub after_command : State → Command → State
@@ -138,6 +145,8 @@ after_command s command.Elements = s
 after_command s command.Refs = s
 after_command s (command.Links n) = s
 after_command s (command.Select mode) = s
+after_command s command.Audit = s
+after_command s (command.Fit n) = fit_made n s
 
 -- how many trees an edit of all that a fence chooses has changed or copied, where it is done
 abbrev pub trees_edited : Option Applied → Option (List ℕ) → ℕ

@@ -8,16 +8,19 @@ use Rattle.dgn_session.specs.State.{State, applied, selection, fence_applied, un
 use Rattle.edit_ops.specs.Applying.{Applied, Done, Refused}
 use Rattle.edit_ops.specs.Fields.{Field, edited_fields}
 use Rattle.edit_ops.specs.Fenced.{fenced_fields}
+use Rattle.dgn_audit.specs.Fitting.{fit_fields}
+use Rattle.dgn_session.specs.Fits.{fit_applied}
 use Rattle.edit_script.specs.declared.command.Command.{Command}
 use Rattle.edit_script.specs.declared.command.Command.TheVariants as command
 use Rattle.dgn_tool.specs.Imports.{Importing, Appends, Declines, importing_of}
 use Rattle.dgn_tool.specs.Given.{Given, Plain, Import, after_step}
 
--- what was made of a drawing: an edit, or one of all that a fence chose, of these roots, or an import, which appended
--- these elements
+-- what was made of a drawing: an edit, one of all that a fence chose, of these roots, a fit of the tree that holds an
+-- element, or an import, which appended these elements
 pub data Making : Type 0 where
   Alone : Edit → Making
   Fenced : FenceEdit → List ℕ → Making
+  Fitted : ℕ → Making
   Imported : List Element → Making
 
 -- the elements that it was made on, and those that came of them
@@ -64,6 +67,8 @@ with_command s command.Elements left = left
 with_command s command.Refs left = left
 with_command s (command.Links n) left = left
 with_command s (command.Select mode) left = left
+with_command s command.Audit left = left
+with_command s (command.Fit n) left = with_made (fit_applied n s) s.top (Fitted n) left
 
 -- what a step leaves of them
 abbrev pub with_step : State → Given → List Made → List Made
@@ -83,4 +88,5 @@ remaining gs s = reverse (with_steps gs s [])
 abbrev pub fields_made : ℕ → List Element → Making → List Field
 fields_made dim on (Alone e) = edited_fields dim on e
 fields_made dim on (Fenced e ns) = fenced_fields dim on e ns
+fields_made dim on (Fitted n) = fit_fields dim on n
 fields_made dim on (Imported new) = []

@@ -8,6 +8,7 @@ ghost use Rattle.edit_script.specs.declared.command.Command.{Command};
 use crate::answered::Answered;
 use crate::fences::{answer_fence, answer_fenced, answer_no_fence, answer_select};
 use crate::listings::{answer_elements, answer_links, answer_refs, answer_show, answer_tree};
+use crate::ranges::{answer_audit, answer_fit};
 use dgn_drawing::{Edit, Mask};
 use dgn_listing::write_cause;
 use dgn_session::Session;
@@ -71,6 +72,8 @@ pub(crate) fn respond(
         Command::Refs => answer_refs(alloc, s.design(), out)?,
         Command::Links(n) => answer_links(alloc, s.design(), *n, out)?,
         Command::Select(mode) => answer_select(alloc, s, *mode, out)?,
+        Command::Audit => answer_audit(alloc, s, out)?,
+        Command::Fit(n) => answer_fit(alloc, s, *n, out)?,
         Command::Import(_, _) => unreachable!(),
     };
     Ok(Answered { refused, trees: 0 })

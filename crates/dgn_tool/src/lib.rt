@@ -20,6 +20,7 @@ mod opening;
 mod packing;
 mod put_end;
 mod putting;
+mod ranges;
 mod request;
 mod seconds;
 mod status;

@@ -7,6 +7,7 @@ mod imports;
 mod made;
 mod packing;
 mod patches;
+mod ranges;
 
 use super::*;
 use dgn_desk::SureDesk;

@@ -27,8 +27,15 @@ abbrev pub asking : Option Command → Reading
 asking (Some c) = Asks c
 asking None = Bad
 
--- what a line says that begins with one of the words that are left, and goes on with these bytes: it does something
--- with a fence, or is bad
+-- what a line says that begins with one of the words that are left, and goes on with these bytes: it asks for the stored
+-- ranges or writes them, or is bad
+abbrev pub range_reading : List ℕ → List ℕ → Reading
+range_reading name rest =
+    if bytes_eq name (codes "audit") then asking (alone command.Audit (words_of rest))
+    else if bytes_eq name (codes "fit") then asking (option_map command.Fit (one_element (words_of rest)))
+    else Bad
+
+-- the same of a word that names no listing: it does something with a fence, or goes on so
 abbrev pub fence_reading : List ℕ → List ℕ → Reading
 fence_reading name rest =
     if bytes_eq name (codes "nofence") then asking (alone command.NoFence (words_of rest))
@@ -36,7 +43,7 @@ fence_reading name rest =
     else if bytes_eq name (codes "fcopy") then asking (fcopy_command (words_of rest))
     else if bytes_eq name (codes "fsym") then asking (fsym_command (words_of rest))
     else if bytes_eq name (codes "fdelete") then asking (fdelete_command (words_of rest))
-    else Bad
+    else range_reading name rest
 
 -- the same of a word that names no edit of one element: it asks for a listing, or goes on so
 abbrev pub listing_reading : List ℕ → List ℕ → Reading

@@ -32,4 +32,8 @@ pub enum Command {
     Select(Mode),
     /// Appends the trees of the drawing in the file of this name, displaced so far where that is given.
     Import(ByteList, Option<Shift>),
+    /// Says the elements whose stored range isn't the hull of their parts.
+    Audit,
+    /// Writes the hulls of the tree that holds this element.
+    Fit(u32),
 }

@@ -1,6 +1,6 @@
 ghost use Rattle.std.specs.Prelude.{◌≡◌, IfOk};
 ghost use Rattle.edit_script.specs.Words.{words_of};
-ghost use Rattle.edit_script.specs.Grammar.{command_of, reading_of, other_reading, listing_reading, fence_reading, alone};
+ghost use Rattle.edit_script.specs.Grammar.{command_of, reading_of, other_reading, listing_reading, fence_reading, range_reading, alone};
 
 use crate::appends;
 use crate::command::Command;
@@ -105,6 +105,19 @@ fn fence_command(name: &[u8], rest: &[u8]) -> Reading
         Reading::asking(read_fsym(rest))
     } else if name == b"fdelete".as_slice() {
         Reading::asking(read_fdelete(rest))
+    } else {
+        range_command(name, rest)
+    }
+}
+
+// The same of a word that does nothing with a fence.
+fn range_command(name: &[u8], rest: &[u8]) -> Reading
+    ensures { result ≡ range_reading name.now rest.now }
+{
+    if name == b"audit".as_slice() {
+        Reading::asking(alone(Command::Audit, rest))
+    } else if name == b"fit".as_slice() {
+        Reading::asking(one_element(rest).map(Command::Fit))
     } else {
         Reading::Bad
     }

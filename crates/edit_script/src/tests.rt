@@ -598,7 +598,11 @@ fn fences(rt: HostRuntime) -> Result<(), Fail> {
 #[test]
 fn fences_that_are_bad(rt: HostRuntime) -> Result<(), Fail> {
     let alloc = rt.alloc();
-    let rows: [&[u8]; 27] = [
+    let rows: [&[u8]; 31] = [
+        b"audit 1",
+        b"fit",
+        b"fit 1 2",
+        b"fit -1",
         b"fence",
         b"fence  \r\n",
         b"fence 0,0,0",
@@ -666,6 +670,8 @@ fn listing(command: &Command) -> Option<(u8, u32)> {
         Command::Elements => Some((3, 0)),
         Command::Refs => Some((4, 0)),
         Command::Links(n) => Some((5, *n)),
+        Command::Audit => Some((6, 0)),
+        Command::Fit(n) => Some((7, *n)),
         _ => None,
     }
 }
@@ -673,7 +679,10 @@ fn listing(command: &Command) -> Option<(u8, u32)> {
 #[test]
 fn listings(rt: HostRuntime) -> Result<(), Fail> {
     let alloc = rt.alloc();
-    let rows: [(&[u8], u8, u32); 7] = [
+    let rows: [(&[u8], u8, u32); 10] = [
+        (b"audit", 6, 0),
+        (b"fit 3 \r\n", 7, 3),
+        (b" fit  4294967295", 7, 4294967295),
         (b"show", 1, 0),
         (b"tree 0\n", 2, 0),
         (b" tree 4294967295 \n", 2, 4294967295),

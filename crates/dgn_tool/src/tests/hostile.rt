@@ -8,7 +8,7 @@ const ENDS: [usize; 9] = [1536, 1568, 1600, 1632, 1702, 1766, 1830, 1878, 1940];
 
 // The parts of a usual file: a TCB, two setup elements and group data, a text node, a complex shape, the mark of the end and
 // what fills four blocks.
-fn usual(alloc: Global) -> Result<Vec<u8>, AllocError> {
+pub(super) fn usual(alloc: Global) -> Result<Vec<u8>, AllocError> {
     let mut setup = [0; 32];
     setup[..4].copy_from_slice(&[0x08, 0x08, 0x0E, 0x00]);
     let mut second = setup;
