@@ -32,6 +32,7 @@ pub mod Wider
 pub mod Worked
 pub mod Made
 pub mod Listed
+pub mod Singled
 pub mod Members
 pub mod Chosen
 pub mod Copies

@@ -49,7 +49,7 @@ cause_both dim test (u ∷ us) vs =
     ∙ sym (or_assoc (cause_at dim test u.number u.element) (first_cause dim test us) (first_cause dim test vs))
 
 -- nothing behind a cause leaves it
-or_nothing : (a : Option Cause) → option_or a None ≡ a
+pub or_nothing : (a : Option Cause) → option_or a None ≡ a
 or_nothing None = refl
 or_nothing (Some c) = refl
 

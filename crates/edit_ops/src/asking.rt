@@ -11,6 +11,7 @@ use crate::asked::Test;
 use crate::cause::Cause;
 use crate::causes::{other_axes, silent, too_long};
 use crate::finding::find;
+use crate::lone::{lone, lone_look_cause, lone_move_cause};
 use crate::sums::stays_on_plane;
 use dgn_drawing::{Edit, Shift};
 use dgn_layout::types::Class;
@@ -25,6 +26,34 @@ const LOCKED: u32 = 8;
 // the part, `live` those of its live elements, `appended` is how many bytes the edit appends, and `pending` how many
 // are to be appended already.
 pub fn edit_cause(
+    d: &Design,
+    edit: &Edit,
+    above: &[u32],
+    live: &[u32],
+    appended: usize,
+    pending: usize,
+) -> Option<Cause>
+    requires whole { IsWhole d.now }
+    requires above { found (elements d.now) above.now ≡ above_of (elements d.now) (target_of edit.now) }
+    requires live { found (elements d.now) live.now ≡ live_of (elements d.now) (target_of edit.now) }
+    requires appended { appended ≡ bytes_appended (elements d.now) edit.now }
+    requires few { appended ≤ 67108864 }
+    requires room { length d.now.body.items + (length d.now.tail.items + pending) ≤ 67108864 }
+    ensures { result ≡ first_of
+        (causes_of d.now.dim (elements d.now) (length d.now.tail.items + pending) edit.now) }
+{
+    if let Some(m) = lone(above, live) {
+        match edit {
+            Edit::Move { by, .. } => return lone_move_cause(d, m, by),
+            Edit::Sym { .. } => return lone_look_cause(d, m),
+            _ => {}
+        }
+    }
+    listed_cause(d, edit, above, live, appended, pending)
+}
+
+// The same of any numbers of headers and of live elements.
+fn listed_cause(
     d: &Design,
     edit: &Edit,
     above: &[u32],
@@ -152,7 +181,7 @@ fn deleted(m: u32, deleted: bool) -> Option<Cause>
 }
 
 // Element m, of that type and with the bytes b, is locked.
-fn locked_at(m: u32, kind: u8, b: &[u8]) -> Option<Cause>
+pub fn locked_at(m: u32, kind: u8, b: &[u8]) -> Option<Cause>
     requires kind { kind < 128 }
     requires long { IsFalse (is_silent (class_of kind)) → 36 ≤ length b.now }
     ensures { result ≡ (if locked_in kind b.now then Some (Cause.Locked m) else None) }
@@ -175,7 +204,7 @@ fn unwidened(m: u32, class: Class) -> Option<Cause>
 }
 
 // Element m has coordinates that aren't read, by its class.
-fn unmovable(m: u32, class: Class) -> Option<Cause>
+pub fn unmovable(m: u32, class: Class) -> Option<Cause>
     ensures { result ≡ unmovable m class }
 {
     match class {
@@ -186,7 +215,7 @@ fn unmovable(m: u32, class: Class) -> Option<Cause>
 }
 
 // Element m has no look that can be changed, by its class.
-fn lookless(m: u32, class: Class) -> Option<Cause>
+pub fn lookless(m: u32, class: Class) -> Option<Cause>
     ensures { result ≡ lookless m class }
 {
     match class {

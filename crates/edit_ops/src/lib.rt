@@ -17,6 +17,7 @@ mod finding;
 mod importing;
 pub mod laws;
 mod live;
+mod lone;
 mod making;
 mod numbers;
 mod patches;

@@ -1,0 +1,73 @@
+// What is against an edit of a part that is one element by itself and stands below no header. The element is looked at
+// once.
+
+ghost use Rattle.std.specs.Prelude.{◌≡◌, slice_get};
+ghost use Rattle.std.specs.Option.{option_or};
+ghost use Rattle.elem_index.specs.Design.{elements, IsWhole};
+ghost use Rattle.edit_ops.specs.declared.asked.Test.{Test};
+ghost use Rattle.edit_ops.specs.Causes.{other_axes};
+ghost use Rattle.edit_ops.specs.Asking.{cause_in, lone_of};
+ghost use Rattle.edit_ops.specs.Found.{IsFound};
+
+use crate::asking::{locked_at, lookless, unmovable};
+use crate::cause::Cause;
+use crate::causes::other_axes;
+use crate::finding::{Found, find};
+use crate::sums::stays_on_plane;
+use dgn_drawing::Shift;
+use dgn_layout::class;
+use elem_index::Design;
+
+// The number of the one element of such a part, where no headers are above it and these are its live elements.
+pub fn lone(above: &[u32], live: &[u32]) -> Option<u32>
+    ensures { result ≡ lone_of above.now live.now }
+{
+    match live {
+        [m] if above.is_empty() => Some(*m),
+        _ => None,
+    }
+}
+
+// What is against a move of element m, where it is such a part.
+pub fn lone_move_cause(d: &Design, m: u32, by: &Shift) -> Option<Cause>
+    requires whole { IsWhole d.now }
+    ensures { result ≡ option_or (cause_in d.now.dim Test.Unlocked m (slice_get (elements d.now) m))
+        (option_or (other_axes d.now.dim by.now.axes)
+        (option_or (cause_in d.now.dim Test.Moves m (slice_get (elements d.now) m))
+        (cause_in d.now.dim (Test.Leaves by.now) m (slice_get (elements d.now) m)))) }
+{
+    let Some(found) = find(d, m) else {
+        return other_axes(d.dim, by.axes);
+    };
+    locked_at(m, found.kind, found.bytes)
+        .or(other_axes(d.dim, by.axes))
+        .or(leave_cause(d, m, found, by))
+}
+
+// Element m, which is found, can't be moved, or doesn't stay on the design plane.
+fn leave_cause(d: &Design, m: u32, found: Found, by: &Shift) -> Option<Cause>
+    requires whole { IsWhole d.now }
+    requires found { IsFound d.now m found }
+    ensures { result ≡ option_or (cause_in d.now.dim Test.Moves m (slice_get (elements d.now) m))
+        (cause_in d.now.dim (Test.Leaves by.now) m (slice_get (elements d.now) m)) }
+{
+    let cause = unmovable(m, class(found.kind));
+    if cause.is_some() {
+        return cause;
+    }
+    if stays_on_plane(d.dim, found.kind, found.bytes, by) {
+        None
+    } else {
+        Some(Cause::OffPlane(m))
+    }
+}
+
+// What is against another look of element m, where it is such a part.
+pub fn lone_look_cause(d: &Design, m: u32) -> Option<Cause>
+    requires whole { IsWhole d.now }
+    ensures { result ≡ option_or (cause_in d.now.dim Test.Unlocked m (slice_get (elements d.now) m))
+        (cause_in d.now.dim Test.Looks m (slice_get (elements d.now) m)) }
+{
+    let found = find(d, m)?;
+    locked_at(m, found.kind, found.bytes).or(lookless(m, class(found.kind)))
+}
