@@ -13,7 +13,7 @@ use Rattle.elem_index.specs.declared.design.Design.{Design}
 use Rattle.elem_index.specs.Design.{elements, IsWhole}
 use Rattle.elem_index.proofs.Places.{each_at}
 use Rattle.edit_ops.specs.Causes.{says_locked, is_locked}
-use Rattle.edit_ops.proofs.Seen.{axes_of}
+use Rattle.elem_index.proofs.Places.{axes_of}
 use Rattle.edit_ops.proofs.Wider.{holds_of, spots_loud}
 use Rattle.dgn_audit.specs.declared.fit_cause.FitCause.{FitCause}
 use Rattle.dgn_audit.specs.declared.fit_cause.FitCause.TheVariants as causes

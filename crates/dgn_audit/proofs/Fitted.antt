@@ -90,7 +90,7 @@ body_shown : (dim : ℕ) (knot : Knot) (kind : ℕ) (b : Body) (members : Option
 body_shown dim knot kind (Silent rest) members hull is = absurd (let x = is in cc)
 body_shown dim knot kind (Shown d parts rest) members hull is = (d, parts, rest, refl)
 
-hull_shown : (dim : ℕ) (knot : Knot) (e : Element) (members : Option Box3) (hull : Box3) → tree_hull dim knot e members ≡ Some hull → IsShown e
+pub hull_shown : (dim : ℕ) (knot : Knot) (e : Element) (members : Option Box3) (hull : Box3) → tree_hull dim knot e members ≡ Some hull → IsShown e
 hull_shown dim knot e members hull is = by_deleted e.deleted is
   where
     by_deleted : (t : Bool) → cond t None (hull_in dim knot e.kind e.body members) ≡ Some hull → IsShown e
@@ -112,13 +112,13 @@ puts_from dim p (Tree knot e below behind) =
     ++ puts_from dim (p + (size_of e + length (spelling (flat below)))) behind
 
 -- a live element with its hull: what is put turns it, and it stays well formed and nests as it did
-record IsHeadPut (dim : ℕ) (knot : Knot) (e : Element) (hull : Option Box3) : Type 0 where
-  turned : (p : ℕ) → Turns p (spell e) (head_puts dim p knot e hull) (spell (head_fitted dim knot e hull))
-  good : IsWellFormed dim (head_fitted dim knot e hull)
-  row : row_of (head_fitted dim knot e hull) ≡ row_of e
+pub record IsHeadPut (dim : ℕ) (knot : Knot) (e : Element) (hull : Option Box3) : Type 0 where
+  pub turned : (p : ℕ) → Turns p (spell e) (head_puts dim p knot e hull) (spell (head_fitted dim knot e hull))
+  pub good : IsWellFormed dim (head_fitted dim knot e hull)
+  pub row : row_of (head_fitted dim knot e hull) ≡ row_of e
 
 module _ (dim : ℕ) (axes : IsDimension dim) where
-  head_put : (knot : Knot) (e : Element) (members hull : Option Box3) → hull ≡ tree_hull dim knot e members → IsGood hull → IsWellFormed dim e → IsHeadPut dim knot e hull
+  pub head_put : (knot : Knot) (e : Element) (members hull : Option Box3) → hull ≡ tree_hull dim knot e members → IsGood hull → IsWellFormed dim e → IsHeadPut dim knot e hull
   head_put knot e members None is held good = record { turned = λ p. turns_none p (spell e); good = good; row = refl }
   head_put knot e members (Some hull) is held good =
       let put = ranged dim hull e axes held good (hull_shown dim knot e members hull (sym is)) in

@@ -8,3 +8,5 @@ pub mod Rooted
 pub mod Asked
 pub mod Ranged
 pub mod Fitted
+pub mod Kept
+pub mod Ended

@@ -17,7 +17,7 @@ use Rattle.elem_index.specs.Design.{elements, IsWhole}
 use Rattle.nest_tree.specs.declared.knot.Knot as told
 use Rattle.nest_tree.specs.Shapes.{knot_told}
 use Rattle.level_view.proofs.Places.{mark-rows, mark_told, some_mark}
-use Rattle.edit_ops.proofs.Seen.{axes_of}
+use Rattle.elem_index.proofs.Places.{axes_of}
 use Rattle.dgn_audit.specs.declared.seat.Seat.{Seat}
 use Rattle.dgn_audit.specs.declared.keep.Keep.{Keep}
 use Rattle.dgn_audit.specs.declared.finding.Finding.{Finding}

@@ -5,3 +5,5 @@ pub mod Seats
 pub mod Reading
 pub mod Backwards
 pub mod Planned
+pub mod Laws
+pub mod Told

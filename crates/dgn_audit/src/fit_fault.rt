@@ -1,7 +1,9 @@
 ghost use Rattle.std.specs.Prelude.{◌≡◌};
+ghost use Rattle.dgn_audit.specs.Told.{fault_told};
 ghost use Rattle.dgn_audit.specs.declared.fit_fault.FitFault.TheVariants as faults;
 
 use crate::fit_cause::FitCause;
+use edit_ops::{Cause, EditFault};
 use std::alloc::AllocError;
 
 /// Why there is no plan of a fit.
@@ -18,5 +20,20 @@ impl From<AllocError> for FitFault {
 
     fn from(_: AllocError) -> Self {
         FitFault::Memory
+    }
+}
+
+impl From<FitFault> for EditFault {
+    ghost from_gives = { λ fit fault. fault ≡ fault_told fit };
+
+    /// The same fault of an edit, with the cause of the same name.
+    fn from(fault: FitFault) -> Self {
+        match fault {
+            FitFault::Refused(FitCause::Unknown(n)) => EditFault::Refused(Cause::Unknown(n)),
+            FitFault::Refused(FitCause::Broken(m)) => EditFault::Refused(Cause::Broken(m)),
+            FitFault::Refused(FitCause::Deleted(m)) => EditFault::Refused(Cause::Deleted(m)),
+            FitFault::Refused(FitCause::Locked(m)) => EditFault::Refused(Cause::Locked(m)),
+            FitFault::Memory => EditFault::Memory,
+        }
     }
 }

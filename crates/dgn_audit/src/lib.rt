@@ -11,6 +11,7 @@ mod fit_fault;
 mod fitting;
 mod hulls;
 mod keep;
+pub mod laws;
 mod open_box;
 mod reading;
 mod seat;
@@ -21,3 +22,6 @@ pub use finding::Finding;
 pub use fit_cause::FitCause;
 pub use fit_fault::FitFault;
 pub use fitting::plan_fit;
+
+#[cfg(test)]
+mod tests;

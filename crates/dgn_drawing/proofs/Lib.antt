@@ -16,6 +16,7 @@ pub mod Openings
 pub mod Offsets
 pub mod Shown
 pub mod ByClass
+pub mod Dropped
 pub mod WorkedOpening
 pub mod WorkedShown
 pub mod Looks

@@ -1,5 +1,5 @@
 -- The outline of an item, and what is taken where bounds alone tell it.
-use Rattle.std.proofs.Common.{◌≡◌, ◌⊎◌, inl, inr, ℕ, zero, suc, ◌+◌, ◌≤◌, ◌==◌, ℤ, Bool, true, false, ◌&&◌, not, Option, Some, None, option_map, List, [], ◌∷◌, length, map, drop, refl, sym, ap, ◌∙◌, cond, if◌then◌else◌, arith}
+use Rattle.std.proofs.Common.{◌≡◌, inl, inr, ℕ, zero, suc, ◌+◌, ◌≤◌, ◌==◌, ℤ, Bool, true, false, Option, Some, None, option_map, List, [], ◌∷◌, length, map, drop, refl, sym, ap, ◌∙◌, cond, arith}
 use Rattle.std.specs.Prelude.{slice_get}
 use Rattle.std.specs.List.{fold, list_any, list_all}
 use Rattle.std.specs.Option.{option_to_list}
@@ -12,11 +12,11 @@ use Rattle.dgn_drawing.specs.declared.mode.Mode.{Mode}
 use Rattle.dgn_drawing.specs.declared.types.item.Item.{Item}
 use Rattle.dgn_drawing.specs.declared.types.item_body.ItemBody.{ItemBody}
 use Rattle.dgn_drawing.specs.Element.{Display, Parts, Body, Silent, Shown, Element}
-use Rattle.dgn_drawing.specs.Items.{item_body_of, shown_item, item_in}
+use Rattle.dgn_drawing.specs.Items.{shown_item, item_in}
 use Rattle.dgn_drawing.specs.Shown.{its_item}
 use Rattle.dgn_fence.specs.declared.bounds.Bounds.{Bounds}
 use Rattle.dgn_fence.specs.declared.outline.Outline.{Outline}
-use Rattle.dgn_fence.specs.Segments.{flat, path_segments, corners_of, body_segments, segments_of}
+use Rattle.dgn_fence.specs.Segments.{flat, path_segments, body_segments, segments_of}
 use Rattle.dgn_fence.specs.Taken.{any_touches, touches_fence, first_point_of, begins_within, is_inside, overlaps, has_some, takes}
 use Rattle.dgn_fence.specs.Limits.{at, grown, bounds_of, body_bounds, extent_of, is_apart, misses}
 use Rattle.dgn_fence.specs.Outlines.{path_outline, body_outline, outline_of, misses_all, told_by_bounds, untouched_taken}

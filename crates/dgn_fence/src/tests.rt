@@ -141,3 +141,43 @@ fn texts_heads_and_groups(rt: HostRuntime) -> Result<(), Fail> {
     );
     Ok(())
 }
+
+// LINE(1; 0,0 100,50) in the plane.
+const LINE: [u8; 52] = [
+    0x01, 0x03, 0x18, 0x00, // level 1, type 3, 24 more words
+    0x00, 0x80, 0x00, 0x00, 0x00, 0x80, 0x00, 0x00, 0x00, 0x80, 0x00, 0x00, // low
+    0x00, 0x80, 0x64, 0x00, 0x00, 0x80, 0x32, 0x00, 0x00, 0x80, 0x00, 0x00, // high
+    0x00, 0x00, 0x0A, 0x00, 0x00, 0x00, 0x00, 0x00, // display fields
+    0x00, 0x00, 0x00, 0x00, 0x00, 0x00, 0x00, 0x00, // 0,0
+    0x00, 0x00, 0x64, 0x00, 0x00, 0x00, 0x32, 0x00, // 100,50
+];
+
+// The corners of a square from one point of the diagonal to another.
+fn square(low: i32, high: i32) -> [Pt; 4] {
+    [
+        Pt { x: low, y: low },
+        Pt { x: high, y: low },
+        Pt { x: high, y: high },
+        Pt { x: low, y: high },
+    ]
+}
+
+#[test]
+fn one_line_by_its_bytes(rt: HostRuntime) -> Result<(), Fail> {
+    let alloc = rt.alloc();
+    for (low, high, wanted) in [
+        (-10, 200, INSIDE),
+        (0, 100, ACROSS),
+        (40, 60, OUTSIDE),
+        (300, 400, OUTSIDE),
+    ] {
+        let f = fence(alloc, &square(low, high))?;
+        let modes = (
+            f.takes_element(alloc, Mode::Inside, 2, &LINE)?,
+            f.takes_element(alloc, Mode::Overlap, 2, &LINE)?,
+            f.takes_element(alloc, Mode::Void, 2, &LINE)?,
+        );
+        assert_eq!(rt; modes, wanted, "{low} to {high}");
+    }
+    Ok(())
+}

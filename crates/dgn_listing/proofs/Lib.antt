@@ -7,3 +7,4 @@ pub mod Marked
 pub mod Rows
 pub mod Told
 pub mod Worked
+pub mod Found

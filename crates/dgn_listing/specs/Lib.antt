@@ -8,3 +8,4 @@ pub mod ElementTexts
 pub mod RefTexts
 pub mod LinkTexts
 pub mod Laws
+pub mod FindingTexts

@@ -182,7 +182,7 @@ fn put_next_point(out: &mut Vec<u8>, axes: u8, point: &[i32; 3]) -> Result<(), A
 }
 
 // Appends a point: x,y and in three dimensions x,y,z.
-fn put_point(out: &mut Vec<u8>, axes: u8, point: &[i32; 3]) -> Result<(), AllocError>
+pub(crate) fn put_point(out: &mut Vec<u8>, axes: u8, point: &[i32; 3]) -> Result<(), AllocError>
     ensures text { OnOk result (out.new.items ≡ out.old.items ++ point_text axes point.now) }
     ensures front { OnErr result
         (AppendsFrontOf (point_text axes point.now) out.old.items out.new.items) }

@@ -7,6 +7,7 @@
 mod causes;
 mod counts;
 mod elements;
+mod findings;
 mod items;
 pub mod laws;
 mod links;
@@ -19,6 +20,7 @@ mod tree_line;
 
 pub use causes::write_cause;
 pub use elements::write_elements;
+pub use findings::write_findings;
 pub use items::write_items;
 pub use links::write_links;
 pub use refs::write_refs;

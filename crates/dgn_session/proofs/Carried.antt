@@ -1,6 +1,6 @@
 -- What a session comes to when the plan of an edit is carried out on it.
-use Rattle.std.proofs.Common.{◌≡◌, ℕ, ◌+◌, ◌≤◌, List, [], ◌∷◌, ◌++◌, length, drop, reverse, Option, refl, sym, ap, ◌∙◌, subst, arith}
-use Rattle.patch_bytes.specs.Puts.{Put, write}
+use Rattle.std.proofs.Common.{◌≡◌, ℕ, ◌+◌, List, [], ◌∷◌, ◌++◌, length, drop, reverse, Option, refl, sym, ap, ◌∙◌, subst, arith}
+use Rattle.patch_bytes.specs.Puts.{write}
 use Rattle.plane_geom.specs.declared.pt.Pt.{Pt}
 use Rattle.undo_log.specs.declared.entry.Entry.{Entry}
 use Rattle.undo_log.specs.LogState.{LogState}

@@ -1,6 +1,6 @@
 -- What an edit of all that a fence chooses comes to in a session with a fence.
-use Rattle.std.proofs.Common.{◌≡◌, ℕ, ◌≤◌, List, [], ◌∷◌, length, Bool, Option, sym, ap, ◌∙◌, arith}
-use Rattle.std.specs.Prelude.{Some, option_map, filter}
+use Rattle.std.proofs.Common.{◌≡◌, ℕ, List, length, Option, sym, ap, ◌∙◌}
+use Rattle.std.specs.Prelude.{Some, option_map}
 use Rattle.plane_geom.specs.declared.pt.Pt.{Pt}
 use Rattle.undo_log.specs.LogState.{LogState}
 use Rattle.dgn_drawing.specs.declared.fence_edit.FenceEdit.{FenceEdit}
@@ -10,9 +10,9 @@ use Rattle.dgn_drawing.specs.Element.{Element}
 use Rattle.dgn_fence.specs.Selected.{selected}
 use Rattle.elem_index.specs.declared.design.Design.{Design}
 use Rattle.elem_index.specs.Design.{elements}
-use Rattle.edit_ops.specs.Applying.{Applied, Done}
+use Rattle.edit_ops.specs.Applying.{Done}
 use Rattle.edit_ops.specs.Fenced.{apply_all}
-use Rattle.dgn_session.specs.State.{State, state_of, selection, fence_applied}
+use Rattle.dgn_session.specs.State.{state_of, selection, fence_applied}
 use Rattle.dgn_session.specs.Kept.{value_of}
 
 module _ (d : Design) (l : LogState) (mask : Mask) (fence : Option (List Pt)) (corners : List Pt) (is : fence ≡ Some corners) (mode : Mode)

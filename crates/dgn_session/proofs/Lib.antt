@@ -11,3 +11,4 @@ pub mod Chosen
 pub mod Restored
 pub mod Lone
 pub mod Appending
+pub mod Refitted

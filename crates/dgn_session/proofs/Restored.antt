@@ -33,7 +33,7 @@ fence_edits_are_undone s mode e made done =
 pub imports_are_undone : ImportsAreUndone
 imports_are_undone s new = (refl, refl)
 
-pushed_stays : (s : State) (a : Applied) → opened_in (pushed a s) ≡ opened_in s
+pub pushed_stays : (s : State) (a : Applied) → opened_in (pushed a s) ≡ opened_in s
 pushed_stays s (Done made) = refl
 pushed_stays s (Refused cause) = refl
 

@@ -4,3 +4,4 @@ pub mod Kept
 pub mod Carried
 pub mod Answers
 pub mod Laws
+pub mod Fits

@@ -1,6 +1,7 @@
 //! What holds of all sessions. Each call does nothing; its contract is the law.
 
 ghost use Rattle.dgn_session.specs.Laws.{EditsAreUndone, FenceEditsAreUndone, ImportsAreUndone, OpenedStay, EntriesAreCounted, EntriesLeadBack, OpenedStandsStill};
+ghost use Rattle.dgn_session.specs.Fits.{FitsAreUndone, OpenedStayFitted};
 
 /// Edits are undone: after an edit that is done, of one part or of all that a fence chooses, and after an import, an undo
 /// is not refused, and gives the state before; and the opened elements stay at the bottom of the stack.
@@ -22,4 +23,11 @@ pub fn entries_lead_back()
 /// patch of an entry that is left.
 pub fn the_opened_stands_still()
     ensures { OpenedStandsStill }
+{}
+
+/// Fits are undone: after a fit that is done an undo is not refused, and gives the state before; and the opened elements
+/// stay at the bottom of the stack.
+pub fn fits_are_undone()
+    ensures undone { FitsAreUndone }
+    ensures opened { OpenedStayFitted }
 {}

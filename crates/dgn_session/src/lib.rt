@@ -11,6 +11,7 @@ mod fence_edit_fault;
 mod importing;
 pub mod laws;
 mod nothing;
+mod ranges;
 mod room;
 mod select_fault;
 mod selecting;

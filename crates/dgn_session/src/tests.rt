@@ -7,6 +7,7 @@ ghost use Rattle.elem_index.specs.Design.{elements, IsWhole};
 use super::*;
 use dgn_drawing::{Edit, Mask, New, NewShape, Shift};
 use dgn_fence::types::Fence;
+use dgn_import::{gather, read_second};
 use edit_ops::{Cause, EditFault};
 use elem_head::types::Symb;
 use elem_index::{Design, read_design};
@@ -14,7 +15,7 @@ use nest_tree::nest;
 use nest_tree::types::Nest;
 use patch_bytes::Patch;
 use plane_geom::PointList;
-use sample_elements::{CELL, MEMBER, drawing, with_byte};
+use sample_elements::{CELL, LINE, MEMBER, drawing, with_byte};
 use std::alloc::{AllocError, Global};
 use std::process::Abort;
 use std::test::Fail;
@@ -107,6 +108,43 @@ fn along(x: i32, y: i32) -> Shift {
         axes: 2,
         by: [i64::from(x), i64::from(y), 0],
     }
+}
+
+// The trees of a drawing of this element are appended, and compared.
+fn imports(
+    rt: &(impl AllocGlobal + Abort),
+    session: &mut Session,
+    element: &[u8],
+) -> Result<(), Fail> {
+    let alloc = rt.alloc();
+    let bytes = drawing(alloc, 0x08, 0, &[element])?;
+    assert!(rt; bytes.len() <= 67108864);
+    let second = read_second(alloc, bytes)?;
+    let dim = session.design().dim;
+    let Ok(found) = gather(alloc, dim, &second, None) else {
+        panic!(rt; "nothing is gathered");
+    };
+    assert_eq!(rt; session.append_trees(found.bytes.as_slice()), Ok(()));
+    is_fresh(rt, session)
+}
+
+// A line is imported, and then no tree; both are undone.
+#[test]
+fn imports_are_undone(rt: HostRuntime) -> Result<(), Fail> {
+    let mut session = begun(&rt, 53)?;
+    let opened = session.body().to_vec(rt.alloc())?;
+    imports(&rt, &mut session, &LINE)?;
+    let imported = session.body().to_vec(rt.alloc())?;
+    assert_eq!(rt; imported.get(..opened.len()), Some(opened.as_slice()));
+    assert_eq!(rt; imported.get(opened.len()..), Some(LINE.as_slice()));
+    imports(&rt, &mut session, &[0xFF, 0xFF])?;
+    assert_eq!(rt; session.body(), imported.as_slice());
+    assert_eq!(rt; session.log().entries().len(), 2);
+    undoes(&rt, &mut session)?;
+    assert_eq!(rt; session.body(), imported.as_slice());
+    undoes(&rt, &mut session)?;
+    assert_eq!(rt; session.body(), opened.as_slice());
+    Ok(())
 }
 
 // `move 1 5 7` and `copy 1 0 0` of the cell, what the log holds, and two undos and one more.

@@ -1,5 +1,5 @@
 -- What is told of a run that writes a file and then says a text, and what where that was stopped.
-use Rattle.std.proofs.Common.{◌≡◌, List, [], ℕ, ◌++◌, length, take, Option, Some, None, Err, inl, inr, refl, sym, ap, ◌∙◌, subst}
+use Rattle.std.proofs.Common.{◌≡◌, List, [], ℕ, take, Option, Some, None, Err, inl, inr, refl, sym}
 use Rattle.std.specs.Prelude.{option_map, IfSome}
 use Rattle.std.proofs.lemmas.List.{append-nil}
 use Rattle.dgn_desk.specs.Content.{Content, filed, spoken}

@@ -18,7 +18,7 @@ use Rattle.dgn_drawing.specs.declared.mask.Mask.{Mask}
 use Rattle.dgn_drawing.specs.Shown.{tree_shown}
 use Rattle.dgn_fence.specs.Taken.{takes}
 use Rattle.dgn_fence.specs.Selected.{selected}
-use Rattle.dgn_session.specs.State.{State, applied, pushed, pushed_if, with_stack, selection, fence_applied, dropped, with_fence, with_mask, undo_refused}
+use Rattle.dgn_session.specs.State.{State, applied, pushed, pushed_if, with_stack, fence_applied, dropped, with_fence, with_mask, undo_refused}
 use Rattle.edit_ops.specs.Applying.{Applied, Done, Refused, apply, IsEdit}
 use Rattle.edit_ops.specs.Fields.{Rise, filled}
 use Rattle.edit_ops.specs.Fenced.{apply_all, AreRoots, IsFenceEdit}
@@ -74,8 +74,7 @@ module _ (dim rest : ℕ) (t : List ℕ) (base : List Element) where
   edit_links on left e (Refused cause) fits is top linked = linked
   edit_links on left e (Done made) fits is top linked =
       let opens = opens_on on left top linked in
-      let changed = changes_fields (spelling on ++ t) dim on t rest e made fits opens is in
-      (
+      let changed = changes_fields (spelling on ++ t) dim on t rest e made fits opens is in (
         record {
           opens = edited_opens (spelling on ++ t) dim on t rest e made fits opens is;
           long = omega (arith, changed.long);
@@ -94,8 +93,7 @@ module _ (dim rest : ℕ) (t : List ℕ) (base : List Element) where
   roots_link on left e ns (Refused cause) fits roots is top linked = linked
   roots_link on left e ns (Done made) fits roots is top linked =
       let opens = opens_on on left top linked in
-      let changed = fenced_changes (spelling on ++ t) dim on t rest e ns made fits roots opens is in
-      (
+      let changed = fenced_changes (spelling on ++ t) dim on t rest e ns made fits roots opens is in (
         record {
           opens = fenced_opens (spelling on ++ t) dim on t rest e ns made fits roots opens is;
           long = omega (arith, changed.long);

@@ -1,5 +1,5 @@
 -- What `apply` comes to, by what was read of IN and PATCH and by what the entries made.
-use Rattle.std.proofs.Common.{◌≡◌, ◌<◌, ◌≤◌, ◌+◌, ◌-◌, ◌^◌, List, [], ◌∷◌, ℕ, length, nat_lt, true, false, Option, Some, None, Result, Ok, Err, refl, sym, ap, ◌∙◌, subst, arith}
+use Rattle.std.proofs.Common.{◌≡◌, ◌<◌, ◌≤◌, ◌-◌, ◌^◌, List, ℕ, length, nat_lt, true, false, Option, Some, None, Result, Ok, Err, refl, sym, ap, ◌∙◌, subst, arith}
 use Rattle.std.specs.Prelude.{IfSome, codes}
 use Rattle.std.proofs.lemmas.Bool.Decides.{nat_tests}
 use Rattle.std.proofs.lemmas.List.{length-map}
@@ -8,17 +8,17 @@ use Rattle.dgn_drawing.specs.Spelling.{spelling}
 use Rattle.elem_index.specs.declared.design.Design.{Design}
 use Rattle.elem_index.specs.Design.{IsWhole}
 use Rattle.elem_index.specs.Answers.{opened_of}
-use Rattle.elem_index.specs.Opened.{Opened, opening}
+use Rattle.elem_index.specs.Opened.{Opened}
 use Rattle.patch_file.specs.declared.patch_entry.PatchEntry.{PatchEntry}
 use Rattle.patch_file.specs.PatchView.{packed_of, all_packed}
 use Rattle.patch_file.specs.Spelling.{Packed, AreEntries}
 use Rattle.patch_file.specs.Reading.{patch_of, IsBadAt}
-use Rattle.patch_file.specs.Standing.{AllStand, put_all}
+use Rattle.patch_file.specs.Standing.{put_all}
 use Rattle.dgn_tool.specs.Applied.{Patched, Made, Differs, Overruns, put_from, patched_outcome, entries_outcome, reading_outcome, body_patched, patched}
 use Rattle.dgn_tool.specs.Ended.{Outcome, ended}
 use Rattle.dgn_tool.specs.Lines.{numbered}
 use Rattle.dgn_tool.specs.Outcome.{input_outcome, outcome_of, outcome, ComesTo, OpensAs}
-use Rattle.dgn_tool.specs.PatchLaws.{DiffersAt, Applies, refused_at, RefusesWhereOneDiffers, RefusesNoneElse, AppliesAll}
+use Rattle.dgn_tool.specs.PatchLaws.{Applies, RefusesWhereOneDiffers, RefusesNoneElse, AppliesAll}
 use Rattle.dgn_tool.specs.declared.status.Status.{Status}
 use Rattle.dgn_tool.specs.declared.status.Status.TheVariants as statuses
 use Rattle.dgn_tool.proofs.Endings.{known, input_opens}

@@ -1,6 +1,6 @@
 -- What patch entries make of a body, one after the other.
-use Rattle.std.proofs.Common.{◌≡◌, ℕ, ◌+◌, ◌-◌, ◌<◌, ◌≤◌, Bool, true, false, cond, List, [], ◌∷◌, ◌++◌, length, map, drop, take, refl, sym, ap, ◌∙◌, subst, arith, length-append}
-use Rattle.std.specs.Prelude.{◌==◌, ◌&&◌, not, nat_lt}
+use Rattle.std.proofs.Common.{◌≡◌, ℕ, ◌+◌, ◌<◌, ◌≤◌, Bool, true, false, cond, List, [], ◌∷◌, ◌++◌, length, map, drop, take, refl, sym, ap, ◌∙◌, subst, arith, length-append}
+use Rattle.std.specs.Prelude.{◌==◌, not, nat_lt}
 use Rattle.std.specs.List.{list_all, AllByRecursion}
 use Rattle.std.proofs.lemmas.Bool.{false_from_ne_true}
 use Rattle.std.proofs.lemmas.Bool.Decides.{Decides-and, Decides-like, Decides-eqb, nat_tests}
@@ -12,7 +12,7 @@ use Rattle.patch_file.proofs.Puts.{news_within}
 use Rattle.patch_file.specs.declared.patch_entry.PatchEntry.{PatchEntry}
 use Rattle.patch_file.specs.Exchanges.{Exchange}
 use Rattle.patch_file.specs.Spelling.{Packed}
-use Rattle.patch_file.specs.PatchView.{packed_of, all_packed}
+use Rattle.patch_file.specs.PatchView.{packed_of}
 use Rattle.patch_file.specs.Standing.{HoldsOld, Stands, new_of, put_on, AllStand, put_all}
 use Rattle.dgn_tool.specs.Applied.{holds_old, does_stand, Patched, Made, Differs, Overruns, put_from, AllFit}
 use Rattle.dgn_tool.specs.PatchLaws.{DiffersAt}

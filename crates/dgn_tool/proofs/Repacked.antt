@@ -1,15 +1,15 @@
 -- The packed entries of the edits that commands leave, put on the drawing again: they stand and give what the edits made.
-use Rattle.std.proofs.Common.{◌≡◌, ℕ, ◌+◌, ◌<◌, ◌≤◌, ◌^◌, List, [], ◌∷◌, ◌++◌, length, map, take, drop, reverse, refl, sym, ap, ◌∙◌, subst, arith, length-append}
+use Rattle.std.proofs.Common.{◌≡◌, ℕ, ◌+◌, ◌≤◌, List, [], ◌∷◌, ◌++◌, length, map, take, drop, reverse, refl, sym, ap, ◌∙◌, subst, arith, length-append}
 use Rattle.std.specs.Prelude.{All}
 use Rattle.std.specs.List.{flat_map, AllByRecursion}
-use Rattle.std.proofs.lemmas.List.{reverse-append, map-append, length-take-le, length-drop, length-map}
+use Rattle.std.proofs.lemmas.List.{reverse-append, map-append, length-take-le, length-drop}
 use Rattle.std.proofs.lemmas.List.Concat.{flat_map-cons}
-use Rattle.patch_bytes.specs.Puts.{Put, write, old_of, Span}
+use Rattle.patch_bytes.specs.Puts.{Put}
 use Rattle.undo_log.specs.declared.entry.Entry.{Entry}
 use Rattle.undo_log.specs.Entries.{entry_of, back, back_by}
 use Rattle.patch_file.specs.Exchanges.{AllKeepRules}
-use Rattle.patch_file.specs.Spelling.{Packed, IsEntry, AreEntries, entry_spelling, patch_spelling}
-use Rattle.patch_file.specs.Standing.{exchanged, taken_of, put_on, MayTake, AllStand, put_all, all_taken, MayTakeAll}
+use Rattle.patch_file.specs.Spelling.{Packed, IsEntry, entry_spelling}
+use Rattle.patch_file.specs.Standing.{exchanged, put_on, MayTake, AllStand, put_all, all_taken, MayTakeAll}
 use Rattle.patch_file.proofs.Lengths.{length-entry, length-patch}
 use Rattle.patch_file.proofs.Puts.{taken_gives_the_same, all_taken_give_the_same}
 use Rattle.dgn_drawing.specs.Element.{Element}
@@ -46,8 +46,7 @@ rules_kept b c m (f ∷ fs) n long there rise sized =
     let most = sized.0.most in
     let was : length (take f.len (drop f.at b)) ≡ f.len = length-take-le f.len (drop f.at b) (omega (arith, length-drop f.at b)) in
     let put : length (take (length (take f.len (drop f.at b))) (drop f.at c)) ≡ length (take f.len (drop f.at b)) =
-    length-take-le (length (take f.len (drop f.at b))) (drop f.at c) (omega (arith, was, length-drop f.at c)) in
-    (
+    length-take-le (length (take f.len (drop f.at b))) (drop f.at c) (omega (arith, was, length-drop f.at c)) in (
       record { least = omega (arith, was); most = omega (arith, was); same = put; behind = from; within = omega (arith, was) },
       subst (λ (k : ℕ). AllKeepRules (f.at + k) m (map (exchanged c) (filled b fs))) (sym was) (rules_kept b c m fs (f.at + f.len) long there rise.1 sized.1),
     )

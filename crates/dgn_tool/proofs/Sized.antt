@@ -1,12 +1,11 @@
 -- The fields that edits write have one to four bytes.
-use Rattle.std.proofs.Common.{ℕ, ◌+◌, ◌≤◌, List, [], ◌∷◌, ◌++◌, map, sym, subst, arith}
+use Rattle.std.proofs.Common.{ℕ, ◌≤◌, List, [], ◌∷◌, ◌++◌, arith}
 use Rattle.std.specs.List.{flat_map, AllByRecursion}
 use Rattle.std.proofs.lemmas.List.Concat.{flat_map-cons}
 use Rattle.dgn_layout.specs.declared.spot.Spot.{Spot}
 use Rattle.dgn_layout.specs.Spots.{range_spots, spots_of}
 use Rattle.dgn_drawing.specs.declared.edit.Edit.{Edit}
 use Rattle.dgn_drawing.specs.declared.edit.Edit.TheVariants as edit
-use Rattle.dgn_drawing.specs.declared.fence_edit.FenceEdit.{FenceEdit}
 use Rattle.dgn_drawing.specs.Element.{Element}
 use Rattle.dgn_drawing.specs.Spelling.{spell}
 use Rattle.edit_ops.specs.Trees.{Live, live_tree, above_tree}

@@ -1,8 +1,8 @@
 -- What the calls ensure that try a generated drawing comes to its outcome: where its file was written and its summary
 -- said, and where that was stopped.
-use Rattle.std.proofs.Common.{◌≡◌, List, [], ℕ, ◌+◌, ◌++◌, length, replicate, take, Bool, true, false, cond, Option, Some, None, Err, inl, inr, refl, sym, ap, ◌∙◌, subst, append_assoc, arith, length-append}
-use Rattle.std.specs.Prelude.{option_map, IfSome, codes}
-use Rattle.std.proofs.lemmas.List.{append-nil, length-replicate}
+use Rattle.std.proofs.Common.{◌≡◌, List, [], ℕ, ◌+◌, ◌++◌, length, replicate, Bool, true, false, cond, Option, Err, refl, sym, ap, ◌∙◌, subst, append_assoc, arith, length-append}
+use Rattle.std.specs.Prelude.{option_map, codes}
+use Rattle.std.proofs.lemmas.List.{length-replicate}
 use Rattle.dgn_desk.specs.Content.{Content, filed, spoken}
 use Rattle.dgn_desk.specs.Desk.{SaysAll, FilesAll}
 use Rattle.dgn_desk.specs.declared.stop.Stop.{Stop}
@@ -15,74 +15,33 @@ use Rattle.dgn_tool.specs.Filling.{is_blocks, left_in_block, filling, file_made}
 use Rattle.dgn_tool.specs.Generation.{fixed_steps, sizes_of, summary, generated_from, drawing_of, generation}
 use Rattle.dgn_tool.specs.Lines.{numbered}
 use Rattle.dgn_tool.specs.Ended.{file_after}
-use Rattle.dgn_tool.specs.Outcome.{Leaves, Stops, IsFrontOf, ComesTo, IsStopped}
+use Rattle.dgn_tool.specs.Outcome.{ComesTo, IsStopped}
 use Rattle.dgn_tool.specs.declared.status.Status.{Status}
 use Rattle.dgn_tool.specs.declared.status.Status.TheVariants as statuses
-use Rattle.dgn_tool.proofs.Endings.{ends_only, is_taken}
+use Rattle.dgn_tool.proofs.Filed as file
+use Rattle.dgn_tool.proofs.Filed.{filed_and_said}
 use Rattle.dgn_tool.proofs.Finished.{made_so}
 
 module _ (s : State) (t output : List ℕ) where
-  -- nothing of the file was written
-  unwritten : (old now : Option Content) → now ≡ old → IfSome old (λ c. Stops (generated_from s t output) c now)
-  unwritten None now e = tt
-  unwritten (Some c) now e =
-      record { content = c; told_is = e; front = []; is_front = (summary s t, refl); said_is = sym (append-nil c.said); files_are = inl refl }
-
-  -- or a front of it was
-  written_front : (front : List ℕ) (old now : Option Content) → IsFrontOf (file_after s t fixed_steps) front → now ≡ option_map (filed output front) old → IfSome old (λ c. Stops (generated_from s t output) c now)
-  written_front front None now is e = tt
-  written_front front (Some c) now is e =
-      record { content = filed output front c; told_is = e; front = []; is_front = (summary s t, refl); said_is = sym (append-nil c.said); files_are = inr (front, is, refl) }
-
-  written_part : (bytes : List ℕ) (stop : Stop) (old now : Option Content) → bytes ≡ file_after s t fixed_steps → FilesAll (Err stop) output bytes old now → IfSome old (λ c. Stops (generated_from s t output) c now)
-  written_part bytes stop old now is (inl e) = unwritten old now e
-  written_part bytes stop old now is (inr part) =
-      written_front (take part.0 bytes) old now (subst (λ (b : List ℕ). IsFrontOf b (take part.0 bytes)) is (is_taken bytes part.0)) part.2
-
-  -- the file was written, and a front of the summary said
-  said_front : (front bytes : List ℕ) (old mid now : Option Content) → bytes ≡ file_after s t fixed_steps → mid ≡ option_map (filed output bytes) old → IsFrontOf (summary s t) front → now ≡ option_map (spoken front) mid → IfSome old (λ c. Stops (generated_from s t output) c now)
-  said_front front bytes None mid now is filed_is part e = tt
-  said_front front bytes (Some c) mid now is filed_is part e =
-      record {
-        content = spoken front (filed output (file_after s t fixed_steps) c);
-        told_is = rw (e, filed_is, is) refl;
-        front = front;
-        is_front = part;
-        said_is = refl;
-        files_are = inr (file_after s t fixed_steps, ([], sym (append-nil (file_after s t fixed_steps))), refl);
-      }
-
-  said_part : (text bytes : List ℕ) (stop : Stop) (old mid now : Option Content) → bytes ≡ file_after s t fixed_steps → text ≡ summary s t → mid ≡ option_map (filed output bytes) old → SaysAll (Err stop) text mid now → IfSome old (λ c. Stops (generated_from s t output) c now)
-  said_part text bytes stop old mid now is told filed_is says =
-      said_front (take says.0 text) bytes old mid now is filed_is (subst (λ (b : List ℕ). IsFrontOf b (take says.0 text)) told (is_taken text says.0)) says.2
-
-  -- all was written and said
-  said_all : (text bytes : List ℕ) (old mid now : Option Content) → bytes ≡ file_after s t fixed_steps → text ≡ summary s t → mid ≡ option_map (filed output bytes) old → now ≡ option_map (spoken text) mid → IfSome old (λ c. Leaves (generated_from s t output) statuses.Done c now)
-  said_all text bytes None mid now is told filed_is e = tt
-  said_all text bytes (Some c) mid now is told filed_is e =
-      record {
-        status_is = refl;
-        content = spoken (summary s t) (filed output (file_after s t fixed_steps) c);
-        told_is = rw (e, filed_is, is, told) refl;
-        said_is = refl;
-        files_are = refl;
-      }
-
   module _ (new : State) (tail text : List ℕ) (before : ℕ) (old : Option Content) (drawn : new ≡ after_all fixed_steps s) (back : tail ≡ t) (begins : before ≡ length (spelling s.top)) where
     made : file_made before tail (spelling new.top) ≡ file_after s t fixed_steps
     made = made_so s new t tail fixed_steps before drawn back begins
 
+    -- the file that is written is that after the fixed commands
+    made_is : (mid : Option Content) → mid ≡ option_map (filed output (file_made before tail (spelling new.top))) old → mid ≡ option_map (filed output (file_after s t fixed_steps)) old
+    made_is mid filed_is = filed_is ∙ ap (λ (b : List ℕ). option_map (filed output b) old) made
+
     pub tried : (mid now : Option Content) → text ≡ summary s t → mid ≡ option_map (filed output (file_made before tail (spelling new.top))) old → now ≡ option_map (spoken text) mid → ComesTo statuses.Done (λ _. generated_from s t output) old now
     tried mid now told filed_is said =
-        (λ _. said_all text (file_made before tail (spelling new.top)) old mid now made told filed_is said, λ stopped. absurd stopped)
+        filed_and_said statuses.Done (summary s t) output (file_after s t fixed_steps) old mid now tt (made_is mid filed_is) (said ∙ ap (λ (b : List ℕ). option_map (spoken b) mid) told)
 
     pub stopped_saying : (stop : Stop) (status : Status) (mid now : Option Content) → IsStopped status → text ≡ summary s t → mid ≡ option_map (filed output (file_made before tail (spelling new.top))) old → SaysAll (Err stop) text mid now → ComesTo status (λ _. generated_from s t output) old now
     stopped_saying stop status mid now stopped told filed_is said =
-        (λ ending. absurd (ends_only status ending stopped), λ _. said_part text (file_made before tail (spelling new.top)) stop old mid now made told filed_is said)
+        file.stopped_saying statuses.Done (summary s t) output (file_after s t fixed_steps) stop status old mid now stopped (made_is mid filed_is) (subst (λ (b : List ℕ). SaysAll (Err stop) b mid now) told said)
 
     pub stopped_filing : (stop : Stop) (status : Status) (now : Option Content) → IsStopped status → FilesAll (Err stop) output (file_made before tail (spelling new.top)) old now → ComesTo status (λ _. generated_from s t output) old now
     stopped_filing stop status now stopped filed_is =
-        (λ ending. absurd (ends_only status ending stopped), λ _. written_part (file_made before tail (spelling new.top)) stop old now made filed_is)
+        file.stopped_filing statuses.Done (summary s t) output (file_after s t fixed_steps) stop status old now stopped (subst (λ (b : List ℕ). FilesAll (Err stop) output b old now) made filed_is)
 
 -- a session on the drawing of a seed and a count comes to what is generated
 pub generates : (seed count : ℕ) (s : State) (t output : List ℕ) (status : Status) (old now : Option Content) → s ≡ begun (drawing_of seed count) → t ≡ (drawing_of seed count).tail → ComesTo status (λ _. generated_from s t output) old now → ComesTo status (λ _. generation seed count output) old now

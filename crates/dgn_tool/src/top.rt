@@ -182,9 +182,13 @@ pub(crate) fn read_commands<D: Desk>(
     };
     match read_script(alloc, &text) {
         Ok(commands) => Ok(commands),
-        Err(ScriptFault::Line { number }) => Err(
-            end_numbered(alloc, desk, b"bad script line ", number, Status::BadScript),
-        ),
+        Err(ScriptFault::Line { number }) => Err(end_numbered(
+            alloc,
+            desk,
+            b"bad script line ",
+            number,
+            Status::BadScript,
+        )),
         Err(ScriptFault::Memory) => Err(Status::Memory),
     }
 }

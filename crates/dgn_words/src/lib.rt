@@ -5,7 +5,7 @@
 #![tactic(auto)]
 
 ghost use Rattle.std.specs.Prelude.{◌≡◌, ◌+◌, ◌*◌, ◌≤◌, length};
-ghost use Rattle.dgn_words.specs.Numbers.{word_at, long_at, longs_at, range_long_at, word_bytes, long_bytes, range_long_bytes, long_word_bytes, put};
+ghost use Rattle.dgn_words.specs.Numbers.{word_at, long_at, long_word_at, longs_at, range_long_at, word_bytes, long_bytes, range_long_bytes, long_word_bytes, put};
 
 use byteorder::{ByteOrder, LittleEndian};
 use std::array;
@@ -31,9 +31,7 @@ pub fn long(b: &[u8], at: usize) -> i32
     requires { at + 4 ≤ length b.now }
     ensures { result ≡ long_at b.now at }
 {
-    let high = u32::from(word(b, at));
-    let low = u32::from(word(b, at + 2));
-    (high * 65536 + low).cast_signed()
+    long_word(b, at).cast_signed()
 }
 
 /// The `N` longs that stand side by side from byte `at` on, as the numbers of a point do.
@@ -58,9 +56,17 @@ pub fn range_long(b: &[u8], at: usize) -> i32
     requires { at + 4 ≤ length b.now }
     ensures { result ≡ range_long_at b.now at }
 {
-    let high = i64::from(word(b, at));
-    let low = i64::from(word(b, at + 2));
-    (high * 65536 + low - 2147483648) as i32
+    (i64::from(long_word(b, at)) - 2147483648) as i32
+}
+
+// The two words at byte `at`, the high one first, as one number without sign. They are read at once, with their words
+// the wrong way round, and turned.
+fn long_word(b: &[u8], at: usize) -> u32
+    requires { at + 4 ≤ length b.now }
+    ensures { result ≡ long_word_at b.now at }
+{
+    let turned = LittleEndian::read_u32(&b[at..]);
+    turned % 65536 * 65536 + turned / 65536
 }
 
 /// Writes the range number `v` at byte `at` and leaves every other byte.
@@ -76,8 +82,7 @@ fn put_words(b: &mut [u8], at: usize, u: u32)
     requires { at + 4 ≤ length b.old }
     ensures { b.new ≡ put b.old at (long_word_bytes u) }
 {
-    put_word(b, at, (u / 65536) as u16);
-    put_word(b, at + 2, (u % 65536) as u16);
+    LittleEndian::write_u32(&mut b[at..], u % 65536 * 65536 + u / 65536);
 }
 
 #[cfg(test)]

@@ -13,7 +13,7 @@ use Rattle.elem_index.specs.Offsets.{offset_of}
 use Rattle.edit_ops.specs.Trees.{Live, count_in, above_from, above_tree}
 use Rattle.edit_ops.specs.Written.{found}
 use Rattle.edit_ops.proofs.Placed.{first_left, others_left}
-use Rattle.edit_ops.proofs.Walked.{drop_front}
+use Rattle.dgn_drawing.proofs.Dropped.{drop_front}
 use Rattle.edit_ops.proofs.Found.{offset_next, offset_behind, found_first}
 
 -- the headers above an element of trees that stand in a drawing are those at their numbers

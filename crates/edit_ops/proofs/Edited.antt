@@ -14,8 +14,6 @@ use Rattle.dgn_drawing.specs.Spelling.{spell, spelling}
 use Rattle.dgn_drawing.specs.WellFormed.{IsDimension, IsWellFormed}
 use Rattle.dgn_drawing.specs.Rows.{row_of}
 use Rattle.dgn_drawing.specs.Nesting.{flat, forest}
-use Rattle.dgn_drawing.specs.Opening.{Opens}
-use Rattle.dgn_drawing.proofs.Opening.{dimension_is}
 use Rattle.edit_ops.specs.Trees.{tree_at, live_map, live_tree, above_tree}
 use Rattle.edit_ops.specs.Applying.{change_of, above_change, altered, IsEdit}
 use Rattle.edit_ops.specs.Fields.{Field, above_fields, part_fields, filled}
@@ -116,7 +114,3 @@ module _ (dim : ℕ) (axes : IsDimension dim) (es : List Element) (e : Edit) (fi
           each = live_put n ready;
           each_above = above_all;
         }
-
--- the dimension of a file that opens
-pub axes_of : (f : List ℕ) (dim : ℕ) (es : List Element) (t : List ℕ) → Opens f dim es t → IsDimension dim
-axes_of f dim es t opens = subst IsDimension (sym opens.axes) (dimension_is f)

@@ -16,7 +16,7 @@ use Rattle.edit_ops.specs.Trees.{Live, live_from, live_tree, found_at}
 use Rattle.edit_ops.specs.Written.{found}
 use Rattle.edit_ops.proofs.Placed.{IsPlaced, placed, first_left, others_left}
 use Rattle.edit_ops.proofs.Standing.{live_first, live_behind, live_dead, live_alive}
-use Rattle.edit_ops.proofs.Walked.{drop_front}
+use Rattle.dgn_drawing.proofs.Dropped.{drop_front}
 
 -- the element behind the first n begins where these end
 pub offset_next : (es : List Element) (n : ℕ) (e : Element) → slice_get es n ≡ Some e → offset_of es (n + 1) ≡ offset_of es n + size_of e

@@ -31,7 +31,8 @@ use Rattle.edit_ops.proofs.Kept.{rows_kept, nested_as, each_kept}
 use Rattle.edit_ops.proofs.Turned.{whole_turned, whole_span}
 use Rattle.edit_ops.proofs.Putting.{field_of, IsPut}
 use Rattle.edit_ops.proofs.Holding.{IsAbovePut}
-use Rattle.edit_ops.proofs.Edited.{IsWritten, written, axes_of, all_so}
+use Rattle.elem_index.proofs.Places.{opened_axes}
+use Rattle.edit_ops.proofs.Edited.{IsWritten, written, all_so}
 use Rattle.edit_ops.proofs.Accepted.{IsAccepted, accepted, done_is, done_without_cause}
 use Rattle.edit_ops.proofs.Appended.{tcb_long, same_dimension}
 
@@ -53,7 +54,7 @@ begins_as dim x xs made t axes good first begins =
     )
 
 -- a change of a later element and of the headers above it leaves the first element
-first_stays : (x : Element) (xs : List Element) (n : ℕ) (above : Element → Element) (other : Forest Element → Forest Element) → 0 < n → BeginsWith x (flat (exchange above other n (forest row_of (x ∷ xs))))
+pub first_stays : (x : Element) (xs : List Element) (n : ℕ) (above : Element → Element) (other : Forest Element → Forest Element) → 0 < n → BeginsWith x (flat (exchange above other n (forest row_of (x ∷ xs))))
 first_stays x xs zero above other later = absurd (omega arith)
 first_stays x xs (suc n) above other later =
     let past : nat_lt n 0 ≡ false = le-ltb n 0 (omega arith) in
@@ -104,7 +105,7 @@ pub named_written : (f : List ℕ) (dim : ℕ) (es : List Element) (t : List ℕ
     → IsAccepted dim es e n × IsWritten dim es e n
 named_written f dim es t rest e n fits opens named none =
     let able = accepted dim es rest e n named opens.each opens.first none in
-    (able, written dim (axes_of f dim es t opens) es e fits opens.each n able.known able.head able.there able.head_able able.able)
+    (able, written dim (opened_axes f dim es t opens) es e fits opens.each n able.known able.head able.there able.head_able able.able)
 
 module _ (f : List ℕ) (dim : ℕ) (es : List Element) (t : List ℕ) (rest : ℕ) (e : Edit) (n : ℕ) (fits : IsEdit e) (opens : Opens f dim es t) (here : IsInPlace dim es e n) where
   -- one that is done writes its puts
@@ -123,7 +124,7 @@ module _ (f : List ℕ) (dim : ℕ) (es : List Element) (t : List ℕ) (rest : �
       all_so (λ v. IsAbovePut dim e (slice_get es n) v.element) (λ v. IsWellFormed dim (above_change dim e (slice_get es n) v.element)) (λ v is. is.good) (above_tree es n) both.1.each_above in
       let goods : AllByRecursion (λ v. IsWellFormed dim (change_of dim e v.element)) (live_tree es n) =
       all_so (λ v. IsPut dim e v.element) (λ v. IsWellFormed dim (change_of dim e v.element)) (λ v is. is.good) (live_tree es n) both.1.each in
-      let first = begins_same dim es n (above_change dim e (slice_get es n)) (live_map (λ member. member.deleted) (change_of dim e)) t (axes_of f dim es t opens) opens.each opens.first both.0.later in
+      let first = begins_same dim es n (above_change dim e (slice_get es n)) (live_map (λ member. member.deleted) (change_of dim e)) t (opened_axes f dim es t opens) opens.each opens.first both.0.later in
       subst (λ (l : List Element). Opens (spelling l ++ t) dim l t) (sym (done_altered made done)) (record {
         whole = refl;
         each = each_kept es n (above_change dim e (slice_get es n)) (change_of dim e) (IsWellFormed dim) opens.each heads goods;

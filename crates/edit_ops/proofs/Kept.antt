@@ -41,7 +41,7 @@ module _ (above : Element → Element) (other : Forest Element → Forest Elemen
 
   module _ {B : Type 0} (f : Element → B) where
     -- the header looks as before
-    abbrev LooksSo : Live → Type 0
+    abbrev pub LooksSo : Live → Type 0
     LooksSo v = f (above v.element) ≡ f v.element
 
     looks_side : (b : Bool) (n first p : ℕ) (knot : Knot) (h : Element) (below behind : Forest Element)
@@ -56,7 +56,7 @@ module _ (above : Element → Element) (other : Forest Element → Forest Elemen
     looks_side false n first p knot h below behind heads same inner outer = ap (λ (t : Forest B). Tree knot (f h) (forest_map f below) t) (outer heads same)
 
     -- where another tree looks as the one in whose place it stands, and the headers above it as before, all look so
-    exchange_looks : (n first p : ℕ) (t : Forest Element) → AllByRecursion LooksSo (above_from n first p t)
+    pub exchange_looks : (n first p : ℕ) (t : Forest Element) → AllByRecursion LooksSo (above_from n first p t)
         → forest_map f (other (tree_at n t)) ≡ forest_map f (tree_at n t)
         → forest_map f (exchange above other n t) ≡ forest_map f t
     exchange_looks n first p NoTree heads same = refl
@@ -69,7 +69,7 @@ module _ (above : Element → Element) (other : Forest Element → Forest Elemen
 
   module _ (P : Element → Type 0) where
     -- it holds of the changed header
-    abbrev HoldsSo : Live → Type 0
+    abbrev pub HoldsSo : Live → Type 0
     HoldsSo v = P (above v.element)
 
     each_side : (b : Bool) (n first p : ℕ) (knot : Knot) (h : Element) (below behind : Forest Element)
@@ -86,7 +86,7 @@ module _ (above : Element → Element) (other : Forest Element → Forest Elemen
 
     -- what holds of each element of trees, of each changed header above element n, and of each element of another
     -- tree, holds of each where that one stands in the place of the tree of element n
-    exchange_each : (n first p : ℕ) (t : Forest Element) → AllByRecursion P (flat t) → AllByRecursion HoldsSo (above_from n first p t)
+    pub exchange_each : (n first p : ℕ) (t : Forest Element) → AllByRecursion P (flat t) → AllByRecursion HoldsSo (above_from n first p t)
         → AllByRecursion P (flat (other (tree_at n t))) → AllByRecursion P (flat (exchange above other n t))
     exchange_each n first p NoTree each heads those = tt
     exchange_each zero first p (Tree knot h below behind) each heads those =

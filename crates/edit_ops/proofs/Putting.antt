@@ -35,13 +35,13 @@ abbrev pub field_of : Put → Field
 field_of q = record { at = q.at; len = length q.bytes }
 
 -- a number at a spot has four bytes
-four_bytes : (offset : Bool) (v : ℤ) → length (if offset then range_long_bytes v else long_bytes v) ≡ 4
-four_bytes true v = refl
-four_bytes false v = refl
+number_size : (offset : Bool) (v : ℤ) → length (if offset then range_long_bytes v else long_bytes v) ≡ 4
+number_size true v = refl
+number_size false v = refl
 
 -- so what is put at a spot has four bytes
 spot_bytes : (s : Spot) (v : ℤ) → length (number_bytes s v) ≡ 4
-spot_bytes s v = four_bytes s.offset v
+spot_bytes s v = number_size s.offset v
 
 -- the number that is put at each spot
 module _ (number : Spot → ℤ) where

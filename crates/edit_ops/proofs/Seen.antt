@@ -7,18 +7,13 @@ use Rattle.elem_head.specs.Head.{head_of}
 use Rattle.dgn_drawing.specs.Element.{Element}
 use Rattle.dgn_drawing.specs.Spelling.{spell, spelling, size_of}
 use Rattle.dgn_drawing.specs.WellFormed.{IsDimension, IsWellFormed}
-use Rattle.dgn_drawing.proofs.Opening.{dimension_is}
 use Rattle.dgn_drawing.proofs.Sits.{all-sits}
 use Rattle.elem_index.specs.declared.design.Design.{Design}
 use Rattle.elem_index.specs.Design.{elements, IsWhole}
 use Rattle.elem_index.specs.Offsets.{offset_of}
-use Rattle.elem_index.proofs.Places.{each_at, stands_at, body_is}
+use Rattle.elem_index.proofs.Places.{axes_of, each_at, stands_at, body_is}
 use Rattle.edit_ops.specs.declared.finding.Found.{Found}
 use Rattle.edit_ops.specs.Found.{IsFound}
-
--- the dimension of a whole design is one that a design file can have
-pub axes_of : (d : Design) → IsWhole d → IsDimension d.dim
-axes_of d whole = subst IsDimension (sym whole.is_open.opens.axes) (dimension_is (d.body.items ++ d.tail.items))
 
 -- the element whose spelling is given
 spelled_there : (o : Option Element) (b : List ℕ) → Some b ≡ option_map spell o → (e : Element) × (o ≡ Some e) × (b ≡ spell e)

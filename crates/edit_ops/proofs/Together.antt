@@ -31,7 +31,8 @@ use Rattle.edit_ops.proofs.Placed.{flat-joined}
 use Rattle.edit_ops.proofs.Standing.{each_both, live_tree_each}
 use Rattle.edit_ops.proofs.Turned.{Turns, turns_none}
 use Rattle.edit_ops.proofs.Putting.{field_of, IsPut, element_put, turns_as, fields_put}
-use Rattle.edit_ops.proofs.Edited.{all_so, all_both, axes_of}
+use Rattle.elem_index.proofs.Places.{opened_axes}
+use Rattle.edit_ops.proofs.Edited.{all_so, all_both}
 use Rattle.edit_ops.proofs.Accepted.{IsAccepted, accepted, none_both}
 use Rattle.edit_ops.proofs.InPlace.{BeginsWith, begins_as}
 use Rattle.edit_ops.proofs.Members.{is_one_of, each_chosen, roots_among, zero_apart}
@@ -300,13 +301,13 @@ copies_fenced dim es by axes each first fits ns able =
 pub fenced : (f : List ℕ) (dim : ℕ) (es : List Element) (t : List ℕ) (rest : ℕ) (e : FenceEdit) (ns : List ℕ) → IsFenceEdit e → AreRoots es ns → Opens f dim es t
     → cause_of_all dim es rest (edits_at e ns) ≡ None → IsFenced dim es e ns
 fenced f dim es t rest (fence.Move by) ns fits some opens none =
-    in_place_fenced dim (axes_of f dim es t opens) es opens.each opens.first (edit.Move 0 by) (fence.Move by) (moves_in_place dim es by) fits ns some
+    in_place_fenced dim (opened_axes f dim es t opens) es opens.each opens.first (edit.Move 0 by) (fence.Move by) (moves_in_place dim es by) fits ns some
     (each_accepted dim es (fence.Move by) opens.each opens.first rest ns none)
 fenced f dim es t rest (fence.Copy by) ns fits some opens none =
-    copies_fenced dim es by (axes_of f dim es t opens) opens.each opens.first fits ns (each_accepted dim es (fence.Copy by) opens.each opens.first rest ns none)
+    copies_fenced dim es by (opened_axes f dim es t opens) opens.each opens.first fits ns (each_accepted dim es (fence.Copy by) opens.each opens.first rest ns none)
 fenced f dim es t rest (fence.Sym change) ns fits some opens none =
-    in_place_fenced dim (axes_of f dim es t opens) es opens.each opens.first (edit.Sym 0 change) (fence.Sym change) (looks_in_place dim es change) fits ns some
+    in_place_fenced dim (opened_axes f dim es t opens) es opens.each opens.first (edit.Sym 0 change) (fence.Sym change) (looks_in_place dim es change) fits ns some
     (each_accepted dim es (fence.Sym change) opens.each opens.first rest ns none)
 fenced f dim es t rest fence.Delete ns fits some opens none =
-    in_place_fenced dim (axes_of f dim es t opens) es opens.each opens.first (edit.Delete 0) fence.Delete (marks_in_place dim es) fits ns some
+    in_place_fenced dim (opened_axes f dim es t opens) es opens.each opens.first (edit.Delete 0) fence.Delete (marks_in_place dim es) fits ns some
     (each_accepted dim es fence.Delete opens.each opens.first rest ns none)

@@ -39,7 +39,8 @@ use Rattle.edit_ops.specs.Asking.{cause_in, MayBeAskedOf, locked_in}
 use Rattle.edit_ops.specs.Written.{live_puts, look_put, new_look, IsReady}
 use Rattle.edit_ops.specs.Found.{IsFound}
 use Rattle.edit_ops.proofs.Readable.{IsShown, is_shown, shown_long}
-use Rattle.edit_ops.proofs.Seen.{axes_of, four_bytes}
+use Rattle.elem_index.proofs.Places.{axes_of}
+use Rattle.edit_ops.proofs.Seen.{four_bytes}
 
 -- the test of the plane may be asked where the element has spots
 pub asked_of_spots : (test : Test) (by : Displacement) (o : Option Element) (e : Element) → test ≡ tests.Leaves by → o ≡ Some e → MayBeAskedOf test o → has_spots (class_of e.kind) ≡ true

@@ -11,6 +11,7 @@ use Rattle.dgn_drawing.specs.Spelling.{spelling, size_of}
 use Rattle.dgn_drawing.specs.Rows.{row_of}
 use Rattle.dgn_drawing.specs.Nesting.{Knot, Forest, NoTree, Tree, flat, forest, joined, itself}
 use Rattle.dgn_drawing.specs.Numbering.{Mark, end_of, marks_of, mark_of}
+use Rattle.dgn_drawing.proofs.Dropped.{drop_front}
 use Rattle.nest_tree.proofs.ByRows.{forest_rows, marks-map}
 use Rattle.elem_index.specs.Offsets.{offset_of}
 use Rattle.edit_ops.specs.Trees.{Live, live_from, live_tree}
@@ -55,11 +56,6 @@ ends-joined (Tree knot h below behind) g n at is =
     let rest = ends-joined behind g (end_of n below) at (omega (arith, length-append (flat below) (flat behind))) in
     ap (λ (l : List ℕ). end_of n below ∷ (ends below (n + 1) ++ l)) rest
     ∙ ap (λ (l : List ℕ). end_of n below ∷ l) (sym (append_assoc (ends below (n + 1)) (ends behind (end_of n below)) (ends g at)))
-
--- what is behind the first part of what is left of a list
-pub drop_front : {A : Type 0} (l front rest : List A) (n at : ℕ) → at ≡ n + length front → drop n l ≡ front ++ rest → drop at l ≡ rest
-drop_front {A} l [] rest n at is left = let e : at ≡ n = omega arith in ap (λ (k : ℕ). drop k l) e ∙ left
-drop_front l (x ∷ front) rest n at is left = drop_front l front rest (n + 1) at (omega arith) (others_left l n x (front ++ rest) left)
 
 -- the elements of the tree of element n, of which those before number i are gone through and gave these
 -- numbers: the trees that are left, which end before number `end`

@@ -34,7 +34,7 @@ use Rattle.edit_ops.specs.Trees.{Live, found_at}
 use Rattle.edit_ops.specs.Written.{found, wider_puts, holding_puts, above_puts}
 use Rattle.edit_ops.proofs.Listed.{found_next}
 use Rattle.edit_ops.proofs.Readable.{IsShown, is_shown, shown_long}
-use Rattle.edit_ops.proofs.Seen.{axes_of}
+use Rattle.elem_index.proofs.Places.{axes_of}
 
 -- those of some spots that hold range numbers
 abbrev pub of_ranges : List Spot → List Spot

@@ -65,13 +65,17 @@ length-offsets es = length-offsets_from 0 (map size_of es) ∙ length-map es siz
 pub get_or-offsets : (es : List Element) (n : ℕ) → n < length es → get_or (offsets_of es) n 0 ≡ offset_of es n
 get_or-offsets es n within = get_or-offsets_from 0 n es within ∙ zero-add _
 
+-- the dimension of a file that opens is one that a design file can have
+pub opened_axes : (f : List ℕ) (dim : ℕ) (es : List Element) (t : List ℕ) → Opens f dim es t → IsDimension dim
+opened_axes f dim es t opens = subst IsDimension (sym opens.axes) (dimension_is f)
+
 -- a whole design's elements, offsets and body
 module _ (d : Design) (whole : IsWhole d) where
   opening_of : Opens (d.body.items ++ d.tail.items) d.dim (elements d) d.tail.items
   opening_of = whole.is_open.opens
 
-  axes_of : IsDimension d.dim
-  axes_of = subst IsDimension (sym opening_of.axes) (dimension_is (d.body.items ++ d.tail.items))
+  pub axes_of : IsDimension d.dim
+  axes_of = opened_axes (d.body.items ++ d.tail.items) d.dim (elements d) d.tail.items opening_of
 
   pub body_is : spelling (elements d) ≡ d.body.items
   body_is = body_spelled d.body.items d.tail.items d.dim (elements d) opening_of

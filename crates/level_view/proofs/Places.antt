@@ -1,22 +1,19 @@
 -- Where an element stands, by what is asked of the drawing and of its nesting.
 use Rattle.std.proofs.Common.{◌≡◌, ℕ, suc, ◌+◌, ◌-◌, ◌≤◌, List, [], ◌++◌, map, refl, sym, ap, ◌∙◌, subst, arith}
 use Rattle.std.specs.Prelude.{Option, Some, None, slice_get, option_map}
-use Rattle.std.proofs.lemmas.List.{append-nil}
-use Rattle.elem_head.specs.Head.{size_of as size_said}
 use Rattle.dgn_drawing.specs.declared.row.Row.{Row}
 use Rattle.dgn_drawing.specs.Element.{Element}
 use Rattle.dgn_drawing.specs.Spelling.{spell}
-use Rattle.dgn_drawing.specs.WellFormed.{IsDimension, IsWellFormed}
+use Rattle.dgn_drawing.specs.WellFormed.{IsWellFormed}
 use Rattle.dgn_drawing.specs.Faults.{IsSoundIn}
 use Rattle.dgn_drawing.specs.Reading.{element_at}
 use Rattle.dgn_drawing.specs.Rows.{row_of}
 use Rattle.dgn_drawing.specs.Nesting.{Forest, itself, forest}
 use Rattle.dgn_drawing.specs.Numbering.{Mark, marks_of, mark_of, span_of, depth_of, knot_of}
-use Rattle.dgn_drawing.proofs.Opening.{dimension_is}
-use Rattle.dgn_drawing.proofs.Read.{size_said-spell, element_fault-spell, element_at-spell}
+use Rattle.dgn_drawing.proofs.Read.{element_at-spell}
 use Rattle.elem_index.specs.declared.design.Design.{Design}
 use Rattle.elem_index.specs.Design.{elements, IsWhole}
-use Rattle.elem_index.proofs.Places.{each_at}
+use Rattle.elem_index.proofs.Places.{axes_of, each_at, sound_in}
 use Rattle.nest_tree.specs.declared.knot.Knot as told
 use Rattle.level_view.specs.declared.place.Place.{Place}
 use Rattle.level_view.specs.Back.{with_element, with_marked, read_back, IsPlace}
@@ -40,19 +37,9 @@ pub some_mark : {A : Type 0} (f : Mark → A) (o : Option Mark) (x : A) → Some
 some_mark f None x is = absurd (let e = is in cc)
 some_mark f (Some m) x is = (m, refl)
 
--- a whole design has a dimension
-pub axes_of : (d : Design) → IsWhole d → IsDimension d.dim
-axes_of d whole = subst IsDimension (sym whole.is_open.opens.axes) (dimension_is (d.body.items ++ d.tail.items))
-
 taken : (r : Option Element) (b : List ℕ) → Some b ≡ option_map spell r → (e : Element) × (r ≡ Some e) × (b ≡ spell e)
 taken None b is = absurd (let f = is in cc)
 taken (Some e) b is = (e, refl, cc)
-
-sound_in : (dim : ℕ) (e : Element) → IsDimension dim → IsWellFormed dim e → IsSoundIn dim (spell e)
-sound_in dim e axes good = record {
-  size = sym (size_said-spell dim e axes good []) ∙ ap size_said (append-nil (spell e));
-  fault = element_fault-spell dim e axes good;
-}
 
 -- its bytes are sound, and the element is read from them
 module _ (d : Design) (whole : IsWhole d) (n : ℕ) (b : List ℕ) (is : Some b ≡ option_map spell (slice_get (elements d) n)) where

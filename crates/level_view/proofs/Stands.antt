@@ -9,6 +9,7 @@ use Rattle.dgn_drawing.specs.Rows.{row_of}
 use Rattle.dgn_drawing.specs.Nesting.{Knot, Leaf, Group, Run, Loose, Forest, NoTree, Tree, flat, forest}
 use Rattle.dgn_drawing.specs.Numbering.{Mark, end_of, marks, marks_of, mark_of}
 use Rattle.dgn_drawing.specs.Shown.{shown_tree, items, shown}
+use Rattle.dgn_drawing.proofs.Dropped.{drop_front}
 use Rattle.nest_tree.proofs.Unfolded.{flat-forest}
 use Rattle.level_view.specs.Back.{with_marked, read_back}
 use Rattle.level_view.proofs.Numbers.{items_each, back_each}
@@ -24,13 +25,6 @@ here_and_behind {A} (y ∷ xs) (suc n) x rest is =
     let inner = here_and_behind xs n x rest is in
     let e : suc n + 1 ≡ suc (n + 1) = omega arith in
     (inner.0, ap (λ (k : ℕ). drop k (y ∷ xs)) e ∙ inner.1)
-
-pub drop_front : {A : Type 0} (xs front rest : List A) (n : ℕ) → drop n xs ≡ front ++ rest → drop (n + length front) xs ≡ rest
-drop_front {A} xs [] rest n is = let e : n + 0 ≡ n = omega arith in ap (λ (k : ℕ). drop k xs) e ∙ is
-drop_front {A} xs (x ∷ front) rest n is =
-    let next = here_and_behind xs n x (front ++ rest) is in
-    let e : n + suc (length front) ≡ n + 1 + length front = omega arith in
-    ap (λ (k : ℕ). drop k xs) e ∙ drop_front xs front rest (n + 1) next.1
 
 -- the trees stand among all elements from number n on, with their marks
 pub record Stands (es : List Element) (f : Forest Element) (n depth : ℕ) (parent : Option ℕ) : Type 0 where
@@ -80,13 +74,13 @@ module _ (es : List Element) (knot : Knot) (e : Element) (below behind : Forest 
   unfolding below_stands
   behind_stands =
       let past : drop (n + 1 + length (marks below (n + 1) (depth + 1) (Some n))) (marks_of (forest row_of es)) ≡ marks behind (end_of n below) depth parent ++ stands.marks_behind =
-      drop_front (marks_of (forest row_of es)) (marks below (n + 1) (depth + 1) (Some n)) (marks behind (end_of n below) depth parent ++ stands.marks_behind) (n + 1) below_stands.marked in
+      drop_front (marks_of (forest row_of es)) (marks below (n + 1) (depth + 1) (Some n)) (marks behind (end_of n below) depth parent ++ stands.marks_behind) (n + 1) _ refl below_stands.marked in
       let same : n + 1 + length (marks below (n + 1) (depth + 1) (Some n)) ≡ end_of n below = ap (λ (k : ℕ). n + 1 + k) (length-marks below (n + 1) (depth + 1) (Some n)) in
       record {
         marks_behind = stands.marks_behind;
         behind = stands.behind;
         marked = ap (λ (k : ℕ). drop k (marks_of (forest row_of es))) (sym same) ∙ past;
-        listed = drop_front es (flat below) (flat behind ++ stands.behind) (n + 1) below_stands.listed;
+        listed = drop_front es (flat below) (flat behind ++ stands.behind) (n + 1) _ refl below_stands.listed;
       }
 
 -- where nothing is below, nothing is shown below

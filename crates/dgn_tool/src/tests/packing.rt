@@ -44,19 +44,34 @@ fn packed_edits(rt: HostRuntime) -> Result<(), Fail> {
 }
 
 // Edits of each kind, and undos among them: six are left.
-const KINDS: &[u8] = b"color 1 7\nmove 1 1 1\nundo\nsym 1 4 - -\ncopy 1 1 1\nfence -9,-9 900,-9 900,900 -9,900\n\
+const KINDS: &[u8] =
+    b"color 1 7\nmove 1 1 1\nundo\nsym 1 4 - -\ncopy 1 1 1\nfence -9,-9 900,-9 900,900 -9,900\n\
 fmove inside 1 1\nfsym overlap 3 2 1\nundo\nfdelete inside\nundo\nline 1 0 0 0 0,0 1,1\ndelete 1\nundo\ndelete 2\n";
 
+// What is packed of them writes the file that `edit` writes. On a drawing whose line begins elsewhere the fourth of them,
+// which moves it, is refused.
 #[test]
-fn edits_of_each_kind_are_packed(rt: HostRuntime) -> Result<(), Fail> {
+fn packed_and_applied(rt: HostRuntime) -> Result<(), Fail> {
     let alloc = rt.alloc();
     let mut desk = SureDesk::new(alloc, 512);
+    let other = with_byte(design(alloc, 0, &[&LINE, &END])?, 1574, 9);
     desk.add("in", design(alloc, 0, &[&LINE, &END])?)?;
+    desk.add("other", other)?;
     desk.add("s", Vec::from_slice(alloc, KINDS)?)?;
-    let words = words(alloc, &PACK)?;
-    let status = run(alloc, &words, &mut desk);
-    assert!(rt; status == Status::Done);
-    assert!(rt; desk.said() == b"entries 6\n".as_slice());
-    assert!(rt; desk.file("out").is_some_and(|file| file.starts_with(b"DGNPAT01\x06\x00\x00\x00")));
+    let runs: [(&[&str], Status); 4] = [
+        (&["pack", "in", "s", "p"], Status::Done),
+        (&["edit", "in", "s", "edited"], Status::Done),
+        (&["apply", "in", "p", "applied"], Status::Done),
+        (&["apply", "other", "p", "out"], Status::PatchRefused),
+    ];
+    for (list, status) in runs {
+        let words = words(alloc, list)?;
+        assert!(rt; run(alloc, &words, &mut desk) == status);
+    }
+    assert!(rt; desk.said().starts_with(b"entries 6\n"));
+    assert!(rt; desk.said().ends_with(b"applied 6\nrefused entry 4\n"));
+    assert!(rt; desk.file("applied").is_some());
+    assert!(rt; desk.file("applied") == desk.file("edited"));
+    assert!(rt; desk.file("out").is_none());
     Ok(())
 }

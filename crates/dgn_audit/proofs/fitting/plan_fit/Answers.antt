@@ -4,7 +4,7 @@ use Rattle.dgn_drawing.specs.Rows.{row_of}
 use Rattle.dgn_drawing.specs.Numbering.{root_of}
 use Rattle.dgn_drawing.specs.Nesting.{itself}
 use Rattle.edit_ops.proofs.Rooted.{root_by_rows}
-use Rattle.edit_ops.proofs.Seen.{axes_of}
+use Rattle.elem_index.proofs.Places.{axes_of}
 use Rattle.dgn_audit.proofs.Asked.{ok_as, err_as, refused_cause}
 use Rattle.dgn_audit.proofs.Rooted.{root_known}
 use Rattle.dgn_audit.proofs.Fitted.{root_planned}

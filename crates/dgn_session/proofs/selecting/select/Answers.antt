@@ -1,6 +1,4 @@
-use Rattle.std.proofs.Common.{◌≡◌, ℕ, ◌+◌, ◌<◌, ◌≤◌, List, [], ◌∷◌, ◌++◌, length, Bool, true, false, refl, sym, ap, ◌∙◌, subst, arith}
-use Rattle.std.specs.Prelude.{Some, option_map}
-use Rattle.dgn_drawing.specs.Element.{Element}
+use Rattle.std.proofs.Common.{◌≡◌, ℕ, ◌<◌, List, length, sym, ap, ◌∙◌, subst, arith}
 use Rattle.dgn_drawing.specs.Shown.{tree_shown}
 use Rattle.dgn_fence.specs.Taken.{takes}
 use Rattle.elem_index.specs.Design.{elements}

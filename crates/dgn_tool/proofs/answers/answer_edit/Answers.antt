@@ -1,7 +1,4 @@
-use Rattle.std.proofs.Common.{subst}
-use Rattle.dgn_session.specs.State.{state_of, applied}
-use Rattle.edit_ops.specs.Planned.{IsRefused}
-use Rattle.dgn_tool.proofs.Logged.{edit_logs, refusal_logs}
+use Rattle.dgn_tool.proofs.Logged.{edit_logs}
 use Rattle.dgn_tool.proofs.answers.answer_edit.Goals as goal
 
 pub returns-in-Ok-clause-logged : goal.returns-in-Ok-clause-logged

@@ -1,7 +1,7 @@
 use Rattle.std.proofs.Common.{◌≡◌, ◌++◌, List, ℕ, Bool, codes, ap, ◌∙◌, sym, subst}
 use Rattle.dgn_session.specs.State.{SessionValue}
 use Rattle.dgn_tool.specs.Commands.{undo_said}
-use Rattle.dgn_tool.proofs.Logged.{undo_logs, nothing_logs}
+use Rattle.dgn_tool.proofs.Logged.{undo_logs}
 use Rattle.dgn_tool.proofs.Undone.{not_refused}
 use Rattle.dgn_tool.proofs.answers.answer_undo.Goals as goal
 

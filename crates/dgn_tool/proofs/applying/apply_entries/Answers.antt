@@ -1,4 +1,4 @@
-use Rattle.std.proofs.Common.{◌≡◌, List, ℕ, length, Err, subst}
+use Rattle.std.proofs.Common.{◌≡◌, length, Err, subst}
 use Rattle.std.specs.Prelude.{codes}
 use Rattle.patch_file.specs.PatchView.{all_packed}
 use Rattle.dgn_tool.specs.Applied.{Differs, Overruns, put_from, entries_outcome, Puts}

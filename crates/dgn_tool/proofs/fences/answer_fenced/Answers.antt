@@ -1,7 +1,4 @@
-use Rattle.std.proofs.Common.{subst}
-use Rattle.dgn_session.specs.State.{state_of, fence_applied}
-use Rattle.dgn_session.specs.Answers.{IsFenceRefused}
-use Rattle.dgn_tool.proofs.Logged.{fence_edit_logs, no_fence_logs, fence_refusal_logs}
+use Rattle.dgn_tool.proofs.Logged.{fence_edit_logs}
 use Rattle.dgn_tool.proofs.fences.answer_fenced.Goals as goal
 
 pub returns-in-Ok-clause-logged : goal.returns-in-Ok-clause-logged

@@ -3,7 +3,7 @@ use Rattle.std.specs.Prelude.{option_map}
 use Rattle.dgn_desk.specs.Content.{filed, spoken}
 use Rattle.dgn_desk.specs.Desk.{FilesAll, SaysAll}
 use Rattle.patch_file.specs.Spelling.{patch_spelling}
-use Rattle.patch_file.specs.PatchView.{packed_of, all_packed}
+use Rattle.patch_file.specs.PatchView.{all_packed}
 use Rattle.dgn_tool.specs.Lines.{numbered}
 use Rattle.dgn_tool.specs.Packing.{filed_patch}
 use Rattle.dgn_tool.specs.Outcome.{ComesTo}

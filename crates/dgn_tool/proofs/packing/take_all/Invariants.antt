@@ -1,4 +1,4 @@
-use Rattle.std.proofs.Common.{◌≡◌, ◌-◌, length, vec_len}
+use Rattle.std.proofs.Common.{◌-◌, vec_len}
 use Rattle.dgn_tool.proofs.Packed.{TakenSo}
 use Rattle.dgn_tool.proofs.packing.take_all.Given as goal
 

@@ -1,4 +1,4 @@
-use Rattle.std.proofs.Common.{◌≡◌, ◌≤◌, ◌+◌, List, [], ℕ, length, ap, refl, sym, ◌∙◌, subst, arith}
+use Rattle.std.proofs.Common.{◌≤◌, ◌+◌, List, [], ℕ, length, ap, refl, sym, ◌∙◌, subst, arith}
 use Rattle.patch_file.specs.PatchView.{packed_of}
 use Rattle.patch_file.specs.Standing.{Stands, put_on}
 use Rattle.dgn_tool.specs.Applied.{Made}

@@ -5,7 +5,7 @@ use Rattle.patch_bytes.specs.Puts.{Put}
 use Rattle.elem_index.specs.Design.{elements}
 use Rattle.elem_index.proofs.Places.{body_is}
 use Rattle.edit_ops.specs.Written.{found, live_puts}
-use Rattle.edit_ops.proofs.Seen.{axes_of}
+use Rattle.elem_index.proofs.Places.{axes_of}
 use Rattle.edit_ops.proofs.Spanned.{part_starts}
 use Rattle.edit_ops.proofs.Copied.{puts_rise, bytes_copied}
 use Rattle.edit_ops.proofs.copying.copy_of.Goals as goal

@@ -5,7 +5,7 @@ use Rattle.dgn_layout.specs.Spots.{has_spots}
 use Rattle.elem_index.specs.Design.{elements}
 use Rattle.patch_bytes.specs.Puts.{Put}
 use Rattle.edit_ops.specs.Trees.{Live}
-use Rattle.edit_ops.proofs.Seen.{axes_of}
+use Rattle.elem_index.proofs.Places.{axes_of}
 use Rattle.edit_ops.proofs.Told.{holds_found}
 use Rattle.edit_ops.proofs.Wider.{one_of, wider_found}
 use Rattle.edit_ops.proofs.patches.push_wider.Goals as goal

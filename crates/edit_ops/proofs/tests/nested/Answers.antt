@@ -2,7 +2,7 @@ use Rattle.std.proofs.Common.{◌∙◌, arith}
 use Rattle.elem_index.specs.Design.{elements}
 use Rattle.elem_index.proofs.Places.{few_elements}
 use Rattle.nest_tree.proofs.Nestable.{nestable}
-use Rattle.edit_ops.proofs.Seen.{axes_of}
+use Rattle.elem_index.proofs.Places.{axes_of}
 use Rattle.edit_ops.proofs.tests.nested.Goals as goal
 
 pub nest-requires : goal.nest-requires

@@ -1,10 +1,10 @@
-use Rattle.std.proofs.Common.{◌≡◌, Option, Some, ap, sym, ◌∙◌}
+use Rattle.std.proofs.Common.{Option, ap, sym, ◌∙◌}
 use Rattle.std.specs.Option.{option_to_list}
 use Rattle.dgn_drawing.specs.declared.types.item.Item.{Item}
 use Rattle.dgn_drawing.specs.Items.{item_of}
 use Rattle.dgn_drawing.specs.Reading.{element_at}
 use Rattle.dgn_fence.specs.Taken.{takes}
-use Rattle.dgn_fence.proofs.Outlines.{told_taken, none_taken, anywhere}
+use Rattle.dgn_fence.proofs.Outlines.{told_taken, anywhere}
 use Rattle.dgn_fence.proofs.types.fence.Fence.takes_element.Goals as goal
 
 pub returns-in-Some-told_by_bounds : goal.returns-in-Some-told_by_bounds

@@ -1,0 +1,5 @@
+use Rattle.dgn_audit.proofs.Ended.{ends_findings}
+use Rattle.dgn_audit.proofs.laws.a_fit_ends_findings.Goals as goal
+
+pub returns : goal.returns
+returns c = ends_findings

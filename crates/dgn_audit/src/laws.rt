@@ -1,0 +1,21 @@
+//! What holds of every fit. Each call does nothing; its contract is the law.
+
+ghost use Rattle.dgn_audit.specs.Laws.{FittedDrawingsOpen, FitsChangeTheirFields, FitsEndFindings};
+
+/// A fitted drawing opens: what a fit that is done leaves opens in the same dimension, with the elements that it makes and
+/// the same tail.
+pub fn a_fitted_drawing_opens()
+    ensures { FittedDrawingsOpen }
+{}
+
+/// A fit changes its fields alone: each byte in no field of the fitted elements' ranges stays, the length and the rows
+/// stay, the trees are the fitted ones, and the fields rise within the elements, so no two share a byte.
+pub fn a_fit_changes_its_fields_alone()
+    ensures { FitsChangeTheirFields }
+{}
+
+/// A fit ends findings: after it no element of the tree that it fits is a finding, and the findings of all other trees are
+/// as before.
+pub fn a_fit_ends_findings()
+    ensures { FitsEndFindings }
+{}

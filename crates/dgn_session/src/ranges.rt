@@ -1,0 +1,58 @@
+// Stored ranges against hulls: what differs, and what a fit makes of it.
+
+ghost use Rattle.std.specs.Prelude.{◌≡◌, ◌∷◌, ◌++◌, [], IfOk, IfErr, OnOk, OnErr};
+ghost use Rattle.dgn_drawing.specs.Spelling.{spelling};
+ghost use Rattle.edit_ops.specs.Applying.{Done};
+ghost use Rattle.edit_ops.specs.Planned.{IsRefused};
+ghost use Rattle.dgn_audit.specs.Findings.{findings};
+ghost use Rattle.dgn_session.specs.State.{state_of, value_with};
+ghost use Rattle.dgn_session.specs.Fits.{fit_applied, fit_made, fit_entry, IsFit};
+
+use crate::carrying::carry;
+use crate::session::Session;
+use dgn_audit::{Finding, audit, plan_fit};
+use edit_ops::EditFault;
+use edit_ops::types::Plan;
+use patch_bytes::ByteList;
+use std::alloc::AllocError;
+
+impl Session {
+    /// The elements whose stored range isn't the hull of their tree (`dgn_audit::audit`), in file order. There is an
+    /// error exactly where there is no memory.
+    pub fn audit(&self) -> Result<Vec<Finding>, AllocError>
+        ensures { IfOk result (λ found. found.items ≡ findings self.now.dim (state_of self.now).top) }
+    {
+        audit(self.alloc, &self.design, &self.nest)
+    }
+
+    /// Writes the hulls of the tree that holds element `n` into the ranges of its fitted elements (`dgn_audit::plan_fit`).
+    /// It is one edit for an undo, also where no element is fitted. After it no element of that tree is a finding, and the
+    /// findings of all other trees are as before.
+    ///
+    /// Refused comes with the first cause that stands, exactly where the fit is refused: Unknown; Broken; Deleted, of the
+    /// root of that tree; Locked, of the least fitted element that is locked. Memory comes where there is no memory for it.
+    /// The session is then as before: all memory is taken before the first byte is written.
+    pub fn fit(&mut self, n: u32) -> Result<(), EditFault>
+        ensures done { OnOk result (state_of self.new ≡ fit_made n (state_of self.old)) }
+        ensures accepted { OnOk result (fit_applied n (state_of self.old) ≡ Done (state_of self.new).top) }
+        ensures value { OnOk result (self.new ≡ value_with (spelling (state_of self.new).top)
+            (self.old.entries ++ fit_entry self.old.dim (state_of self.old).top n ∷ []) self.old) }
+        ensures fitted { OnOk result (IsFit self.old.dim (state_of self.old).top n (state_of self.new).top) }
+        ensures refused { IfErr result (IsRefused (fit_applied n (state_of self.old))) }
+        ensures kept { OnErr result (self.new ≡ self.old) }
+    {
+        let patches = plan_fit(self.alloc, &self.design, &self.nest, n)?;
+        let plan = Plan {
+            patches,
+            append: ByteList::new(self.alloc),
+        };
+        carry(
+            self.alloc,
+            &mut self.design,
+            &mut self.nest,
+            &mut self.log,
+            plan,
+        )?;
+        Ok(())
+    }
+}
