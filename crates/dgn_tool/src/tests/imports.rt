@@ -150,7 +150,7 @@ fn each_call_of_imports_fails_in_turn(rt: HostRuntime) -> Result<(), Fail> {
     let mut whole = importing_desk(alloc)?;
     assert!(rt; run(alloc, &words, &mut whole) == Status::Done);
     assert!(rt; whole.said() == b"ok 1\nok 1\n".as_slice());
-    assert!(rt; whole.acts() == ACTS);
+    assert!(rt; whole.acts() == ACTS.as_slice());
     let mut call = 0;
     for act in ACTS {
         let mut desk = importing_desk(alloc)?;
