@@ -127,8 +127,7 @@ module _ (dim rest : ℕ) (t : List ℕ) (base : List Element) where
   import_links : (on : List Element) (left : List Made) (b : List ℕ) → AreTrees dim b → length (spelling on) + rest + length b ≤ 67108864 → on ≡ top_of base left → AreLinked dim rest t base left
       → AreLinked dim rest t base (record { on = on; making = Imported (elements_of dim b); made = on ++ elements_of dim b } ∷ left)
   import_links on left b trees few top linked =
-      let behind = import_behind dim t on b trees (opens_on on left top linked) in
-      (
+      let behind = import_behind dim t on b trees (opens_on on left top linked) in (
         record {
           opens = behind.opens;
           long = omega (arith, behind.long);

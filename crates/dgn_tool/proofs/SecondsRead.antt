@@ -77,8 +77,7 @@ read_none all old seconds none = record { so = nothing_read all old seconds none
 one_read : (all left : List Command) (c : Command) (old mid : Option Content) (before now : List Second) → OnlyLeftDiffers old mid → IfSome old (IsReadSo all (c ∷ left) before) → ComeBehind (names_of c) mid before now → IfSome old (IsReadSo all left now)
 one_read all left c None mid before now only so come = tt
 one_read all left c (Some k) mid before now only so come =
-    let one : (list_all is_within (files_named (names_of c) k.files) ≡ true) × (map value_of now ≡ map value_of before ++ map second_of (files_named (names_of c) k.files)) = rw only.1 at come in
-    (
+    let one : (list_all is_within (files_named (names_of c) k.files) ≡ true) × (map value_of now ≡ map value_of before ++ map second_of (files_named (names_of c) k.files)) = rw only.1 at come in (
       so.0 ∙ within_more (names_of c) (names_in left) k.files one.0,
       so.1
           ∙ ap (λ (vs : List SecondValue). map value_of before ++ vs) (named_more (names_of c) (names_in left) k.files)
@@ -94,8 +93,7 @@ read_more all left c old mid before now only so come = record { so = one_read al
 all_come : (all left : List Command) (old : Option Content) (seconds turned : List Second) → IfSome old (IsReadSo all left seconds) → left ≡ [] → turned ≡ reverse seconds → ComeTo (names_in all) old (waiting turned)
 all_come all left None seconds turned so none is = tt
 all_come all left (Some c) seconds turned so none is =
-    let vs : map value_of (reverse turned) ≡ map value_of seconds = ap (λ (l : List Second). map value_of (reverse l)) is ∙ ap (map value_of) (reverse-reverse seconds) in
-    (
+    let vs : map value_of (reverse turned) ≡ map value_of seconds = ap (λ (l : List Second). map value_of (reverse l)) is ∙ ap (map value_of) (reverse-reverse seconds) in (
       so.0 ∙ ap (λ (l : List Command). list_all is_within (files_named (names_in l) c.files)) none,
       vs ∙ sym (so.1 ∙ ap (λ (l : List Command). map value_of seconds ++ map second_of (files_named (names_in l) c.files)) none ∙ append-nil (map value_of seconds)),
     )

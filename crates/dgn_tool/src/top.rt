@@ -145,11 +145,13 @@ fn edit<D: Desk>(alloc: Global, desk: &mut D, input: &str, script: &str, output:
         → IfSome (D.content desk.old) (λ c. HasAll input.now script.now c.files) → IsFaultless result }
 {
     match read_inputs(alloc, desk, input, script) {
-        Ok(Inputs {
-            design,
-            commands,
-            mut seconds,
-        }) => run_script(alloc, desk, design, &commands, &mut seconds, output),
+        Ok(
+            Inputs {
+                design,
+                commands,
+                mut seconds,
+            },
+        ) => run_script(alloc, desk, design, &commands, &mut seconds, output),
         Err(status) => status,
     }
 }
@@ -252,7 +254,7 @@ fn finish<D: Desk>(
     requires { AllByRecursion IsSound seconds.old.items }
     ensures outcome { ComesTo result
         (λ _. told_from (state_of session.old) session.old.tail
-            (given_all commands.now (waiting seconds.old.items)) output.now)
+        (given_all commands.now (waiting seconds.old.items)) output.now)
         (D.content desk.old) (D.content desk.new) }
     ensures counted { IsEnding result → (D.read_faults desk.new ≡ D.read_faults desk.old)
         × (D.write_faults desk.new ≡ D.write_faults desk.old) }

@@ -138,7 +138,10 @@ const ACTS: [Act; 30] = [
 fn importing_desk(alloc: Global) -> Result<MemDesk, AllocError> {
     let mut desk = MemDesk::new(alloc, 512);
     desk.add("in", design(alloc, 0, &[&LINE, &END])?)?;
-    desk.add("s", Vec::from_slice(alloc, b"import lib\nimport lib 1 1\n")?)?;
+    desk.add(
+        "s",
+        Vec::from_slice(alloc, b"import lib\nimport lib 1 1\n")?,
+    )?;
     desk.add("lib", design(alloc, 0, &[&LINE, &END])?)?;
     Ok(desk)
 }

@@ -17,7 +17,7 @@ returns-after-push-clause-read g c =
     elim c.match-push.branch [
       | in-Ok-push w ↦
           rw w.result-is (subst (λ (l : List (List ℕ)). ComeBehind l old c.args.seconds.now.items c.push.new.self.items) names
-            (second_added c.text_of.result.now c.in-Ok.second old c.args.seconds.now.items c.push.new.self.items c.in-Ok.ensures.read w.in-Ok-push.ensures.items))
+          (second_added c.text_of.result.now c.in-Ok.second old c.args.seconds.now.items c.push.new.self.items c.in-Ok.ensures.read w.in-Ok-push.ensures.items))
       | in-Err-push w ↦ rw w.result-is tt
     ]
 
