@@ -62,9 +62,14 @@ fn imports_that_are_refused(rt: HostRuntime) -> Result<(), Fail> {
         (three, refused, b"refused import not-design at 0\n"),
         (cut, refused, b"refused import cut at 1536\n"),
         (
-            design(alloc, 0, &[&SHORT_LINE, &END])?,
+            design(alloc, 0, &[&CHAIN_OF_THREE, &END])?,
             refused,
             b"refused import short at 1536\n",
+        ),
+        (
+            design(alloc, 0, &[&LINE_WITH_ATTRIBUTES, &END])?,
+            refused,
+            b"refused import attributes at 1536\n",
         ),
         (design(alloc, 0, &[&END])?, Status::Done, b"ok 0\n"),
         (
@@ -101,7 +106,7 @@ fn imports_that_are_refused(rt: HostRuntime) -> Result<(), Fail> {
 }
 
 // The calls of a run of two imports in which none fails: IN and the second file have 1590 bytes, and OUT a body of 1692.
-const ACTS: [Act; 30] = [
+const ACTS: [Act; 29] = [
     Act::BeginRead,
     Act::Read,
     Act::Read,
@@ -126,7 +131,6 @@ const ACTS: [Act; 30] = [
     Act::Say,
     Act::Say,
     Act::BeginWrite,
-    Act::Write,
     Act::Write,
     Act::Write,
     Act::Write,
