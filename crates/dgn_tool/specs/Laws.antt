@@ -1,6 +1,6 @@
 -- What holds of every drawing that opens and every list of commands, each the contract of a function in
 -- `laws`.
-use Rattle.std.specs.Prelude.{ℕ, ◌≡◌, ◌<◌, ◌≤◌, List, ◌++◌, length, slice_index, All}
+use Rattle.std.specs.Prelude.{ℕ, ◌≡◌, ◌<◌, ◌≤◌, List, [], ◌∷◌, ◌++◌, length, slice_index, All}
 use Rattle.patch_file.specs.Spelling.{AreEntries, patch_spelling}
 use Rattle.patch_file.specs.Standing.{AllStand, put_all}
 use Rattle.dgn_drawing.specs.Spelling.{spelling}
