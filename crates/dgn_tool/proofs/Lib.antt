@@ -1,4 +1,5 @@
 mod Untouched
+mod Fitted
 mod Endings
 mod Stepping
 mod Ran

@@ -16,5 +16,6 @@ pub mod Outcome
 pub mod Told
 pub mod Laws
 pub mod PatchLaws
+pub mod FitLaws
 pub mod Generator
 pub mod Fronts

@@ -2,6 +2,7 @@
 
 ghost use Rattle.dgn_tool.specs.Laws.{UntouchedBytesStay, AppliedGivesTheSame};
 ghost use Rattle.dgn_tool.specs.PatchLaws.{RefusesWhereOneDiffers, RefusesNoneElse, AppliesAll, WritesTheSame};
+ghost use Rattle.dgn_tool.specs.FitLaws.{FitsEndFindings};
 ghost use Rattle.dgn_tool.specs.Generator.{GeneratedDrawingsOpen};
 ghost use Rattle.dgn_tool.specs.Generation.{FixedScriptReads};
 
@@ -20,6 +21,12 @@ pub fn untouched_bytes_stay()
 pub fn applied_gives_the_same()
     ensures entries { AppliedGivesTheSame }
     ensures file { WritesTheSame }
+{}
+
+/// Where a run comes to a fit and does it, `audit` would say behind it exactly what it would have said before it, without
+/// the elements of the tree that was fitted: none of them is a finding any more, and those of all other trees are as before.
+pub fn fits_end_findings()
+    ensures { FitsEndFindings }
 {}
 
 /// The drawing of any seed and of at most 200000 elements behind its TCB opens as these elements: a drawing of the
