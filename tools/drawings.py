@@ -32,6 +32,13 @@ def line(member=False, properties=0, data=b''):
     return bytes(made)
 
 
+def line_of_small_range():
+    """The same line as a member, where the range that it stores is 0,0 to 10,10."""
+    made = bytearray(line(True))
+    made[4:28] = plan.display(3, 1, (0, 0), (10, 10), b'', True)[4:28]
+    return bytes(made)
+
+
 def line_of_three_axes():
     numbers = [0, 0, 0, 100, 50, 25]
     ranges = b''.join(plan.range_number(v) for v in numbers)
@@ -77,6 +84,7 @@ LINKAGES = bytes([0, 0x80, 1, 0, 0, 0, 0, 0, 2, 0x10, 0, 0, 0, 0, 1, 0, 0, 0])
 
 DRAWINGS = {
     'a cell with one line': drawing(cell(line(True))),
+    'a cell of a line whose range is too small': drawing(cell(line_of_small_range())),
     'a line of three axes': drawing(line_of_three_axes(), axes=3),
     'a line with three linkages': drawing(line(properties=LINKED, data=LINKAGES)),
     'a cell whose name is no text, a text of no characters, a path of no points and a B-spline': drawing(odd_items()),
