@@ -2,7 +2,7 @@
 use Rattle.std.proofs.Common.{◌≡◌, ℕ, ◌≤◌, List, [], ◌∷◌, ◌++◌, length, map, Bool, true, false, cond, Option, Some, None, Result, Ok, Err, refl, sym, ap, ◌∙◌}
 use Rattle.std.specs.Prelude.{◌&&◌, slice_get, option_map, OnOk, IfOk}
 use Rattle.std.specs.List.{list_all}
-use Rattle.std.specs.Option.{option_or, option_to_list, is_some}
+use Rattle.std.specs.Option.{option_or, option_to_list}
 use Rattle.std.proofs.lemmas.List.{append-nil}
 use Rattle.range_code.specs.Plane.{is_on_plane}
 use Rattle.dgn_layout.specs.Classes.{class_of, is_silent}
@@ -88,11 +88,6 @@ three_same a b c x y z first second third =
     ∙ ap (λ (o : Option Cause). option_or x (option_or o c)) second
     ∙ ap (λ (o : Option Cause). option_or x (option_or y o)) third
 
--- a cause that isn't there
-pub no_some : (a : Option Cause) → is_some a ≡ false → a ≡ None
-no_some None is = refl
-no_some (Some c) is = absurd (let x = is in cc)
-
 module _ (d : Design) (whole : IsWhole d) (m : ℕ) (f : Found) (found : IsFound d m f) where
   abbrev here_too : Option Element
   here_too = slice_get (elements d) m
@@ -112,13 +107,6 @@ module _ (d : Design) (whole : IsWhole d) (m : ℕ) (f : Found) (found : IsFound
 
   pub some_spots : unmovable m (class_of f.kind) ≡ None → has_spots (class_of found.element.kind) ≡ true
   some_spots none = movable m (class_of found.element.kind) (ap (λ (k : ℕ). unmovable m (class_of k)) (sym found.kind) ∙ none)
-
-  pub leaves_found : (by : Displacement) (b : Bool) → unmovable m (class_of f.kind) ≡ None
-      → list_all (λ s. is_on_plane (sum_at by f.bytes.now s)) (spots_of d.dim f.kind f.bytes.now) ≡ b
-      → cond b None (Some (causes.OffPlane m)) ≡ option_or (cause_in d.dim tests.Moves m here_too) (cause_in d.dim (tests.Leaves by) m here_too)
-  leaves_found by b none is =
-      sym (plane_cause d.dim (tests.Leaves by) by m here_too found.element b refl found.there (sym (stays_found d whole m f found by (some_spots none)) ∙ is))
-      ∙ ap (λ (c : Option Cause). option_or c (cause_in d.dim (tests.Leaves by) m here_too)) (sym none ∙ moves_found)
 
 -- a spot at which the sum stays says nothing of all the others
 pub stays_next : (test : Spot → Bool) (s : Spot) (ss : List Spot) → test s ≡ true → list_all test ss ≡ list_all test (s ∷ ss)

@@ -1,11 +1,9 @@
-use Rattle.std.proofs.Common.{◌≡◌, Option, Some, None, sym, ap, ◌∙◌, subst}
-use Rattle.std.specs.Prelude.{slice_get, IfOk, IfErr}
+use Rattle.std.proofs.Common.{◌≡◌, Option, None, sym, ap, ◌∙◌, subst}
+use Rattle.std.specs.Prelude.{IfOk, IfErr}
 use Rattle.std.specs.Option.{option_or}
 use Rattle.elem_index.specs.Design.{elements}
 use Rattle.edit_ops.specs.declared.cause.Cause.{Cause}
-use Rattle.edit_ops.specs.declared.asked.Test.TheVariants as tests
-use Rattle.edit_ops.specs.Causes.{part_cause, other_axes}
-use Rattle.edit_ops.specs.Asking.{cause_in}
+use Rattle.edit_ops.specs.Causes.{part_cause}
 use Rattle.edit_ops.specs.Planned.{IsStopped}
 use Rattle.edit_ops.proofs.Told.{holds_found}
 use Rattle.edit_ops.proofs.Singled.{unfit_first, fit_spots, leaves_first}

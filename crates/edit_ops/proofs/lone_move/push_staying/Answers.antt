@@ -1,4 +1,4 @@
-use Rattle.std.proofs.Common.{◌≡◌, ◌++◌, ◌∷◌, length, map, sym, ap, ◌∙◌, subst, List}
+use Rattle.std.proofs.Common.{◌≡◌, ◌++◌, length, map, sym, ap, ◌∙◌, subst, List}
 use Rattle.std.specs.List.{list_all}
 use Rattle.range_code.specs.Plane.{is_on_plane}
 use Rattle.dgn_layout.specs.declared.spot.Spot.{Spot}

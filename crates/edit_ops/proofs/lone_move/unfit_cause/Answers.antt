@@ -1,4 +1,4 @@
-use Rattle.std.proofs.Common.{◌≡◌, Option, sym, ap, ◌∙◌, arith}
+use Rattle.std.proofs.Common.{◌≡◌, Option, ap, ◌∙◌, arith}
 use Rattle.std.specs.Option.{option_or}
 use Rattle.dgn_layout.specs.declared.types.Class.{Class}
 use Rattle.dgn_drawing.specs.Values.{Displacement}

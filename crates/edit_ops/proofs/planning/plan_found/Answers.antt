@@ -1,9 +1,8 @@
-use Rattle.std.proofs.Common.{◌≡◌, ◌+◌, ◌++◌, [], length, List, Option, Some, None, refl, sym, ap, ◌∙◌}
+use Rattle.std.proofs.Common.{◌≡◌, ◌+◌, ◌++◌, [], length, None, refl, sym, ap, ◌∙◌}
 use Rattle.std.specs.Option.{option_or}
 use Rattle.dgn_drawing.specs.declared.edit.Edit.{Edit}
 use Rattle.dgn_drawing.specs.declared.edit.Edit.TheVariants as edit
 use Rattle.elem_index.specs.Design.{elements}
-use Rattle.patch_bytes.specs.Puts.{Put}
 use Rattle.edit_ops.specs.Causes.{cause_of, part_cause, causes_of, first_of}
 use Rattle.edit_ops.specs.Planned.{IsPlanBehind}
 use Rattle.edit_ops.specs.Written.{part_puts}

@@ -1,13 +1,13 @@
-use Rattle.std.proofs.Common.{◌≡◌, ◌+◌, [], ◌++◌, length, None, refl, sym, ap, ◌∙◌}
+use Rattle.std.proofs.Common.{◌≡◌, ◌+◌, [], ◌++◌, length, None, refl, sym, ◌∙◌}
 use Rattle.elem_index.specs.Design.{elements}
 use Rattle.edit_ops.specs.Causes.{cause_of}
 use Rattle.dgn_drawing.specs.Spelling.{spelling}
 use Rattle.dgn_drawing.specs.Nesting.{flat}
 use Rattle.edit_ops.specs.Applying.{copied}
-use Rattle.edit_ops.specs.Written.{found, part_puts}
+use Rattle.edit_ops.specs.Written.{part_puts}
 use Rattle.edit_ops.proofs.Accepted.{accepted, may_widen, some_ready}
 use Rattle.edit_ops.proofs.Behind.{appends_behind, writes_behind}
-use Rattle.edit_ops.proofs.Deciding.{known_is, unknown_refused, later_first, copied_plan, changed_plan}
+use Rattle.edit_ops.proofs.Deciding.{later_first, copied_plan, changed_plan}
 use Rattle.edit_ops.proofs.planning.plan_listed.Goals as goal
 
 pub push_copy-requires-clause-ready : goal.push_copy-requires-clause-ready

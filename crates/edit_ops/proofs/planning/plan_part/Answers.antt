@@ -1,4 +1,4 @@
-use Rattle.std.proofs.Common.{◌≡◌, ◌+◌, length, sym, ◌∙◌}
+use Rattle.std.proofs.Common.{◌+◌, length, sym, ◌∙◌}
 use Rattle.elem_index.specs.Design.{elements}
 use Rattle.edit_ops.proofs.Deciding.{unknown_refused}
 use Rattle.edit_ops.proofs.planning.plan_part.Goals as goal
