@@ -48,12 +48,7 @@ pub fn live_numbers(alloc: Global, d: &Design, t: &Nest, n: u32) -> Result<Vec<u
 }
 
 // Puts them in the place of what the list holds.
-pub fn put_live_numbers(
-    d: &Design,
-    t: &Nest,
-    n: u32,
-    live: &mut Vec<u32>,
-) -> Result<(), AllocError>
+pub fn put_live_numbers(d: &Design, t: &Nest, n: u32, live: &mut Vec<u32>) -> Result<(), AllocError>
     requires whole { IsWhole d.now }
     requires nesting { t.now.rows ≡ map row_of (elements d.now) }
     requires known { n < length (elements d.now) }

@@ -129,7 +129,17 @@ fn plan_part(
     }
     put_numbers_above(d, t, n, &mut numbers.above)?;
     put_live_numbers(d, t, n, &mut numbers.live)?;
-    plan_found(alloc, d, t, n, edit, pending, &numbers.above, &numbers.live, all)
+    plan_found(
+        alloc,
+        d,
+        t,
+        n,
+        edit,
+        pending,
+        &numbers.above,
+        &numbers.live,
+        all,
+    )
 }
 
 // The same, where `above` has the numbers of the headers above the part of element n, which there is, and `live` those of
