@@ -1,17 +1,20 @@
 -- What stands against an edit of a part that is one element by itself and stands below no header.
-use Rattle.std.proofs.Common.{◌≡◌, ℕ, ◌≤◌, List, [], ◌∷◌, ◌++◌, length, Bool, true, false, cond, Option, Some, None, refl, sym, ap, ◌∙◌}
-use Rattle.std.specs.Prelude.{slice_get}
+use Rattle.std.proofs.Common.{◌≡◌, ℕ, ◌≤◌, List, [], ◌∷◌, ◌++◌, length, map, Bool, true, false, cond, Option, Some, None, Result, Ok, Err, refl, sym, ap, ◌∙◌}
+use Rattle.std.specs.Prelude.{◌&&◌, slice_get, option_map, OnOk, IfOk}
 use Rattle.std.specs.List.{list_all}
-use Rattle.std.specs.Option.{option_or, option_to_list, is_some}
+use Rattle.std.specs.Option.{option_or, option_to_list}
 use Rattle.std.proofs.lemmas.List.{append-nil}
 use Rattle.range_code.specs.Plane.{is_on_plane}
 use Rattle.dgn_layout.specs.Classes.{class_of, is_silent}
 use Rattle.dgn_layout.specs.Spots.{spots_of, has_spots}
+use Rattle.dgn_layout.specs.declared.spot.Spot.{Spot}
 use Rattle.dgn_drawing.specs.declared.edit.Edit.{Edit}
 use Rattle.dgn_drawing.specs.declared.edit.Edit.TheVariants as edit
 use Rattle.dgn_drawing.specs.Values.{Displacement, LookChange}
 use Rattle.dgn_drawing.specs.Element.{Element}
 use Rattle.dgn_drawing.specs.SpotNumbers.{sum_at}
+use Rattle.dgn_drawing.specs.Spelling.{spell}
+use Rattle.elem_index.specs.Offsets.{offset_of}
 use Rattle.elem_index.specs.declared.design.Design.{Design}
 use Rattle.elem_index.specs.Design.{elements, IsWhole}
 use Rattle.edit_ops.specs.declared.cause.Cause.{Cause}
@@ -19,9 +22,9 @@ use Rattle.edit_ops.specs.declared.cause.Cause.TheVariants as causes
 use Rattle.edit_ops.specs.declared.finding.Found.{Found}
 use Rattle.edit_ops.specs.declared.asked.Test.TheVariants as tests
 use Rattle.edit_ops.specs.Trees.{Live, found_at, above_tree, above_of, live_tree, live_of}
-use Rattle.edit_ops.specs.Causes.{other_axes, unmovable, lookless, first_cause, first_of, causes_of, target_of}
+use Rattle.edit_ops.specs.Causes.{other_axes, unmovable, lookless, off_plane, part_cause, first_cause, first_of, causes_of, target_of}
 use Rattle.edit_ops.specs.Asking.{cause_in, locked_in, lone_of}
-use Rattle.edit_ops.specs.Written.{found}
+use Rattle.edit_ops.specs.Written.{found, sum_put, above_puts, live_puts, part_puts}
 use Rattle.edit_ops.specs.Found.{IsFound}
 use Rattle.edit_ops.proofs.Accepted.{movable}
 use Rattle.edit_ops.proofs.Listed.{cause_alone, or_assoc, or_nothing}
@@ -85,11 +88,6 @@ three_same a b c x y z first second third =
     ∙ ap (λ (o : Option Cause). option_or x (option_or o c)) second
     ∙ ap (λ (o : Option Cause). option_or x (option_or y o)) third
 
--- a cause that isn't there
-pub no_some : (a : Option Cause) → is_some a ≡ false → a ≡ None
-no_some None is = refl
-no_some (Some c) is = absurd (let x = is in cc)
-
 module _ (d : Design) (whole : IsWhole d) (m : ℕ) (f : Found) (found : IsFound d m f) where
   abbrev here_too : Option Element
   here_too = slice_get (elements d) m
@@ -110,9 +108,82 @@ module _ (d : Design) (whole : IsWhole d) (m : ℕ) (f : Found) (found : IsFound
   pub some_spots : unmovable m (class_of f.kind) ≡ None → has_spots (class_of found.element.kind) ≡ true
   some_spots none = movable m (class_of found.element.kind) (ap (λ (k : ℕ). unmovable m (class_of k)) (sym found.kind) ∙ none)
 
-  pub leaves_found : (by : Displacement) (b : Bool) → unmovable m (class_of f.kind) ≡ None
-      → list_all (λ s. is_on_plane (sum_at by f.bytes.now s)) (spots_of d.dim f.kind f.bytes.now) ≡ b
-      → cond b None (Some (causes.OffPlane m)) ≡ option_or (cause_in d.dim tests.Moves m here_too) (cause_in d.dim (tests.Leaves by) m here_too)
-  leaves_found by b none is =
-      sym (plane_cause d.dim (tests.Leaves by) by m here_too found.element b refl found.there (sym (stays_found d whole m f found by (some_spots none)) ∙ is))
-      ∙ ap (λ (c : Option Cause). option_or c (cause_in d.dim (tests.Leaves by) m here_too)) (sym none ∙ moves_found)
+-- a spot at which the sum stays says nothing of all the others
+pub stays_next : (test : Spot → Bool) (s : Spot) (ss : List Spot) → test s ≡ true → list_all test ss ≡ list_all test (s ∷ ss)
+stays_next test s ss is = sym (ap (λ (b : Bool). b && list_all test ss) is)
+
+-- what stands against a move, in two steps: what is against any, and whether it leaves the plane
+five_as_two : (p u x m l : Option Cause) → option_or p (option_or u (option_or x (option_or m l))) ≡ option_or (option_or p (option_or u (option_or x m))) l
+five_as_two (Some c) u x m l = refl
+five_as_two None (Some c) x m l = refl
+five_as_two None None (Some c) m l = refl
+five_as_two None None None m l = refl
+
+-- where nothing is against any move, the element can be moved
+pub can_move : (p u x m : Option Cause) → option_or p (option_or u (option_or x m)) ≡ None → m ≡ None
+can_move (Some c) u x m is = absurd (let y = is in cc)
+can_move None (Some c) x m is = absurd (let y = is in cc)
+can_move None None (Some c) m is = absurd (let y = is in cc)
+can_move None None None m is = is
+
+module _ (d : Design) (whole : IsWhole d) (n m : ℕ) (f : Found) (found : IsFound d m f) (none : above_tree (elements d) n ≡ []) (one : live_tree (elements d) n ≡ option_to_list (found_at (elements d) m)) (by : Displacement) where
+  abbrev its : Option Element
+  its = slice_get (elements d) m
+
+  abbrev unfit : Option Cause
+  unfit = option_or (cause_in d.dim tests.Unlocked m its) (option_or (other_axes d.dim by.axes) (cause_in d.dim tests.Moves m its))
+
+  abbrev stays : Bool
+  stays = list_all (λ s. is_on_plane (sum_at by f.bytes.now s)) (spots_of d.dim f.kind f.bytes.now)
+
+  -- the first cause that stands
+  pub move_first : option_or (part_cause d.dim (elements d) n) (first_of (causes_of d.dim (elements d) 0 (edit.Move n by)))
+      ≡ option_or (option_or (part_cause d.dim (elements d) n) unfit) (cause_in d.dim (tests.Leaves by) m its)
+  move_first =
+      ap (option_or (part_cause d.dim (elements d) n)) (move_alone d.dim (elements d) 0 n m none one by)
+      ∙ five_as_two (part_cause d.dim (elements d) n) (cause_in d.dim tests.Unlocked m its) (other_axes d.dim by.axes) (cause_in d.dim tests.Moves m its) (cause_in d.dim (tests.Leaves by) m its)
+
+  -- it is one against any move
+  pub unfit_first : (c : Cause) → option_or (part_cause d.dim (elements d) n) unfit ≡ Some c
+      → option_or (part_cause d.dim (elements d) n) (first_of (causes_of d.dim (elements d) 0 (edit.Move n by))) ≡ Some c
+  unfit_first c is = move_first ∙ ap (λ (o : Option Cause). option_or o (cause_in d.dim (tests.Leaves by) m its)) is
+
+  module _ (fit : option_or (part_cause d.dim (elements d) n) unfit ≡ None) where
+    pub fit_spots : has_spots (class_of found.element.kind) ≡ true
+    fit_spots =
+        some_spots d whole m f found (moves_found d whole m f found
+        ∙ can_move (part_cause d.dim (elements d) n) (cause_in d.dim tests.Unlocked m its) (other_axes d.dim by.axes) (cause_in d.dim tests.Moves m its) fit)
+
+    -- or it is that the element leaves the plane
+    pub leaves_first : option_or (part_cause d.dim (elements d) n) (first_of (causes_of d.dim (elements d) 0 (edit.Move n by))) ≡ off_plane m stays
+    leaves_first =
+        move_first
+        ∙ ap (λ (o : Option Cause). option_or o (cause_in d.dim (tests.Leaves by) m its)) fit
+        ∙ plane_cause d.dim (tests.Leaves by) by m its found.element stays refl found.there (sym (stays_found d whole m f found by fit_spots))
+
+  -- what it puts into the part
+  pub puts_lone : part_puts d.dim (elements d) (edit.Move n by) n ≡ map (sum_put by f.place f.bytes.now) (spots_of d.dim f.kind f.bytes.now)
+  puts_lone =
+      let e : Element = found.element in
+      ap (λ (vs : List Live). above_puts d.dim (edit.Move n by) (slice_get (elements d) n) vs ++ live_puts d.dim (edit.Move n by) (live_tree (elements d) n)) none
+      ∙ ap (live_puts d.dim (edit.Move n by)) one
+      ∙ ap (λ (o : Option Element). live_puts d.dim (edit.Move n by) (option_to_list (option_map (λ (x : Element). record { number = m; place = offset_of (elements d) m; element = x }) o))) found.there
+      ∙ append-nil (map (sum_put by (offset_of (elements d) m) (spell e)) (spots_of d.dim e.kind (spell e)))
+      ∙ ap (λ (k : ℕ). map (sum_put by (offset_of (elements d) m) (spell e)) (spots_of d.dim k (spell e))) (sym found.kind)
+      ∙ ap (λ (p : ℕ). map (sum_put by p (spell e)) (spots_of d.dim f.kind (spell e))) (sym found.place)
+      ∙ ap (λ (b : List ℕ). map (sum_put by f.place b) (spots_of d.dim f.kind b)) (sym found.bytes)
+
+-- what holds at Ok, of two things that do
+pub both_ok : {A E : Type 0} (r : Result A E) (P Q R : Type 0) → OnOk r Q → IfOk r (λ _. P) → (Q → P → R) → IfOk r (λ _. R)
+both_ok (Ok x) P Q R q p so = so q p
+both_ok (Err e) P Q R q p so = tt
+
+-- the element that a move names
+pub move_named : (e : Edit) (k n : ℕ) (by : Displacement) → e ≡ edit.Move k by → target_of e ≡ Some n → e ≡ edit.Move n by
+move_named e k n by is named =
+    let same : k ≡ n = (let x = sym (ap target_of is) ∙ named in cc) in
+    is ∙ ap (λ (i : ℕ). edit.Move i by) same
+
+-- a move is no copy
+pub no_copy : (e : Edit) (n : ℕ) (by : Displacement) → e ≡ edit.Move n by → (m : ℕ) (other : Displacement) → e ≡ edit.Copy m other → ⊥
+no_copy e n by is m other copy = let x = sym is ∙ copy in cc

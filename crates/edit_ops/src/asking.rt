@@ -11,7 +11,7 @@ use crate::asked::Test;
 use crate::cause::Cause;
 use crate::causes::{other_axes, silent, too_long};
 use crate::finding::find;
-use crate::lone::{lone, lone_look_cause, lone_move_cause};
+use crate::lone::{lone, lone_look_cause};
 use crate::sums::stays_on_plane;
 use dgn_drawing::{Edit, Shift};
 use dgn_layout::types::Class;
@@ -42,11 +42,9 @@ pub fn edit_cause(
     ensures { result ≡ first_of
         (causes_of d.now.dim (elements d.now) (length d.now.tail.items + pending) edit.now) }
 {
-    if let Some(m) = lone(above, live) {
-        match edit {
-            Edit::Move { by, .. } => return lone_move_cause(d, m, by),
-            Edit::Sym { .. } => return lone_look_cause(d, m),
-            _ => {}
+    if let Edit::Sym { .. } = edit {
+        if let Some(m) = lone(above, live) {
+            return lone_look_cause(d, m);
         }
     }
     listed_cause(d, edit, above, live, appended, pending)

@@ -18,6 +18,7 @@ mod importing;
 pub mod laws;
 mod live;
 mod lone;
+mod lone_move;
 mod making;
 mod numbers;
 mod patches;

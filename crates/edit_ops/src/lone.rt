@@ -5,16 +5,11 @@ ghost use Rattle.std.specs.Prelude.{◌≡◌, slice_get};
 ghost use Rattle.std.specs.Option.{option_or};
 ghost use Rattle.elem_index.specs.Design.{elements, IsWhole};
 ghost use Rattle.edit_ops.specs.declared.asked.Test.{Test};
-ghost use Rattle.edit_ops.specs.Causes.{other_axes};
 ghost use Rattle.edit_ops.specs.Asking.{cause_in, lone_of};
-ghost use Rattle.edit_ops.specs.Found.{IsFound};
 
-use crate::asking::{locked_at, lookless, unmovable};
+use crate::asking::{locked_at, lookless};
 use crate::cause::Cause;
-use crate::causes::other_axes;
-use crate::finding::{Found, find};
-use crate::sums::stays_on_plane;
-use dgn_drawing::Shift;
+use crate::finding::find;
 use dgn_layout::class;
 use elem_index::Design;
 
@@ -25,40 +20,6 @@ pub fn lone(above: &[u32], live: &[u32]) -> Option<u32>
     match live {
         [m] if above.is_empty() => Some(*m),
         _ => None,
-    }
-}
-
-// What is against a move of element m, where it is such a part.
-pub fn lone_move_cause(d: &Design, m: u32, by: &Shift) -> Option<Cause>
-    requires whole { IsWhole d.now }
-    ensures { result ≡ option_or (cause_in d.now.dim Test.Unlocked m (slice_get (elements d.now) m))
-        (option_or (other_axes d.now.dim by.now.axes)
-        (option_or (cause_in d.now.dim Test.Moves m (slice_get (elements d.now) m))
-        (cause_in d.now.dim (Test.Leaves by.now) m (slice_get (elements d.now) m)))) }
-{
-    let Some(found) = find(d, m) else {
-        return other_axes(d.dim, by.axes);
-    };
-    locked_at(m, found.kind, found.bytes)
-        .or(other_axes(d.dim, by.axes))
-        .or(leave_cause(d, m, found, by))
-}
-
-// Element m, which is found, can't be moved, or doesn't stay on the design plane.
-fn leave_cause(d: &Design, m: u32, found: Found, by: &Shift) -> Option<Cause>
-    requires whole { IsWhole d.now }
-    requires found { IsFound d.now m found }
-    ensures { result ≡ option_or (cause_in d.now.dim Test.Moves m (slice_get (elements d.now) m))
-        (cause_in d.now.dim (Test.Leaves by.now) m (slice_get (elements d.now) m)) }
-{
-    let cause = unmovable(m, class(found.kind));
-    if cause.is_some() {
-        return cause;
-    }
-    if stays_on_plane(d.dim, found.kind, found.bytes, by) {
-        None
-    } else {
-        Some(Cause::OffPlane(m))
     }
 }
 

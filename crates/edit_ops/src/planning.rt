@@ -17,7 +17,10 @@ use crate::cause::Cause;
 use crate::causes::{part_cause, unknown};
 use crate::copying::{copy_of, part_len};
 use crate::edit_fault::EditFault;
+use crate::finding::find;
 use crate::live::put_live_numbers;
+use crate::lone::lone;
+use crate::lone_move::plan_lone_move;
 use crate::making::{size_made, spelled};
 use crate::numbers::{Numbers, no_numbers};
 use crate::patches::push_part;
@@ -126,7 +129,80 @@ fn plan_part(
     }
     put_numbers_above(d, t, n, &mut numbers.above)?;
     put_live_numbers(d, t, n, &mut numbers.live)?;
-    let Numbers { above, live } = numbers;
+    plan_found(
+        alloc,
+        d,
+        t,
+        n,
+        edit,
+        pending,
+        &numbers.above,
+        &numbers.live,
+        all,
+    )
+}
+
+// The same, where `above` has the numbers of the headers above the part of element n, which there is, and `live` those of
+// its live elements. A part that is one element alone is moved in one pass.
+fn plan_found(
+    alloc: Global,
+    d: &Design,
+    t: &Nest,
+    n: u32,
+    edit: &Edit,
+    pending: usize,
+    above: &[u32],
+    live: &[u32],
+    all: &mut Plan,
+) -> Result<(), EditFault>
+    requires whole { IsWhole d.now }
+    requires nesting { t.now.rows ≡ map row_of (elements d.now) }
+    requires room { length d.now.body.items + (length d.now.tail.items + pending) ≤ 67108864 }
+    requires known { n < length (elements d.now) }
+    requires target { target_of edit.now ≡ Some n }
+    requires fits { IsEdit edit.now }
+    requires above { found (elements d.now) above.now ≡ above_tree (elements d.now) n }
+    requires live { found (elements d.now) live.now ≡ live_tree (elements d.now) n }
+    ensures planned { IfOk result
+        (λ _. IsPlanBehind d.now.dim (elements d.now) (length d.now.tail.items + pending) edit.now all.old all.new) }
+    ensures refused { IfErr result
+        (IsRefused (apply d.now.dim (elements d.now) (length d.now.tail.items + pending) edit.now)) }
+{
+    if let Edit::Move { by, .. } = edit {
+        if let Some(m) = lone(above, live) {
+            if let Some(found) = find(d, m) {
+                return plan_lone_move(d, t, n, m, found, above, by, &mut all.patches);
+            }
+        }
+    }
+    plan_listed(alloc, d, t, n, edit, pending, above, live, all)
+}
+
+// The same, whatever part it is.
+fn plan_listed(
+    alloc: Global,
+    d: &Design,
+    t: &Nest,
+    n: u32,
+    edit: &Edit,
+    pending: usize,
+    above: &[u32],
+    live: &[u32],
+    all: &mut Plan,
+) -> Result<(), EditFault>
+    requires whole { IsWhole d.now }
+    requires nesting { t.now.rows ≡ map row_of (elements d.now) }
+    requires room { length d.now.body.items + (length d.now.tail.items + pending) ≤ 67108864 }
+    requires known { n < length (elements d.now) }
+    requires target { target_of edit.now ≡ Some n }
+    requires fits { IsEdit edit.now }
+    requires above { found (elements d.now) above.now ≡ above_tree (elements d.now) n }
+    requires live { found (elements d.now) live.now ≡ live_tree (elements d.now) n }
+    ensures planned { IfOk result
+        (λ _. IsPlanBehind d.now.dim (elements d.now) (length d.now.tail.items + pending) edit.now all.old all.new) }
+    ensures refused { IfErr result
+        (IsRefused (apply d.now.dim (elements d.now) (length d.now.tail.items + pending) edit.now)) }
+{
     if let Some(cause) = later_cause(d, t, n, edit, above, live, pending) {
         return Err(EditFault::Refused(cause));
     }

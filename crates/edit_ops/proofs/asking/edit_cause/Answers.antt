@@ -2,23 +2,11 @@ use Rattle.std.proofs.Common.{◌≡◌, ◌+◌, length, Some, sym, ap, ◌∙�
 use Rattle.dgn_drawing.specs.declared.edit.Edit.{Edit}
 use Rattle.elem_index.specs.Design.{elements}
 use Rattle.edit_ops.specs.Causes.{first_of, causes_of, target_of}
-use Rattle.edit_ops.proofs.Singled.{lone_is, none_above, one_live, move_alone, look_alone}
+use Rattle.edit_ops.proofs.Singled.{lone_is, none_above, one_live, look_alone}
 use Rattle.edit_ops.proofs.asking.edit_cause.Goals as goal
 
-pub returns-in-Move : goal.returns-in-Move
-returns-in-Move c =
-    let es = elements c.args.d.now in
-    let rest = length c.args.d.now.tail.items + c.args.pending in
-    let alone = lone_is c.args.above.now c.args.live.now c.in-Some.m (sym c.in-Some.is ∙ c.lone.ensures) in
-    let target : target_of c.args.edit.now ≡ Some c.in-Move.n = ap target_of c.in-Move.is in
-    let none = none_above es c.args.edit.now c.in-Move.n c.args.above.now target c.requires.above alone.0 in
-    let one = one_live es c.args.edit.now c.in-Move.n c.in-Some.m c.args.live.now target c.requires.live alone.1 in
-    c.lone_move_cause.ensures
-    ∙ sym (move_alone c.args.d.now.dim es rest c.in-Move.n c.in-Some.m none one c.in-Move.by)
-    ∙ ap (λ (e : Edit). first_of (causes_of c.args.d.now.dim es rest e)) (sym c.in-Move.is)
-
-pub returns-in-Sym : goal.returns-in-Sym
-returns-in-Sym c =
+pub returns-in-Some : goal.returns-in-Some
+returns-in-Some c =
     let es = elements c.args.d.now in
     let rest = length c.args.d.now.tail.items + c.args.pending in
     let alone = lone_is c.args.above.now c.args.live.now c.in-Some.m (sym c.in-Some.is ∙ c.lone.ensures) in
