@@ -78,6 +78,8 @@ one_given command.Elements vs fits all = (fits, all)
 one_given command.Refs vs fits all = (fits, all)
 one_given (command.Links n) vs fits all = (fits, all)
 one_given (command.Select mode) vs fits all = (fits, all)
+one_given command.Audit vs fits all = (fits, all)
+one_given (command.Fit n) vs fits all = (fits, all)
 
 all_given : (cs : List Command) (vs : List SecondValue) → All IsEditIn cs → All IsOpen vs → All IsStep (given_all cs vs)
 all_given [] vs fits all = All-nil IsStep

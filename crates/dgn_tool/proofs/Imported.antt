@@ -37,3 +37,5 @@ names_none command.Elements none = refl
 names_none command.Refs none = refl
 names_none (command.Links n) none = refl
 names_none (command.Select mode) none = refl
+names_none command.Audit none = refl
+names_none (command.Fit n) none = refl

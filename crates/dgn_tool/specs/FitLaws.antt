@@ -3,6 +3,7 @@ use Rattle.std.specs.Prelude.{ℕ, ◌≡◌, false, Some, List, filter, All}
 use Rattle.dgn_drawing.specs.Rows.{row_of}
 use Rattle.dgn_drawing.specs.Numbering.{root_of, span_of}
 use Rattle.dgn_drawing.specs.Opening.{Opens}
+use Rattle.dgn_drawing.specs.WellFormed.{IsBytes}
 use Rattle.dgn_audit.specs.Findings.{findings}
 use Rattle.dgn_audit.specs.Laws.{is_outside}
 use Rattle.dgn_listing.specs.FindingTexts.{findings_text}
@@ -10,8 +11,9 @@ use Rattle.dgn_session.specs.State.{State}
 use Rattle.edit_script.specs.declared.command.Command.{Command}
 use Rattle.edit_script.specs.declared.command.Command.TheVariants as command
 use Rattle.elem_index.specs.Opened.{Opened}
-use Rattle.dgn_tool.specs.Commands.{begun, text_of, is_refused, after_command, after_all}
-use Rattle.dgn_tool.specs.Laws.{IsEditIn}
+use Rattle.dgn_tool.specs.Commands.{begun, text_of, is_refused, after_command}
+use Rattle.dgn_tool.specs.Given.{after_all}
+use Rattle.dgn_tool.specs.Laws.{IsEditIn, steps_of}
 
 -- where a fit is done in a state, `audit` says behind it the findings before it without those of the tree that it fitted
 abbrev pub FitEndsFindings : State → Type 0
@@ -20,8 +22,8 @@ FitEndsFindings s =
     → is_refused s (command.Fit n) ≡ false → root_of row_of s.top n ≡ Some root → span_of row_of s.top root ≡ Some (root, end)
     → text_of (after_command s (command.Fit n)) command.Audit ≡ findings_text (filter (is_outside root end) (findings s.dim s.top))
 
--- so it is behind all commands of a script
+-- so it is behind all commands of a script, with any second files
 abbrev pub FitsEndFindings : Type 0
 FitsEndFindings =
-    (f : List ℕ) (d : Opened) (cs : List Command)
-    → Opens f d.dim d.elements d.tail → All IsEditIn cs → FitEndsFindings (after_all cs (begun d))
+    (f : List ℕ) (d : Opened) (cs : List Command) (files : List (List ℕ))
+    → Opens f d.dim d.elements d.tail → All IsEditIn cs → All IsBytes files → FitEndsFindings (after_all (steps_of cs files) (begun d))
