@@ -64,11 +64,13 @@ pub(crate) fn pack<D: Desk>(
         → IfSome (D.content desk.old) (λ c. HasAll input.now script.now c.files) → IsFaultless result }
 {
     match read_inputs(alloc, desk, input, script) {
-        Ok(Inputs {
-            design,
-            commands,
-            mut seconds,
-        }) => pack_commands(alloc, desk, design, &commands, &mut seconds, patch),
+        Ok(
+            Inputs {
+                design,
+                commands,
+                mut seconds,
+            },
+        ) => pack_commands(alloc, desk, design, &commands, &mut seconds, patch),
         Err(status) => status,
     }
 }

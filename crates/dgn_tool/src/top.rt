@@ -145,11 +145,13 @@ fn edit<D: Desk>(alloc: Global, desk: &mut D, input: &str, script: &str, output:
         → IfSome (D.content desk.old) (λ c. HasAll input.now script.now c.files) → IsFaultless result }
 {
     match read_inputs(alloc, desk, input, script) {
-        Ok(Inputs {
-            design,
-            commands,
-            mut seconds,
-        }) => run_script(alloc, desk, design, &commands, &mut seconds, output),
+        Ok(
+            Inputs {
+                design,
+                commands,
+                mut seconds,
+            },
+        ) => run_script(alloc, desk, design, &commands, &mut seconds, output),
         Err(status) => status,
     }
 }
