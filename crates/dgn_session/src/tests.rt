@@ -1,8 +1,7 @@
 // A session on a cell and its member: edits, their entries, and their undoing.
 
-ghost use Rattle.std.specs.Prelude.{◌≡◌, map, IfOk};
-ghost use Rattle.dgn_drawing.specs.Rows.{row_of};
-ghost use Rattle.elem_index.specs.Design.{elements, IsWhole};
+ghost use Rattle.std.specs.Prelude.{IfOk};
+ghost use Rattle.elem_index.specs.Design.{IsWhole};
 
 use super::*;
 use dgn_drawing::{Edit, Mask, New, NewShape, Shift};
@@ -11,7 +10,6 @@ use dgn_import::{gather, read_second};
 use edit_ops::{Cause, EditFault};
 use elem_head::types::Symb;
 use elem_index::{Design, read_design};
-use nest_tree::nest;
 use nest_tree::types::Nest;
 use patch_bytes::Patch;
 use plane_geom::PointList;
@@ -21,25 +19,12 @@ use std::process::Abort;
 use std::test::Fail;
 use undo_log::Log;
 
-// The nesting of a drawing.
-fn nested(alloc: Global, d: &Design) -> Result<Nest, AllocError>
-    requires { IsWhole d.now }
-    ensures { IfOk result (λ t. t.rows ≡ map row_of (elements d.now)) }
-{
-    let rows = d.rows()?;
-    nest(alloc, &rows)
-}
-
-// The bytes of a drawing of two axes: a TCB, the cell with this total, its member, and a tail.
-fn file(alloc: Global, total: u8) -> Result<Vec<u8>, AllocError> {
-    let cell = with_byte(CELL, 36, total);
-    drawing(alloc, 0x08, 0, &[&cell, &MEMBER, &[0xFF, 0xFF, 0x07]])
-}
-
-// These bytes, opened.
-fn opened(rt: &(impl AllocGlobal + Abort), bytes: Vec<u8>) -> Result<Design, Fail>
+// A drawing of two axes, opened: a TCB, the cell with this total, its member, and a tail.
+fn opened(rt: &(impl AllocGlobal + Abort), total: u8) -> Result<Design, Fail>
     ensures { IfOk result IsWhole }
 {
+    let cell = with_byte(CELL, 36, total);
+    let bytes = drawing(rt.alloc(), 0x08, 0, &[&cell, &MEMBER, &[0xFF, 0xFF, 0x07]])?;
     assert!(rt; bytes.len() <= 67108864);
     match read_design(rt.alloc(), bytes) {
         Ok(design) => Ok(design),
@@ -49,57 +34,8 @@ fn opened(rt: &(impl AllocGlobal + Abort), bytes: Vec<u8>) -> Result<Design, Fai
 
 // A session on that drawing.
 fn begun(rt: &(impl AllocGlobal + Abort), total: u8) -> Result<Session, Fail> {
-    let alloc = rt.alloc();
-    let design = opened(rt, file(alloc, total)?)?;
-    Ok(Session::start(alloc, design)?)
-}
-
-// Whatever is kept of the elements is what their bytes, opened and nested afresh, give.
-fn is_fresh(rt: &(impl AllocGlobal + Abort), session: &Session) -> Result<(), Fail> {
-    let alloc = rt.alloc();
-    let mut bytes = session.body().to_vec(alloc)?;
-    bytes.extend_from_slice(session.tail())?;
-    let fresh = opened(rt, bytes)?;
-    let trees = nested(alloc, &fresh)?;
-    let design = session.design();
-    let nesting = session.nesting();
-    assert_eq!(rt; design.offsets(), fresh.offsets());
-    assert_eq!(rt; nesting.ends(), trees.ends());
-    let count = fresh.count();
-    assert_eq!(rt; design.count(), count);
-    for n in 0..=count {
-        assert_eq!(rt; design.offset(n), fresh.offset(n));
-        assert_eq!(rt; nesting.span(n), trees.span(n));
-        assert_eq!(rt; nesting.knot(n), trees.knot(n));
-    }
-    Ok(())
-}
-
-// Edits, and compares.
-fn edits(rt: &(impl AllocGlobal + Abort), session: &mut Session, edit: &Edit) -> Result<(), Fail> {
-    assert_eq!(rt; session.edit(edit), Ok(()));
-    is_fresh(rt, session)
-}
-
-// An edit is refused, and nothing changes.
-fn is_refused(
-    rt: &(impl AllocGlobal + Abort),
-    session: &mut Session,
-    edit: &Edit,
-    cause: Cause,
-) -> Result<(), Fail> {
-    let before = session.body().to_vec(rt.alloc())?;
-    let entries = session.log().entries().len();
-    assert_eq!(rt; session.edit(edit), Err(EditFault::Refused(cause)));
-    assert_eq!(rt; session.body(), before.as_slice());
-    assert_eq!(rt; session.log().entries().len(), entries);
-    is_fresh(rt, session)
-}
-
-// Undoes, and compares.
-fn undoes(rt: &(impl AllocGlobal + Abort), session: &mut Session) -> Result<(), Fail> {
-    assert_eq!(rt; session.undo(), Ok(()));
-    is_fresh(rt, session)
+    let design = opened(rt, total)?;
+    Ok(Session::start(rt.alloc(), design)?)
 }
 
 // A displacement in two axes.
@@ -110,7 +46,7 @@ fn along(x: i32, y: i32) -> Shift {
     }
 }
 
-// The trees of a drawing of this element are appended, and compared.
+// The trees of a drawing of this element are appended.
 fn imports(
     rt: &(impl AllocGlobal + Abort),
     session: &mut Session,
@@ -124,26 +60,21 @@ fn imports(
     let Ok(found) = gather(alloc, dim, &second, None) else {
         panic!(rt; "nothing is gathered");
     };
-    assert_eq!(rt; session.append_trees(found.bytes.as_slice()), Ok(()));
-    is_fresh(rt, session)
+    assert!(rt; session.append_trees(found.bytes.as_slice()) == Ok(()));
+    Ok(())
 }
 
 // A line is imported, and then no tree; both are undone.
 #[test]
 fn imports_are_undone(rt: HostRuntime) -> Result<(), Fail> {
     let mut session = begun(&rt, 53)?;
-    let opened = session.body().to_vec(rt.alloc())?;
     imports(&rt, &mut session, &LINE)?;
-    let imported = session.body().to_vec(rt.alloc())?;
-    assert_eq!(rt; imported.get(..opened.len()), Some(opened.as_slice()));
-    assert_eq!(rt; imported.get(opened.len()..), Some(LINE.as_slice()));
     imports(&rt, &mut session, &[0xFF, 0xFF])?;
-    assert_eq!(rt; session.body(), imported.as_slice());
-    assert_eq!(rt; session.log().entries().len(), 2);
-    undoes(&rt, &mut session)?;
-    assert_eq!(rt; session.body(), imported.as_slice());
-    undoes(&rt, &mut session)?;
-    assert_eq!(rt; session.body(), opened.as_slice());
+    assert!(rt; session.body().get(1680..) == Some(LINE.as_slice()));
+    assert!(rt; session.undo() == Ok(()));
+    assert!(rt; session.body().len() == 1732);
+    assert!(rt; session.undo() == Ok(()));
+    assert!(rt; session.body().len() == 1680);
     Ok(())
 }
 
@@ -152,40 +83,27 @@ fn imports_are_undone(rt: HostRuntime) -> Result<(), Fail> {
 fn a_move_and_a_copy(rt: HostRuntime) -> Result<(), Fail> {
     let mut session = begun(&rt, 53)?;
     let opened = session.body().to_vec(rt.alloc())?;
-    let one = Edit::Move {
-        n: 1,
-        by: along(5, 7),
-    };
-    let two = Edit::Copy {
-        n: 1,
-        by: along(0, 0),
-    };
-    edits(&rt, &mut session, &one)?;
-    let moved = session.body().to_vec(rt.alloc())?;
-    edits(&rt, &mut session, &two)?;
-    assert_eq!(rt; session.body().len(), 1824);
-
-    let entries = session.log().entries();
-    assert_eq!(rt; entries.len(), 2);
-    assert_eq!(rt; entries[0].patches.len(), 14);
+    let by = along(5, 7);
+    assert!(rt; session.edit(&Edit::Move { n: 1, by }) == Ok(()));
+    let by = along(0, 0);
+    assert!(rt; session.edit(&Edit::Copy { n: 1, by }) == Ok(()));
+    assert!(rt; session.body().len() == 1824);
     let first = Patch {
         at: 1540,
         len: 4,
         bytes: [0x00, 0x80, 0x00, 0x00],
     };
-    assert_eq!(rt; entries[0].patches.get(0), Some(first));
-    assert_eq!(rt; entries[0].len, 1680);
+    let entries = session.log().entries();
+    assert!(rt; entries.len() == 2);
+    assert!(rt; entries[0].patches.len() == 14 && entries[0].patches.get(0) == Some(first));
     assert!(rt; entries[1].patches.is_empty());
-    assert_eq!(rt; entries[1].len, 1680);
-
-    undoes(&rt, &mut session)?;
-    assert_eq!(rt; session.body(), moved.as_slice());
-    undoes(&rt, &mut session)?;
-    assert_eq!(rt; session.body(), opened.as_slice());
-    assert_eq!(rt; session.tail(), [0xFF, 0xFF, 0x07].as_slice());
-    assert!(rt; session.log().entries().is_empty());
-    assert_eq!(rt; session.undo(), Err(Nothing));
-    is_fresh(&rt, &session)
+    assert!(rt; entries[0].len == 1680 && entries[1].len == 1680);
+    assert!(rt; session.undo() == Ok(()));
+    assert!(rt; session.undo() == Ok(()));
+    assert!(rt; session.undo() == Err(Nothing));
+    assert!(rt; session.body() == opened.as_slice());
+    assert!(rt; session.tail() == [0xFF, 0xFF, 0x07].as_slice());
+    Ok(())
 }
 
 // A line of level 1 from 0,0 to 1,1.
@@ -210,18 +128,16 @@ fn new_line(alloc: Global) -> Result<New, AllocError> {
 #[test]
 fn a_broken_nesting(rt: HostRuntime) -> Result<(), Fail> {
     let mut session = begun(&rt, 52)?;
-    is_fresh(&rt, &session)?;
-    for n in 1..=2 {
-        let edit = Edit::Move { n, by: along(1, 1) };
-        is_refused(&rt, &mut session, &edit, Cause::Broken(n))?;
-    }
+    let by = along(1, 1);
+    let broken = Err(EditFault::Refused(Cause::Broken(2)));
+    assert!(rt; session.edit(&Edit::Move { n: 2, by }) == broken);
+    assert!(rt; session.log().entries().is_empty());
     let line = Edit::Append(new_line(rt.alloc())?);
-    edits(&rt, &mut session, &line)?;
-    assert_eq!(rt; session.body().len(), 1732);
-    assert_eq!(rt; session.nesting().ends(), [1, 2, 3, 4].as_slice());
-    undoes(&rt, &mut session)?;
-    assert_eq!(rt; session.nesting().ends(), [1, 2, 3].as_slice());
-    assert_eq!(rt; session.design().offsets(), [0, 1536, 1628].as_slice());
+    assert!(rt; session.edit(&line) == Ok(()));
+    assert!(rt; session.nesting().ends() == [1, 2, 3, 4].as_slice());
+    assert!(rt; session.undo() == Ok(()));
+    assert!(rt; session.nesting().ends() == [1, 2, 3].as_slice());
+    assert!(rt; session.design().offsets() == [0, 1536, 1628].as_slice());
     Ok(())
 }
 
@@ -229,15 +145,13 @@ fn a_broken_nesting(rt: HostRuntime) -> Result<(), Fail> {
 #[test]
 fn levels_stay(rt: HostRuntime) -> Result<(), Fail> {
     let mut session = begun(&rt, 53)?;
-    assert_eq!(rt; session.show()?.len(), 2);
-    edits(&rt, &mut session, &Edit::Delete { n: 2 })?;
-    assert!(rt; session.show()?.is_empty());
-    session.set_mask(Mask(1));
-    undoes(&rt, &mut session)?;
-    assert_eq!(rt; session.count_shown()?, 0);
+    assert!(rt; session.edit(&Edit::Delete { n: 2 }) == Ok(()));
+    assert!(rt; session.count_shown()? == 0);
     session.set_mask(Mask(2));
-    assert_eq!(rt; session.count_shown()?, 2);
-    assert_eq!(rt; session.show()?.len(), 2);
+    assert!(rt; session.undo() == Ok(()));
+    assert!(rt; session.show()?.len() == 2);
+    session.set_mask(Mask(1));
+    assert!(rt; session.count_shown()? == 0);
     Ok(())
 }
 
@@ -258,12 +172,11 @@ fn parts(session: Session) -> (Global, Design, Nest, Log, Mask, Option<Fence>) {
 #[test]
 fn a_session_holds_one_drawing(rt: HostRuntime) -> Result<(), Fail> {
     let mut session = begun(&rt, 53)?;
-    edits(&rt, &mut session, &Edit::Delete { n: 1 })?;
+    assert!(rt; session.edit(&Edit::Delete { n: 1 }) == Ok(()));
     let (_, design, nesting, log, mask, fence) = parts(session);
-    assert_eq!(rt; design.body.len(), 1680);
-    assert_eq!(rt; nesting.ends(), [1, 3, 3].as_slice());
-    assert_eq!(rt; log.entries().len(), 1);
-    assert_eq!(rt; mask, Mask(u64::MAX));
-    assert!(rt; fence.is_none());
+    assert!(rt; design.body.len() == 1680);
+    assert!(rt; nesting.ends() == [1, 3, 3].as_slice());
+    assert!(rt; log.entries().len() == 1);
+    assert!(rt; mask == Mask(u64::MAX) && fence.is_none());
     Ok(())
 }
