@@ -21,7 +21,8 @@ pub fn swap_in(buf: &mut [u8], p: Patch) -> Patch
     }
 }
 
-// The same of a patch of LEN bytes. That the number is known makes the copies single moves.
+// The same of a patch of LEN bytes. That the number is known makes the copies single moves. The new bytes are named one by
+// one, since a processor waits long for a number that it has just put to the stack in pieces.
 fn exchange<const LEN: usize>(buf: &mut [u8], p: Patch) -> Patch
     requires long { p.len ≡ LEN }
     requires within { IsWithin (length buf.old) (put_of p) }
@@ -32,7 +33,8 @@ fn exchange<const LEN: usize>(buf: &mut [u8], p: Patch) -> Patch
     let place = &mut buf[from..from + LEN];
     let mut bytes = [0; 4];
     bytes[..LEN].copy_from_slice(place);
-    place.copy_from_slice(&p.bytes[..LEN]);
+    let [a, b, c, d] = p.bytes;
+    place.copy_from_slice(&[a, b, c, d][..LEN]);
     Patch {
         at: p.at,
         len: p.len,
