@@ -185,3 +185,12 @@ zeros_behind x l n e f =
 -- the first l of some bytes x and more, where x are the first n of y
 pub old_bytes : (x more y : List ℕ) (n l m : ℕ) → x ≡ take n y → length x ≡ l → n ≡ m → take l (x ++ more) ≡ take m y
 old_bytes x more y n l m e f g = take_at x more l f ∙ e ∙ ap (λ k. take k y) g
+
+-- four numbers, named one by one
+pub four_named : (l : List ℕ) → length l ≡ 4 → get_or l 0 0 ∷ get_or l 1 0 ∷ get_or l 2 0 ∷ get_or l 3 0 ∷ [] ≡ l
+four_named [] h = cc
+four_named (a ∷ []) h = cc
+four_named (a ∷ b ∷ []) h = cc
+four_named (a ∷ b ∷ c ∷ []) h = cc
+four_named (a ∷ b ∷ c ∷ d ∷ []) h = refl
+four_named (a ∷ b ∷ c ∷ d ∷ e ∷ l) h = cc

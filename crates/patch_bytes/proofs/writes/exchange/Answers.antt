@@ -1,6 +1,6 @@
 use Rattle.std.proofs.Common.{ℕ, List, [], ◌∷◌, take, drop, sym, ap, ◌∙◌, arith, length-take}
 use Rattle.patch_bytes.specs.Puts.{Put, old_of}
-use Rattle.patch_bytes.proofs.Laying.{put_mid-lay, zeros_behind, old_bytes}
+use Rattle.patch_bytes.proofs.Laying.{put_mid-lay, zeros_behind, old_bytes, four_named}
 use Rattle.patch_bytes.proofs.writes.exchange.Goals as goal
 
 -- behind the old bytes stand the zeros that were there first
@@ -14,7 +14,8 @@ invariant_of-result g c = record {
 pub returns-clause-written : goal.returns-clause-written
 returns-clause-written g c =
     put_mid-lay c.args.buf.now (take c.args.p.len c.args.p.bytes) c.copy_from_slice-2.new.self c.args.p.at _
-    (c.copy_from_slice-2.ensures.after ∙ ap (λ n. take n c.args.p.bytes) (sym c.requires.long))
+    (c.copy_from_slice-2.ensures.after ∙ ap (take g.row.LEN) (four_named c.args.p.bytes (omega arith))
+    ∙ ap (λ n. take n c.args.p.bytes) (sym c.requires.long))
     (omega (arith, length-take {A = ℕ}))
 
 pub returns-clause-restores : goal.returns-clause-restores
