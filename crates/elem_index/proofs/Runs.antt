@@ -1,6 +1,7 @@
 -- How the walk through a file goes on and ends.
-use Rattle.std.proofs.Common.{◌≡◌, ℕ, ◌+◌, ◌*◌, ◌%◌, ◌<◌, take, map, length-append, ◌≤◌, List, [], ◌∷◌, ◌++◌, length, drop, get_or, refl, sym, ap, ◌∙◌, subst, arith, true, false, length-drop}
-use Rattle.std.specs.Prelude.{◌==◌}
+use Rattle.std.proofs.Common.{◌≡◌, ℕ, ◌+◌, ◌*◌, ◌%◌, ◌<◌, take, map, length-append, ◌≤◌, List, [], ◌∷◌, ◌++◌, length, drop, get_or, refl, sym, ap, ◌∙◌, subst, arith, true, false, length-drop, inl, inr}
+use Rattle.std.specs.Prelude.{Option, Some, None}
+use Rattle.std.specs.Option.{is_some}
 use Rattle.std.proofs.lemmas.List.{get_or_default, drop_all, length-take-le, get_or-take, length-map}
 use Rattle.std.proofs.lemmas.Bool.Decides.{nat_tests}
 use Rattle.dgn_layout.specs.Classes.{class_of, is_silent}
@@ -8,7 +9,7 @@ use Rattle.dgn_layout.specs.declared.types.Class.{Class}
 use Rattle.elem_head.specs.Head.{kind_of, size_of as size_said}
 use Rattle.dgn_drawing.specs.Faults.{element_fault}
 use Rattle.dgn_drawing.proofs.Ends.{silent_sound}
-use Rattle.std.proofs.lemmas.Bool.{or_from, or_right, ne_eqb}
+use Rattle.std.proofs.lemmas.Bool.{both_ways}
 use Rattle.dgn_drawing.specs.Element.{Element}
 use Rattle.dgn_drawing.specs.Spelling.{spelling, size_of}
 use Rattle.dgn_drawing.specs.WellFormed.{IsBytes, begins_with_mark}
@@ -18,7 +19,7 @@ use Rattle.dgn_drawing.proofs.Fronts.{front_none, front_more, front_ends, four_e
 use Rattle.dgn_drawing.proofs.Opening.{dimension_is}
 use Rattle.elem_index.specs.declared.open_fault.OpenFault.{OpenFault}
 use Rattle.elem_index.specs.Offsets.{offsets_of}
-use Rattle.elem_index.specs.Answers.{HasToldFault, TellsFault, BeginsSound, BeginsFaulty, BeginsBare, HasCount, IsRun}
+use Rattle.elem_index.specs.Answers.{HasToldFault, TellsFault, BeginsSound, BeginsFaulty, BeginsBare, Steps, StandsSound, StandsFaulty, HasCount, IsRun}
 use Rattle.elem_index.specs.Opened.{opening}
 use Rattle.dgn_drawing.proofs.Offsets.{length-offsets_from, offsets_from-more}
 use Rattle.elem_index.proofs.Finds.{opening-opens, opening-fault}
@@ -44,67 +45,57 @@ pub record Going (f kept : List ℕ) (p : ℕ) : Type 0 where
 pub going_start : (f : List ℕ) → Going f [] 0
 going_start f = record { elements = []; front = front_none f; offsets = refl }
 
+-- a step that gives a place is over an element, and one that gives none is where the elements end
+pub steps_over : (f : List ℕ) (p q : ℕ) (at : Option ℕ) → is_some at ≡ true → Steps f p q at → StandsSound f p q
+steps_over f p q (Some at) some step = step.1
+steps_over f p q None some step = absurd (both_ways false refl some)
+
+pub steps_end : (f : List ℕ) (p q : ℕ) (at : Option ℕ) → is_some at ≡ false → Steps f p q at → (is_tail (drop p f) ≡ true) × (q ≡ p)
+steps_end f p q None none step = step
+steps_end f p q (Some at) none step = absurd (both_ways true none refl)
+
 module _ (f : List ℕ) (bytes : IsBytes f) (tcb : is_tcb f ≡ true) (kept : List ℕ) (p : ℕ) (going : Going f kept p) where
-  pub going_more : (size : ℕ) → is_tail (drop p f) ≡ false → BeginsSound (dimension f) (drop p f) size → Going f (kept ++ p ∷ []) (p + size)
-  going_more size more begins =
+  -- behind an element without fault the walk goes on
+  pub going_more : (at q : ℕ) → (at ≡ p) × StandsSound f p q → Going f (kept ++ at ∷ []) q
+  going_more at q step =
+      let stands = step.1 in
       let es = going.elements in
+      let begins = stands.sound in
       let place : 0 + length (spelling es) ≡ p = omega (arith, ap (length {A = ℕ}) going.front.spelled, length-take-le p f going.front.within) in
-      let front = front_more f bytes tcb es p going.front more begins.whole begins.sound in
+      let front = front_more f bytes tcb es p going.front stands.more begins.whole begins.sound in
       record {
         elements = es ++ element_at (dimension f) (first_element (drop p f)) ∷ [];
-        front = subst (λ (s : ℕ). Front f (es ++ element_at (dimension f) (first_element (drop p f)) ∷ []) (p + s)) (sym begins.long) front;
-        offsets = ap (λ (x : List ℕ). x ++ p ∷ []) going.offsets ∙ ap (λ (k : ℕ). offsets_of es ++ k ∷ []) (sym place) ∙ sym (offsets_from-more 0 es _);
+        front = subst (λ (s : ℕ). Front f (es ++ element_at (dimension f) (first_element (drop p f)) ∷ []) s) (ap (λ (s : ℕ). p + s) (sym begins.long) ∙ sym stands.ends) front;
+        offsets = ap (λ (x : List ℕ). x ++ at ∷ []) going.offsets ∙ ap (λ (k : ℕ). offsets_of es ++ k ∷ []) (step.0 ∙ sym place) ∙ sym (offsets_from-more 0 es _);
       }
 
-  pub run_ends : is_tail (drop p f) ≡ true → IsRun f kept p
-  run_ends tail = record {
+  -- at a tail the elements end
+  pub run_ends : (q : ℕ) → (is_tail (drop p f) ≡ true) × (q ≡ p) → IsRun f kept q
+  run_ends q ends = subst (IsRun f kept) (sym ends.1) (record {
     elements = going.elements;
-    opens = front_ends f bytes tcb going.elements p going.front tail;
+    opens = front_ends f bytes tcb going.elements p going.front ends.0;
     front = going.front.spelled;
     offsets = going.offsets;
     within = going.front.within;
-    found = opening-opens f (record { dim = dimension f; elements = going.elements; tail = drop p f }) bytes (front_ends f bytes tcb going.elements p going.front tail);
-  }
+    found = opening-opens f (record { dim = dimension f; elements = going.elements; tail = drop p f }) bytes (front_ends f bytes tcb going.elements p going.front ends.0);
+  })
 
-  -- before it, bytes that begin with no mark are no tail
-  pub goes_on : p < length f → begins_with_mark (drop p f) ≡ false → is_tail (drop p f) ≡ false
-  goes_on before no_mark =
-      let some : (length (drop p f) == 0) ≡ false = ne_eqb (length (drop p f)) 0 (λ none. omega (arith, length-drop p f)) in
-      or_from _ _ some no_mark
-
-  -- a mark is a tail
-  pub run_marked : begins_with_mark (drop p f) ≡ true → IsRun f kept p
-  run_marked mark = run_ends (or_right _ _ mark)
-
-  -- at the end of the file nothing is left
-  pub run_done : length f ≤ p → IsRun f kept p
-  run_done past = run_ends (ap is_tail (drop_all p f past))
-
+  -- an element with a fault is the fault of the file
   stands : (Here : List ℕ → Type 0) → is_tail (drop p f) ≡ false → Here (drop p f) → StandsAt f p Here
   stands Here more here = record { tcb = tcb; front = (going.elements, going.front); more = more; here = here }
 
-  pub run_faulty : (x : OpenFault) → is_tail (drop p f) ≡ false → BeginsFaulty (dimension f) p (drop p f) x → HasToldFault f x
+  run_faulty : (x : OpenFault) → is_tail (drop p f) ≡ false → BeginsFaulty (dimension f) p (drop p f) x → HasToldFault f x
   run_faulty OpenFault.NotDesign more begins = absurd begins
   run_faulty (OpenFault.Cut at) more begins = subst (λ (k : ℕ). HasFault f (Cut k)) (sym begins.0) (stands _ more begins.1)
   run_faulty (OpenFault.Short at) more begins = subst (λ (k : ℕ). HasFault f (Short k)) (sym begins.0) (stands _ more begins.1)
   run_faulty (OpenFault.Attr at) more begins = subst (λ (k : ℕ). HasFault f (Attr k)) (sym begins.0) (stands _ more begins.1)
   run_faulty OpenFault.Memory more begins = absurd begins
 
-  -- the same, with the dimension and the bytes at the place as the code computes them
-  module _ (dim : ℕ) (rest : List ℕ) (axes : dim ≡ dimension f) (these : rest ≡ drop p f) (before : p < length f) (no_mark : begins_with_mark rest ≡ false) where
-    more_here : is_tail (drop p f) ≡ false
-    more_here = goes_on before (ap begins_with_mark (sym these) ∙ no_mark)
+  pub faulty_here : (x : OpenFault) → StandsFaulty f p x → HasToldFault f x
+  faulty_here x stands = run_faulty x stands.more stands.faulty
 
-    pub faulty_here : (x : OpenFault) → BeginsFaulty dim p rest x → HasToldFault f x
-    faulty_here x begins =
-        run_faulty x more_here (subst (λ (d : ℕ). BeginsFaulty d p (drop p f) x) axes (subst (λ (b : List ℕ). BeginsFaulty dim p b x) these begins))
-
-    pub told_here : (x : OpenFault) → BeginsFaulty dim p rest x → TellsFault (opening f) x
-    told_here x begins = told f bytes x (faulty_here x begins)
-
-    pub more_from_here : (size : ℕ) → BeginsSound dim rest size → Going f (kept ++ p ∷ []) (p + size)
-    more_from_here size begins =
-        going_more size more_here (subst (λ (d : ℕ). BeginsSound d (drop p f) size) axes (subst (λ (b : List ℕ). BeginsSound dim b size) these begins))
+  pub told_here : (x : OpenFault) → StandsFaulty f p x → TellsFault (opening f) x
+  told_here x stands = told f bytes x (faulty_here x stands)
 
 -- a silent class is the one that says so
 silent_class : (c : Class) → is_silent c ≡ true → c ≡ Class.Silent

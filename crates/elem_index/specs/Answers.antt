@@ -1,5 +1,5 @@
 -- What the answers of opening a file say.
-use Rattle.std.specs.Prelude.{ℕ, ◌≡◌, ◌≤◌, IsTrue, IsFalse, Option, Some, None, List, length, take, drop}
+use Rattle.std.specs.Prelude.{ℕ, ◌≡◌, ◌+◌, ◌≤◌, IsTrue, IsFalse, Option, Some, None, List, length, take, drop}
 use Rattle.std.specs.declared.result.Result.{Result}
 use Rattle.std.specs.declared.result.Result.TheVariants.{Ok, Err}
 use Rattle.dgn_layout.specs.Classes.{class_of, is_silent}
@@ -9,7 +9,7 @@ use Rattle.dgn_drawing.specs.Element.{Element}
 use Rattle.dgn_drawing.specs.Spelling.{spelling}
 use Rattle.dgn_drawing.specs.WellFormed.{begins_with_mark}
 use Rattle.dgn_drawing.specs.Faults.{element_fault}
-use Rattle.dgn_drawing.specs.Opening.{Fault, NotDesign, Cut, Short, Attr, HasFault, HasBodyFault, Opens, is_cut, first_element, dimension}
+use Rattle.dgn_drawing.specs.Opening.{Fault, NotDesign, Cut, Short, Attr, HasFault, HasBodyFault, Opens, is_tail, is_cut, first_element, dimension}
 use Rattle.elem_index.specs.declared.design.Design.{Design}
 use Rattle.elem_index.specs.declared.open_fault.OpenFault.{OpenFault}
 use Rattle.elem_index.specs.Offsets.{offsets_of}
@@ -71,6 +71,24 @@ BeginsFaulty dim p b (OpenFault.Cut at) = (at ≡ p) × IsTrue (is_cut b)
 BeginsFaulty dim p b (OpenFault.Short at) = (at ≡ p) × HasBodyFault dim BodyFault.Short b
 BeginsFaulty dim p b (OpenFault.Attr at) = (at ≡ p) × HasBodyFault dim BodyFault.Attr b
 BeginsFaulty dim p b OpenFault.Memory = ⊥
+
+-- at place p of a file an element without fault begins, and at place q it ends
+pub record StandsSound (f : List ℕ) (p q : ℕ) : Type 0 where
+  pub more : IsFalse (is_tail (drop p f))
+  pub size : ℕ
+  pub sound : BeginsSound (dimension f) (drop p f) size
+  pub ends : q ≡ p + size
+
+-- a walk that is at place p of a file comes to place q: it gives p and is behind the element there, or gives none, since
+-- the elements end at p
+abbrev pub Steps : List ℕ → ℕ → ℕ → Option ℕ → Type 0
+Steps f p q None = IsTrue (is_tail (drop p f)) × (q ≡ p)
+Steps f p q (Some at) = (at ≡ p) × StandsSound f p q
+
+-- at place p of a file an element begins that has the fault that is told
+pub record StandsFaulty (f : List ℕ) (p : ℕ) (told : OpenFault) : Type 0 where
+  pub more : IsFalse (is_tail (drop p f))
+  pub faulty : BeginsFaulty (dimension f) p (drop p f) told
 
 -- the file opens, its elements end at place p, and these are their offsets
 pub record IsRun (f kept : List ℕ) (p : ℕ) : Type 0 where

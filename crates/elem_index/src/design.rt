@@ -6,8 +6,9 @@ ghost use Rattle.elem_index.specs.Opened.{opening};
 ghost use Rattle.elem_index.specs.Design.{elements, IsWhole, IsBlock};
 ghost use Rattle.elem_index.specs.Answers.{HasCount, HasToldFault, Tells, TellsFault};
 
+use crate::beginning::{begins_with_tcb, dimension};
 use crate::open_fault::OpenFault;
-use crate::walk::{begins_with_tcb, count_in, dimension, elements_in};
+use crate::walk::{count_in, elements_in};
 use dgn_drawing::{Row, row_of};
 use std::alloc::{AllocError, Global};
 

@@ -2,6 +2,7 @@
 //! isn't.
 #![tactic(auto)]
 
+mod beginning;
 mod design;
 pub mod laws;
 mod open_fault;

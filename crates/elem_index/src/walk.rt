@@ -1,45 +1,55 @@
 // From element to element through a file.
 
-ghost use Rattle.std.specs.Prelude.{◌≡◌, ◌≤◌, length, true, IfOk, IfErr, IsErr, IsErrOf, IsTrue, IsFalse};
-ghost use Rattle.elem_head.specs.Head.{size_of};
+ghost use Rattle.std.specs.Prelude.{◌≡◌, ◌≤◌, length, true, IfOk, IfErr, IsErrOf};
 ghost use Rattle.dgn_drawing.specs.Opening.{is_tcb, dimension};
-ghost use Rattle.dgn_drawing.specs.WellFormed.{IsDimension, begins_with_mark};
-ghost use Rattle.elem_index.specs.Answers.{BeginsSound, BeginsFaulty, BeginsBare, BeginsNext, HasCount, IsRun, HasToldFault, TellsFault};
+ghost use Rattle.elem_index.specs.Answers.{Steps, StandsFaulty, HasCount, IsRun, HasToldFault, TellsFault};
 ghost use Rattle.elem_index.specs.Opened.{opening};
 
+use crate::beginning::{dimension, next_size};
 use crate::open_fault::OpenFault;
-use dgn_drawing::{BodyFault, check_elem};
-use dgn_layout::is_silent;
-use elem_head::head;
 use std::alloc::Global;
 
-// The byte of the TCB whose bit 6 says that the file has three dimensions.
-const DIMENSION_BYTE: usize = 1214;
-
-// How many bytes say the size of an element.
-const HEAD_END: usize = 4;
-
-// Whether the bytes begin as a TCB does.
-pub(crate) fn begins_with_tcb(f: &[u8]) -> bool
-    ensures { result ≡ is_tcb f.now }
-{
-    matches!(f, [0x08 | 0xC8, 0x09, 0xFE, 0x02, ..])
+// Where a walk through a file is: at an element's beginning, or where the elements end.
+#[derive(Clone, Copy, Drop)]
+struct Walk {
+    // The dimension of the file.
+    dim: u8,
+    // The place, counted from the file's first byte.
+    at: usize,
 }
 
-// Whether the bytes begin with the mark that ends the elements.
-fn begins_with_mark(rest: &[u8]) -> bool
-    ensures { result ≡ begins_with_mark rest.now }
-{
-    matches!(rest, [0xFF, 0xFF, ..])
-}
+impl Walk {
+    // A walk at the first element of the file.
+    fn begin(f: &[u8]) -> Walk
+        ensures axes { result.dim ≡ dimension f.now }
+        ensures first { result.at ≡ 0 }
+    {
+        Walk {
+            dim: dimension(f),
+            at: 0,
+        }
+    }
 
-// The dimension of the file.
-pub(crate) fn dimension(f: &[u8]) -> u8
-    ensures { result ≡ dimension f.now }
-{
-    match f.get(DIMENSION_BYTE) {
-        Some(byte) if byte / 64 % 2 == 1 => 3,
-        _ => 2,
+    // Gives the place of the sound element that begins here, and steps behind it. None where the elements end: at the
+    // mark, or at the end of the file.
+    #[inline(always)]
+    fn next_place(&mut self, f: &[u8]) -> Result<Option<u32>, OpenFault>
+        requires few { length f.now ≤ 67108864 }
+        requires axes { self.old.dim ≡ dimension f.now }
+        ensures step { IfOk result (Steps f.now self.old.at self.new.at) }
+        ensures fault { IfErr result (StandsFaulty f.now self.old.at) }
+        ensures axes { self.new.dim ≡ self.old.dim }
+    {
+        let at = self.at;
+        if f.len() <= at {
+            return Ok(None);
+        }
+        let (_, rest) = f.split_at(at);
+        let Some(size) = next_size(self.dim, at as u32, rest)? else {
+            return Ok(None);
+        };
+        self.at = at + size;
+        Ok(Some(at as u32))
     }
 }
 
@@ -51,21 +61,15 @@ pub(crate) fn elements_in(alloc: Global, f: &[u8]) -> Result<(Vec<u32>, usize), 
     ensures fault { IfErr result (HasToldFault f.now) }
     ensures told { IfErr result (TellsFault (opening f.now)) }
 {
-    let dim = dimension(f);
+    let mut walk = Walk::begin(f);
     let mut kept = Vec::new(alloc);
-    let mut at = 0;
-    'elements: while at < f.len() {
-        let (_, rest) = f.split_at(at);
-        let Some(size) = next_size(dim, at as u32, rest)? else {
-            break;
-        };
-        match kept.push(at as u32) {
+    'elements: while let Some(at) = walk.next_place(f)? {
+        match kept.push(at) {
             Ok(()) => {}
             Err(_) => return Err(OpenFault::Memory),
         }
-        at += size;
     }
-    Ok((kept, at))
+    Ok((kept, walk.at))
 }
 
 // How many elements the file has.
@@ -77,80 +81,10 @@ pub(crate) fn count_in(f: &[u8]) -> Result<u32, OpenFault>
     ensures told { IfErr result (TellsFault (opening f.now)) }
     ensures memory { IsErrOf result OpenFault.Memory → ⊥ }
 {
-    let dim = dimension(f);
+    let mut walk = Walk::begin(f);
     let mut count = 0;
-    let mut at = 0;
-    'elements: while at < f.len() {
-        let (_, rest) = f.split_at(at);
-        let Some(size) = next_size(dim, at as u32, rest)? else {
-            break;
-        };
-        at += size;
+    'elements: while walk.next_place(f)?.is_some() {
         count += 1;
     }
     Ok(count)
-}
-
-// The size of the sound element that the bytes begin with, which stand at place `at` of a file, or none
-// where they begin with the mark that ends the elements.
-#[inline(always)]
-fn next_size(dim: u8, at: u32, rest: &[u8]) -> Result<Option<usize>, OpenFault>
-    requires { IsDimension dim }
-    ensures next { IfOk result (BeginsNext dim rest.now) }
-    ensures fault { IfErr result (BeginsFaulty dim at rest.now) }
-    ensures more { IsErr result → IsFalse (begins_with_mark rest.now) }
-{
-    if is_bare(rest) {
-        Ok(Some(HEAD_END))
-    } else if begins_with_mark(rest) {
-        Ok(None)
-    } else {
-        let size = checked_size(dim, at, rest)?;
-        Ok(Some(size))
-    }
-}
-
-// The size of the sound element that the bytes begin with, by all that an element can have wrong.
-#[inline(always)]
-fn checked_size(dim: u8, at: u32, rest: &[u8]) -> Result<usize, OpenFault>
-    requires { IsDimension dim }
-    ensures sound { IfOk result (BeginsSound dim rest.now) }
-    ensures fault { IfErr result (BeginsFaulty dim at rest.now) }
-{
-    if rest.len() < HEAD_END {
-        return Err(OpenFault::Cut { at });
-    }
-    let size = size_said(rest);
-    if rest.len() < size {
-        return Err(OpenFault::Cut { at });
-    }
-    let (first, _) = rest.split_at(size);
-    match check_elem(dim, first) {
-        Ok(()) => Ok(size),
-        Err(BodyFault::Short) => Err(OpenFault::Short { at }),
-        Err(BodyFault::Attr) => Err(OpenFault::Attr { at }),
-    }
-}
-
-// The size that the head which the bytes begin with says.
-#[inline(always)]
-pub(crate) fn size_said(rest: &[u8]) -> usize
-    requires { 4 ≤ length rest.now }
-    ensures { result ≡ size_of rest.now }
-{
-    HEAD_END + 2 * usize::from(head(rest).words)
-}
-
-// Whether the bytes begin with a head that says that nothing follows, of a type of which nothing is read,
-// and not with the mark: that is a sound element of four bytes. It is asked first, so that a walk over many
-// of them waits for no size to be read.
-#[inline(always)]
-fn is_bare(rest: &[u8]) -> bool
-    ensures bare { IsTrue result → BeginsBare rest.now }
-    ensures more { IsTrue result → IsFalse (begins_with_mark rest.now) }
-{
-    match rest {
-        [first, kind, 0, 0, ..] => is_silent(kind % 128) && (*first != 0xFF || *kind != 0xFF),
-        _ => false,
-    }
 }

@@ -4,7 +4,7 @@ ghost use Rattle.std.specs.Prelude.{◌≡◌, ◌≤◌, OnOk};
 ghost use Rattle.elem_index.specs.Design.{kept_of, spare_of, IsWhole, IsFront, IsBehind, SameText};
 
 use super::Design;
-use crate::walk::size_said;
+use crate::beginning::size_said;
 use std::alloc::AllocError;
 
 impl Design {

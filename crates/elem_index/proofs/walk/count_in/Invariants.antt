@@ -1,9 +1,10 @@
-use Rattle.std.proofs.Common.{◌-◌, length}
+use Rattle.std.proofs.Common.{◌≡◌, ◌-◌, length}
+use Rattle.dgn_drawing.specs.Opening.{dimension}
 use Rattle.elem_index.proofs.Runs.{Counted}
 use Rattle.elem_index.proofs.walk.count_in.Given as goal
 
 abbrev pub invariant-elements : goal.invariant-elements
-invariant-elements l = Counted l.f l.count l.at
+invariant-elements l = (l.walk.dim ≡ dimension l.f) × Counted l.f l.count l.walk.at
 
 abbrev pub decreases-elements : goal.decreases-elements
-decreases-elements l = length l.f - l.at
+decreases-elements l = length l.f - l.walk.at

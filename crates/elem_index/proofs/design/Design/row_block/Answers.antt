@@ -1,4 +1,4 @@
-use Rattle.std.proofs.Common.{◌∙◌, ◌++◌, ◌∷◌, ◌+◌, [], List, ap, sym, subst, arith, append_assoc, length, map, take, drop, ℕ}
+use Rattle.std.proofs.Common.{◌∙◌, ◌++◌, ◌∷◌, [], List, ap, sym, subst, arith, append_assoc, length, map, take, drop, ℕ}
 use Rattle.std.proofs.lemmas.List.{length_push}
 use Rattle.dgn_drawing.specs.declared.row.Row.{Row}
 use Rattle.dgn_drawing.specs.Rows.{row_of}
