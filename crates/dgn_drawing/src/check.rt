@@ -68,8 +68,8 @@ fn counted_total(kind: u8, b: &[u8]) -> u16
     }
 }
 
-// Whether a header of that type counts its members.
-fn is_counted(kind: u8) -> bool
+/// Whether an element of type `kind` is a header that counts its members: whether its class is counted (`dgn_layout`).
+pub fn is_counted(kind: u8) -> bool
     ensures { result ≡ is_counted (class_of kind) }
 {
     matches!(kind, 2 | 7 | 12 | 14 | 18 | 19)

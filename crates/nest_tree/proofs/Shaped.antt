@@ -1,7 +1,6 @@
 -- The shape of the first of the rows between two numbers, by the tests of its type.
-use Rattle.std.proofs.Common.{◌≡◌, ℕ, zero, suc, ◌<◌, List, [], ◌∷◌, length, get_or, sym, ap, ◌∙◌, arith, true, false, cond}
+use Rattle.std.proofs.Common.{◌≡◌, ℕ, ◌<◌, List, [], ◌∷◌, length, get_or, sym, ap, ◌∙◌, arith, true, false, cond}
 use Rattle.std.specs.Prelude.{◌==◌, ◌&&◌}
-use Rattle.std.specs.List.{AllByRecursion}
 use Rattle.std.proofs.lemmas.Bool.{cond-true, cond-false}
 use Rattle.dgn_layout.specs.Classes.{class_of, is_among}
 use Rattle.dgn_drawing.specs.declared.row.Row.{Row}
@@ -9,13 +8,8 @@ use Rattle.dgn_drawing.specs.Nesting as nesting
 use Rattle.dgn_drawing.specs.Nesting.{is_all, is_parts, is_counted, front_count, is_spline_part, has_bit, leaf, run_over, group_or_loose, shape_of, shape, itself, member_count}
 use Rattle.nest_tree.specs.declared.shape.Scope.{Scope}
 use Rattle.nest_tree.specs.Sums.{members_in}
-use Rattle.nest_tree.specs.Shapes.{IsRow, IsBetween, rows_between, scope_meant, shape_in}
+use Rattle.nest_tree.specs.Shapes.{IsBetween, rows_between, scope_meant, shape_in}
 use Rattle.nest_tree.proofs.Weighed.{rows_behind, between_cons}
-
-each_row : (P : Row → Type 0) (l : List Row) (i : ℕ) (d : Row) → AllByRecursion P l → i < length l → P (get_or l i d)
-each_row P [] i d each within = absurd (omega arith)
-each_row P (r ∷ l) zero d each within = each.0
-each_row P (r ∷ l) (suc i) d each within = each_row P l i d each.1 (omega arith)
 
 module _ (rows : List Row) (sums : List ℕ) (at end : ℕ) (between : IsBetween rows sums at end) (d : Row) where
   within : at < length rows
@@ -23,9 +17,6 @@ module _ (rows : List Row) (sums : List ℕ) (at end : ℕ) (between : IsBetween
 
   first : rows_between rows at end ≡ get_or rows at d ∷ rows_behind rows at end
   first = between_cons rows at end d between.some within
-
-  pub typed : (get_or rows at d).kind < 128
-  typed = (each_row IsRow rows at d between.each within).typed
 
   module _ (scope : Scope) where
     here : shape_in scope (rows_between rows at end) ≡ shape itself (scope_meant scope) (get_or rows at d) (rows_behind rows at end)

@@ -1,15 +1,14 @@
 // What the first element of a list is, and what stands below it.
 
 ghost use Rattle.std.specs.Prelude.{◌≡◌, ◌<◌, ◌==◌, ◌&&◌, Option, [], ◌∷◌};
-ghost use Rattle.dgn_drawing.specs.Nesting.{front_count, is_all, is_parts, is_counted, is_spline_part, has_bit, group_or_loose, run_over, leaf};
-ghost use Rattle.dgn_layout.specs.Classes.{class_of, is_among};
+ghost use Rattle.dgn_drawing.specs.Nesting.{front_count, is_all, is_parts, is_spline_part, has_bit, group_or_loose, run_over, leaf};
+ghost use Rattle.dgn_layout.specs.Classes.{is_among};
 ghost use Rattle.nest_tree.specs.Shapes.{scope_meant, shape_told, shape_in, rows_between, IsBetween};
 
 use crate::knot::Knot;
 use crate::sums::members;
-use dgn_drawing::Row;
-use dgn_layout::types::Class;
-use dgn_layout::{SHARED_CELL, class};
+use dgn_drawing::{Row, is_counted};
+use dgn_layout::SHARED_CELL;
 
 // The list that is read.
 #[derive(Clone, Copy, Drop)]
@@ -79,14 +78,6 @@ fn is_parts(scope: Scope) -> bool
     ensures { result ≡ is_parts (scope_meant scope) }
 {
     matches!(scope, Scope::Parts)
-}
-
-// Whether a header of that type counts its members.
-fn is_counted(kind: u8) -> bool
-    requires { kind < 128 }
-    ensures { result ≡ is_counted (class_of kind) }
-{
-    matches!(class(kind), Class::Counted)
 }
 
 // Whether that is the type of a B-spline.

@@ -4,11 +4,8 @@ use Rattle.dgn_drawing.specs.Nesting as nesting
 use Rattle.dgn_drawing.specs.Nesting.{Shape, run_over, group_or_loose, front_count, is_spline_part, has_bit}
 use Rattle.nest_tree.specs.Shapes.{shape_told}
 use Rattle.nest_tree.proofs.Weighed.{no_row}
-use Rattle.nest_tree.proofs.Shaped.{typed, part_shape, counted_shape, spline_shape, shared_shape, leaf_shape}
+use Rattle.nest_tree.proofs.Shaped.{part_shape, counted_shape, spline_shape, shared_shape, leaf_shape}
 use Rattle.nest_tree.proofs.shape.shape_at.Goals as goal
-
-pub is_counted-requires : goal.is_counted-requires
-is_counted-requires c = typed c.args.rows.now c.args.sums.now c.args.at c.args.end c.requires no_row
 
 pub returns-then-is_parts : goal.returns-then-is_parts
 returns-then-is_parts c =
