@@ -2,7 +2,6 @@
 use Rattle.std.proofs.Common.{◌≡◌, ℕ, ◌+◌, ◌-◌, ◌≤◌, List, [], ◌∷◌, ◌++◌, refl, sym, ap, ◌∙◌, Bool, true, false, cond}
 use Rattle.std.specs.Prelude.{◌==◌, ◌&&◌, not, Some, None, nat_lt}
 use Rattle.std.specs.Option.{option_to_list}
-use Rattle.std.proofs.lemmas.Bool.{and_right}
 use Rattle.std.proofs.lemmas.List.{map-append}
 use Rattle.elem_head.specs.Head.{kind_of, head_of}
 use Rattle.elem_head.specs.declared.types.Head.{Head}
@@ -13,7 +12,7 @@ use Rattle.dgn_drawing.specs.declared.mask.Mask.{Mask}
 use Rattle.dgn_drawing.specs.Element.{Line, Points, Cell, Node, Header, Element, form_of_parts}
 use Rattle.dgn_drawing.specs.Forms.{form_in, form_of}
 use Rattle.dgn_drawing.specs.Items.{item_in}
-use Rattle.dgn_drawing.specs.Reading.{form_at, body_in, element_at}
+use Rattle.dgn_drawing.specs.Reading.{body_in, element_at}
 use Rattle.dgn_drawing.specs.Shown.{shows, its_item, shown_alone}
 use Rattle.nest_tree.specs.declared.knot.Knot as told
 use Rattle.level_view.specs.declared.place.Place.{Place}
@@ -99,15 +98,8 @@ module _ (dim : ℕ) (b : List ℕ) (mask : Mask) (number depth end : ℕ) (foun
       (headed_numbers (begins_below end found) (has_item (element_at dim b).kind) number (its_item dim number depth (element_at dim b)) found (its_number dim b number depth)
       ∙ ap (λ (t : Bool). alone_if (t && has_item (element_at dim b).kind) number ++ numbers_of found) (below_numbers end found))
 
-  run_as : (t : Bool) → (element_at dim b).kind == 34 ≡ t → numbers_of (cond t (past end found) (shown_alone dim mask number depth (element_at dim b) ++ past end found))
-      ≡ alone_if (is_alone mask (element_at dim b)) number ++ numbers_past end (numbers_of found)
-  run_as true is =
-      let silent = is_silent (class_of (element_at dim b).kind) in
-      let none : (not (is_silent (class_of (element_at dim b).kind)) && not ((element_at dim b).kind == 34)) ≡ false = and_right (not (is_silent (class_of (element_at dim b).kind))) (not ((element_at dim b).kind == 34)) (ap not is) in
-      past_numbers end found
-      ∙ ap (λ (t : Bool). alone_if t number ++ numbers_past end (numbers_of found))
-      (sym (and_right (not (element_at dim b).deleted && shows mask (element_at dim b).level) (has_item (element_at dim b).kind) none))
-  run_as false is =
+  run_number : numbers_of (shown_alone dim mask number depth (element_at dim b) ++ past end found) ≡ alone_if (is_alone mask (element_at dim b)) number ++ numbers_past end (numbers_of found)
+  run_number =
       numbers_join (shown_alone dim mask number depth (element_at dim b)) (past end found)
       ∙ ap (λ (ns : List ℕ). ns ++ numbers_of (past end found)) alone_number
       ∙ ap (λ (ns : List ℕ). alone_if (is_alone mask (element_at dim b)) number ++ ns) (past_numbers end found)
@@ -117,7 +109,7 @@ module _ (dim : ℕ) (b : List ℕ) (mask : Mask) (number depth end : ℕ) (foun
   element_number told.Knot.Leaf =
       numbers_join (shown_alone dim mask number depth (element_at dim b)) found ∙ ap (λ (ns : List ℕ). ns ++ numbers_of found) alone_number
   element_number told.Knot.Group = group_number
-  element_number told.Knot.Run = run_as ((element_at dim b).kind == 34) refl
+  element_number told.Knot.Run = run_number
   element_number told.Knot.Loose = refl
 
 -- the step from what is shown behind an element, by their numbers

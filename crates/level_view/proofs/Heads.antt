@@ -1,6 +1,6 @@
 -- What the first bytes of an element say of the record that is read from them, and what hides it.
 use Rattle.std.proofs.Common.{◌≡◌, ℕ, List, [], ◌++◌, sym, ap, ◌∙◌, Bool, true, false, cond}
-use Rattle.std.specs.Prelude.{◌==◌, ◌&&◌, not}
+use Rattle.std.specs.Prelude.{◌&&◌, not}
 use Rattle.std.proofs.lemmas.Bool.{cond-true, cond-false}
 use Rattle.elem_head.specs.Head.{head_of}
 use Rattle.elem_head.specs.declared.types.Head.{Head}
@@ -8,7 +8,7 @@ use Rattle.dgn_drawing.specs.declared.types.item.Item.{Item}
 use Rattle.dgn_drawing.specs.declared.mask.Mask.{Mask}
 use Rattle.dgn_drawing.specs.Reading.{element_at}
 use Rattle.dgn_drawing.specs.Shown.{shows, its_item, shown_alone}
-use Rattle.level_view.specs.Back.{past, begins_below, with_group, with_run}
+use Rattle.level_view.specs.Back.{past, begins_below, with_group}
 
 module _ (dim : ℕ) (b : List ℕ) (h : Head) (is : h ≡ head_of b) where
   deleted-read : h.deleted ≡ (element_at dim b).deleted
@@ -18,10 +18,6 @@ module _ (dim : ℕ) (b : List ℕ) (h : Head) (is : h ≡ head_of b) where
   level-read : h.level ≡ (element_at dim b).level
   unfolding element_at
   level-read = ap (λ (x : Head). x.level) is
-
-  kind-read : h.kind ≡ (element_at dim b).kind
-  unfolding element_at
-  kind-read = ap (λ (x : Head). x.kind) is
 
   module _ (mask : Mask) (number depth : ℕ) where
     pub deleted_hides : h.deleted ≡ true → [] ≡ shown_alone dim mask number depth (element_at dim b)
@@ -40,13 +36,6 @@ module _ (dim : ℕ) (b : List ℕ) (h : Head) (is : h ≡ head_of b) where
         let e : (element_at dim b).deleted ≡ false = sym deleted-read ∙ here in
         let l : shows mask (element_at dim b).level ≡ true = ap (shows mask) (sym level-read) ∙ seen in
         sym (cond-true (not (element_at dim b).deleted && shows mask (element_at dim b).level) _ _ (ap (λ (t : Bool). not t && shows mask (element_at dim b).level) e ∙ l))
-
-    module _ (end : ℕ) (found : List Item) where
-      pub run_hidden : (h.kind == 34) ≡ true → past end found ≡ with_run dim mask number depth end (element_at dim b) found
-      run_hidden is_shared = sym (cond-true ((element_at dim b).kind == 34) _ _ (ap (λ (k : ℕ). k == 34) (sym kind-read) ∙ is_shared))
-
-      pub run_shown : (h.kind == 34) ≡ false → shown_alone dim mask number depth (element_at dim b) ++ past end found ≡ with_run dim mask number depth end (element_at dim b) found
-      run_shown other = sym (cond-false ((element_at dim b).kind == 34) _ _ (ap (λ (k : ℕ). k == 34) (sym kind-read) ∙ other))
 
   module _ (number depth end : ℕ) (found : List Item) where
     pub group_gone : h.deleted ≡ true → past end found ≡ with_group dim number depth end (element_at dim b) found

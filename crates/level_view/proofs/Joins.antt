@@ -1,13 +1,15 @@
 -- An element before what is shown behind it, where that is known to be what the elements below it show
 -- and what the elements behind its tree show.
 use Rattle.std.proofs.Common.{◌≡◌, ℕ, ◌<◌, ◌≤◌, List, [], ◌∷◌, ◌++◌, refl, sym, ap, ◌∙◌, Bool, true, false, cond, append_assoc}
-use Rattle.std.specs.Prelude.{◌==◌, nat_lt}
-use Rattle.std.proofs.lemmas.Bool.{cond-true, cond-false, lt-ltb, le-ltb}
+use Rattle.std.specs.Prelude.{◌==◌, ◌&&◌, not, nat_lt, None}
+use Rattle.std.specs.Option.{option_to_list}
+use Rattle.std.proofs.lemmas.Bool.{cond-true, cond-false, cond_both, lt-ltb, le-ltb}
 use Rattle.dgn_drawing.specs.declared.types.item.Item.{Item}
 use Rattle.dgn_drawing.specs.declared.mask.Mask.{Mask}
-use Rattle.dgn_drawing.specs.Element.{Element}
+use Rattle.dgn_drawing.specs.Element.{Body, Silent, Shown, Element}
+use Rattle.dgn_drawing.specs.Items.{item_in}
 use Rattle.dgn_drawing.specs.Nesting.{Knot, Leaf, Group, Run, Loose}
-use Rattle.dgn_drawing.specs.Shown.{its_item, shown_alone, headed, shown_tree}
+use Rattle.dgn_drawing.specs.Shown.{shows, its_item, shown_alone, headed, shown_tree}
 use Rattle.nest_tree.specs.Shapes.{knot_told}
 use Rattle.level_view.specs.Back.{past, begins_below, with_element}
 use Rattle.level_view.proofs.Numbers.{Each}
@@ -44,13 +46,22 @@ module _ (dim : ℕ) (mask : Mask) (number depth end : ℕ) (e : Element) (inner
   group_joins_as true = past_inner end inner rest below from
   group_joins_as false = headed_joins end (its_item dim number depth e) inner rest below from
 
-  run_joins_as : (is_shared : Bool) → cond is_shared (past end (inner ++ rest)) (shown_alone dim mask number depth e ++ past end (inner ++ rest))
-      ≡ cond is_shared [] (shown_alone dim mask number depth e) ++ rest
-  run_joins_as true = past_inner end inner rest below from
-  run_joins_as false = ap (λ (x : List Item). shown_alone dim mask number depth e ++ x) (past_inner end inner rest below from)
+  -- a shared cell definition shows nothing by itself
+  no_item : (body : Body) → (e.kind == 34) ≡ true → option_to_list (item_in dim number depth e body) ≡ []
+  no_item (Silent bytes) is_shared = refl
+  no_item (Shown display parts bytes) is_shared = ap option_to_list (cond-true (e.kind == 34) None _ is_shared)
+
+  shared_alone : (is_shared : Bool) → (e.kind == 34) ≡ is_shared → shown_alone dim mask number depth e ≡ cond is_shared [] (shown_alone dim mask number depth e)
+  shared_alone true is = cond_both (not e.deleted && shows mask e.level) (its_item dim number depth e) [] (λ (x : List Item). x ≡ []) (λ _. no_item e.body is) (λ _. refl)
+  shared_alone false is = refl
+
+  run_joins : shown_alone dim mask number depth e ++ past end (inner ++ rest) ≡ cond (e.kind == 34) [] (shown_alone dim mask number depth e) ++ rest
+  run_joins =
+      ap (λ (x : List Item). shown_alone dim mask number depth e ++ x) (past_inner end inner rest below from)
+      ∙ ap (λ (x : List Item). x ++ rest) (shared_alone (e.kind == 34) refl)
 
   pub element_joins : (knot : Knot) → ShowsNoneBelow knot inner → with_element dim mask (knot_told knot) number depth end e (inner ++ rest) ≡ shown_tree dim mask knot number depth e inner ++ rest
   element_joins Leaf none = ap (λ (x : List Item). shown_alone dim mask number depth e ++ (x ++ rest)) none
   element_joins Group none = group_joins_as e.deleted
-  element_joins Run none = run_joins_as (e.kind == 34)
+  element_joins Run none = run_joins
   element_joins Loose none = ap (λ (x : List Item). x ++ rest) none

@@ -13,7 +13,7 @@ use Rattle.dgn_drawing.specs.Nesting.{Knot, Leaf, Group, Run, Loose, Forest, NoT
 use Rattle.dgn_drawing.specs.Numbering.{Mark, mark_of, end_of}
 use Rattle.dgn_drawing.specs.Shown.{shows, its_item, shown_alone, headed, shown_tree, items}
 use Rattle.nest_tree.specs.Shapes.{knot_told}
-use Rattle.level_view.specs.Back.{past, begins_below, with_group, with_run, with_element, with_marked, read_back}
+use Rattle.level_view.specs.Back.{past, begins_below, with_group, with_element, with_marked, read_back}
 
 -- each of the items has a number of which that holds
 abbrev pub Each : (ℕ → Type 0) → List Item → Type 0
@@ -66,15 +66,11 @@ module _ (P : ℕ → Type 0) (dim : ℕ) (mask : Mask) where
       cond_both e.deleted (past end found) (cond (begins_below end found) (its_item dim number depth e ++ found) found) (Each P) (λ _. past_each end found there) (λ _.
       cond_both (begins_below end found) (its_item dim number depth e ++ found) found (Each P) (λ _. both P (its_item dim number depth e) found (item_each number depth e here) there) (λ _. there))
 
-  run_each : (number depth end : ℕ) (e : Element) (found : List Item) → P number → Each P found → Each P (with_run dim mask number depth end e found)
-  run_each number depth end e found here there =
-      cond_both (e.kind == 34) (past end found) (shown_alone dim mask number depth e ++ past end found) (Each P) (λ _. past_each end found there)
-      (λ _. both P (shown_alone dim mask number depth e) (past end found) (alone_each number depth e here) (past_each end found there))
-
   element_each : (knot : Knot) (number depth end : ℕ) (e : Element) (found : List Item) → P number → Each P found → Each P (with_element dim mask (knot_told knot) number depth end e found)
   element_each Leaf number depth end e found here there = both P (shown_alone dim mask number depth e) found (alone_each number depth e here) there
   element_each Group number depth end e found here there = group_each number depth end e found here there
-  element_each Run number depth end e found here there = run_each number depth end e found here there
+  element_each Run number depth end e found here there =
+      both P (shown_alone dim mask number depth e) (past end found) (alone_each number depth e here) (past_each end found there)
   element_each Loose number depth end e found here there = there
 
   marked_each : (number : ℕ) (m : Option Mark) (e : Option Element) (found : List Item) → P number → Each P found → Each P (with_marked dim mask number m e found)

@@ -1,6 +1,6 @@
 -- What is shown, found from the last element back to the first: each element is read before what the
 -- elements behind it show, which is known by then.
-use Rattle.std.specs.Prelude.{ℕ, zero, suc, ◌+◌, ◌==◌, ◌≡◌, Bool, false, nat_lt, if◌then◌else◌, Option, Some, List, [], ◌∷◌, ◌++◌, slice_get}
+use Rattle.std.specs.Prelude.{ℕ, zero, suc, ◌+◌, ◌≡◌, Bool, false, nat_lt, if◌then◌else◌, Option, Some, List, [], ◌∷◌, ◌++◌, slice_get}
 use Rattle.dgn_drawing.specs.declared.types.item.Item.{Item}
 use Rattle.dgn_drawing.specs.declared.mask.Mask.{Mask}
 use Rattle.dgn_drawing.specs.Element.{Element}
@@ -29,15 +29,11 @@ with_group dim number depth end e found =
     if e.deleted then past end found
     else if begins_below end found then its_item dim number depth e ++ found else found
 
--- a run's header before what is shown behind its parts
-abbrev pub with_run : ℕ → Mask → ℕ → ℕ → ℕ → Element → List Item → List Item
-with_run dim mask number depth end e found = if e.kind == 34 then past end found else shown_alone dim mask number depth e ++ past end found
-
--- an element before what is shown behind it
+-- an element before what is shown behind it; a run's header before what is shown behind its parts
 abbrev pub with_element : ℕ → Mask → Knot → ℕ → ℕ → ℕ → Element → List Item → List Item
 with_element dim mask Knot.Leaf number depth end e found = shown_alone dim mask number depth e ++ found
 with_element dim mask Knot.Group number depth end e found = with_group dim number depth end e found
-with_element dim mask Knot.Run number depth end e found = with_run dim mask number depth end e found
+with_element dim mask Knot.Run number depth end e found = shown_alone dim mask number depth e ++ past end found
 with_element dim mask Knot.Loose number depth end e found = found
 
 -- the same of the element that has that number and that mark

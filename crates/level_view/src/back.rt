@@ -6,13 +6,13 @@ ghost use Rattle.std.specs.Option.{option_to_list};
 ghost use Rattle.dgn_drawing.specs.WellFormed.{IsDimension};
 ghost use Rattle.dgn_drawing.specs.Faults.{IsSoundIn};
 ghost use Rattle.dgn_drawing.specs.Reading.{element_at};
-ghost use Rattle.level_view.specs.Back.{begins_below, past, with_group, with_run, with_element};
+ghost use Rattle.dgn_drawing.specs.Shown.{shown_alone};
+ghost use Rattle.level_view.specs.Back.{begins_below, past, with_group, with_element};
 
 use crate::alone::shown_alone;
 use crate::place::Place;
 use dgn_drawing::types::Item;
 use dgn_drawing::{Mask, item};
-use dgn_layout::SHARED_CELL;
 use elem_head::head;
 use nest_tree::Knot;
 use std::alloc::{AllocError, Global};
@@ -80,12 +80,9 @@ fn add_run(
 ) -> Result<(), AllocError>
     requires dimension { IsDimension dim }
     requires sound { IsSoundIn dim place.bytes.now }
-    ensures { OnOk result (reverse items.new.items ≡ with_run dim mask place.entry.number place.entry.depth place.entry.end (element_at dim place.entry.bytes.now) (reverse items.old.items)) }
+    ensures { OnOk result (reverse items.new.items ≡ shown_alone dim mask place.entry.number place.entry.depth (element_at dim place.entry.bytes.now) ++ past place.entry.end (reverse items.old.items)) }
 {
     cut_back(items, place.end);
-    if head(place.bytes).kind == SHARED_CELL {
-        return Ok(());
-    }
     put_first(items, shown_alone(alloc, dim, mask, place)?)
 }
 
