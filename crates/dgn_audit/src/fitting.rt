@@ -19,11 +19,11 @@ ghost use Rattle.dgn_audit.specs.Planned.{IsFitPlan, IsFitRefused, IsPlanOfRoot,
 use crate::finding::Finding;
 use crate::fit_cause::FitCause;
 use crate::fit_fault::FitFault;
-use crate::hulls::spots_in;
 use crate::keep::Keep;
 use crate::reading::read_between;
 use dgn_layout::Spot;
 use dgn_words::put_range_long;
+use edit_ops::spots_in;
 use elem_head::{head, properties};
 use elem_index::Design;
 use nest_tree::types::Nest;

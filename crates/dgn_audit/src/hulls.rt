@@ -5,35 +5,18 @@ ghost use Rattle.dgn_words.specs.Numbers.{long_at};
 ghost use Rattle.range_code.specs.Ranges.{range_of};
 ghost use Rattle.body_vertex.specs.Points.{points_of};
 ghost use Rattle.dgn_layout.specs.Classes.{class_of, is_silent};
-ghost use Rattle.dgn_layout.specs.Spots.{spots_of, HoldsPoints};
-ghost use Rattle.dgn_layout.specs.SpotsLeft.{spots_left};
+ghost use Rattle.dgn_layout.specs.Spots.{HoldsPoints};
 ghost use Rattle.dgn_drawing.specs.WellFormed.{IsDimension};
 ghost use Rattle.dgn_audit.specs.Hulls.{hull_join, is_vertices, points_hull};
 ghost use Rattle.dgn_audit.specs.Reading.{with_number, range_read, leaf_read, hull_read, fitted_told};
 
 use crate::stored::stored_range;
-use dgn_layout::types::{Class, Spots};
-use dgn_layout::{class, is_silent, spots};
+use dgn_layout::types::Class;
+use dgn_layout::{SHARED_CELL, class, is_silent};
 use dgn_words::long;
+use edit_ops::spots_in;
 use nest_tree::Knot;
 use range_code::{Box3, join};
-
-// The type of a shared cell definition.
-const SHARED_CELL: u8 = 34;
-
-// The coordinate fields of the element with the bytes `b`, of that type.
-pub(crate) fn spots_in(dim: u8, kind: u8, b: &[u8]) -> Spots<'_>
-    requires dimension { IsDimension dim }
-    requires kind { kind < 128 }
-    requires holds { HoldsPoints dim kind b.now (length b.now) }
-    ensures { spots_left result ≡ spots_of dim kind b.now }
-{
-    if dim == 2 {
-        spots::<2>(kind, b)
-    } else {
-        spots::<3>(kind, b)
-    }
-}
 
 // A point of which some numbers have been read; the others are 0.
 #[derive(Clone, Copy)]

@@ -31,6 +31,7 @@ pub use edit_fault::EditFault;
 pub use fencing::plan_all;
 pub use importing::copy_tree;
 pub use planning::plan;
+pub use sums::spots_in;
 
 #[cfg(test)]
 mod tests;

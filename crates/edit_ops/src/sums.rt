@@ -13,7 +13,8 @@ use dgn_layout::{Spot, spots};
 use dgn_words::{long, put_long, put_range_long, range_long};
 use range_code::shifted;
 
-// The spots of the element with the bytes b, of that type, in 2 or 3 dimensions.
+/// The coordinate fields of the element with the bytes `b`, of type `kind`, in a file of dimension `dim`, in the order of
+/// its bytes (`dgn_layout::spots`). Nothing is allocated.
 pub fn spots_in(dim: u8, kind: u8, b: &[u8]) -> Spots<'_>
     requires dimension { IsDimension dim }
     requires kind { kind < 128 }
