@@ -1,30 +1,18 @@
 // Worked drawings: a member that was moved, a usual file, and an arc in a cell; and what refuses a fit.
 
-ghost use Rattle.std.specs.Prelude.{◌≡◌, map, IfOk};
-ghost use Rattle.dgn_drawing.specs.Rows.{row_of};
-ghost use Rattle.elem_index.specs.Design.{elements, IsWhole};
+ghost use Rattle.std.specs.Prelude.{IfOk};
+ghost use Rattle.elem_index.specs.Design.{IsWhole};
 
 use super::*;
 use elem_index::{Design, read_design};
-use nest_tree::nest;
-use nest_tree::types::Nest;
+use level_view::nest_design;
 use range_code::Box3;
 use sample_elements::{
     ARC, CELL, CELL_OF_52, CELL_OF_81, FIRST_STRING, LOCKED_MEMBER, MEMBER, NODE, SECOND_STRING,
     SHAPE_HEADER, SHAPE_PART, SILENT, drawing,
 };
-use std::alloc::{AllocError, Global};
 use std::process::Abort;
 use std::test::Fail;
-
-// The nesting of a drawing.
-fn nested(alloc: Global, d: &Design) -> Result<Nest, AllocError>
-    requires { IsWhole d.now }
-    ensures { IfOk result (λ t. t.rows ≡ map row_of (elements d.now)) }
-{
-    let rows = d.rows()?;
-    nest(alloc, &rows)
-}
 
 // The design of the pieces behind a TCB, in which these bytes stand, at places counted from the TCB's end.
 fn design(
@@ -84,7 +72,7 @@ fn is_audited(
 ) -> Result<(), Fail>
     requires { IsWhole d.now }
 {
-    let t = nested(rt.alloc(), d)?;
+    let t = nest_design(rt.alloc(), d)?;
     let found = audit(rt.alloc(), d, &t)?;
     assert!(rt; found.as_slice() == wanted);
     let patches = plan_fit(rt.alloc(), d, &t, n);
@@ -133,7 +121,7 @@ fn is_refused(
 ) -> Result<(), Fail>
     requires { IsWhole d.now }
 {
-    let t = nested(rt.alloc(), d)?;
+    let t = nest_design(rt.alloc(), d)?;
     let fault = plan_fit(rt.alloc(), d, &t, n).err();
     assert_eq!(rt; fault, Some(FitFault::Refused(cause)));
     Ok(())

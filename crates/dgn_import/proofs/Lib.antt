@@ -1,5 +1,4 @@
 pub mod Choosing
-pub mod Blocks
 pub mod Rooted
 pub mod Taken
 pub mod Collected

@@ -8,7 +8,6 @@ mod gathered;
 mod gathering;
 mod import_fault;
 pub mod laws;
-mod nesting;
 mod second;
 mod second_fault;
 mod taking;
@@ -16,7 +15,6 @@ mod taking;
 pub use gathered::Gathered;
 pub use gathering::gather;
 pub use import_fault::ImportFault;
-pub use nesting::nest_design;
 pub use second::{Second, read_second};
 pub use second_fault::SecondFault;
 

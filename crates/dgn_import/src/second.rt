@@ -1,9 +1,9 @@
 ghost use Rattle.std.specs.Prelude.{◌≡◌, ◌≤◌, vec_len, IfOk};
 ghost use Rattle.dgn_import.specs.Seconds.{second_of, value_of, IsSound, IsTextOf, HasToldFault};
 
-use crate::nesting::nest_design;
 use crate::second_fault::SecondFault;
 use elem_index::{Design, OpenFault, read_design};
+use level_view::nest_design;
 use nest_tree::types::Nest;
 use std::alloc::{AllocError, Global};
 

@@ -4,7 +4,6 @@ pub mod Fronts
 pub mod Linked
 pub mod Listings
 pub mod Marked
-pub mod Rows
 pub mod Told
 pub mod Worked
 pub mod Found

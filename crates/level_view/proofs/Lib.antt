@@ -9,5 +9,6 @@ pub mod Trees
 pub mod Onward
 pub mod Places
 pub mod Rows
+pub mod Blocks
 pub mod Counted
 pub mod Leaves

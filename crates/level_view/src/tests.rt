@@ -1,31 +1,19 @@
 // Worked drawings, and what the display shows of them.
 
-ghost use Rattle.std.specs.Prelude.{◌≡◌, ◌<◌, map, IfOk};
-ghost use Rattle.dgn_drawing.specs.Rows.{row_of};
-ghost use Rattle.elem_index.specs.Design.{elements, IsWhole};
+ghost use Rattle.std.specs.Prelude.{IfOk};
+ghost use Rattle.elem_index.specs.Design.{IsWhole};
 
 use super::*;
 use dgn_drawing::Mask;
 use dgn_drawing::types::{Item, ItemBody};
 use elem_head::types::Symb;
 use elem_index::{Design, read_design};
-use nest_tree::nest;
-use nest_tree::types::Nest;
 use plane_geom::PointList;
 use range_code::Box3;
 use sample_elements::{CELL, MEMBER, SPLINE, blank, drawing, with_byte};
 use std::alloc::{AllocError, Global};
 use std::process::Abort;
 use std::test::Fail;
-
-// The nesting of a drawing.
-fn nested(alloc: Global, d: &Design) -> Result<Nest, AllocError>
-    requires { IsWhole d.now }
-    ensures { IfOk result (λ t. t.rows ≡ map row_of (elements d.now)) }
-{
-    let rows = d.rows()?;
-    nest(alloc, &rows)
-}
 
 // A point list of two points.
 fn path(alloc: Global, points: [[i32; 3]; 2]) -> Result<ItemBody, AllocError> {
@@ -89,7 +77,7 @@ fn answer(
 ) -> Result<Vec<Item>, Fail>
     requires { IsWhole d.now }
 {
-    let t = nested(rt.alloc(), d)?;
+    let t = nest_design(rt.alloc(), d)?;
     match asked {
         Asked::Show => {
             let items = show(rt.alloc(), d, &t, Mask(mask))?;

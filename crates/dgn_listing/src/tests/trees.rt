@@ -1,16 +1,10 @@
 // What is said of the trees of worked drawings: a cell, broken nesting, runs, and marked elements.
 
-ghost use Rattle.std.specs.Prelude.{◌≡◌, map, IfOk};
-ghost use Rattle.dgn_drawing.specs.Rows.{row_of};
-ghost use Rattle.elem_index.specs.Design.{elements, IsWhole};
-
 use super::file;
 use crate::write_tree;
-use elem_index::{Design, read_design};
-use nest_tree::nest;
-use nest_tree::types::Nest;
+use elem_index::read_design;
+use level_view::nest_design;
 use sample_elements::{CELL, MEMBER, SPLINE, blank, with_byte};
-use std::alloc::{AllocError, Global};
 use std::process::Abort;
 use std::test::Fail;
 
@@ -24,15 +18,6 @@ fn member(second: u8) -> [u8; 52] {
     with_byte(MEMBER, 1, second)
 }
 
-// The nesting of a design.
-fn nested(alloc: Global, d: &Design) -> Result<Nest, AllocError>
-    requires { IsWhole d.now }
-    ensures { IfOk result (λ t. t.rows ≡ map row_of (elements d.now)) }
-{
-    let rows = d.rows()?;
-    nest(alloc, &rows)
-}
-
 // The file of these elements says so of the tree of each number.
 fn says(
     rt: &(impl AllocGlobal + Abort),
@@ -42,7 +27,7 @@ fn says(
     let bytes = file(rt.alloc(), elements)?;
     assert!(rt; bytes.len() <= 67108864);
     let design = read_design(rt.alloc(), bytes)?;
-    let nesting = nested(rt.alloc(), &design)?;
+    let nesting = nest_design(rt.alloc(), &design)?;
     for (n, text) in told {
         assert!(rt; *n < design.count());
         let mut out = Vec::new(rt.alloc());

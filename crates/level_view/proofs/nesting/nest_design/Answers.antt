@@ -7,8 +7,8 @@ use Rattle.dgn_drawing.specs.Nesting.{BeginsFree, itself}
 use Rattle.elem_index.specs.Design.{elements}
 use Rattle.elem_index.proofs.Places.{few_elements}
 use Rattle.nest_tree.specs.Shapes.{IsRow}
-use Rattle.dgn_import.proofs.Blocks.{block_each, block_free}
-use Rattle.dgn_import.proofs.nesting.nest_design.Goals as goal
+use Rattle.level_view.proofs.Blocks.{block_each, block_free}
+use Rattle.level_view.proofs.nesting.nest_design.Goals as goal
 
 pub nest-requires-clause-few : goal.nest-requires-clause-few
 nest-requires-clause-few c =

@@ -2,7 +2,7 @@ use Rattle.std.proofs.Common.{◌≡◌, ◌≤◌, ◌-◌, length, map, take, 
 use Rattle.dgn_drawing.specs.Rows.{row_of}
 use Rattle.dgn_drawing.specs.Nesting.{BeginsFree}
 use Rattle.elem_index.specs.Design.{elements}
-use Rattle.dgn_import.proofs.nesting.nest_design.Given as goal
+use Rattle.level_view.proofs.nesting.nest_design.Given as goal
 
 abbrev pub invariant-blocks-2 : goal.invariant-blocks-2
 invariant-blocks-2 l = (l.nest.rows ≡ map row_of (take l.at (elements l.d))) × (l.at ≤ length (elements l.d)) × BeginsFree row_of (drop l.at (elements l.d))
