@@ -1,21 +1,15 @@
--- What a session answers to an import, by what was gathered for it.
-use Rattle.std.proofs.Common.{◌≡◌, ◌∷◌, ℕ, List, [], Option, refl, sym, ap, ◌∙◌}
+-- The cause that refuses an import, and the commands that name no second file.
+use Rattle.std.proofs.Common.{◌≡◌, ◌∷◌, ℕ, List, [], Option, refl}
 use Rattle.dgn_drawing.specs.Values.{Displacement}
 use Rattle.dgn_drawing.specs.Opening.{elements_of}
 use Rattle.edit_ops.specs.declared.cause.Cause.{Cause}
 use Rattle.edit_script.specs.declared.command.Command.{Command}
 use Rattle.edit_script.specs.declared.command.Command.TheVariants as command
 use Rattle.dgn_import.specs.Seconds.{SecondValue, Drawing, Faulty}
-use Rattle.dgn_import.specs.Gathering.{Gathering, Refused, gathered}
+use Rattle.dgn_import.specs.Gathering.{Refused, gathered}
 use Rattle.dgn_import.specs.Laws.{IsOfATree}
 use Rattle.dgn_import.proofs.Refusing.{trees_alone_refuse}
-use Rattle.dgn_session.specs.State.{State}
-use Rattle.dgn_tool.specs.Imports.{importing, importing_of}
 use Rattle.dgn_tool.specs.SecondFiles.{names_of}
-
--- an import comes to what is gathered for it
-pub came_as : (s : State) (v : SecondValue) (by : Option Displacement) (dim : ℕ) (found : Gathering) → dim ≡ s.dim → gathered dim v by ≡ found → importing_of s v by ≡ importing s found
-came_as s v by dim found same is = ap (λ (d : ℕ). importing s (gathered d v by)) (sym same) ∙ ap (importing s) is
 
 -- a cause that refuses it is that of a tree
 pub of_a_tree : (dim : ℕ) (v : SecondValue) (by : Option Displacement) (c : Cause) → gathered dim v by ≡ Refused c → IsOfATree c

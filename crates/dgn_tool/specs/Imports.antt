@@ -7,13 +7,16 @@ use Rattle.dgn_listing.specs.CauseTexts.{cause_text}
 use Rattle.dgn_import.specs.declared.second_fault.SecondFault.{SecondFault}
 use Rattle.dgn_import.specs.declared.second_fault.SecondFault.TheVariants as faults
 use Rattle.dgn_import.specs.Seconds.{SecondValue}
-use Rattle.dgn_import.specs.Gathering.{Gathering, Trees, Bad, Dimension, Refused, gathered}
+use Rattle.dgn_import.specs.Gathering.{Gathering, Trees, Bad, Dimension, Refused, AreTrees, gathered}
+use Rattle.dgn_import.specs.Laws.{IsOfATree}
 use Rattle.dgn_session.specs.State.{State}
 use Rattle.dgn_session.specs.Imported.{imported}
 use Rattle.edit_ops.specs.Causes.{too_long}
 use Rattle.edit_ops.specs.declared.cause.Cause.{Cause}
 use Rattle.edit_ops.specs.declared.cause.Cause.TheVariants as causes
 use Rattle.dgn_tool.specs.Lines.{numbered}
+use Rattle.dgn_tool.specs.declared.come.Come.{Come}
+use Rattle.dgn_tool.specs.declared.come.Come.TheVariants as come
 
 -- the bytes of trees are appended, and how many trees they are; or nothing is, and this line says why
 pub data Importing : Type 0 where
@@ -49,6 +52,19 @@ importing s (Refused cause) = Declines (tree_cause_said cause)
 -- and by what the file comes to
 abbrev pub importing_of : State → SecondValue → Option Displacement → Importing
 importing_of s v by = importing s (gathered s.dim v by)
+
+-- what came of a second drawing, as what is gathered from it
+abbrev pub gathering_of : Come → Gathering
+gathering_of (come.Trees g) = Trees g.bytes g.trees
+gathering_of (come.Bad fault) = Bad fault
+gathering_of come.Dimension = Dimension
+gathering_of (come.Refused cause) = Refused cause
+
+-- trees can stand behind a drawing of the dimension, and a cause is that of a tree
+abbrev pub FitsBehind : ℕ → Come → Type 0
+FitsBehind dim (come.Trees g) = AreTrees dim g.bytes
+FitsBehind dim (come.Refused cause) = IsOfATree cause
+FitsBehind dim other = Unit {0}
 
 -- what an import says
 abbrev pub import_said : Importing → List ℕ

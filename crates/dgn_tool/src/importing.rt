@@ -8,10 +8,11 @@ ghost use Rattle.dgn_import.specs.Seconds.{value_of, IsSound};
 ghost use Rattle.dgn_listing.specs.Lines.{AppendsFrontOf};
 ghost use Rattle.dgn_session.specs.State.{state_of};
 ghost use Rattle.dgn_tool.specs.Lines.{numbered};
-ghost use Rattle.dgn_tool.specs.Imports.{fault_said, tree_cause_said, importing, importing_of, import_said, import_refused, import_left};
+ghost use Rattle.dgn_tool.specs.Imports.{fault_said, tree_cause_said, importing, importing_of, import_said, import_refused, import_left, gathering_of, FitsBehind};
 ghost use Rattle.dgn_tool.specs.Packing.{ImportLogsAs};
 
 use crate::answers::{ROOM, put_known};
+use crate::come::Come;
 use crate::fences::put_count;
 use dgn_drawing::Shift;
 use dgn_import::{Gathered, ImportFault, Second, SecondFault, gather};
@@ -51,23 +52,83 @@ pub fn answer_import(
         (import_said (importing_of (state_of s.old) (value_of second.now) (option_map (λ b. b.now) by.entry)))
         out.old.items out.new.items) }
 {
+    let come = come_of(alloc, s, second, by)?;
+    answer_come(alloc, s, come, out)
+}
+
+// What comes of a second drawing for an import in a session.
+fn come_of(
+    alloc: Global,
+    s: &Session,
+    second: &Second,
+    by: Option<&Shift>,
+) -> Result<Come, AllocError>
+    requires sound { IsSound second.now }
+    ensures come { IfOk result (λ come. importing (state_of s.now) (gathering_of come)
+        ≡ importing_of (state_of s.now) (value_of second.now) (option_map (λ b. b.now) by.entry)) }
+    ensures fits { IfOk result (FitsBehind s.now.dim) }
+{
+    match gather(alloc, s.design().dim, second, by) {
+        Ok(found) => Ok(Come::Trees(found)),
+        Err(ImportFault::Bad(fault)) => Ok(Come::Bad(fault)),
+        Err(ImportFault::Dimension) => Ok(Come::Dimension),
+        Err(ImportFault::Refused(cause)) => Ok(Come::Refused(cause)),
+        Err(ImportFault::Memory) => Err(AllocError),
+    }
+}
+
+// The same of one that nobody wants any more, whose memory is given back before its trees are appended.
+pub(crate) fn come_of_last(
+    alloc: Global,
+    s: &Session,
+    second: Second,
+    by: Option<&Shift>,
+) -> Result<Come, AllocError>
+    requires sound { IsSound second }
+    ensures come { IfOk result (λ come. importing (state_of s.now) (gathering_of come)
+        ≡ importing_of (state_of s.now) (value_of second) (option_map (λ b. b.now) by.entry)) }
+    ensures fits { IfOk result (FitsBehind s.now.dim) }
+{
+    come_of(alloc, s, &second, by)
+}
+
+// Appends the trees that came of a second drawing, appends to `out` what the import says, and answers whether it was
+// refused.
+pub(crate) fn answer_come(
+    alloc: Global,
+    s: &mut Session,
+    come: Come,
+    out: &mut Vec<u8>,
+) -> Result<bool, AllocError>
+    requires fits { FitsBehind s.old.dim come }
+    ensures text { OnOk result (out.new.items ≡ out.old.items
+        ++ import_said (importing (state_of s.old) (gathering_of come))) }
+    ensures refused { IfOk result (λ refused. refused
+        ≡ import_refused (importing (state_of s.old) (gathering_of come))) }
+    ensures state { OnOk result (state_of s.new
+        ≡ import_left (importing (state_of s.old) (gathering_of come)) (state_of s.old)) }
+    ensures logged { OnOk result (ImportLogsAs (importing (state_of s.old) (gathering_of come)) s.old s.new) }
+    ensures tail { s.new.tail ≡ s.old.tail }
+    ensures kept { OnErr result (s.new ≡ s.old) }
+    ensures front { OnErr result (AppendsFrontOf
+        (import_said (importing (state_of s.old) (gathering_of come))) out.old.items out.new.items) }
+{
     out.reserve(ROOM)?;
-    let dim = s.design().dim;
-    match gather(alloc, dim, second, by) {
-        Ok(found) => append_gathered(alloc, s, &found, out),
-        Err(ImportFault::Bad(fault)) => {
+    let _dim = s.design().dim;
+    match come {
+        Come::Trees(found) => append_gathered(alloc, s, &found, out),
+        Come::Bad(fault) => {
             put_fault(out, fault);
             Ok(true)
         }
-        Err(ImportFault::Dimension) => {
+        Come::Dimension => {
             put_known(out, b"refused import dimension\n");
             Ok(true)
         }
-        Err(ImportFault::Refused(cause)) => {
+        Come::Refused(cause) => {
             put_tree_cause(out, cause);
             Ok(true)
         }
-        Err(ImportFault::Memory) => Err(AllocError),
     }
 }
 

@@ -5,6 +5,7 @@
 mod answered;
 mod answers;
 mod applying;
+mod come;
 mod commands;
 mod ending;
 mod fences;

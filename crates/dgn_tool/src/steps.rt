@@ -11,13 +11,14 @@ ghost use Rattle.dgn_tool.specs.SecondFiles.{waiting};
 
 use crate::answered::Answered;
 use crate::answers::respond;
-use crate::importing::answer_import;
+use crate::importing::{answer_come, come_of_last};
 use dgn_import::{Second, SecondFault};
 use dgn_session::Session;
 use edit_script::Command;
 use std::alloc::{AllocError, Global};
 
-// Runs one command in a session, an import with the next second file, which is dropped then, and appends what it says.
+// Runs one command in a session, an import with the next second file, which is dropped before its trees are appended, and
+// appends what it says.
 pub(crate) fn take_step(
     alloc: Global,
     s: &mut Session,
@@ -45,7 +46,8 @@ pub(crate) fn take_step(
     match c {
         Command::Import(_, by) => {
             let second = next_second(seconds);
-            let refused = answer_import(alloc, s, &second, by.as_ref(), out)?;
+            let come = come_of_last(alloc, s, second, by.as_ref())?;
+            let refused = answer_come(alloc, s, come, out)?;
             Ok(Answered { refused, trees: 0 })
         }
         _ => respond(alloc, s, c, out),
