@@ -1,12 +1,10 @@
 ghost use Rattle.std.specs.Prelude.{◌≡◌, ◌<◌, ◌≤◌, length, map, option_map, IfOk, IfErr, IfSome, Some, None};
 ghost use Rattle.std.specs.List.{AllByRecursion};
 ghost use Rattle.dgn_drawing.specs.Rows.{row_of};
-ghost use Rattle.dgn_drawing.specs.Nesting.{flat, forest};
+ghost use Rattle.dgn_drawing.specs.Nesting.{flat};
 ghost use Rattle.dgn_drawing.specs.Spelling.{spelling};
 ghost use Rattle.elem_index.specs.Design.{elements, IsWhole};
-ghost use Rattle.elem_index.specs.Offsets.{offset_of};
 ghost use Rattle.dgn_drawing.specs.Values.{IsShift};
-ghost use Rattle.edit_ops.specs.Trees.{tree_at};
 ghost use Rattle.dgn_import.specs.Seconds.{value_of, IsSound};
 ghost use Rattle.dgn_import.specs.Gathering.{AreTrees, Trees, fits, gathered, gathered_in, import_trees, cause_of_roots};
 ghost use Rattle.dgn_import.specs.Answers.{TellsFault, TellsCause};
@@ -14,9 +12,9 @@ ghost use Rattle.dgn_import.specs.Answers.{TellsFault, TellsCause};
 use crate::gathered::Gathered;
 use crate::import_fault::ImportFault;
 use crate::second::Second;
-use crate::taking::{end_of, taken_roots};
+use crate::taking::taken_roots;
 use dgn_drawing::Shift;
-use edit_ops::copy_tree;
+use edit_ops::{part_bytes, push_tree_copy};
 use elem_index::Design;
 use nest_tree::types::Nest;
 use patch_bytes::ByteList;
@@ -25,7 +23,7 @@ use std::alloc::{AllocError, Global};
 /// Gathers the trees of a second drawing that can stand behind a drawing of dimension `dim`: those of its roots, in
 /// file order, that aren't element 0, aren't silent and aren't marked deleted, and whose trees hold no broken number.
 /// Without `by` they are as they stand, and with it their live elements are displaced by so much
-/// (`edit_ops::copy_tree`).
+/// (`edit_ops::push_tree_copy`).
 ///
 /// Bad comes exactly where the second file doesn't open; else Dimension exactly where it has another dimension than
 /// `dim`, or `by` is given for other axes; else Refused exactly where the displacement of a tree is refused, with the
@@ -114,7 +112,10 @@ fn bytes_of(
             let bytes = plain_bytes(alloc, d, t, roots)?;
             Ok(ByteList::from_vec(bytes))
         }
-        Some(by) => moved_bytes(alloc, d, t, roots, by),
+        Some(by) => {
+            let bytes = moved_bytes(alloc, d, t, roots, by)?;
+            Ok(ByteList::from_vec(bytes))
+        }
     }
 }
 
@@ -127,31 +128,11 @@ fn plain_bytes(alloc: Global, d: &Design, t: &Nest, roots: &[u32]) -> Result<Vec
         (λ bytes. bytes.items ≡ spelling (flat (import_trees d.now.dim (elements d.now) None roots.now))) }
 {
     let mut bytes = Vec::new(alloc);
+    bytes.reserve(d.body.len())?;
     'roots: for n in roots {
-        bytes.extend_from_slice(tree_bytes(d, t, *n))?;
+        bytes.extend_from_slice(part_bytes(d, t, *n))?;
     }
     Ok(bytes)
-}
-
-// The bytes of the tree of root n.
-fn tree_bytes<'a>(d: &'a Design, t: &Nest, n: u32) -> &'a [u8]
-    requires whole { IsWhole d.now }
-    requires nesting { t.now.rows ≡ map row_of (elements d.now) }
-    requires known { n < length (elements d.now) }
-    ensures { result.now ≡ spelling (flat (tree_at n (forest row_of (elements d.now)))) }
-{
-    let start = place_of(d, n);
-    let end = place_of(d, end_of(t, n));
-    &d.body[start..end]
-}
-
-// The byte at which element n begins, or behind the last one.
-fn place_of(d: &Design, n: u32) -> usize
-    requires whole { IsWhole d.now }
-    requires known { n ≤ length (elements d.now) }
-    ensures { result ≡ offset_of (elements d.now) n }
-{
-    d.offset(n).unwrap_or(d.body.len())
 }
 
 // The bytes of the trees of these roots, displaced; or the first cause of the first of them whose displacement is
@@ -162,12 +143,12 @@ fn moved_bytes(
     t: &Nest,
     roots: &[u32],
     by: &Shift,
-) -> Result<ByteList, ImportFault>
+) -> Result<Vec<u8>, ImportFault>
     requires whole { IsWhole d.now }
     requires nesting { t.now.rows ≡ map row_of (elements d.now) }
     requires known { AllByRecursion (λ n. n < length (elements d.now)) roots.now }
     ensures moved { IfOk result
-        (λ bytes. bytes ≡ spelling (flat (import_trees d.now.dim (elements d.now) (Some by.now) roots.now))) }
+        (λ bytes. bytes.items ≡ spelling (flat (import_trees d.now.dim (elements d.now) (Some by.now) roots.now))) }
     ensures accepted { IfOk result
         (λ _. cause_of_roots d.now.dim (elements d.now) (Some by.now) roots.now ≡ None) }
     ensures refused { IfErr result
@@ -175,9 +156,10 @@ fn moved_bytes(
     ensures kept { IsShift by.now }
 {
     let _axes = by.axes;
-    let mut bytes = ByteList::new(alloc);
+    let mut bytes = Vec::new(alloc);
+    bytes.reserve(d.body.len())?;
     'roots: for n in roots {
-        copy_tree(alloc, d, t, *n, by, &mut bytes)?;
+        push_tree_copy(alloc, d, t, *n, by, &mut bytes)?;
     }
     Ok(bytes)
 }

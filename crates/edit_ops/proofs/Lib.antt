@@ -33,6 +33,7 @@ pub mod Worked
 pub mod Made
 pub mod Listed
 pub mod Singled
+pub mod Solitary
 pub mod Members
 pub mod Chosen
 pub mod Copies

@@ -77,7 +77,7 @@ span_from n p m [] le s = omega (arith, s)
 span_from n p m (q ∷ qs) le s = (let f = s.0 in omega arith, s.1)
 
 -- bytes written over others are one put
-put_written : (b x : List ℕ) (p : ℕ) → put b p x ≡ write b (record { at = p; bytes = x } ∷ [])
+pub put_written : (b x : List ℕ) (p : ℕ) → put b p x ≡ write b (record { at = p; bytes = x } ∷ [])
 unfolding lay
 put_written b x p = refl
 

@@ -30,6 +30,19 @@ fn place_of(d: &Design, n: u32) -> usize
     d.offset(n).unwrap_or(d.body.len())
 }
 
+/// The bytes of the part of element `n` of the design `d`, of which `t` is the nesting: of the element, which there is,
+/// and of all below it.
+pub fn part_bytes<'a>(d: &'a Design, t: &Nest, n: u32) -> &'a [u8]
+    requires whole { IsWhole d.now }
+    requires nesting { t.now.rows ≡ map row_of (elements d.now) }
+    requires known { n < length (elements d.now) }
+    ensures { result.now ≡ spelling (flat (tree_at n (forest row_of (elements d.now)))) }
+{
+    let start = place_of(d, n);
+    let end = place_of(d, end_of(t, n));
+    &d.body[start..end]
+}
+
 // How many bytes the part of element n, which there is, has.
 pub fn part_len(d: &Design, t: &Nest, n: u32) -> usize
     requires whole { IsWhole d.now }
@@ -61,26 +74,14 @@ pub fn copy_of(
 {
     let mut patches = PatchList::new(alloc);
     push_live(&mut patches, d, live, edit)?;
-    let mut bytes = part_bytes(alloc, d, t, n)?;
+    let mut bytes = Vec::from_slice(alloc, part_bytes(d, t, n))?;
     lay_all(&mut bytes, place_of(d, n) as u32, &patches);
     free_first(&mut bytes);
     Ok(ByteList::from_vec(bytes))
 }
 
-// The bytes of the part of element n, which there is.
-fn part_bytes(alloc: Global, d: &Design, t: &Nest, n: u32) -> Result<Vec<u8>, AllocError>
-    requires whole { IsWhole d.now }
-    requires nesting { t.now.rows ≡ map row_of (elements d.now) }
-    requires known { n < length (elements d.now) }
-    ensures { IfOk result (λ bytes. bytes.items ≡ spelling (flat (tree_at n (forest row_of (elements d.now))))) }
-{
-    let start = place_of(d, n);
-    let end = place_of(d, end_of(t, n));
-    Vec::from_slice(alloc, &d.body[start..end])
-}
-
 // Takes bit C, which is its highest, from the first of some bytes.
-fn free_first(bytes: &mut [u8])
+pub fn free_first(bytes: &mut [u8])
     ensures { bytes.new ≡ slice_set bytes.old 0 (slice_index bytes.old 0 % 128) }
 {
     if let Some(first) = bytes.first_mut() {

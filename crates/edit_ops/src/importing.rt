@@ -6,10 +6,11 @@ ghost use Rattle.elem_index.specs.Design.{elements, IsWhole};
 ghost use Rattle.edit_ops.specs.Copying.{tree_copy, copy_cause, IsCopyRefused};
 
 use crate::asking::move_cause;
+use crate::copying::copy_of;
 use crate::edit_fault::EditFault;
 use crate::fencing::same_shift;
 use crate::live::live_numbers;
-use crate::planning::push_copy;
+use crate::lone_copy::{lone_at, push_lone_copy};
 use dgn_drawing::{Edit, Shift};
 use elem_index::Design;
 use nest_tree::types::Nest;
@@ -42,6 +43,54 @@ pub fn copy_tree(
     ensures refused { IfErr result (IsCopyRefused (copy_cause d.now.dim (elements d.now) by.now n)) }
     ensures kept { OnErr result (out.new ≡ out.old) }
 {
+    let mut copy = Vec::new(alloc);
+    push_tree_copy(alloc, d, t, n, by, &mut copy)?;
+    out.push_all(&ByteList::from_vec(copy))?;
+    Ok(())
+}
+
+/// The same, where the bytes are put behind those of a vector.
+pub fn push_tree_copy(
+    alloc: Global,
+    d: &Design,
+    t: &Nest,
+    n: u32,
+    by: &Shift,
+    out: &mut Vec<u8>,
+) -> Result<(), EditFault>
+    requires whole { IsWhole d.now }
+    requires nesting { t.now.rows ≡ map row_of (elements d.now) }
+    requires known { n < length (elements d.now) }
+    ensures copied { OnOk result
+        (out.new.items ≡ out.old.items ++ spelling (flat (tree_copy d.now.dim (elements d.now) by.now n))) }
+    ensures accepted { OnOk result (copy_cause d.now.dim (elements d.now) by.now n ≡ None) }
+    ensures refused { IfErr result (IsCopyRefused (copy_cause d.now.dim (elements d.now) by.now n)) }
+    ensures kept { OnErr result (out.new.items ≡ out.old.items) }
+{
+    match lone_at(d, t, n) {
+        Some(found) => push_lone_copy(d, n, found, by, out),
+        None => push_listed_copy(alloc, d, t, n, by, out),
+    }
+}
+
+// The same, whatever part it is.
+fn push_listed_copy(
+    alloc: Global,
+    d: &Design,
+    t: &Nest,
+    n: u32,
+    by: &Shift,
+    out: &mut Vec<u8>,
+) -> Result<(), EditFault>
+    requires whole { IsWhole d.now }
+    requires nesting { t.now.rows ≡ map row_of (elements d.now) }
+    requires known { n < length (elements d.now) }
+    ensures copied { OnOk result
+        (out.new.items ≡ out.old.items ++ spelling (flat (tree_copy d.now.dim (elements d.now) by.now n))) }
+    ensures accepted { OnOk result (copy_cause d.now.dim (elements d.now) by.now n ≡ None) }
+    ensures refused { IfErr result (IsCopyRefused (copy_cause d.now.dim (elements d.now) by.now n)) }
+    ensures kept { OnErr result (out.new.items ≡ out.old.items) }
+{
     let live = live_numbers(alloc, d, t, n)?;
     if let Some(cause) = move_cause(d, &live, by) {
         return Err(EditFault::Refused(cause));
@@ -51,6 +100,7 @@ pub fn copy_tree(
         n,
         by: same_shift(by),
     };
-    push_copy(alloc, d, t, n, &live, &edit, out)?;
+    let copy = copy_of(alloc, d, t, n, &live, &edit)?;
+    out.extend_from_slice(copy.as_slice())?;
     Ok(())
 }

@@ -18,6 +18,7 @@ mod importing;
 pub mod laws;
 mod live;
 mod lone;
+mod lone_copy;
 mod lone_move;
 mod making;
 mod numbers;
@@ -27,9 +28,10 @@ mod sums;
 pub mod types;
 
 pub use cause::Cause;
+pub use copying::part_bytes;
 pub use edit_fault::EditFault;
 pub use fencing::plan_all;
-pub use importing::copy_tree;
+pub use importing::{copy_tree, push_tree_copy};
 pub use planning::plan;
 pub use sums::spots_in;
 

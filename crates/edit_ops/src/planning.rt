@@ -216,7 +216,7 @@ fn plan_listed(
 
 // Appends the bytes of a copy of the part of element n, which nothing refuses. Where there is no memory for them,
 // nothing is appended.
-pub(crate) fn push_copy(
+fn push_copy(
     alloc: Global,
     d: &Design,
     t: &Nest,

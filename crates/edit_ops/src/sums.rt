@@ -6,6 +6,7 @@ ghost use Rattle.dgn_layout.specs.Spots.{HoldsPoints, spots_of};
 ghost use Rattle.dgn_layout.specs.SpotsLeft.{spots_left};
 ghost use Rattle.dgn_drawing.specs.WellFormed.{IsDimension};
 ghost use Rattle.dgn_drawing.specs.SpotNumbers.{value_at, sum_at, number_bytes};
+ghost use Rattle.patch_bytes.specs.Puts.{lay};
 
 use dgn_drawing::Shift;
 use dgn_layout::types::Spots;
@@ -87,4 +88,17 @@ pub fn bytes_at(spot: Spot, number: i32) -> [u8; 4]
         put_long(&mut bytes, 0, number);
     }
     bytes
+}
+
+// Writes a number at a spot, and leaves every other byte. The four bytes are one move.
+pub fn put_number(b: &mut [u8], spot: Spot, number: i32)
+    requires { spot.at + 4 ≤ length b.old }
+    ensures { b.new ≡ lay b.old (record { at = spot.at; bytes = number_bytes spot number }) }
+{
+    let at = spot.at as usize;
+    if spot.offset {
+        put_range_long(b, at, number);
+    } else {
+        put_long(b, at, number);
+    }
 }

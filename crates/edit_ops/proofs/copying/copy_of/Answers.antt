@@ -20,7 +20,7 @@ overflow_cast-place_of c =
 pub lay_all-requires : goal.lay_all-requires
 lay_all-requires c =
     puts_rise c.args.d.now.dim (axes_of c.args.d.now c.requires.whole) (elements c.args.d.now) c.args.edit.now c.args.n c.requires.fits c.requires.whole.is_open.opens.each c.requires.ready
-    c.place_of.result c.deref_mut.result.now c.push_live.new.patches c.place_of.ensures (c.deref_mut.ensures.value ∙ c.in_ok-bytes.ensures)
+    c.place_of.result c.deref_mut.result.now c.push_live.new.patches c.place_of.ensures (c.deref_mut.ensures.value ∙ c.in_ok-bytes.ensures.items ∙ c.part_bytes.ensures)
     (c.in_ok-push_live.ensures
     ∙ ap (λ (ps : List Put). ps ++ live_puts c.args.d.now.dim c.args.edit.now (found (elements c.args.d.now) c.args.live.now)) c.new-patches.ensures
     ∙ ap (live_puts c.args.d.now.dim c.args.edit.now) c.requires.live)
@@ -35,7 +35,7 @@ returns c =
     ∙ c.free_first.ensures
     ∙ ap (λ (b : List ℕ). slice_set b 0 (slice_index b 0 % 128)) kept
     ∙ bytes_copied c.args.d.now.dim (axes_of c.args.d.now c.requires.whole) (elements c.args.d.now) c.args.edit.now c.args.n c.requires.fits c.requires.whole.is_open.opens.each c.requires.ready
-    c.place_of.result c.deref_mut.result.now c.push_live.new.patches c.place_of.ensures (c.deref_mut.ensures.value ∙ c.in_ok-bytes.ensures)
+    c.place_of.result c.deref_mut.result.now c.push_live.new.patches c.place_of.ensures (c.deref_mut.ensures.value ∙ c.in_ok-bytes.ensures.items ∙ c.part_bytes.ensures)
     (c.in_ok-push_live.ensures
     ∙ ap (λ (ps : List Put). ps ++ live_puts c.args.d.now.dim c.args.edit.now (found (elements c.args.d.now) c.args.live.now)) c.new-patches.ensures
     ∙ ap (live_puts c.args.d.now.dim c.args.edit.now) c.requires.live)
