@@ -10,7 +10,7 @@ use Rattle.dgn_layout.specs.Spots.{spots_of, has_spots}
 use Rattle.dgn_layout.specs.declared.spot.Spot.{Spot}
 use Rattle.dgn_drawing.specs.declared.edit.Edit.{Edit}
 use Rattle.dgn_drawing.specs.declared.edit.Edit.TheVariants as edit
-use Rattle.dgn_drawing.specs.Values.{Displacement, LookChange}
+use Rattle.dgn_drawing.specs.Values.{Displacement}
 use Rattle.dgn_drawing.specs.Element.{Element}
 use Rattle.dgn_drawing.specs.SpotNumbers.{sum_at}
 use Rattle.dgn_drawing.specs.Spelling.{spell}
@@ -21,7 +21,7 @@ use Rattle.edit_ops.specs.declared.cause.Cause.{Cause}
 use Rattle.edit_ops.specs.declared.cause.Cause.TheVariants as causes
 use Rattle.edit_ops.specs.declared.finding.Found.{Found}
 use Rattle.edit_ops.specs.declared.asked.Test.TheVariants as tests
-use Rattle.edit_ops.specs.Trees.{Live, found_at, above_tree, above_of, live_tree, live_of}
+use Rattle.edit_ops.specs.Trees.{Live, found_at, above_tree, live_tree}
 use Rattle.edit_ops.specs.Causes.{other_axes, unmovable, lookless, off_plane, part_cause, first_cause, first_of, causes_of, target_of}
 use Rattle.edit_ops.specs.Asking.{cause_in, locked_in, lone_of}
 use Rattle.edit_ops.specs.Written.{found, sum_put, above_puts, live_puts, part_puts}
@@ -37,15 +37,7 @@ lone_is [] (k ∷ []) m is = (refl, cc)
 lone_is [] (k ∷ j ∷ ks) m is = absurd (let x = is in cc)
 lone_is (a ∷ more) live m is = absurd (let x = is in cc)
 
--- so the part has no headers above it and one live element
-pub none_above : (es : List Element) (e : Edit) (n : ℕ) (above : List ℕ) → target_of e ≡ Some n → found es above ≡ above_of es (target_of e) → above ≡ [] → above_tree es n ≡ []
-none_above es e n above target is none = ap (above_of es) (sym target) ∙ sym is ∙ ap (found es) none
-
-pub one_live : (es : List Element) (e : Edit) (n m : ℕ) (live : List ℕ) → target_of e ≡ Some n → found es live ≡ live_of es (target_of e) → live ≡ m ∷ []
-    → live_tree es n ≡ option_to_list (found_at es m)
-one_live es e n m live target is one = ap (live_of es) (sym target) ∙ sym is ∙ ap (found es) one ∙ append-nil (option_to_list (found_at es m))
-
--- the causes of a move and of another look, of any headers and live elements
+-- the causes of a move, of any headers and live elements
 abbrev moves_of : ℕ → Displacement → List Live → List Live → List (Option Cause)
 moves_of dim by above live =
     first_cause dim tests.Unlocked (above ++ live)
@@ -54,9 +46,6 @@ moves_of dim by above live =
     ∷ first_cause dim tests.Moves live
     ∷ first_cause dim (tests.Leaves by) live
     ∷ []
-
-abbrev looks_of : ℕ → List Live → List Live → List (Option Cause)
-looks_of dim above live = first_cause dim tests.Unlocked (above ++ live) ∷ first_cause dim tests.Looks live ∷ []
 
 module _ (dim : ℕ) (es : List Element) (rest n m : ℕ) (none : above_tree es n ≡ []) (one : live_tree es n ≡ option_to_list (found_at es m)) where
   abbrev here : Option Element
@@ -72,13 +61,17 @@ module _ (dim : ℕ) (es : List Element) (rest n m : ℕ) (none : above_tree es 
       ∙ ap (λ (c : Option Cause). option_or (cause_in dim tests.Unlocked m here) (option_or (other_axes dim by.axes) (option_or c (option_or (first_cause dim (tests.Leaves by) vs) None)))) (cause_alone dim tests.Moves es m)
       ∙ ap (λ (c : Option Cause). option_or (cause_in dim tests.Unlocked m here) (option_or (other_axes dim by.axes) (option_or (cause_in dim tests.Moves m here) c))) (or_nothing (first_cause dim (tests.Leaves by) vs) ∙ cause_alone dim (tests.Leaves by) es m)
 
-  pub look_alone : (change : LookChange) → first_of (causes_of dim es rest (edit.Sym n change)) ≡ option_or (cause_in dim tests.Unlocked m here) (cause_in dim tests.Looks m here)
-  look_alone change =
-      let vs : List Live = option_to_list (found_at es m) in
-      ap (λ (l : List Live). first_of (looks_of dim l (live_tree es n))) none
-      ∙ ap (λ (l : List Live). first_of (looks_of dim [] l)) one
-      ∙ ap (λ (c : Option Cause). option_or c (option_or (first_cause dim tests.Looks vs) None)) (cause_alone dim tests.Unlocked es m)
-      ∙ ap (λ (c : Option Cause). option_or (cause_in dim tests.Unlocked m here) c) (or_nothing (first_cause dim tests.Looks vs) ∙ cause_alone dim tests.Looks es m)
+-- the causes of another look, of no headers and one live element
+pub look_alone : (dim : ℕ) (es : List Element) (m : ℕ) (above live : List ℕ) → above ≡ [] → live ≡ m ∷ []
+    → option_or (first_cause dim tests.Unlocked (found es above ++ found es live)) (first_cause dim tests.Looks (found es live))
+    ≡ option_or (cause_in dim tests.Unlocked m (slice_get es m)) (cause_in dim tests.Looks m (slice_get es m))
+look_alone dim es m above live none one =
+    let vs : List Live = option_to_list (found_at es m) in
+    ap (λ (l : List ℕ). option_or (first_cause dim tests.Unlocked (found es l ++ found es live)) (first_cause dim tests.Looks (found es live))) none
+    ∙ ap (λ (l : List ℕ). option_or (first_cause dim tests.Unlocked (found es l)) (first_cause dim tests.Looks (found es l))) one
+    ∙ ap (λ (l : List Live). option_or (first_cause dim tests.Unlocked l) (first_cause dim tests.Looks l)) (append-nil vs)
+    ∙ ap (λ (c : Option Cause). option_or c (first_cause dim tests.Looks vs)) (cause_alone dim tests.Unlocked es m)
+    ∙ ap (option_or (cause_in dim tests.Unlocked m (slice_get es m))) (cause_alone dim tests.Looks es m)
 
 -- three causes in turn, which are these
 pub three_same : (a b c x y z : Option Cause) → a ≡ x → b ≡ y → c ≡ z → option_or (option_or a b) c ≡ option_or x (option_or y z)

@@ -42,32 +42,6 @@ pub fn edit_cause(
     ensures { result ≡ first_of
         (causes_of d.now.dim (elements d.now) (length d.now.tail.items + pending) edit.now) }
 {
-    if let Edit::Sym { .. } = edit {
-        if let Some(m) = lone(above, live) {
-            return lone_look_cause(d, m);
-        }
-    }
-    listed_cause(d, edit, above, live, appended, pending)
-}
-
-// The same of any numbers of headers and of live elements.
-fn listed_cause(
-    d: &Design,
-    edit: &Edit,
-    above: &[u32],
-    live: &[u32],
-    appended: usize,
-    pending: usize,
-) -> Option<Cause>
-    requires whole { IsWhole d.now }
-    requires above { found (elements d.now) above.now ≡ above_of (elements d.now) (target_of edit.now) }
-    requires live { found (elements d.now) live.now ≡ live_of (elements d.now) (target_of edit.now) }
-    requires appended { appended ≡ bytes_appended (elements d.now) edit.now }
-    requires few { appended ≤ 67108864 }
-    requires room { length d.now.body.items + (length d.now.tail.items + pending) ≤ 67108864 }
-    ensures { result ≡ first_of
-        (causes_of d.now.dim (elements d.now) (length d.now.tail.items + pending) edit.now) }
-{
     match edit {
         Edit::Move { by, .. } => locked(d, above, live)
             .or(other_axes(d.dim, by.axes))
@@ -76,11 +50,25 @@ fn listed_cause(
         Edit::Copy { by, .. } => other_axes(d.dim, by.axes)
             .or(move_cause(d, live, by))
             .or(growth_cause(d, appended, pending)),
-        Edit::Sym { .. } => locked(d, above, live).or(first_cause(d, live, &Test::Looks)),
+        Edit::Sym { .. } => look_cause(d, above, live),
         Edit::Delete { n } => locked(d, above, live)
             .or(silent(d, *n))
             .or(first_cause(d, live, &Test::Marks)),
         Edit::Append(new) => other_axes(d.dim, new.axes).or(growth_cause(d, appended, pending)),
+    }
+}
+
+// What is against another look of a part with these headers above it and these live elements. A part that is one
+// element by itself below no header is looked at once.
+fn look_cause(d: &Design, above: &[u32], live: &[u32]) -> Option<Cause>
+    requires { IsWhole d.now }
+    ensures { result ≡ option_or (first_cause d.now.dim Test.Unlocked
+        (found (elements d.now) above.now ++ found (elements d.now) live.now))
+        (first_cause d.now.dim Test.Looks (found (elements d.now) live.now)) }
+{
+    match lone(above, live) {
+        Some(m) => lone_look_cause(d, m),
+        None => locked(d, above, live).or(first_cause(d, live, &Test::Looks)),
     }
 }
 

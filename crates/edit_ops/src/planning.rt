@@ -175,34 +175,6 @@ fn plan_found(
             }
         }
     }
-    plan_listed(alloc, d, t, n, edit, pending, above, live, all)
-}
-
-// The same, whatever part it is.
-fn plan_listed(
-    alloc: Global,
-    d: &Design,
-    t: &Nest,
-    n: u32,
-    edit: &Edit,
-    pending: usize,
-    above: &[u32],
-    live: &[u32],
-    all: &mut Plan,
-) -> Result<(), EditFault>
-    requires whole { IsWhole d.now }
-    requires nesting { t.now.rows ≡ map row_of (elements d.now) }
-    requires room { length d.now.body.items + (length d.now.tail.items + pending) ≤ 67108864 }
-    requires known { n < length (elements d.now) }
-    requires target { target_of edit.now ≡ Some n }
-    requires fits { IsEdit edit.now }
-    requires above { found (elements d.now) above.now ≡ above_tree (elements d.now) n }
-    requires live { found (elements d.now) live.now ≡ live_tree (elements d.now) n }
-    ensures planned { IfOk result
-        (λ _. IsPlanBehind d.now.dim (elements d.now) (length d.now.tail.items + pending) edit.now all.old all.new) }
-    ensures refused { IfErr result
-        (IsRefused (apply d.now.dim (elements d.now) (length d.now.tail.items + pending) edit.now)) }
-{
     if let Some(cause) = later_cause(d, t, n, edit, above, live, pending) {
         return Err(EditFault::Refused(cause));
     }
