@@ -13,6 +13,7 @@ pub mod Generation
 pub mod Applied
 pub mod SecondFiles
 pub mod Outcome
+pub mod Ways
 pub mod Told
 pub mod Laws
 pub mod PatchLaws

@@ -28,6 +28,7 @@ mod status;
 mod steps;
 mod tally;
 mod top;
+mod ways;
 
 pub use answers::answer;
 pub use generator::generate;

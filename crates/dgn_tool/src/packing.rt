@@ -1,8 +1,7 @@
 // Packing what the commands of a script do to a drawing.
 
-ghost use Rattle.std.specs.Prelude.{◌≡◌, ◌≤◌, ◌<◌, ◌++◌, codes, length, reverse, IfOk, OnOk, IfSome, IsTrue};
+ghost use Rattle.std.specs.Prelude.{◌≡◌, ◌≤◌, ◌<◌, ◌++◌, codes, length, reverse, IfOk, OnOk, IsTrue};
 ghost use Rattle.std.specs.List.{AllByRecursion};
-ghost use Rattle.dgn_desk.specs.Content.{OnlyLeftDiffers};
 ghost use Rattle.dgn_import.specs.Seconds.{IsSound as IsSoundSecond};
 ghost use Rattle.dgn_desk.specs.Desk.{Rose};
 ghost use Rattle.elem_index.specs.Design.{IsWhole};
@@ -15,11 +14,10 @@ ghost use Rattle.dgn_tool.specs.Commands.{begun};
 ghost use Rattle.dgn_tool.specs.Given.{given_all, refused_count};
 ghost use Rattle.dgn_tool.specs.Lines.{numbered};
 ghost use Rattle.dgn_tool.specs.Packing.{packed, packed_from, packed_after, filed_patch, TakesLast};
-ghost use Rattle.dgn_tool.specs.Outcome.{run_outcome, IsEnding, ComesTo, IsFaultless, HasAll};
+ghost use Rattle.dgn_tool.specs.Outcome.{IsEnding, ComesTo, IsFaultless};
 ghost use Rattle.dgn_tool.specs.SecondFiles.{waiting};
 
 use crate::ending::{end, stopped};
-use crate::inputs::{Inputs, read_inputs};
 use crate::lines::push_numbered;
 use crate::status::Status;
 use crate::tally::run_unsaid;
@@ -43,40 +41,8 @@ struct Packed {
     entries: Vec<PatchEntry>,
 }
 
-// Reads what the script is run with, and packs what it does to the design.
-pub(crate) fn pack<D: Desk>(
-    alloc: Global,
-    desk: &mut D,
-    input: &str,
-    script: &str,
-    patch: &str,
-) -> Status
-    ensures outcome { ComesTo result
-        (λ files. run_outcome input.now script.now files (λ d gs. packed d gs patch.now))
-        (D.content desk.old) (D.content desk.new) }
-    ensures counted { IsEnding result → (D.read_faults desk.new ≡ D.read_faults desk.old)
-        × (D.write_faults desk.new ≡ D.write_faults desk.old) }
-    ensures usage { result ≡ Status.Usage → ⊥ }
-    ensures read { result ≡ Status.ReadFault → Rose (D.read_faults desk.old) (D.read_faults desk.new) }
-    ensures unread { result ≡ Status.ReadFault → OnlyLeftDiffers (D.content desk.old) (D.content desk.new) }
-    ensures write { result ≡ Status.WriteFault → Rose (D.write_faults desk.old) (D.write_faults desk.new) }
-    ensures able { IsTrue (D.willing desk.old)
-        → IfSome (D.content desk.old) (λ c. HasAll input.now script.now c.files) → IsFaultless result }
-{
-    match read_inputs(alloc, desk, input, script) {
-        Ok(
-            Inputs {
-                design,
-                commands,
-                mut seconds,
-            },
-        ) => pack_commands(alloc, desk, design, &commands, &mut seconds, patch),
-        Err(status) => status,
-    }
-}
-
 // Runs the commands on the design, and files what they did.
-fn pack_commands<D: Desk>(
+pub(crate) fn pack_commands<D: Desk>(
     alloc: Global,
     desk: &mut D,
     design: Design,

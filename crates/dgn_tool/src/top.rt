@@ -10,8 +10,8 @@ ghost use Rattle.dgn_session.specs.State.{state_of};
 ghost use Rattle.dgn_tool.specs.Filling.{file_made};
 ghost use Rattle.dgn_tool.specs.Given.{given_all};
 ghost use Rattle.dgn_tool.specs.Request.{request_of};
-ghost use Rattle.dgn_tool.specs.Outcome.{outcome, input_outcome, run_outcome, told, told_from, checked};
-ghost use Rattle.dgn_tool.specs.Outcome.{IsEnding, EndsAs, StoppedAs, ComesTo, IsFaultless, HasAll, HasFiles, Reads, EndsScript, ReadsAs};
+ghost use Rattle.dgn_tool.specs.Outcome.{outcome, input_outcome, told, told_from, checked};
+ghost use Rattle.dgn_tool.specs.Outcome.{IsEnding, EndsAs, StoppedAs, ComesTo, IsFaultless, HasFiles, Reads, EndsScript, ReadsAs};
 ghost use Rattle.dgn_tool.specs.SecondFiles.{waiting};
 
 use crate::applying::apply;
@@ -19,11 +19,10 @@ use crate::commands::run_all;
 use crate::ending::{end, end_numbered, stopped};
 use crate::filling::write_filled;
 use crate::generation::generate_file;
-use crate::inputs::{Inputs, read_inputs};
 use crate::opening::{end_bad_design, read_input};
-use crate::packing::pack;
 use crate::request::{Request, read_words};
 use crate::status::Status;
+use crate::ways::{Way, run_inputs};
 use dgn_desk::{Desk, ReadEnd, Stop, read_all};
 use dgn_import::Second;
 use dgn_session::Session;
@@ -77,7 +76,7 @@ pub fn run<D: Desk>(alloc: Global, words: &[String], desk: &mut D) -> Status
                 script,
                 output,
             },
-        ) => edit(alloc, desk, input, script, output),
+        ) => run_inputs(alloc, desk, input, script, Way::Edit(output)),
         Some(Request::Check { input }) => check(alloc, desk, input),
         Some(
             Request::Gen {
@@ -92,7 +91,7 @@ pub fn run<D: Desk>(alloc: Global, words: &[String], desk: &mut D) -> Status
                 script,
                 patch,
             },
-        ) => pack(alloc, desk, input, script, patch),
+        ) => run_inputs(alloc, desk, input, script, Way::Pack(patch)),
         Some(
             Request::Apply {
                 input,
@@ -127,32 +126,6 @@ fn check<D: Desk>(alloc: Global, desk: &mut D, input: &str) -> Status
     match count_elements(&bytes) {
         Ok(count) => end_numbered(alloc, desk, b"elements ", count, Status::Done),
         Err(fault) => end_bad_design(alloc, desk, fault),
-    }
-}
-
-// Reads what the script is run with, and runs it on the design.
-fn edit<D: Desk>(alloc: Global, desk: &mut D, input: &str, script: &str, output: &str) -> Status
-    ensures outcome { ComesTo result
-        (λ files. run_outcome input.now script.now files (λ d gs. told d gs output.now))
-        (D.content desk.old) (D.content desk.new) }
-    ensures counted { IsEnding result → (D.read_faults desk.new ≡ D.read_faults desk.old)
-        × (D.write_faults desk.new ≡ D.write_faults desk.old) }
-    ensures usage { result ≡ Status.Usage → ⊥ }
-    ensures read { result ≡ Status.ReadFault → Rose (D.read_faults desk.old) (D.read_faults desk.new) }
-    ensures unread { result ≡ Status.ReadFault → OnlyLeftDiffers (D.content desk.old) (D.content desk.new) }
-    ensures write { result ≡ Status.WriteFault → Rose (D.write_faults desk.old) (D.write_faults desk.new) }
-    ensures able { IsTrue (D.willing desk.old)
-        → IfSome (D.content desk.old) (λ c. HasAll input.now script.now c.files) → IsFaultless result }
-{
-    match read_inputs(alloc, desk, input, script) {
-        Ok(
-            Inputs {
-                design,
-                commands,
-                mut seconds,
-            },
-        ) => run_script(alloc, desk, design, &commands, &mut seconds, output),
-        Err(status) => status,
     }
 }
 
@@ -196,7 +169,7 @@ pub(crate) fn read_commands<D: Desk>(
 }
 
 // Begins a session, and goes on with the commands.
-fn run_script<D: Desk>(
+pub(crate) fn run_script<D: Desk>(
     alloc: Global,
     desk: &mut D,
     design: Design,
