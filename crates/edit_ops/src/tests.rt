@@ -1,6 +1,6 @@
 // Plans of edits on worked drawings.
 
-ghost use Rattle.std.specs.Prelude.{◌≡◌, ◌<◌, ◌&&◌, [], ◌∷◌, nat_le, length, map, IfOk};
+ghost use Rattle.std.specs.Prelude.{◌≡◌, ◌<◌, ◌≤◌, ◌&&◌, [], ◌∷◌, nat_le, length, map, IfOk};
 ghost use Rattle.dgn_drawing.specs.Rows.{row_of};
 ghost use Rattle.elem_index.specs.Design.{elements, IsWhole};
 ghost use Rattle.edit_ops.specs.Fenced.{AreRoots};
@@ -15,9 +15,10 @@ use nest_tree::nest;
 use nest_tree::types::Nest;
 use patch_bytes::{ByteList, Patch};
 use plane_geom::PointList;
-use sample_elements::{CELL, LINE, MEMBER, NEW_CHAIN, NEW_LINE, SHARED_CELL, TEXT, drawing};
+use sample_elements::{
+    CELL, FREED_COPY, LINE, LOCKED_MEMBER, MEMBER, NEW_CHAIN, NEW_LINE, SHARED_CELL, TEXT, drawing,
+};
 use std::alloc::{AllocError, Global};
-use std::process::Abort;
 use std::test::Fail;
 
 // The nesting of a drawing.
@@ -29,71 +30,37 @@ fn nested(alloc: Global, d: &Design) -> Result<Nest, AllocError>
     nest(alloc, &rows)
 }
 
-// A drawing: a TCB of two or three axes, an element and its member, or none, and no tail.
-fn file(alloc: Global, axes: u8, top: &[u8], member: &[u8]) -> Result<Vec<u8>, AllocError> {
+// A drawing of few bytes: a TCB of two or three axes, these elements, and no tail.
+fn opened(alloc: Global, axes: u8, elements: &[&[u8]]) -> Result<Design, Fail>
+    ensures whole { IfOk result IsWhole }
+    ensures few { IfOk result (λ d. length d.body.items ≤ 1700) }
+    ensures alone { IfOk result (λ d. length d.tail.items ≡ 0) }
+{
     let mark = if axes == 3 { 0x40 } else { 0 };
-    drawing(alloc, 0x08, mark, &[top, member])
+    let bytes = drawing(alloc, 0x08, mark, elements)?;
+    if bytes.len() > 67108864 {
+        return Err(Fail::from("too long"));
+    }
+    let design = read_design(alloc, bytes)?;
+    if design.body.len() > 1700 || !design.tail.is_empty() {
+        return Err(Fail::from("more bytes"));
+    }
+    Ok(design)
 }
 
-// What an edit of a drawing of these elements comes to, where so many bytes are pending.
+// What an edit of a drawing of these elements comes to, where at most 67107164 bytes are pending.
 fn planned(
-    rt: &(impl AllocGlobal + Abort),
+    alloc: Global,
     axes: u8,
-    top: &[u8],
-    member: &[u8],
+    elements: &[&[u8]],
     edit: &Edit,
     pending: usize,
-) -> Result<Result<Plan, EditFault>, Fail> {
-    let alloc = rt.alloc();
-    let bytes = file(alloc, axes, top, member)?;
-    assert!(rt; bytes.len() <= 67108864);
-    let Ok(design) = read_design(alloc, bytes) else {
-        panic!(rt; "it doesn't open");
-    };
+) -> Result<Result<Plan, EditFault>, Fail>
+    requires { pending ≤ 67107164 }
+{
+    let design = opened(alloc, axes, elements)?;
     let nesting = nested(alloc, &design)?;
-    assert!(rt; design.body.len() <= 2000);
-    assert!(rt; design.tail.is_empty());
-    assert!(rt; pending <= 67108864 - design.body.len());
     Ok(plan(alloc, &design, &nesting, edit, pending))
-}
-
-// An edit of the cell and its member is planned as these patches, with nothing to append.
-fn is_planned(rt: &(impl AllocGlobal + Abort), edit: &Edit, wanted: &[Patch]) -> Result<(), Fail> {
-    let Ok(plan) = planned(rt, 2, &CELL, &MEMBER, edit, 0)? else {
-        panic!(rt; "it is refused");
-    };
-    assert!(rt; plan.append.is_empty());
-    assert_eq!(rt; plan.patches.as_slice(), wanted);
-    Ok(())
-}
-
-// Edits of these elements are refused, each with its cause.
-fn are_refused(
-    rt: &(impl AllocGlobal + Abort),
-    top: &[u8],
-    member: &[u8],
-    rows: &[(Edit, Cause)],
-) -> Result<(), Fail> {
-    for (edit, cause) in rows {
-        let fault = planned(rt, 2, top, member, edit, 0)?.err();
-        assert_eq!(rt; fault, Some(EditFault::Refused(*cause)));
-    }
-    Ok(())
-}
-
-// What an edit of these elements appends, where it is planned.
-fn appended(
-    rt: &(impl AllocGlobal + Abort),
-    axes: u8,
-    top: &[u8],
-    member: &[u8],
-    edit: &Edit,
-) -> Result<ByteList, Fail> {
-    let Ok(plan) = planned(rt, axes, top, member, edit, 0)? else {
-        panic!(rt; "it is refused");
-    };
-    assert!(rt; plan.patches.is_empty());
-    Ok(plan.append)
 }
 
 // A displacement in two axes.
@@ -104,134 +71,159 @@ fn along(x: i32, y: i32) -> Shift {
     }
 }
 
-// A coordinate field.
-fn field(at: u32, bytes: [u8; 4]) -> Patch {
-    Patch { at, len: 4, bytes }
+// Whether patches put so many bytes at each of these places.
+fn are_patches(patches: &[Patch], len: u8, wanted: &[(u32, [u8; 4])]) -> bool {
+    for (patch, (at, bytes)) in patches.iter().zip(wanted) {
+        if patch.at != *at || patch.len != len || patch.bytes != *bytes {
+            return false;
+        }
+    }
+    patches.len() == wanted.len()
 }
+
+// Whether an edit of the cell and its member is planned as these patches, with nothing to append.
+fn is_planned(
+    alloc: Global,
+    edit: &Edit,
+    len: u8,
+    wanted: &[(u32, [u8; 4])],
+) -> Result<bool, Fail> {
+    let plan = planned(alloc, 2, &[&CELL, &MEMBER], edit, 0)??;
+    Ok(plan.append.is_empty() && are_patches(plan.patches.as_slice(), len, wanted))
+}
+
+// The fourteen fields of the cell and its member, moved by 5,7.
+const MOVED_CELL: [(u32, [u8; 4]); 14] = [
+    (1540, [0x00, 0x80, 0x05, 0x00]),
+    (1544, [0x00, 0x80, 0x07, 0x00]),
+    (1552, [0x00, 0x80, 0x69, 0x00]),
+    (1556, [0x00, 0x80, 0x39, 0x00]),
+    (1620, [0x00, 0x00, 0x05, 0x00]),
+    (1624, [0x00, 0x00, 0x07, 0x00]),
+    (1632, [0x00, 0x80, 0x05, 0x00]),
+    (1636, [0x00, 0x80, 0x07, 0x00]),
+    (1644, [0x00, 0x80, 0x69, 0x00]),
+    (1648, [0x00, 0x80, 0x39, 0x00]),
+    (1664, [0x00, 0x00, 0x05, 0x00]),
+    (1668, [0x00, 0x00, 0x07, 0x00]),
+    (1672, [0x00, 0x00, 0x69, 0x00]),
+    (1676, [0x00, 0x00, 0x39, 0x00]),
+];
+
+// The range of the cell that holds its member moved by 1,1, and the fields of the member.
+const MOVED_MEMBER: [(u32, [u8; 4]); 12] = [
+    (1540, [0x00, 0x80, 0x00, 0x00]),
+    (1544, [0x00, 0x80, 0x00, 0x00]),
+    (1552, [0x00, 0x80, 0x65, 0x00]),
+    (1556, [0x00, 0x80, 0x33, 0x00]),
+    (1632, [0x00, 0x80, 0x01, 0x00]),
+    (1636, [0x00, 0x80, 0x01, 0x00]),
+    (1644, [0x00, 0x80, 0x65, 0x00]),
+    (1648, [0x00, 0x80, 0x33, 0x00]),
+    (1664, [0x00, 0x00, 0x01, 0x00]),
+    (1668, [0x00, 0x00, 0x01, 0x00]),
+    (1672, [0x00, 0x00, 0x65, 0x00]),
+    (1676, [0x00, 0x00, 0x33, 0x00]),
+];
+
+// Colour 9, weight 3 and style 4.
+const LOOKS: [(u32, [u8; 4]); 2] = [(1570, [0x1C, 0x09, 0, 0]), (1662, [0x1C, 0x09, 0, 0])];
+
+// The deleted bit of both.
+const MARKS: [(u32, [u8; 4]); 2] = [(1537, [0x82, 0, 0, 0]), (1629, [0x83, 0, 0, 0])];
 
 #[test]
 fn plans_of_a_cell(rt: HostRuntime) -> Result<(), Fail> {
+    let alloc = rt.alloc();
     let by = along(5, 7);
-    let moved = [
-        field(1540, [0x00, 0x80, 0x05, 0x00]),
-        field(1544, [0x00, 0x80, 0x07, 0x00]),
-        field(1552, [0x00, 0x80, 0x69, 0x00]),
-        field(1556, [0x00, 0x80, 0x39, 0x00]),
-        field(1620, [0x00, 0x00, 0x05, 0x00]),
-        field(1624, [0x00, 0x00, 0x07, 0x00]),
-        field(1632, [0x00, 0x80, 0x05, 0x00]),
-        field(1636, [0x00, 0x80, 0x07, 0x00]),
-        field(1644, [0x00, 0x80, 0x69, 0x00]),
-        field(1648, [0x00, 0x80, 0x39, 0x00]),
-        field(1664, [0x00, 0x00, 0x05, 0x00]),
-        field(1668, [0x00, 0x00, 0x07, 0x00]),
-        field(1672, [0x00, 0x00, 0x69, 0x00]),
-        field(1676, [0x00, 0x00, 0x39, 0x00]),
-    ];
-    is_planned(&rt, &Edit::Move { n: 1, by }, &moved)?;
+    assert!(rt; is_planned(alloc, &Edit::Move { n: 1, by }, 4, &MOVED_CELL)?);
+    let by = along(1, 1);
+    assert!(rt; is_planned(alloc, &Edit::Move { n: 2, by }, 4, &MOVED_MEMBER)?);
     let change = SymbChange {
         color: Some(9),
         weight: Some(3),
         style: Some(4),
     };
-    let looks = [1570, 1662].map(|at| Patch {
-        at,
-        len: 2,
-        bytes: [0x1C, 0x09, 0, 0],
-    });
-    is_planned(&rt, &Edit::Sym { n: 1, change }, &looks)?;
-    let marks = [(1537, 0x82), (1629, 0x83)].map(|(at, byte)| Patch {
-        at,
-        len: 1,
-        bytes: [byte, 0, 0, 0],
-    });
-    is_planned(&rt, &Edit::Delete { n: 1 }, &marks)
+    assert!(rt; is_planned(alloc, &Edit::Sym { n: 1, change }, 2, &LOOKS)?);
+    assert!(rt; is_planned(alloc, &Edit::Delete { n: 1 }, 1, &MARKS)?);
+    Ok(())
 }
 
-#[test]
-fn plans_of_a_member(rt: HostRuntime) -> Result<(), Fail> {
-    let moved = [
-        field(1540, [0x00, 0x80, 0x00, 0x00]),
-        field(1544, [0x00, 0x80, 0x00, 0x00]),
-        field(1552, [0x00, 0x80, 0x65, 0x00]),
-        field(1556, [0x00, 0x80, 0x33, 0x00]),
-        field(1632, [0x00, 0x80, 0x01, 0x00]),
-        field(1636, [0x00, 0x80, 0x01, 0x00]),
-        field(1644, [0x00, 0x80, 0x65, 0x00]),
-        field(1648, [0x00, 0x80, 0x33, 0x00]),
-        field(1664, [0x00, 0x00, 0x01, 0x00]),
-        field(1668, [0x00, 0x00, 0x01, 0x00]),
-        field(1672, [0x00, 0x00, 0x65, 0x00]),
-        field(1676, [0x00, 0x00, 0x33, 0x00]),
-    ];
-    let by = along(1, 1);
-    is_planned(&rt, &Edit::Move { n: 2, by }, &moved)
+// Whether an edit of two elements is refused with this cause.
+fn is_refused(
+    alloc: Global,
+    top: &[u8],
+    member: &[u8],
+    edit: &Edit,
+    cause: Cause,
+) -> Result<bool, Fail> {
+    match planned(alloc, 2, &[top, member], edit, 0)? {
+        Err(EditFault::Refused(first)) => Ok(first == cause),
+        _ => Ok(false),
+    }
 }
 
-// A locked member, a header whose total no members have, a shared cell definition, and a mark of the look.
+// A header whose total no members have, a locked member, and a shared cell definition.
 #[test]
 fn refused_edits(rt: HostRuntime) -> Result<(), Fail> {
+    let mut loose = CELL;
+    loose[36] = 0x34;
     let by = Shift {
         axes: 3,
         by: [1, 1, 1],
     };
     let rows = [
-        (Edit::Delete { n: 9 }, Cause::Unknown(9)),
-        (Edit::Delete { n: 0 }, Cause::Opaque(0)),
-        (Edit::Copy { n: 1, by }, Cause::Dimension),
+        (CELL, MEMBER, Edit::Delete { n: 9 }, Cause::Unknown(9)),
+        (CELL, MEMBER, Edit::Delete { n: 0 }, Cause::Opaque(0)),
+        (CELL, MEMBER, Edit::Copy { n: 1, by }, Cause::Dimension),
+        (loose, MEMBER, Edit::Delete { n: 1 }, Cause::Broken(1)),
+        (loose, MEMBER, Edit::Delete { n: 2 }, Cause::Broken(2)),
+        (CELL, LOCKED_MEMBER, Edit::Delete { n: 1 }, Cause::Locked(2)),
     ];
-    are_refused(&rt, &CELL, &MEMBER, &rows)?;
-    let mut loose = CELL;
-    loose[36] = 0x34;
-    let rows = [
-        (Edit::Delete { n: 1 }, Cause::Broken(1)),
-        (Edit::Delete { n: 2 }, Cause::Broken(2)),
-    ];
-    are_refused(&rt, &loose, &MEMBER, &rows)?;
-    let mut locked = MEMBER;
-    locked[33] = 0x01;
-    let change = SymbChange {
-        color: Some(1),
-        weight: None,
-        style: None,
+    for (top, member, edit, cause) in &rows {
+        assert!(rt; is_refused(rt.alloc(), top, member, edit, *cause)?);
+    }
+    let edit = Edit::Move {
+        n: 2,
+        by: along(1, 1),
     };
-    let by = along(1, 1);
-    let rows = [
-        (Edit::Delete { n: 1 }, Cause::Locked(2)),
-        (Edit::Sym { n: 2, change }, Cause::Locked(2)),
-        (Edit::Move { n: 1, by }, Cause::Locked(2)),
-    ];
-    are_refused(&rt, &CELL, &locked, &rows)?;
-    let by = along(1, 1);
-    let rows = [(Edit::Move { n: 2, by }, Cause::Opaque(1))];
-    are_refused(&rt, &SHARED_CELL, &MEMBER, &rows)
+    assert!(rt; is_refused(rt.alloc(), &SHARED_CELL, &MEMBER, &edit, Cause::Opaque(1))?);
+    Ok(())
+}
+
+// What an edit of a drawing of these elements appends, where it writes nothing into it.
+fn appended(alloc: Global, axes: u8, elements: &[&[u8]], edit: &Edit) -> Result<ByteList, Fail> {
+    let plan = planned(alloc, axes, elements, edit, 0)??;
+    if !plan.patches.is_empty() {
+        return Err(Fail::from("patches"));
+    }
+    Ok(plan.append)
+}
+
+// Whether bytes are two parts, one behind the other.
+fn are_joined(bytes: &[u8], first: &[u8], second: &[u8]) -> bool {
+    match (bytes.get(..first.len()), bytes.get(first.len()..)) {
+        (Some(head), Some(rest)) => head == first && rest == second,
+        _ => false,
+    }
 }
 
 // A copied member has no bit C, and stands where it was moved to; a copied cell is locked where it was.
 #[test]
 fn copies(rt: HostRuntime) -> Result<(), Fail> {
-    let by = along(10, 10);
-    let copy = appended(&rt, 2, &CELL, &MEMBER, &Edit::Copy { n: 2, by })?;
-    assert_eq!(rt; copy.len(), 52);
-    assert_eq!(rt; copy.get(0), Some(0x01));
-    assert_eq!(rt;
-        copy.as_slice().get(36..52),
-        Some([
-            0x00, 0x00, 0x0A, 0x00, 0x00, 0x00, 0x0A, 0x00, 0x00, 0x00, 0x6E, 0x00, 0x00, 0x00,
-            0x3C, 0x00
-        ]
-        .as_slice())
-    );
-    let mut locked = MEMBER;
-    locked[33] = 0x01;
-    let by = along(0, 0);
-    let copy = appended(&rt, 2, &CELL, &locked, &Edit::Copy { n: 1, by })?;
-    let mut wanted = Vec::from_slice(rt.alloc(), &CELL)?;
-    wanted.extend_from_slice(&locked)?;
-    assert_eq!(rt; copy.as_slice(), wanted.as_slice());
-    let by = along(1, 1);
-    let copy = appended(&rt, 2, &SHARED_CELL, &MEMBER, &Edit::Copy { n: 2, by })?;
-    assert_eq!(rt; copy.get(0), Some(0x01));
+    let alloc = rt.alloc();
+    let edit = Edit::Copy {
+        n: 2,
+        by: along(10, 10),
+    };
+    let copy = appended(alloc, 2, &[&CELL, &MEMBER], &edit)?;
+    assert_eq!(rt; copy.as_slice(), FREED_COPY.as_slice());
+    let edit = Edit::Copy {
+        n: 1,
+        by: along(0, 0),
+    };
+    let copy = appended(alloc, 2, &[&CELL, &LOCKED_MEMBER], &edit)?;
+    assert!(rt; are_joined(copy.as_slice(), &CELL, &LOCKED_MEMBER));
     Ok(())
 }
 
@@ -239,24 +231,16 @@ fn copies(rt: HostRuntime) -> Result<(), Fail> {
 #[test]
 fn copied_trees(rt: HostRuntime) -> Result<(), Fail> {
     let alloc = rt.alloc();
-    let bytes = drawing(alloc, 0x08, 0, &[&LINE])?;
-    assert!(rt; bytes.len() <= 67108864);
-    let Ok(design) = read_design(alloc, bytes) else {
-        panic!(rt; "it doesn't open");
-    };
+    let design = opened(alloc, 2, &[&LINE])?;
     let nesting = nested(alloc, &design)?;
     assert!(rt; 1 < design.count());
     let mut copy = ByteList::new(alloc);
     copy.push(9)?;
-    let by = along(i32::MAX, 0);
-    let refused = copy_tree(alloc, &design, &nesting, 1, &by, &mut copy);
-    assert_eq!(rt; refused, Err(EditFault::Refused(Cause::OffPlane(1))));
+    let far = along(i32::MAX, 0);
+    let refused = copy_tree(alloc, &design, &nesting, 1, &far, &mut copy).err();
+    assert_eq!(rt; refused, Some(EditFault::Refused(Cause::OffPlane(1))));
     assert_eq!(rt; copy.len(), 1);
-    let by = along(0, 0);
-    assert_eq!(rt;
-        copy_tree(alloc, &design, &nesting, 1, &by, &mut copy),
-        Ok(())
-    );
+    copy_tree(alloc, &design, &nesting, 1, &along(0, 0), &mut copy)?;
     assert_eq!(rt; copy.as_slice().get(1..), Some(LINE.as_slice()));
     Ok(())
 }
@@ -264,14 +248,15 @@ fn copied_trees(rt: HostRuntime) -> Result<(), Fail> {
 // A copy of 52 bytes just fits behind so many pending ones, and not behind one more.
 #[test]
 fn length_limits(rt: HostRuntime) -> Result<(), Fail> {
+    let alloc = rt.alloc();
     let free = 67108864 - 1680;
     let edit = Edit::Copy {
         n: 2,
         by: along(0, 0),
     };
-    let fits = planned(&rt, 2, &CELL, &MEMBER, &edit, free - 52)?;
+    let fits = planned(alloc, 2, &[&CELL, &MEMBER], &edit, free - 52)?;
     assert!(rt; fits.is_ok());
-    let long = planned(&rt, 2, &CELL, &MEMBER, &edit, free - 51)?;
+    let long = planned(alloc, 2, &[&CELL, &MEMBER], &edit, free - 51)?;
     assert_eq!(rt; long.err(), Some(EditFault::Refused(Cause::TooLong)));
     Ok(())
 }
@@ -345,14 +330,20 @@ fn new_text(alloc: Global) -> Result<New, AllocError> {
 #[test]
 fn appended_elements(rt: HostRuntime) -> Result<(), Fail> {
     let alloc = rt.alloc();
-    let line = appended(&rt, 2, &[], &[], &Edit::Append(new_line(alloc)?))?;
-    assert_eq!(rt; line.as_slice(), NEW_LINE.as_slice());
-    let text = appended(&rt, 2, &[], &[], &Edit::Append(new_text(alloc)?))?;
-    assert_eq!(rt; text.as_slice(), TEXT.as_slice());
-    let chain = appended(&rt, 3, &[], &[], &Edit::Append(new_chain(alloc)?))?;
-    assert_eq!(rt; chain.as_slice(), NEW_CHAIN.as_slice());
-    let refused = planned(&rt, 3, &[], &[], &Edit::Append(new_line(alloc)?), 0)?;
-    assert_eq!(rt; refused.err(), Some(EditFault::Refused(Cause::Dimension)));
+    let line = Edit::Append(new_line(alloc)?);
+    assert_eq!(rt;
+        appended(alloc, 2, &[], &line)?.as_slice(),
+        NEW_LINE.as_slice()
+    );
+    let text = Edit::Append(new_text(alloc)?);
+    assert_eq!(rt; appended(alloc, 2, &[], &text)?.as_slice(), TEXT.as_slice());
+    let chain = Edit::Append(new_chain(alloc)?);
+    assert_eq!(rt;
+        appended(alloc, 3, &[], &chain)?.as_slice(),
+        NEW_CHAIN.as_slice()
+    );
+    let refused = planned(alloc, 3, &[], &line, 0)?.err();
+    assert_eq!(rt; refused, Some(EditFault::Refused(Cause::Dimension)));
     Ok(())
 }
 
@@ -403,72 +394,52 @@ const LINES: [u8; 156] = [
     0x00, 0x00, 0x05, 0x00,
 ];
 
-// The lines with y one greater: the low bytes of y in the range and in the points.
-fn raised(alloc: Global) -> Result<Vec<u8>, AllocError> {
-    let mut bytes = Vec::from_slice(alloc, &LINES)?;
-    for (i, byte) in bytes.iter_mut().enumerate() {
-        if [10, 22, 42, 50].contains(&(i % 52)) {
-            *byte = byte.wrapping_add(1);
-        }
-    }
-    Ok(bytes)
-}
-
 // What an edit of the roots with numbers from `first` to `last` of the drawing of these lines comes to.
 fn all_planned(
-    rt: &(impl AllocGlobal + Abort),
+    alloc: Global,
     first: u32,
     last: u32,
     edit: &FenceEdit,
 ) -> Result<Result<Plan, EditFault>, Fail> {
-    let alloc = rt.alloc();
-    let bytes = file(alloc, 2, &LINES, &[])?;
-    assert!(rt; bytes.len() <= 67108864);
-    let Ok(design) = read_design(alloc, bytes) else {
-        panic!(rt; "it doesn't open");
-    };
+    let design = opened(alloc, 2, &[&LINES])?;
     let nesting = nested(alloc, &design)?;
     let roots = roots_between(alloc, &design, &nesting, first, last)?;
     Ok(plan_all(alloc, &design, &nesting, &roots, edit))
 }
 
+// The first two of these lines, moved by 1,0.
+const MOVED_LINES: [(u32, [u8; 4]); 16] = [
+    (1540, [0x00, 0x80, 0x01, 0x00]),
+    (1544, [0x00, 0x80, 0x00, 0x00]),
+    (1552, [0x00, 0x80, 0x02, 0x00]),
+    (1556, [0x00, 0x80, 0x01, 0x00]),
+    (1572, [0x00, 0x00, 0x01, 0x00]),
+    (1576, [0x00, 0x00, 0x00, 0x00]),
+    (1580, [0x00, 0x00, 0x02, 0x00]),
+    (1584, [0x00, 0x00, 0x01, 0x00]),
+    (1592, [0x00, 0x80, 0x03, 0x00]),
+    (1596, [0x00, 0x80, 0x02, 0x00]),
+    (1604, [0x00, 0x80, 0x04, 0x00]),
+    (1608, [0x00, 0x80, 0x03, 0x00]),
+    (1624, [0x00, 0x00, 0x03, 0x00]),
+    (1628, [0x00, 0x00, 0x02, 0x00]),
+    (1632, [0x00, 0x00, 0x04, 0x00]),
+    (1636, [0x00, 0x00, 0x03, 0x00]),
+];
+
 // All or nothing: one root that leaves the plane refuses the move of all. Two that don't are moved one after the other,
 // copies come one behind the other, and of no root nothing is planned.
 #[test]
 fn edits_of_several_roots(rt: HostRuntime) -> Result<(), Fail> {
-    let refused = all_planned(&rt, 1, 3, &FenceEdit::Move(along(1, 0)))?;
-    assert_eq!(rt; refused.err(), Some(EditFault::Refused(Cause::OffPlane(3))));
-    let moved = [
-        field(1540, [0x00, 0x80, 0x01, 0x00]),
-        field(1544, [0x00, 0x80, 0x00, 0x00]),
-        field(1552, [0x00, 0x80, 0x02, 0x00]),
-        field(1556, [0x00, 0x80, 0x01, 0x00]),
-        field(1572, [0x00, 0x00, 0x01, 0x00]),
-        field(1576, [0x00, 0x00, 0x00, 0x00]),
-        field(1580, [0x00, 0x00, 0x02, 0x00]),
-        field(1584, [0x00, 0x00, 0x01, 0x00]),
-        field(1592, [0x00, 0x80, 0x03, 0x00]),
-        field(1596, [0x00, 0x80, 0x02, 0x00]),
-        field(1604, [0x00, 0x80, 0x04, 0x00]),
-        field(1608, [0x00, 0x80, 0x03, 0x00]),
-        field(1624, [0x00, 0x00, 0x03, 0x00]),
-        field(1628, [0x00, 0x00, 0x02, 0x00]),
-        field(1632, [0x00, 0x00, 0x04, 0x00]),
-        field(1636, [0x00, 0x00, 0x03, 0x00]),
-    ];
-    let copied = raised(rt.alloc())?;
-    let none: [Patch; 0] = [];
-    let rows = [
-        (2, FenceEdit::Move(along(1, 0)), moved.as_slice(), 0),
-        (3, FenceEdit::Copy(along(0, 1)), none.as_slice(), 156),
-        (0, FenceEdit::Delete, none.as_slice(), 0),
-    ];
-    for (last, edit, patches, appended) in &rows {
-        let Ok(plan) = all_planned(&rt, 1, *last, edit)? else {
-            panic!(rt; "it is refused");
-        };
-        assert_eq!(rt; plan.patches.as_slice(), *patches);
-        assert_eq!(rt; Some(plan.append.as_slice()), copied.get(..*appended));
-    }
+    let alloc = rt.alloc();
+    let right = FenceEdit::Move(along(1, 0));
+    let refused = all_planned(alloc, 1, 3, &right)?.err();
+    assert_eq!(rt; refused, Some(EditFault::Refused(Cause::OffPlane(3))));
+    let moved = all_planned(alloc, 1, 2, &right)??;
+    assert!(rt; are_patches(moved.patches.as_slice(), 4, &MOVED_LINES));
+    let copied = all_planned(alloc, 1, 3, &FenceEdit::Copy(along(0, 0)))??;
+    assert_eq!(rt; copied.append.as_slice(), LINES.as_slice());
+    let none = all_planned(alloc, 1, 0, &FenceEdit::Delete)??;
+    assert!(rt; none.patches.is_empty());
     Ok(())
 }
