@@ -14,14 +14,11 @@ ghost use Rattle.dgn_fence.specs.Outlines.{path_outline, range_outline, outline_
 use crate::bounds::Bounds;
 use crate::extent::flat;
 use body_vertex::path;
-use dgn_layout::class;
 use dgn_layout::types::Class;
+use dgn_layout::{SHARED_CELL, class};
 use elem_head::head;
 use plane_geom::Pt;
 use range_code::{Box3, range};
-
-// The type of a shared cell definition.
-const SHARED_CELL: u8 = 34;
 
 // The first point of an item, and the bounds of its segments.
 #[derive(Clone, Copy)]

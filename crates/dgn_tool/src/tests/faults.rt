@@ -1,109 +1,36 @@
 // Runs over a desk in pieces of 512 bytes, of whose calls each fails in turn.
 
+use super::packing::PACK;
 use super::patches::PATCH;
 use super::*;
 use dgn_desk::{Act, MemDesk};
 
-// A desk with the design file of the ordinary case, its script, and a patch file.
-fn ordinary_desk(alloc: Global) -> Result<MemDesk, AllocError> {
+// A desk with a design file of a line, a script, a patch file, a script of two imports, and their second file.
+fn desk_of_all(alloc: Global) -> Result<MemDesk, AllocError> {
+    let imports = b"import lib\nimport lib 1 1\n";
     let mut desk = MemDesk::new(alloc, 512);
     desk.add("in", design(alloc, 0, &[&LINE, &END])?)?;
     desk.add("s", Vec::from_slice(alloc, b"show\nmove 1 10 -5\nshow\n")?)?;
     desk.add("p", Vec::from_slice(alloc, &PATCH)?)?;
+    desk.add("imports", Vec::from_slice(alloc, imports)?)?;
+    desk.add("lib", design(alloc, 0, &[&LINE, &END])?)?;
     Ok(desk)
 }
 
-// What the ordinary case says, and where its OUT differs from IN.
-const SAID: &[u8] =
-    b"1 0 3 1 0 0 0 path 0,0 100,50\nshown 1\nok\n1 0 3 1 0 0 0 path 10,-5 110,45\nshown 1\n";
-
-const MOVED: [(usize, [u8; 4]); 8] = [
-    (1540, [0x00, 0x80, 0x0A, 0x00]),
-    (1544, [0xFF, 0x7F, 0xFB, 0xFF]),
-    (1552, [0x00, 0x80, 0x6E, 0x00]),
-    (1556, [0x00, 0x80, 0x2D, 0x00]),
-    (1572, [0x00, 0x00, 0x0A, 0x00]),
-    (1576, [0xFF, 0xFF, 0xFB, 0xFF]),
-    (1580, [0x00, 0x00, 0x6E, 0x00]),
-    (1584, [0x00, 0x00, 0x2D, 0x00]),
-];
-
-// The calls of a run in which none fails: IN has 1590 bytes, OUT of `edit` and of `apply` a body of 1588, and that of
-// `gen` one of 1928, each with a tail of two; PATCH of `pack` has 128.
-const EDIT_ACTS: [Act; 18] = [
-    Act::BeginRead,
-    Act::Read,
-    Act::Read,
-    Act::Read,
-    Act::Read,
-    Act::Read,
-    Act::BeginRead,
-    Act::Read,
-    Act::Read,
-    Act::Say,
-    Act::Say,
-    Act::Say,
-    Act::BeginWrite,
-    Act::Write,
-    Act::Write,
-    Act::Write,
-    Act::Write,
-    Act::Write,
-];
-
-const CHECK_ACTS: [Act; 7] = [
-    Act::BeginRead,
-    Act::Read,
-    Act::Read,
-    Act::Read,
-    Act::Read,
-    Act::Read,
-    Act::Say,
-];
-
-const PACK_ACTS: [Act; 12] = [
-    Act::BeginRead,
-    Act::Read,
-    Act::Read,
-    Act::Read,
-    Act::Read,
-    Act::Read,
-    Act::BeginRead,
-    Act::Read,
-    Act::Read,
-    Act::BeginWrite,
-    Act::Write,
-    Act::Say,
-];
-
-const GEN_ACTS: [Act; 7] = [
-    Act::BeginWrite,
-    Act::Write,
-    Act::Write,
-    Act::Write,
-    Act::Write,
-    Act::Write,
-    Act::Say,
-];
-
-const APPLY_ACTS: [Act; 16] = [
-    Act::BeginRead,
-    Act::Read,
-    Act::Read,
-    Act::Read,
-    Act::Read,
-    Act::Read,
-    Act::BeginRead,
-    Act::Read,
-    Act::Read,
-    Act::BeginWrite,
-    Act::Write,
-    Act::Write,
-    Act::Write,
-    Act::Write,
-    Act::Write,
-    Act::Say,
-];
+// Calls of a desk, a letter for each: R and W begin to read and to write, r and w read and write, and s says.
+fn letters(alloc: Global, acts: &[Act]) -> Result<Vec<u8>, AllocError> {
+    let mut letters = Vec::new(alloc);
+    for act in acts {
+        letters.push(match act {
+            Act::BeginRead => b'R',
+            Act::Read => b'r',
+            Act::Say => b's',
+            Act::BeginWrite => b'W',
+            Act::Write => b'w',
+        })?;
+    }
+    Ok(letters)
+}
 
 // Whether a file isn't there, or has some first part of the bytes of a file that is.
 fn is_part(file: Option<&[u8]>, whole: Option<&[u8]>) -> bool {
@@ -124,7 +51,7 @@ fn fails_in_turn<R: Abort + Alloc<A = Global>>(
     let alloc = rt.alloc();
     let mut call = 0;
     for act in whole.acts() {
-        let mut desk = ordinary_desk(alloc)?;
+        let mut desk = desk_of_all(alloc)?;
         desk.fail_at(call)?;
         let status = run(alloc, words, &mut desk);
         if matches!(act, Act::BeginRead | Act::Read) {
@@ -143,47 +70,35 @@ fn fails_in_turn<R: Abort + Alloc<A = Global>>(
 #[test]
 fn each_call_fails_in_turn(rt: HostRuntime) -> Result<(), Fail> {
     let alloc = rt.alloc();
-    // The words, the calls of the run in which none fails, and what that says.
-    let rows: [(&[&str], &[Act], &[u8]); 5] = [
-        (&EDIT, &EDIT_ACTS, SAID),
-        (&CHECK, &CHECK_ACTS, b"elements 2\n"),
-        (&["pack", "in", "s", "out"], &PACK_ACTS, b"entries 1\n"),
-        (&["apply", "in", "p", "out"], &APPLY_ACTS, b"applied 1\n"),
+    let said =
+        b"1 0 3 1 0 0 0 path 0,0 100,50\nshown 1\nok\n1 0 3 1 0 0 0 path 10,-5 110,45\nshown 1\n";
+    let made = b"elements 7\nbytes 1930\nshown 6\nmoved 2\nmarked 2\naccepted 8\nrefused 1\n";
+    // The words, the calls of the run in which none fails, and what that says. IN and the second file have 1590 bytes,
+    // OUT a body of 1588, with an import one of 1692, and that of `gen` one of 1928, each with a tail of two; PATCH has 128.
+    let rows: [(&[&str], &[u8], &[u8]); 6] = [
+        (&EDIT, b"RrrrrrRrrsssWwwwww", said),
+        (&CHECK, b"Rrrrrrs", b"elements 2\n"),
+        (&PACK, b"RrrrrrRrrWws", b"entries 1\n"),
         (
-            &["gen", "7", "3", "out"],
-            &GEN_ACTS,
-            b"elements 7\nbytes 1930\nshown 6\nmoved 2\nmarked 2\naccepted 8\nrefused 1\n",
+            &["apply", "in", "p", "out"],
+            b"RrrrrrRrrWwwwwws",
+            b"applied 1\n",
+        ),
+        (&["gen", "7", "3", "out"], b"Wwwwwws", made),
+        (
+            &["edit", "in", "imports", "out"],
+            b"RrrrrrRrrRrrrrrRrrrrrssWwwwww",
+            b"ok 1\nok 1\n",
         ),
     ];
-    for (list, acts, said) in rows {
+    for (list, calls, said) in rows {
         let words = words(alloc, list)?;
-        let mut whole = ordinary_desk(alloc)?;
+        let mut whole = desk_of_all(alloc)?;
         let status = run(alloc, &words, &mut whole);
         assert!(rt; status == Status::Done);
         assert!(rt; whole.said() == said);
-        assert!(rt; whole.acts() == acts);
+        assert!(rt; letters(alloc, whole.acts())?.as_slice() == calls);
         fails_in_turn(&rt, &words, &whole)?;
     }
-    Ok(())
-}
-
-#[test]
-fn faults_of_the_ordinary_case(rt: HostRuntime) -> Result<(), Fail> {
-    let alloc = rt.alloc();
-    let words = words(alloc, &EDIT)?;
-    let out = with_words(design(alloc, 0, &[&LINE, &END])?, &MOVED);
-    // the second `write` fails
-    let mut desk = ordinary_desk(alloc)?;
-    desk.fail_at(14)?;
-    let status = run(alloc, &words, &mut desk);
-    assert!(rt; status == Status::WriteFault);
-    assert!(rt; desk.said() == SAID);
-    assert!(rt; desk.file("out") == out.get(..512));
-    // no script
-    let mut desk = MemDesk::new(alloc, 512);
-    desk.add("in", design(alloc, 0, &[&LINE, &END])?)?;
-    let status = run(alloc, &words, &mut desk);
-    assert!(rt; status == Status::ReadFault);
-    assert!(rt; desk.said().is_empty());
     Ok(())
 }

@@ -3,7 +3,7 @@
 use super::*;
 
 // Four lines, and what each mode chooses of them: one in the fence, one on its edge, one that reaches in, one far off.
-const MODES: &[u8] = b"line 1 0 0 0 50,50 100,50
+pub(super) const MODES: &[u8] = b"line 1 0 0 0 50,50 100,50
 line 1 0 0 0 10,0 20,0
 line 1 0 0 0 10,10 20,20
 line 1 0 0 0 200,200 300,300
@@ -23,7 +23,7 @@ undo
 undo
 ";
 
-const MODES_SAID: &[u8] = b"ok
+pub(super) const MODES_SAID: &[u8] = b"ok
 ok
 ok
 ok
@@ -49,7 +49,7 @@ ok
 ";
 
 // An edit of all that the fence chooses is of each or of none; and one of nothing is taken back as any other.
-const ALL_OR_NOTHING: &[u8] = b"line 1 0 0 0 0,0 1,1
+pub(super) const ALL_OR_NOTHING: &[u8] = b"line 1 0 0 0 0,0 1,1
 line 1 0 0 0 2,2 3,3
 line 1 0 0 0 2147483646,5 2147483647,5
 fmove overlap 1 0
@@ -68,7 +68,7 @@ undo
 undo
 ";
 
-const ALL_OR_NOTHING_SAID: &[u8] = b"ok
+pub(super) const ALL_OR_NOTHING_SAID: &[u8] = b"ok
 ok
 ok
 refused no-fence
@@ -87,19 +87,6 @@ ok
 refused nothing
 ";
 
-#[test]
-fn fences(rt: HostRuntime) -> Result<(), Fail> {
-    let alloc = rt.alloc();
-    let rows: [(&[u8], &[u8]); 2] = [(MODES, MODES_SAID), (ALL_OR_NOTHING, ALL_OR_NOTHING_SAID)];
-    for (script, said) in rows {
-        let out = design(alloc, 0, &[&END])?;
-        let files = (design(alloc, 0, &[&END])?, script);
-        let wanted = (Status::SomeRefused, said, Some(out.as_slice()));
-        shows(&rt, 512, &EDIT, files, wanted)?;
-    }
-    Ok(())
-}
-
 // A fence of 256 corners is set, and one of 257 is not.
 #[test]
 fn many_corners(rt: HostRuntime) -> Result<(), Fail> {
@@ -116,6 +103,6 @@ fn many_corners(rt: HostRuntime) -> Result<(), Fail> {
     let files = (design(alloc, 0, &[&END])?, script.as_slice());
     let said = b"ok\nrefused many\n".as_slice();
     let wanted = (Status::SomeRefused, said, Some(out.as_slice()));
-    shows(&rt, 512, &EDIT, files, wanted)?;
+    shows(&rt, &EDIT, files, wanted)?;
     Ok(())
 }

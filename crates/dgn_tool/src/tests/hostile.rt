@@ -1,7 +1,9 @@
 // Files that are cut, totals that lie, and headers nested in each other.
 
 use super::*;
-use sample_elements::{FIRST_STRING, NODE, SECOND_STRING, SHAPE_HEADER, SHAPE_PART, with_word};
+use sample_elements::{
+    CELL, CHAIN_HEADER, FIRST_STRING, NODE, SECOND_STRING, SHAPE_HEADER, SHAPE_PART, with_word,
+};
 
 // Where the elements of a usual file end.
 const ENDS: [usize; 9] = [1536, 1568, 1600, 1632, 1702, 1766, 1830, 1878, 1940];
@@ -69,20 +71,14 @@ links 1
 ok
 "
         .as_slice();
-    let out = with_byte(with_byte(usual(alloc)?, 1865, 2), 1913, 2);
+    let out = with_bytes(usual(alloc)?, &[(1865, &[2]), (1913, &[2])]);
     let wanted = (Status::Done, said, Some(out.as_slice()));
-    shows(&rt, 512, &EDIT, (usual(alloc)?, script), wanted)?;
+    shows(&rt, &EDIT, (usual(alloc)?, script), wanted)?;
     for size in 0..2049 {
         let mut bytes = usual(alloc)?;
         bytes.truncate(size);
         let (status, text) = cut_text(alloc, size)?;
-        shows(
-            &rt,
-            512,
-            &CHECK,
-            (bytes, b""),
-            (status, text.as_bytes(), None),
-        )?;
+        shows(&rt, &CHECK, (bytes, b""), (status, text.as_bytes(), None))?;
     }
     Ok(())
 }

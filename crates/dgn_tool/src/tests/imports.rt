@@ -1,7 +1,7 @@
 // Imports of second drawings, by the rows of the format's examples.
 
 use super::*;
-use dgn_desk::{Act, MemDesk};
+use sample_elements::{ARC, SPACE_LINE};
 
 // A desk with a design file of a line, this script, and a second file `lib`.
 fn desk_with(alloc: Global, script: &[u8], lib: Vec<u8>) -> Result<SureDesk, AllocError> {
@@ -84,83 +84,6 @@ fn imports_that_are_refused(rt: HostRuntime) -> Result<(), Fail> {
         let ended = run(alloc, &words, &mut desk);
         assert!(rt; ended == status);
         assert!(rt; desk.said() == said);
-    }
-    // no file of that name
-    let mut desk = MemDesk::new(alloc, 64);
-    desk.add("in", design(alloc, 0, &[&LINE, &END])?)?;
-    desk.add("s", Vec::from_slice(alloc, b"show\nimport lib\n")?)?;
-    let ended = run(alloc, &words, &mut desk);
-    assert!(rt; ended == Status::ReadFault);
-    assert!(rt; desk.said().is_empty());
-    Ok(())
-}
-
-// The calls of a run of two imports in which none fails: IN and the second file have 1590 bytes, and OUT a body of 1692.
-const ACTS: [Act; 29] = [
-    Act::BeginRead,
-    Act::Read,
-    Act::Read,
-    Act::Read,
-    Act::Read,
-    Act::Read,
-    Act::BeginRead,
-    Act::Read,
-    Act::Read,
-    Act::BeginRead,
-    Act::Read,
-    Act::Read,
-    Act::Read,
-    Act::Read,
-    Act::Read,
-    Act::BeginRead,
-    Act::Read,
-    Act::Read,
-    Act::Read,
-    Act::Read,
-    Act::Read,
-    Act::Say,
-    Act::Say,
-    Act::BeginWrite,
-    Act::Write,
-    Act::Write,
-    Act::Write,
-    Act::Write,
-    Act::Write,
-];
-
-// A desk with a drawing, a script of two imports, and their second file.
-fn importing_desk(alloc: Global) -> Result<MemDesk, AllocError> {
-    let mut desk = MemDesk::new(alloc, 512);
-    desk.add("in", design(alloc, 0, &[&LINE, &END])?)?;
-    desk.add(
-        "s",
-        Vec::from_slice(alloc, b"import lib\nimport lib 1 1\n")?,
-    )?;
-    desk.add("lib", design(alloc, 0, &[&LINE, &END])?)?;
-    Ok(desk)
-}
-
-#[test]
-fn each_call_of_imports_fails_in_turn(rt: HostRuntime) -> Result<(), Fail> {
-    let alloc = rt.alloc();
-    let words = words(alloc, &EDIT)?;
-    let mut whole = importing_desk(alloc)?;
-    assert!(rt; run(alloc, &words, &mut whole) == Status::Done);
-    assert!(rt; whole.said() == b"ok 1\nok 1\n".as_slice());
-    assert!(rt; whole.acts() == ACTS.as_slice());
-    let mut call = 0;
-    for act in ACTS {
-        let mut desk = importing_desk(alloc)?;
-        desk.fail_at(call)?;
-        let status = run(alloc, &words, &mut desk);
-        if matches!(act, Act::BeginRead | Act::Read) {
-            assert!(rt; status == Status::ReadFault);
-            assert!(rt; desk.said().is_empty() && desk.file("out").is_none());
-        } else {
-            assert!(rt; status == Status::WriteFault);
-        }
-        assert!(rt; whole.said().starts_with(desk.said()));
-        call = call.saturating_add(1);
     }
     Ok(())
 }

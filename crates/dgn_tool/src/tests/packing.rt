@@ -2,46 +2,16 @@
 
 use super::*;
 
-const PACK: [&str; 4] = ["pack", "in", "s", "out"];
+pub(super) const PACK: [&str; 4] = ["pack", "in", "s", "out"];
 
 // The patch file of one edit that is left: of the colour of a line behind the TCB.
-const COLOUR: [u8; 33] = [
+pub(super) const COLOUR: [u8; 33] = [
     0x44, 0x47, 0x4E, 0x50, 0x41, 0x54, 0x30, 0x31, 1, 0, 0, 0, 0x34, 6, 0, 0, 1, 0, 0, 0, 0, 0, 0,
     0, 0x22, 6, 0, 0, 2, 0, 0, 0, 7,
 ];
 
-#[test]
-fn packed_edits(rt: HostRuntime) -> Result<(), Fail> {
-    let alloc = rt.alloc();
-    let none = b"DGNPAT01\x00\x00\x00\x00".as_slice();
-    // A script, the status, what is said, and the patch file.
-    let rows: [(&[u8], Status, &[u8], &[u8]); 4] = [
-        (
-            b"move 1 10 -5\nundo\ncolor 1 7\n",
-            Status::Done,
-            b"entries 1\n",
-            &COLOUR,
-        ),
-        (b"", Status::Done, b"entries 0\n", none),
-        (
-            b"show\ncolor 1 7\nundo\nundo\n",
-            Status::SomeRefused,
-            b"entries 0\n",
-            none,
-        ),
-        (
-            b"move 9 1 1\ncolor 1 7\nelements\n",
-            Status::SomeRefused,
-            b"entries 1\n",
-            &COLOUR,
-        ),
-    ];
-    for (script, status, said, patch) in rows {
-        let files = (design(alloc, 0, &[&LINE, &END])?, script);
-        shows(&rt, 16, &PACK, files, (status, said, Some(patch)))?;
-    }
-    Ok(())
-}
+// A patch file of no edit.
+pub(super) const NO_ENTRIES: &[u8] = b"DGNPAT01\x00\x00\x00\x00";
 
 // Edits of each kind, and undos among them: six are left.
 const KINDS: &[u8] =
@@ -54,7 +24,7 @@ fmove inside 1 1\nfsym overlap 3 2 1\nundo\nfdelete inside\nundo\nline 1 0 0 0 0
 fn packed_and_applied(rt: HostRuntime) -> Result<(), Fail> {
     let alloc = rt.alloc();
     let mut desk = SureDesk::new(alloc, 512);
-    let other = with_byte(design(alloc, 0, &[&LINE, &END])?, 1574, 9);
+    let other = with_bytes(design(alloc, 0, &[&LINE, &END])?, &[(1574, &[9])]);
     desk.add("in", design(alloc, 0, &[&LINE, &END])?)?;
     desk.add("other", other)?;
     desk.add("s", Vec::from_slice(alloc, KINDS)?)?;

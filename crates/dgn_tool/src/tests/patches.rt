@@ -42,19 +42,13 @@ fn applied_patches(rt: HostRuntime) -> Result<(), Fail> {
     ];
     for (color, patch, status, said, made) in rows {
         let line = design(alloc, 0, &[&LINE, &END])?;
-        let files = (with_byte(line, 1571, color), patch);
+        let files = (with_bytes(line, &[(1571, &[color])]), patch);
         match made {
             Some(color) => {
-                let out = with_byte(design(alloc, 0, &[&LINE, &END])?, 1571, color);
-                shows(
-                    &rt,
-                    512,
-                    &APPLY,
-                    files,
-                    (status, said, Some(out.as_slice())),
-                )?;
+                let out = with_bytes(design(alloc, 0, &[&LINE, &END])?, &[(1571, &[color])]);
+                shows(&rt, &APPLY, files, (status, said, Some(out.as_slice())))?;
             }
-            None => shows(&rt, 512, &APPLY, files, (status, said, None))?,
+            None => shows(&rt, &APPLY, files, (status, said, None))?,
         }
     }
     Ok(())

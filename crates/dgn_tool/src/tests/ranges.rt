@@ -1,13 +1,15 @@
 // Stored ranges: what is found, what a fit writes, and that its packed entry gives it again.
 
 use super::hostile::usual;
+use super::packing::PACK;
 use super::*;
+use sample_elements::{ARC, CELL};
 
 // An arc in a cell, whose stored range holds more than its cell's: up to 200,9.
 fn wide_arc(alloc: Global) -> Result<Vec<u8>, AllocError> {
     let pieces = [CELL_OF_81.as_slice(), &MEMBER, &ARC, &END];
     let design = design(alloc, 0, &pieces)?;
-    Ok(with_words(design, &[(ARC_HIGH, [0x00, 0x80, 200, 0])]))
+    Ok(with_bytes(design, &[(ARC_HIGH, &[0x00, 0x80, 200, 0])]))
 }
 
 // Where the high x of the arc's range stands, and that of the cell's.
@@ -23,20 +25,20 @@ fn audited_and_fitted(rt: HostRuntime) -> Result<(), Fail> {
     let cell = design(alloc, 0, &[&CELL, &MEMBER, &END])?;
     let files = (design(alloc, 0, &[&CELL, &MEMBER, &END])?, moved);
     let wanted = (Status::Done, said, Some(cell.as_slice()));
-    shows(&rt, 512, &EDIT, files, wanted)?;
+    shows(&rt, &EDIT, files, wanted)?;
 
     let parts = b"audit\nfit 99\nfit 0\n".as_slice();
     let said =
         b"4 0,0 0,0 0,-10 0,0\n7 0,0 0,0 0,0 10,10\naudit 2\nrefused unknown 99\nok\n".as_slice();
     let out = usual(alloc)?;
     let wanted = (Status::SomeRefused, said, Some(out.as_slice()));
-    shows(&rt, 512, &EDIT, (usual(alloc)?, parts), wanted)?;
+    shows(&rt, &EDIT, (usual(alloc)?, parts), wanted)?;
 
     let arc = b"audit\nfit 3\naudit\n".as_slice();
     let said = b"1 0,0 100,50 0,0 200,50\naudit 1\nok\naudit 0\n".as_slice();
-    let out = with_words(wide_arc(alloc)?, &[(CELL_HIGH, [0x00, 0x80, 200, 0])]);
+    let out = with_bytes(wide_arc(alloc)?, &[(CELL_HIGH, &[0x00, 0x80, 200, 0])]);
     let wanted = (Status::Done, said, Some(out.as_slice()));
-    shows(&rt, 512, &EDIT, (wide_arc(alloc)?, arc), wanted)?;
+    shows(&rt, &EDIT, (wide_arc(alloc)?, arc), wanted)?;
     Ok(())
 }
 
@@ -56,7 +58,6 @@ const FIT: [u8; 128] = [
 #[test]
 fn packed_and_applied_fit(rt: HostRuntime) -> Result<(), Fail> {
     let alloc = rt.alloc();
-    let pack = ["pack", "in", "s", "out"];
     let script = b"audit\nfit 3\nfit 9\nmove 2 1 1\nundo\n".as_slice();
     let files = (wide_arc(alloc)?, script);
     let wanted = (
@@ -64,13 +65,13 @@ fn packed_and_applied_fit(rt: HostRuntime) -> Result<(), Fail> {
         b"entries 1\n".as_slice(),
         Some(FIT.as_slice()),
     );
-    shows(&rt, 512, &pack, files, wanted)?;
-    let out = with_words(wide_arc(alloc)?, &[(CELL_HIGH, [0x00, 0x80, 200, 0])]);
+    shows(&rt, &PACK, files, wanted)?;
+    let out = with_bytes(wide_arc(alloc)?, &[(CELL_HIGH, &[0x00, 0x80, 200, 0])]);
     let wanted = (
         Status::Done,
         b"applied 1\n".as_slice(),
         Some(out.as_slice()),
     );
-    shows(&rt, 512, &APPLY, (wide_arc(alloc)?, FIT.as_slice()), wanted)?;
+    shows(&rt, &APPLY, (wide_arc(alloc)?, FIT.as_slice()), wanted)?;
     Ok(())
 }
