@@ -10,7 +10,7 @@ mod ranges;
 mod rows;
 
 use super::*;
-use dgn_desk::SureDesk;
+use dgn_desk::{Desk, SureDesk};
 use sample_elements::{
     CELL_OF_81, CHAIN_OF_THREE, END, LINE, LINE_WITH_ATTRIBUTES, MEMBER, SPACE_CHAIN_OF_THREE,
     drawing,
@@ -41,12 +41,13 @@ fn with_bytes(mut design: Vec<u8>, changes: &[(usize, &[u8])]) -> Vec<u8> {
     design
 }
 
-fn words(alloc: Global, list: &[&str]) -> Result<Vec<String>, AllocError> {
+// How a run of these words over a desk ends. No test rests on more of it, so none has to carry what `run` says.
+fn ends<D: Desk>(alloc: Global, list: &[&str], desk: &mut D) -> Result<Status, AllocError> {
     let mut words = Vec::new(alloc);
     for word in list {
         words.push(String::from_str(alloc, word)?)?;
     }
-    Ok(words)
+    Ok(run(alloc, &words, desk))
 }
 
 // Runs these words on files `in` and `s`, in pieces of 512 bytes, and shows the status, what is said and the file `out`,
@@ -61,9 +62,7 @@ fn shows<R: Abort + Alloc<A = Global>>(
     let mut desk = SureDesk::new(alloc, 512);
     desk.add("in", files.0)?;
     desk.add("s", Vec::from_slice(alloc, files.1)?)?;
-    let words = words(alloc, list)?;
-    let status = run(alloc, &words, &mut desk);
-    assert!(rt; status == wanted.0);
+    assert!(rt; ends(alloc, list, &mut desk)? == wanted.0);
     assert!(rt; desk.said() == wanted.1);
     assert!(rt; desk.file("out") == wanted.2);
     Ok(())

@@ -45,7 +45,7 @@ fn is_part(file: Option<&[u8]>, whole: Option<&[u8]>) -> bool {
 // failing.
 fn fails_in_turn<R: Abort + Alloc<A = Global>>(
     rt: &R,
-    words: &[String],
+    list: &[&str],
     whole: &MemDesk,
 ) -> Result<(), AllocError> {
     let alloc = rt.alloc();
@@ -53,7 +53,7 @@ fn fails_in_turn<R: Abort + Alloc<A = Global>>(
     for act in whole.acts() {
         let mut desk = desk_of_all(alloc)?;
         desk.fail_at(call)?;
-        let status = run(alloc, words, &mut desk);
+        let status = ends(alloc, list, &mut desk)?;
         if matches!(act, Act::BeginRead | Act::Read) {
             assert!(rt; status == Status::ReadFault);
             assert!(rt; desk.said().is_empty() && desk.file("out").is_none());
@@ -92,13 +92,11 @@ fn each_call_fails_in_turn(rt: HostRuntime) -> Result<(), Fail> {
         ),
     ];
     for (list, calls, said) in rows {
-        let words = words(alloc, list)?;
         let mut whole = desk_of_all(alloc)?;
-        let status = run(alloc, &words, &mut whole);
-        assert!(rt; status == Status::Done);
+        assert!(rt; ends(alloc, list, &mut whole)? == Status::Done);
         assert!(rt; whole.said() == said);
         assert!(rt; letters(alloc, whole.acts())?.as_slice() == calls);
-        fails_in_turn(&rt, &words, &whole)?;
+        fails_in_turn(&rt, list, &whole)?;
     }
     Ok(())
 }

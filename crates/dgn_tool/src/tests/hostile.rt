@@ -92,8 +92,7 @@ fn said_and_written(
     let mut desk = SureDesk::new(alloc, 65536);
     desk.add("in", design)?;
     desk.add("s", Vec::from_slice(alloc, script)?)?;
-    let words = words(alloc, &EDIT)?;
-    run(alloc, &words, &mut desk);
+    ends(alloc, &EDIT, &mut desk)?;
     let said = Vec::from_slice(alloc, desk.said())?;
     let written = Vec::from_slice(alloc, desk.file("out").unwrap_or(&[]))?;
     Ok((said, written))

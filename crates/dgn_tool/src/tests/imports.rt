@@ -28,20 +28,17 @@ const SAID: &[u8] = b"ok 1\nrefused import floating 3\n1 0 3 1 0 0 0 path 0,0 10
 fn an_import(rt: HostRuntime) -> Result<(), Fail> {
     let alloc = rt.alloc();
     let mut desk = desk_with(alloc, SCRIPT, library(alloc)?)?;
-    let status = run(alloc, &words(alloc, &EDIT)?, &mut desk);
-    assert!(rt; status == Status::SomeRefused);
+    assert!(rt; ends(alloc, &EDIT, &mut desk)? == Status::SomeRefused);
     assert!(rt; desk.said() == SAID);
     assert!(rt; desk.file("out") == desk.file("in"));
     // the patch file of one that is left, applied, gives the file that `edit` writes
     let mut desk = desk_with(alloc, b"import lib\n", library(alloc)?)?;
-    let status = run(alloc, &words(alloc, &["pack", "in", "s", "p"])?, &mut desk);
-    assert!(rt; status == Status::Done);
+    assert!(rt; ends(alloc, &["pack", "in", "s", "p"], &mut desk)? == Status::Done);
     assert!(rt; desk.said() == b"entries 1\n".as_slice());
-    let words_of_apply = words(alloc, &["apply", "in", "p", "out"])?;
-    assert!(rt; run(alloc, &words_of_apply, &mut desk) == Status::Done);
+    assert!(rt; ends(alloc, &["apply", "in", "p", "out"], &mut desk)? == Status::Done);
     let out = design(alloc, 0, &[&LINE, &CELL_OF_81, &MEMBER, &ARC, &END])?;
     assert!(rt; desk.file("out") == Some(out.as_slice()));
-    assert!(rt; run(alloc, &words(alloc, &EDIT)?, &mut desk) == Status::Done);
+    assert!(rt; ends(alloc, &EDIT, &mut desk)? == Status::Done);
     assert!(rt; desk.file("out") == Some(out.as_slice()));
     Ok(())
 }
@@ -78,11 +75,9 @@ fn imports_that_are_refused(rt: HostRuntime) -> Result<(), Fail> {
             b"too long import\n",
         ),
     ];
-    let words = words(alloc, &EDIT)?;
     for (lib, status, said) in rows {
         let mut desk = desk_with(alloc, b"import lib\n", lib)?;
-        let ended = run(alloc, &words, &mut desk);
-        assert!(rt; ended == status);
+        assert!(rt; ends(alloc, &EDIT, &mut desk)? == status);
         assert!(rt; desk.said() == said);
     }
     Ok(())

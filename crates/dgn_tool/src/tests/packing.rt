@@ -35,8 +35,7 @@ fn packed_and_applied(rt: HostRuntime) -> Result<(), Fail> {
         (&["apply", "other", "p", "out"], Status::PatchRefused),
     ];
     for (list, status) in runs {
-        let words = words(alloc, list)?;
-        assert!(rt; run(alloc, &words, &mut desk) == status);
+        assert!(rt; ends(alloc, list, &mut desk)? == status);
     }
     assert!(rt; desk.said().starts_with(b"entries 6\n"));
     assert!(rt; desk.said().ends_with(b"applied 6\nrefused entry 4\n"));
