@@ -114,7 +114,6 @@ pub(crate) fn answer_come(
         (import_said (importing (state_of s.old) (gathering_of come))) out.old.items out.new.items) }
 {
     out.reserve(ROOM)?;
-    // That a session is such as its type keeps is known where it is read.
     let _dim = s.design().dim;
     match come {
         Come::Trees(found) => append_gathered(alloc, s, &found, out),

@@ -600,25 +600,62 @@ fn file_of(alloc: Global, row: &Row) -> Result<Option<Vec<u8>>, AllocError> {
     Ok(Some(with_bytes(design(alloc, row.mark, pieces)?, changes)))
 }
 
-#[test]
-fn rows(rt: HostRuntime) -> Result<(), Fail> {
+// Each row's run ends, says and leaves what the row has.
+fn all_show<R: Abort + Alloc<A = Global>>(rt: &R, rows: &[Row]) -> Result<(), AllocError> {
     let alloc = rt.alloc();
-    for rows in [
-        COLOURS.as_slice(),
-        &EDITS,
-        &SESSIONS,
-        &LISTINGS,
-        &FENCES,
-        &BLOCKS,
-        &UNWRITTEN,
-        &PACKED,
-    ] {
-        for row in rows {
-            let files = (design(alloc, row.mark, row.behind)?, row.script);
-            let out = file_of(alloc, row)?;
-            let left = out.as_ref().map(|bytes| bytes.as_slice());
-            shows(&rt, row.words, files, (row.status, row.said, left))?;
-        }
+    for row in rows {
+        let files = (design(alloc, row.mark, row.behind)?, row.script);
+        let out = file_of(alloc, row)?;
+        let left = out.as_ref().map(|bytes| bytes.as_slice());
+        shows(rt, row.words, files, (row.status, row.said, left))?;
     }
+    Ok(())
+}
+
+#[test]
+fn colours(rt: HostRuntime) -> Result<(), Fail> {
+    all_show(&rt, &COLOURS)?;
+    Ok(())
+}
+
+#[test]
+fn edits(rt: HostRuntime) -> Result<(), Fail> {
+    all_show(&rt, &EDITS)?;
+    Ok(())
+}
+
+#[test]
+fn sessions(rt: HostRuntime) -> Result<(), Fail> {
+    all_show(&rt, &SESSIONS)?;
+    Ok(())
+}
+
+#[test]
+fn listings(rt: HostRuntime) -> Result<(), Fail> {
+    all_show(&rt, &LISTINGS)?;
+    Ok(())
+}
+
+#[test]
+fn fences(rt: HostRuntime) -> Result<(), Fail> {
+    all_show(&rt, &FENCES)?;
+    Ok(())
+}
+
+#[test]
+fn files_in_blocks(rt: HostRuntime) -> Result<(), Fail> {
+    all_show(&rt, &BLOCKS)?;
+    Ok(())
+}
+
+#[test]
+fn unwritten(rt: HostRuntime) -> Result<(), Fail> {
+    all_show(&rt, &UNWRITTEN)?;
+    Ok(())
+}
+
+#[test]
+fn packed_edits(rt: HostRuntime) -> Result<(), Fail> {
+    all_show(&rt, &PACKED)?;
     Ok(())
 }
