@@ -54,6 +54,3 @@ pub fn node<const DIM: usize>(b: &[u8]) -> Option<[i32; DIM]>
     }
     Some(longs(b, origin))
 }
-
-#[cfg(test)]
-mod tests;

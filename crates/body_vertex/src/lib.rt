@@ -43,6 +43,3 @@ pub fn path<const DIM: usize>(kind: u8, b: &[u8]) -> Option<Path<'_, DIM>>
     }
     Some(Path::new(b, start, count))
 }
-
-#[cfg(test)]
-mod tests;

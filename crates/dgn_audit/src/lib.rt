@@ -22,6 +22,3 @@ pub use finding::Finding;
 pub use fit_cause::FitCause;
 pub use fit_fault::FitFault;
 pub use fitting::plan_fit;
-
-#[cfg(test)]
-mod tests;

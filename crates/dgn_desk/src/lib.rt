@@ -21,6 +21,3 @@ pub use reading::{ReadEnd, read_all};
 pub use stop::Stop;
 pub use sure_desk::SureDesk;
 pub use writing::{say_all, write_file};
-
-#[cfg(test)]
-mod tests;

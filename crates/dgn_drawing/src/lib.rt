@@ -30,6 +30,3 @@ pub use row::Row;
 pub use shift::Shift;
 pub use symb_change::SymbChange;
 pub use types::ItemBody;
-
-#[cfg(test)]
-mod tests;

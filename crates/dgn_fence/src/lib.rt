@@ -14,6 +14,3 @@ pub mod types;
 
 pub use fence_fault::FenceFault;
 pub use making::fence;
-
-#[cfg(test)]
-mod tests;

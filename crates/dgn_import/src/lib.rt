@@ -17,6 +17,3 @@ pub use gathering::gather;
 pub use import_fault::ImportFault;
 pub use second::{Second, read_second};
 pub use second_fault::SecondFault;
-
-#[cfg(test)]
-mod tests;

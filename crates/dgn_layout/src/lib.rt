@@ -172,6 +172,3 @@ pub fn body_end<const DIM: usize>(kind: u8, b: &[u8]) -> Option<usize>
 {
     arms!(body_end, kind, b)
 }
-
-#[cfg(test)]
-mod tests;

@@ -13,8 +13,6 @@ use types::Links;
 
 mod first;
 pub mod laws;
-#[cfg(test)]
-mod tests;
 pub mod types;
 
 pub use types::{Form, Link};

@@ -26,6 +26,3 @@ pub use links::write_links;
 pub use refs::write_refs;
 pub use selected::write_selected;
 pub use tree::write_tree;
-
-#[cfg(test)]
-mod tests;

@@ -59,6 +59,3 @@ fn code(sign: u8) -> Option<u16>
         _ => None,
     }
 }
-
-#[cfg(test)]
-mod tests;

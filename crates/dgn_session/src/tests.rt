@@ -1,159 +1,14 @@
-// A session on a cell and its member: edits, their entries, and their undoing.
-
-ghost use Rattle.std.specs.Prelude.{IfOk};
-ghost use Rattle.elem_index.specs.Design.{IsWhole};
+// What a session is made of.
 
 use super::*;
-use dgn_drawing::{Edit, Mask, New, NewShape, Shift};
+use dgn_drawing::{Edit, Mask};
 use dgn_fence::types::Fence;
-use dgn_import::{gather, read_second};
-use edit_ops::{Cause, EditFault};
-use elem_head::types::Symb;
 use elem_index::{Design, read_design};
 use nest_tree::types::Nest;
-use patch_bytes::Patch;
-use plane_geom::PointList;
-use sample_elements::{CELL, LINE, MEMBER, drawing, with_byte};
-use std::alloc::{AllocError, Global};
-use std::process::Abort;
+use sample_elements::{LINE, drawing};
+use std::alloc::Global;
 use std::test::Fail;
 use undo_log::Log;
-
-// A drawing of two axes, opened: a TCB, the cell with this total, its member, and a tail.
-fn opened(rt: &(impl AllocGlobal + Abort), total: u8) -> Result<Design, Fail>
-    ensures { IfOk result IsWhole }
-{
-    let cell = with_byte(CELL, 36, total);
-    let bytes = drawing(rt.alloc(), 0x08, 0, &[&cell, &MEMBER, &[0xFF, 0xFF, 0x07]])?;
-    assert!(rt; bytes.len() <= 67108864);
-    match read_design(rt.alloc(), bytes) {
-        Ok(design) => Ok(design),
-        Err(fault) => panic!(rt; "{fault}"),
-    }
-}
-
-// A session on that drawing.
-fn begun(rt: &(impl AllocGlobal + Abort), total: u8) -> Result<Session, Fail> {
-    let design = opened(rt, total)?;
-    Ok(Session::start(rt.alloc(), design)?)
-}
-
-// A displacement in two axes.
-fn along(x: i32, y: i32) -> Shift {
-    Shift {
-        axes: 2,
-        by: [i64::from(x), i64::from(y), 0],
-    }
-}
-
-// The trees of a drawing of this element are appended.
-fn imports(
-    rt: &(impl AllocGlobal + Abort),
-    session: &mut Session,
-    element: &[u8],
-) -> Result<(), Fail> {
-    let alloc = rt.alloc();
-    let bytes = drawing(alloc, 0x08, 0, &[element])?;
-    assert!(rt; bytes.len() <= 67108864);
-    let second = read_second(alloc, bytes)?;
-    let dim = session.design().dim;
-    let Ok(found) = gather(alloc, dim, &second, None) else {
-        panic!(rt; "nothing is gathered");
-    };
-    assert!(rt; session.append_trees(found.bytes.as_slice()) == Ok(()));
-    Ok(())
-}
-
-// A line is imported, and then no tree; both are undone.
-#[test]
-fn imports_are_undone(rt: HostRuntime) -> Result<(), Fail> {
-    let mut session = begun(&rt, 53)?;
-    imports(&rt, &mut session, &LINE)?;
-    imports(&rt, &mut session, &[0xFF, 0xFF])?;
-    assert!(rt; session.body().get(1680..) == Some(LINE.as_slice()));
-    assert!(rt; session.undo() == Ok(()));
-    assert!(rt; session.body().len() == 1732);
-    assert!(rt; session.undo() == Ok(()));
-    assert!(rt; session.body().len() == 1680);
-    Ok(())
-}
-
-// `move 1 5 7` and `copy 1 0 0` of the cell, what the log holds, and two undos and one more.
-#[test]
-fn a_move_and_a_copy(rt: HostRuntime) -> Result<(), Fail> {
-    let mut session = begun(&rt, 53)?;
-    let opened = session.body().to_vec(rt.alloc())?;
-    let by = along(5, 7);
-    assert!(rt; session.edit(&Edit::Move { n: 1, by }) == Ok(()));
-    let by = along(0, 0);
-    assert!(rt; session.edit(&Edit::Copy { n: 1, by }) == Ok(()));
-    assert!(rt; session.body().len() == 1824);
-    let first = Patch {
-        at: 1540,
-        len: 4,
-        bytes: [0x00, 0x80, 0x00, 0x00],
-    };
-    let entries = session.log().entries();
-    assert!(rt; entries.len() == 2);
-    assert!(rt; entries[0].patches.len() == 14 && entries[0].patches.get(0) == Some(first));
-    assert!(rt; entries[1].patches.is_empty());
-    assert!(rt; entries[0].len == 1680 && entries[1].len == 1680);
-    assert!(rt; session.undo() == Ok(()));
-    assert!(rt; session.undo() == Ok(()));
-    assert!(rt; session.undo() == Err(Nothing));
-    assert!(rt; session.body() == opened.as_slice());
-    assert!(rt; session.tail() == [0xFF, 0xFF, 0x07].as_slice());
-    Ok(())
-}
-
-// A line of level 1 from 0,0 to 1,1.
-fn new_line(alloc: Global) -> Result<New, AllocError> {
-    let mut points = PointList::new(alloc);
-    points.push([0, 0, 0])?;
-    points.push([1, 1, 0])?;
-    let symb = Symb {
-        color: 0,
-        weight: 0,
-        style: 0,
-    };
-    Ok(New {
-        level: 1,
-        symb,
-        axes: 2,
-        shape: NewShape::Line(points),
-    })
-}
-
-// A cell whose total no members have, and a line behind it, which an undo takes away.
-#[test]
-fn a_broken_nesting(rt: HostRuntime) -> Result<(), Fail> {
-    let mut session = begun(&rt, 52)?;
-    let by = along(1, 1);
-    let broken = Err(EditFault::Refused(Cause::Broken(2)));
-    assert!(rt; session.edit(&Edit::Move { n: 2, by }) == broken);
-    assert!(rt; session.log().entries().is_empty());
-    let line = Edit::Append(new_line(rt.alloc())?);
-    assert!(rt; session.edit(&line) == Ok(()));
-    assert!(rt; session.nesting().ends() == [1, 2, 3, 4].as_slice());
-    assert!(rt; session.undo() == Ok(()));
-    assert!(rt; session.nesting().ends() == [1, 2, 3].as_slice());
-    assert!(rt; session.design().offsets() == [0, 1536, 1628].as_slice());
-    Ok(())
-}
-
-// The levels that are shown are set, and an undo leaves them.
-#[test]
-fn levels_stay(rt: HostRuntime) -> Result<(), Fail> {
-    let mut session = begun(&rt, 53)?;
-    assert!(rt; session.edit(&Edit::Delete { n: 2 }) == Ok(()));
-    assert!(rt; session.count_shown()? == 0);
-    session.set_mask(Mask(2));
-    assert!(rt; session.undo() == Ok(()));
-    assert!(rt; session.show()?.len() == 2);
-    session.set_mask(Mask(1));
-    assert!(rt; session.count_shown()? == 0);
-    Ok(())
-}
 
 // All that a session is made of: an allocator, one design, one nesting, one log, a mask and a fence. There is no place
 // for an earlier drawing.
@@ -171,11 +26,14 @@ fn parts(session: Session) -> (Global, Design, Nest, Log, Mask, Option<Fence>) {
 
 #[test]
 fn a_session_holds_one_drawing(rt: HostRuntime) -> Result<(), Fail> {
-    let mut session = begun(&rt, 53)?;
+    let alloc = rt.alloc();
+    let bytes = drawing(alloc, 0x08, 0, &[&LINE])?;
+    assert!(rt; bytes.len() <= 67108864);
+    let mut session = Session::start(alloc, read_design(alloc, bytes)?)?;
     assert!(rt; session.edit(&Edit::Delete { n: 1 }) == Ok(()));
     let (_, design, nesting, log, mask, fence) = parts(session);
-    assert!(rt; design.body.len() == 1680);
-    assert!(rt; nesting.ends() == [1, 3, 3].as_slice());
+    assert!(rt; design.body.len() == 1588);
+    assert!(rt; nesting.ends() == [1, 2].as_slice());
     assert!(rt; log.entries().len() == 1);
     assert!(rt; mask == Mask(u64::MAX) && fence.is_none());
     Ok(())

@@ -69,6 +69,3 @@ fn drawn(state: u32) -> u32
 {
     ((u64::from(state) * 1103515245 + 12345) % 2147483648) as u32
 }
-
-#[cfg(test)]
-mod tests;

@@ -35,6 +35,3 @@ pub use generator::generate;
 pub use importing::answer_import;
 pub use status::Status;
 pub use top::run;
-
-#[cfg(test)]
-mod tests;

@@ -84,6 +84,3 @@ fn put_words(b: &mut [u8], at: usize, u: u32)
 {
     LittleEndian::write_u32(&mut b[at..], u % 65536 * 65536 + u / 65536);
 }
-
-#[cfg(test)]
-mod tests;

@@ -34,6 +34,3 @@ pub use fencing::plan_all;
 pub use importing::{copy_tree, push_tree_copy};
 pub use planning::plan;
 pub use sums::spots_in;
-
-#[cfg(test)]
-mod tests;

@@ -25,6 +25,3 @@ pub use command::Command;
 pub use fault::ScriptFault;
 pub use numbers::number;
 pub use script::read_script;
-
-#[cfg(test)]
-mod tests;

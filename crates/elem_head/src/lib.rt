@@ -66,6 +66,3 @@ pub fn attr_start(b: &[u8]) -> Option<usize>
         None
     }
 }
-
-#[cfg(test)]
-mod tests;

@@ -10,6 +10,3 @@ mod walk;
 
 pub use design::{Design, count_elements, read_design};
 pub use open_fault::OpenFault;
-
-#[cfg(test)]
-mod tests;

@@ -58,6 +58,3 @@ fn origin_place(dim: usize) -> usize
 {
     if dim == 2 { 84 } else { 112 }
 }
-
-#[cfg(test)]
-mod tests;

@@ -15,6 +15,3 @@ pub use counting::count_shown;
 pub use lone::lone_element;
 pub use nesting::nest_design;
 pub use view::{show, tree_items, tree_items_into};
-
-#[cfg(test)]
-mod tests;

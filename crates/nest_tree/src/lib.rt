@@ -18,6 +18,3 @@ pub mod types;
 
 pub use knot::Knot;
 pub use nesting::nest;
-
-#[cfg(test)]
-mod tests;

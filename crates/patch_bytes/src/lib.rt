@@ -16,6 +16,3 @@ pub use byte_list::ByteList;
 pub use patch::Patch;
 pub use patch_list::PatchList;
 pub use writes::{swap_in, write_back};
-
-#[cfg(test)]
-mod tests;

@@ -29,6 +29,3 @@ pub use reading::read_patch;
 pub use sizes::patch_len;
 pub use taking::take_entry;
 pub use writing::write_patch;
-
-#[cfg(test)]
-mod tests;

@@ -19,6 +19,3 @@ pub use polygon::within;
 pub use pt::Pt;
 pub use pt_list::PtList;
 pub use segments::touch;
-
-#[cfg(test)]
-mod tests;

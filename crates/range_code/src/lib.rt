@@ -80,6 +80,3 @@ fn greater(a: [i32; 3], b: [i32; 3], axis: usize) -> i32
 {
     a[axis].max(b[axis])
 }
-
-#[cfg(test)]
-mod tests;

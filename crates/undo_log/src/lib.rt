@@ -13,6 +13,3 @@ mod swaps;
 
 pub use entry::Entry;
 pub use log::Log;
-
-#[cfg(test)]
-mod tests;

@@ -1,0 +1,135 @@
+// Sides, segments and polygons at known places, the ends of the design plane among them, and the two
+// lists, which grow and are read, with the place at and past their end.
+
+use plane_geom::*;
+use std::test::Fail;
+
+const CORNER: [i32; 3] = [0, 0, 0];
+
+const FAR: [i32; 3] = [2147483647, -2147483648, -5];
+
+// The ends of the design plane on each axis.
+const LOW: i32 = -2147483648;
+
+const HIGH: i32 = 2147483647;
+
+fn at(x: i32, y: i32) -> Pt {
+    Pt { x, y }
+}
+
+#[test]
+fn sides(rt: HostRuntime) {
+    let rows = [
+        (at(0, 0), at(10, 0), at(5, 1), 1),
+        (at(0, 0), at(10, 0), at(5, -1), -1),
+        (at(0, 0), at(10, 0), at(15, 0), 0),
+        (at(3, 3), at(3, 3), at(0, 9), 0),
+        (at(LOW, LOW), at(HIGH, HIGH), at(LOW, HIGH), 1),
+        (at(LOW, LOW), at(HIGH, HIGH), at(HIGH, LOW), -1),
+        (at(LOW, LOW), at(HIGH, HIGH), at(0, 1), 1),
+    ];
+    for (a, b, p, wanted) in rows {
+        assert_eq!(rt; side(a, b, p), wanted, "{p:?} by {a:?} and {b:?}");
+    }
+}
+
+#[test]
+fn segments(rt: HostRuntime) {
+    let rows = [
+        // In one line: overlapping, end to end by a corner, apart, and apart on a slope.
+        (at(0, 0), at(10, 0), at(5, 0), at(15, 0), true),
+        (at(0, 0), at(10, 0), at(10, 0), at(10, 5), true),
+        (at(0, 0), at(10, 0), at(11, 0), at(15, 0), false),
+        (at(0, 0), at(3, 3), at(4, 4), at(9, 9), false),
+        // Points: on a segment, beside it, and two of them.
+        (at(3, 3), at(3, 3), at(0, 0), at(6, 6), true),
+        (at(3, 4), at(3, 4), at(0, 0), at(6, 6), false),
+        (at(3, 3), at(3, 3), at(3, 3), at(3, 3), true),
+        // The common point has no whole coordinates; boxes that meet without one.
+        (at(0, 0), at(1, 1), at(0, 1), at(1, 0), true),
+        (at(0, 0), at(10, 10), at(6, 5), at(9, 0), false),
+        (at(LOW, LOW), at(HIGH, HIGH), at(0, 0), at(0, 0), true),
+        (at(LOW, LOW), at(HIGH, HIGH), at(0, 1), at(0, 1), false),
+    ];
+    for (p, q, r, s, wanted) in rows {
+        assert_eq!(rt; touch(p, q, r, s), wanted, "{p:?} {q:?} and {r:?} {s:?}");
+        assert_eq!(rt; touch(s, r, q, p), wanted, "{s:?} {r:?} and {q:?} {p:?}");
+    }
+}
+
+#[test]
+fn points_within(rt: HostRuntime) {
+    let square = [at(0, 0), at(10, 0), at(10, 10), at(0, 10)];
+    // Inside, outside on either hand, then on the lower, the upper, the left and the right edge.
+    let by_square = [
+        (at(5, 5), true),
+        (at(-5, 5), false),
+        (at(15, 5), false),
+        (at(5, 0), true),
+        (at(5, 10), false),
+        (at(0, 5), true),
+        (at(10, 5), false),
+    ];
+    for (p, wanted) in by_square {
+        assert_eq!(rt; within(p, &square), wanted, "{p:?} in the square");
+    }
+    // Level with the right corner inside and outside, with the lower corner and with the upper one.
+    let diamond = [at(10, 0), at(20, 10), at(10, 20), at(0, 10)];
+    let by_diamond = [
+        (at(10, 10), true),
+        (at(-5, 10), false),
+        (at(0, 0), false),
+        (at(0, 20), false),
+    ];
+    for (p, wanted) in by_diamond {
+        assert_eq!(rt; within(p, &diamond), wanted, "{p:?} in the diamond");
+    }
+    let plane = [at(LOW, LOW), at(HIGH, LOW), at(HIGH, HIGH), at(LOW, HIGH)];
+    for (p, wanted) in [(at(0, 0), true), (at(LOW, LOW), true), (at(HIGH, 0), false)] {
+        assert_eq!(rt; within(p, &plane), wanted, "{p:?} in the plane");
+    }
+    assert!(rt; !within(at(0, 0), &[]));
+}
+
+#[test]
+fn points_are_kept_in_order(rt: HostRuntime) -> Result<(), Fail> {
+    let mut list = PointList::new(rt.alloc());
+    assert!(rt; list.is_empty());
+    for v in [CORNER, FAR, CORNER] {
+        list.push(v)?;
+    }
+    assert_eq!(rt; list.len(), 3);
+    assert_eq!(rt; list.as_slice(), [CORNER, FAR, CORNER].as_slice());
+    for (i, point) in [
+        (0, Some(CORNER)),
+        (1, Some(FAR)),
+        (3, None),
+        (usize::MAX, None),
+    ] {
+        assert_eq!(rt; list.get(i), point, "at {i}");
+    }
+    Ok(())
+}
+
+#[test]
+fn plane_points_are_kept_in_order(rt: HostRuntime) -> Result<(), Fail> {
+    let mut list = PtList::new(rt.alloc());
+    assert!(rt; list.is_empty());
+    for v in [at(1, 2), at(LOW, HIGH)] {
+        list.push(v)?;
+    }
+    assert_eq!(rt; list.len(), 2);
+    assert_eq!(rt; list.as_slice(), [at(1, 2), at(LOW, HIGH)].as_slice());
+    for (i, point) in [(0, Some(at(1, 2))), (1, Some(at(LOW, HIGH))), (2, None)] {
+        assert_eq!(rt; list.get(i), point, "at {i}");
+    }
+    Ok(())
+}
+
+#[test]
+fn points_are_equal_by_both_numbers(rt: HostRuntime) {
+    let point = Pt { x: 3, y: -4 };
+    for (x, y, equal) in [(3, -4, true), (3, 4, false), (-3, -4, false)] {
+        assert_eq!(rt; point == Pt { x, y }, equal, "at {x},{y}");
+    }
+}

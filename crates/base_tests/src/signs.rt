@@ -1,0 +1,34 @@
+// Words and their signs from the format's text, bytes that are no signs, and each word there and back.
+
+use dgn_radix50::*;
+
+const WORDS: [(u16, [u8; 3]); 7] = [
+    (0, *b"   "),
+    (1, *b"  A"),
+    (1683, *b"ABC"),
+    (11414, *b"GEN"),
+    (44349, *b"$.%"),
+    (49231, *b"001"),
+    (63999, *b"999"),
+];
+
+#[test]
+fn words_and_signs(rt: HostRuntime) {
+    for (word, signs) in WORDS {
+        assert_eq!(rt; unpack(word), Some(signs), "at {word}");
+        assert_eq!(rt; pack(signs), Some(word), "at {word}");
+    }
+    for bytes in [*b"abc", *b"AB-", *b"\x00AB", *b"A\xC1B", *b"AB@"] {
+        assert_eq!(rt; pack(bytes), None, "at {bytes:?}");
+    }
+}
+
+#[test]
+fn each_word_there_and_back(rt: HostRuntime) {
+    for word in 0..64000 {
+        assert_eq!(rt; unpack(word).and_then(pack), Some(word), "at {word}");
+    }
+    for word in 64000..=65535 {
+        assert_eq!(rt; unpack(word), None, "at {word}");
+    }
+}

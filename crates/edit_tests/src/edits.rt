@@ -1,0 +1,335 @@
+// Plans of edits on worked drawings.
+
+ghost use Rattle.std.specs.Prelude.{◌≡◌, ◌≤◌, [], ◌∷◌, length, IfOk};
+ghost use Rattle.elem_index.specs.Design.{IsWhole};
+
+use dgn_drawing::{Edit, New, NewShape, Shift, SymbChange};
+use edit_ops::types::Plan;
+use edit_ops::*;
+use elem_head::types::Symb;
+use elem_index::{Design, read_design};
+use level_view::nest_design;
+use patch_bytes::{ByteList, Patch};
+use plane_geom::PointList;
+use sample_elements::{
+    CELL, FREED_COPY, LINE, LOCKED_MEMBER, MEMBER, NEW_CHAIN, NEW_LINE, SHARED_CELL, TEXT, drawing,
+};
+use std::alloc::{AllocError, Global};
+use std::test::Fail;
+
+// A drawing of few bytes: a TCB of two or three axes, these elements, and no tail.
+fn opened(alloc: Global, axes: u8, elements: &[&[u8]]) -> Result<Design, Fail>
+    ensures whole { IfOk result IsWhole }
+    ensures few { IfOk result (λ d. length d.body.items ≤ 1700) }
+    ensures alone { IfOk result (λ d. length d.tail.items ≡ 0) }
+{
+    let mark = if axes == 3 { 0x40 } else { 0 };
+    let bytes = drawing(alloc, 0x08, mark, elements)?;
+    if bytes.len() > 67108864 {
+        return Err(Fail::from("too long"));
+    }
+    let design = read_design(alloc, bytes)?;
+    if design.body.len() > 1700 || !design.tail.is_empty() {
+        return Err(Fail::from("more bytes"));
+    }
+    Ok(design)
+}
+
+// What an edit of a drawing of these elements comes to, where at most 67107164 bytes are pending.
+fn planned(
+    alloc: Global,
+    axes: u8,
+    elements: &[&[u8]],
+    edit: &Edit,
+    pending: usize,
+) -> Result<Result<Plan, EditFault>, Fail>
+    requires { pending ≤ 67107164 }
+{
+    let design = opened(alloc, axes, elements)?;
+    let nesting = nest_design(alloc, &design)?;
+    Ok(plan(alloc, &design, &nesting, edit, pending))
+}
+
+// A displacement in two axes.
+fn along(x: i32, y: i32) -> Shift {
+    Shift {
+        axes: 2,
+        by: [i64::from(x), i64::from(y), 0],
+    }
+}
+
+// Whether patches put so many bytes at each of these places.
+fn are_patches(patches: &[Patch], len: u8, wanted: &[(u32, [u8; 4])]) -> bool {
+    for (patch, (at, bytes)) in patches.iter().zip(wanted) {
+        if patch.at != *at || patch.len != len || patch.bytes != *bytes {
+            return false;
+        }
+    }
+    patches.len() == wanted.len()
+}
+
+// Whether an edit of the cell and its member is planned as these patches, with nothing to append.
+fn is_planned(
+    alloc: Global,
+    edit: &Edit,
+    len: u8,
+    wanted: &[(u32, [u8; 4])],
+) -> Result<bool, Fail> {
+    let plan = planned(alloc, 2, &[&CELL, &MEMBER], edit, 0)??;
+    Ok(plan.append.is_empty() && are_patches(plan.patches.as_slice(), len, wanted))
+}
+
+// The fourteen fields of the cell and its member, moved by 5,7.
+const MOVED_CELL: [(u32, [u8; 4]); 14] = [
+    (1540, [0x00, 0x80, 0x05, 0x00]),
+    (1544, [0x00, 0x80, 0x07, 0x00]),
+    (1552, [0x00, 0x80, 0x69, 0x00]),
+    (1556, [0x00, 0x80, 0x39, 0x00]),
+    (1620, [0x00, 0x00, 0x05, 0x00]),
+    (1624, [0x00, 0x00, 0x07, 0x00]),
+    (1632, [0x00, 0x80, 0x05, 0x00]),
+    (1636, [0x00, 0x80, 0x07, 0x00]),
+    (1644, [0x00, 0x80, 0x69, 0x00]),
+    (1648, [0x00, 0x80, 0x39, 0x00]),
+    (1664, [0x00, 0x00, 0x05, 0x00]),
+    (1668, [0x00, 0x00, 0x07, 0x00]),
+    (1672, [0x00, 0x00, 0x69, 0x00]),
+    (1676, [0x00, 0x00, 0x39, 0x00]),
+];
+
+// The range of the cell that holds its member moved by 1,1, and the fields of the member.
+const MOVED_MEMBER: [(u32, [u8; 4]); 12] = [
+    (1540, [0x00, 0x80, 0x00, 0x00]),
+    (1544, [0x00, 0x80, 0x00, 0x00]),
+    (1552, [0x00, 0x80, 0x65, 0x00]),
+    (1556, [0x00, 0x80, 0x33, 0x00]),
+    (1632, [0x00, 0x80, 0x01, 0x00]),
+    (1636, [0x00, 0x80, 0x01, 0x00]),
+    (1644, [0x00, 0x80, 0x65, 0x00]),
+    (1648, [0x00, 0x80, 0x33, 0x00]),
+    (1664, [0x00, 0x00, 0x01, 0x00]),
+    (1668, [0x00, 0x00, 0x01, 0x00]),
+    (1672, [0x00, 0x00, 0x65, 0x00]),
+    (1676, [0x00, 0x00, 0x33, 0x00]),
+];
+
+// Colour 9, weight 3 and style 4.
+const LOOKS: [(u32, [u8; 4]); 2] = [(1570, [0x1C, 0x09, 0, 0]), (1662, [0x1C, 0x09, 0, 0])];
+
+// The deleted bit of both.
+const MARKS: [(u32, [u8; 4]); 2] = [(1537, [0x82, 0, 0, 0]), (1629, [0x83, 0, 0, 0])];
+
+#[test]
+fn plans_of_a_cell(rt: HostRuntime) -> Result<(), Fail> {
+    let alloc = rt.alloc();
+    let by = along(5, 7);
+    assert!(rt; is_planned(alloc, &Edit::Move { n: 1, by }, 4, &MOVED_CELL)?);
+    let by = along(1, 1);
+    assert!(rt; is_planned(alloc, &Edit::Move { n: 2, by }, 4, &MOVED_MEMBER)?);
+    let change = SymbChange {
+        color: Some(9),
+        weight: Some(3),
+        style: Some(4),
+    };
+    assert!(rt; is_planned(alloc, &Edit::Sym { n: 1, change }, 2, &LOOKS)?);
+    assert!(rt; is_planned(alloc, &Edit::Delete { n: 1 }, 1, &MARKS)?);
+    Ok(())
+}
+
+// Whether an edit of two elements is refused with this cause.
+fn is_refused(
+    alloc: Global,
+    top: &[u8],
+    member: &[u8],
+    edit: &Edit,
+    cause: Cause,
+) -> Result<bool, Fail> {
+    match planned(alloc, 2, &[top, member], edit, 0)? {
+        Err(EditFault::Refused(first)) => Ok(first == cause),
+        _ => Ok(false),
+    }
+}
+
+// A header whose total no members have, a locked member, and a shared cell definition.
+#[test]
+fn refused_edits(rt: HostRuntime) -> Result<(), Fail> {
+    let mut loose = CELL;
+    loose[36] = 0x34;
+    let by = Shift {
+        axes: 3,
+        by: [1, 1, 1],
+    };
+    let rows = [
+        (CELL, MEMBER, Edit::Delete { n: 9 }, Cause::Unknown(9)),
+        (CELL, MEMBER, Edit::Delete { n: 0 }, Cause::Opaque(0)),
+        (CELL, MEMBER, Edit::Copy { n: 1, by }, Cause::Dimension),
+        (loose, MEMBER, Edit::Delete { n: 1 }, Cause::Broken(1)),
+        (loose, MEMBER, Edit::Delete { n: 2 }, Cause::Broken(2)),
+        (CELL, LOCKED_MEMBER, Edit::Delete { n: 1 }, Cause::Locked(2)),
+    ];
+    for (top, member, edit, cause) in &rows {
+        assert!(rt; is_refused(rt.alloc(), top, member, edit, *cause)?);
+    }
+    let edit = Edit::Move {
+        n: 2,
+        by: along(1, 1),
+    };
+    assert!(rt; is_refused(rt.alloc(), &SHARED_CELL, &MEMBER, &edit, Cause::Opaque(1))?);
+    Ok(())
+}
+
+// What an edit of a drawing of these elements appends, where it writes nothing into it.
+fn appended(alloc: Global, axes: u8, elements: &[&[u8]], edit: &Edit) -> Result<ByteList, Fail> {
+    let plan = planned(alloc, axes, elements, edit, 0)??;
+    if !plan.patches.is_empty() {
+        return Err(Fail::from("patches"));
+    }
+    Ok(plan.append)
+}
+
+// Whether bytes are two parts, one behind the other.
+fn are_joined(bytes: &[u8], first: &[u8], second: &[u8]) -> bool {
+    match (bytes.get(..first.len()), bytes.get(first.len()..)) {
+        (Some(head), Some(rest)) => head == first && rest == second,
+        _ => false,
+    }
+}
+
+// A copied member has no bit C, and stands where it was moved to; a copied cell is locked where it was.
+#[test]
+fn copies(rt: HostRuntime) -> Result<(), Fail> {
+    let alloc = rt.alloc();
+    let edit = Edit::Copy {
+        n: 2,
+        by: along(10, 10),
+    };
+    let copy = appended(alloc, 2, &[&CELL, &MEMBER], &edit)?;
+    assert_eq!(rt; copy.as_slice(), FREED_COPY.as_slice());
+    let edit = Edit::Copy {
+        n: 1,
+        by: along(0, 0),
+    };
+    let copy = appended(alloc, 2, &[&CELL, &LOCKED_MEMBER], &edit)?;
+    assert!(rt; are_joined(copy.as_slice(), &CELL, &LOCKED_MEMBER));
+    Ok(())
+}
+
+// A tree is copied behind what is there, and one that would leave the plane isn't.
+#[test]
+fn copied_trees(rt: HostRuntime) -> Result<(), Fail> {
+    let alloc = rt.alloc();
+    let design = opened(alloc, 2, &[&LINE])?;
+    let nesting = nest_design(alloc, &design)?;
+    assert!(rt; 1 < design.count());
+    let mut copy = ByteList::new(alloc);
+    copy.push(9)?;
+    let far = along(i32::MAX, 0);
+    let refused = copy_tree(alloc, &design, &nesting, 1, &far, &mut copy).err();
+    assert_eq!(rt; refused, Some(EditFault::Refused(Cause::OffPlane(1))));
+    assert_eq!(rt; copy.len(), 1);
+    copy_tree(alloc, &design, &nesting, 1, &along(0, 0), &mut copy)?;
+    assert_eq!(rt; copy.as_slice().get(1..), Some(LINE.as_slice()));
+    Ok(())
+}
+
+// A copy of 52 bytes just fits behind so many pending ones, and not behind one more.
+#[test]
+fn length_limits(rt: HostRuntime) -> Result<(), Fail> {
+    let alloc = rt.alloc();
+    let free = 67108864 - 1680;
+    let edit = Edit::Copy {
+        n: 2,
+        by: along(0, 0),
+    };
+    let fits = planned(alloc, 2, &[&CELL, &MEMBER], &edit, free - 52)?;
+    assert!(rt; fits.is_ok());
+    let long = planned(alloc, 2, &[&CELL, &MEMBER], &edit, free - 51)?;
+    assert_eq!(rt; long.err(), Some(EditFault::Refused(Cause::TooLong)));
+    Ok(())
+}
+
+// A list of two points.
+fn points(alloc: Global, first: [i32; 3], last: [i32; 3]) -> Result<PointList, AllocError>
+    ensures { IfOk result (λ list. list ≡ first ∷ last ∷ []) }
+{
+    let mut list = PointList::new(alloc);
+    list.push(first)?;
+    list.push(last)?;
+    Ok(list)
+}
+
+// The line of level 2, colour 3 and weight 1 from 0,0 to 10,10.
+fn new_line(alloc: Global) -> Result<New, AllocError> {
+    let shape = NewShape::Line(points(alloc, [0, 0, 0], [10, 10, 0])?);
+    let symb = Symb {
+        color: 3,
+        weight: 1,
+        style: 0,
+    };
+    Ok(New {
+        level: 2,
+        symb,
+        axes: 2,
+        shape,
+    })
+}
+
+// The line string of level 1, colour 2, weight 3 and style 4 from 0,0,0 to 5,5,5.
+fn new_chain(alloc: Global) -> Result<New, AllocError> {
+    let shape = NewShape::Chain(points(alloc, [0, 0, 0], [5, 5, 5])?);
+    let symb = Symb {
+        color: 2,
+        weight: 3,
+        style: 4,
+    };
+    Ok(New {
+        level: 1,
+        symb,
+        axes: 3,
+        shape,
+    })
+}
+
+// The text `Hi there` of level 1 and font 3 at 5,6.
+fn new_text(alloc: Global) -> Result<New, AllocError> {
+    let chars = ByteList::from_vec(Vec::from_slice(alloc, b"Hi there")?);
+    let shape = NewShape::Text {
+        font: 3,
+        just: 0,
+        length: 1000,
+        height: 1000,
+        origin: [5, 6, 0],
+        chars,
+    };
+    let symb = Symb {
+        color: 0,
+        weight: 0,
+        style: 0,
+    };
+    Ok(New {
+        level: 1,
+        symb,
+        axes: 2,
+        shape,
+    })
+}
+
+#[test]
+fn appended_elements(rt: HostRuntime) -> Result<(), Fail> {
+    let alloc = rt.alloc();
+    let line = Edit::Append(new_line(alloc)?);
+    assert_eq!(rt;
+        appended(alloc, 2, &[], &line)?.as_slice(),
+        NEW_LINE.as_slice()
+    );
+    let text = Edit::Append(new_text(alloc)?);
+    assert_eq!(rt; appended(alloc, 2, &[], &text)?.as_slice(), TEXT.as_slice());
+    let chain = Edit::Append(new_chain(alloc)?);
+    assert_eq!(rt;
+        appended(alloc, 3, &[], &chain)?.as_slice(),
+        NEW_CHAIN.as_slice()
+    );
+    let refused = planned(alloc, 3, &[], &line, 0)?.err();
+    assert_eq!(rt; refused, Some(EditFault::Refused(Cause::Dimension)));
+    Ok(())
+}

@@ -1,0 +1,13 @@
+//! Tests of the crates that edit a drawing and list it, by their public calls.
+#![tactic(auto)]
+
+#[cfg(test)]
+mod audits;
+#[cfg(test)]
+mod edits;
+#[cfg(test)]
+mod imports;
+#[cfg(test)]
+mod listings;
+#[cfg(test)]
+mod sessions;
