@@ -3,6 +3,7 @@
 ghost use Rattle.std.specs.Prelude.{◌≡◌, ◌≤◌, [], ◌∷◌, length, IfOk};
 ghost use Rattle.elem_index.specs.Design.{IsWhole};
 
+use crate::shifts::along;
 use dgn_drawing::{Edit, New, NewShape, Shift, SymbChange};
 use edit_ops::types::Plan;
 use edit_ops::*;
@@ -48,14 +49,6 @@ fn planned(
     let design = opened(alloc, axes, elements)?;
     let nesting = nest_design(alloc, &design)?;
     Ok(plan(alloc, &design, &nesting, edit, pending))
-}
-
-// A displacement in two axes.
-fn along(x: i32, y: i32) -> Shift {
-    Shift {
-        axes: 2,
-        by: [i64::from(x), i64::from(y), 0],
-    }
 }
 
 // Whether patches put so many bytes at each of these places.

@@ -11,3 +11,5 @@ mod imports;
 mod listings;
 #[cfg(test)]
 mod sessions;
+#[cfg(test)]
+mod shifts;

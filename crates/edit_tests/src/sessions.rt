@@ -3,7 +3,8 @@
 ghost use Rattle.std.specs.Prelude.{IfOk};
 ghost use Rattle.elem_index.specs.Design.{IsWhole};
 
-use dgn_drawing::{Edit, Mask, New, NewShape, Shift};
+use crate::shifts::along;
+use dgn_drawing::{Edit, Mask, New, NewShape};
 use dgn_import::{gather, read_second};
 use dgn_session::*;
 use edit_ops::{Cause, EditFault};
@@ -33,14 +34,6 @@ fn opened(rt: &(impl AllocGlobal + Abort), total: u8) -> Result<Design, Fail>
 fn begun(rt: &(impl AllocGlobal + Abort), total: u8) -> Result<Session, Fail> {
     let design = opened(rt, total)?;
     Ok(Session::start(rt.alloc(), design)?)
-}
-
-// A displacement in two axes.
-fn along(x: i32, y: i32) -> Shift {
-    Shift {
-        axes: 2,
-        by: [i64::from(x), i64::from(y), 0],
-    }
 }
 
 // The trees of a drawing of this element are appended.
