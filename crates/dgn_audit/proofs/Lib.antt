@@ -10,3 +10,4 @@ pub mod Ranged
 pub mod Fitted
 pub mod Kept
 pub mod Ended
+pub mod Few

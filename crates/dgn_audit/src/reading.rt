@@ -1,12 +1,13 @@
 // The hulls of the elements between two numbers, found from the last element back to the first. Both lists grow towards
 // the front of the drawing, so what is least stands last.
 
-ghost use Rattle.std.specs.Prelude.{◌≡◌, ◌-◌, ◌<◌, ◌≤◌, ◌∷◌, ◌++◌, length, map, reverse, slice_get, Option, Some, OnOk, IfOk};
+ghost use Rattle.std.specs.Prelude.{◌≡◌, ◌-◌, ◌<◌, ◌≤◌, ◌∷◌, ◌++◌, length, map, reverse, slice_get, vec_len, vec_capacity, Option, Some, OnOk, IfOk};
 ghost use Rattle.range_code.specs.Ranges.{range_of};
 ghost use Rattle.dgn_drawing.specs.Rows.{row_of};
 ghost use Rattle.dgn_drawing.specs.Numbering.{mark_of};
 ghost use Rattle.dgn_drawing.specs.WellFormed.{IsDimension};
 ghost use Rattle.elem_index.specs.Design.{elements, IsWhole};
+ghost use Rattle.dgn_audit.specs.Hulls.{hull_join};
 ghost use Rattle.dgn_audit.specs.Reading.{kept_told, told_read};
 ghost use Rattle.dgn_audit.specs.Backwards.{Pass, pass_of, box_for, without, with_hull, with_hulls, begins_below, past, read_marked, read_back};
 
@@ -22,10 +23,15 @@ use nest_tree::types::Nest;
 use range_code::{Box3, join};
 use std::alloc::{AllocError, Global};
 
+// The most boxes that are open at once: they are those of different headers above one element, and no element lies more
+// than 3278 below a root (`no_element_lies_deep` of `nest_tree`).
+const MOST_OPEN: usize = 3278;
+
 // Takes away the box of header `n`, if it is the first one.
 fn take_box(boxes: &mut Vec<OpenBox>, n: u32) -> Option<Box3>
     ensures found { result ≡ box_for n (reverse boxes.old.items) }
     ensures left { reverse boxes.new.items ≡ without n (reverse boxes.old.items) }
+    ensures capacity { vec_capacity boxes.new ≡ vec_capacity boxes.old }
 {
     match boxes.last() {
         Some(last) if last.header == n => {
@@ -37,32 +43,43 @@ fn take_box(boxes: &mut Vec<OpenBox>, n: u32) -> Option<Box3>
     }
 }
 
-// Makes the box of header `p` hold a box too.
-fn add_to(boxes: &mut Vec<OpenBox>, p: u32, hull: Box3) -> Result<(), AllocError>
-    ensures { OnOk result (reverse boxes.new.items ≡ with_hull p hull (reverse boxes.old.items)) }
+// Puts a box before the others, where there is room.
+fn push_box(boxes: &mut Vec<OpenBox>, one: OpenBox)
+    requires { vec_len boxes.old < vec_capacity boxes.old }
+    ensures first { reverse boxes.new.items ≡ one ∷ reverse boxes.old.items }
+    ensures capacity { vec_capacity boxes.new ≡ vec_capacity boxes.old }
 {
-    let hull = match take_box(boxes, p) {
-        Some(held) => join(hull, held),
-        None => hull,
-    };
-    push_box(boxes, OpenBox { header: p, hull })
+    boxes.push_reserved(one);
 }
 
-// Puts a box before the others.
-fn push_box(boxes: &mut Vec<OpenBox>, one: OpenBox) -> Result<(), AllocError>
-    ensures { OnOk result (reverse boxes.new.items ≡ one ∷ reverse boxes.old.items) }
+// The least box that holds a box, and one that is held already, if there is one.
+fn wider(hull: Box3, held: Option<Box3>) -> Box3
+    ensures { Some result ≡ hull_join (Some hull) held }
 {
-    boxes.push(one)?;
-    Ok(())
+    match held {
+        Some(held) => join(hull, held),
+        None => hull,
+    }
+}
+
+// Makes the box of header `p` hold a box too.
+fn add_to(boxes: &mut Vec<OpenBox>, p: u32, hull: Box3)
+    requires { length (with_hull p hull (reverse boxes.old.items)) ≤ vec_capacity boxes.old }
+    ensures held { reverse boxes.new.items ≡ with_hull p hull (reverse boxes.old.items) }
+    ensures capacity { vec_capacity boxes.new ≡ vec_capacity boxes.old }
+{
+    let hull = wider(hull, take_box(boxes, p));
+    push_box(boxes, OpenBox { header: p, hull });
 }
 
 // The same where there is a header.
-fn add_hull(boxes: &mut Vec<OpenBox>, parent: Option<u32>, hull: Box3) -> Result<(), AllocError>
-    ensures { OnOk result (reverse boxes.new.items ≡ with_hulls parent (Some hull) (reverse boxes.old.items)) }
+fn add_hull(boxes: &mut Vec<OpenBox>, parent: Option<u32>, hull: Box3)
+    requires { length (with_hulls parent (Some hull) (reverse boxes.old.items)) ≤ vec_capacity boxes.old }
+    ensures held { reverse boxes.new.items ≡ with_hulls parent (Some hull) (reverse boxes.old.items) }
+    ensures capacity { vec_capacity boxes.new ≡ vec_capacity boxes.old }
 {
-    match parent {
-        Some(p) => add_to(boxes, p, hull),
-        None => Ok(()),
+    if let Some(p) = parent {
+        add_to(boxes, p, hull);
     }
 }
 
@@ -123,7 +140,7 @@ fn tell(
     Ok(())
 }
 
-// Reads element `n` before what was read behind it.
+// Reads element `n` before what was read behind it, where there is room for the boxes that are open then.
 fn read(
     d: &Design,
     t: &Nest,
@@ -135,8 +152,10 @@ fn read(
     requires whole { IsWhole d.now }
     requires nesting { t.now.rows ≡ map row_of (elements d.now) }
     requires known { n < length (elements d.now) }
-    ensures { OnOk result (pass_of boxes.new.items told.new.items
+    requires room { length (read_marked keep d.now.dim n (mark_of row_of (elements d.now) n) (slice_get (elements d.now) n) (pass_of boxes.old.items told.old.items)).open_boxes ≤ vec_capacity boxes.old }
+    ensures pass { OnOk result (pass_of boxes.new.items told.new.items
         ≡ read_marked keep d.now.dim n (mark_of row_of (elements d.now) n) (slice_get (elements d.now) n) (pass_of boxes.old.items told.old.items)) }
+    ensures capacity { vec_capacity boxes.new ≡ vec_capacity boxes.old }
 {
     let seat = seat_of(d, t, n);
     let members = take_box(boxes, n);
@@ -147,12 +166,13 @@ fn read(
     let Some(hull) = hull_of(d.dim, seat.knot, seat.kind, seat.bytes, members) else {
         return Ok(());
     };
-    add_hull(boxes, seat.parent, hull)?;
+    add_hull(boxes, seat.parent, hull);
     tell(d.dim, keep, n, seat, hull, told)
 }
 
 // What is told of the elements from number `first` on and before number `end`, the last one first. A box is held for each
-// header above the element that is being read of which a member with a hull has been read.
+// header above the element that is being read of which a member with a hull has been read. The room for as many as can be
+// open is taken once.
 pub(crate) fn read_between(
     alloc: Global,
     d: &Design,
@@ -167,7 +187,7 @@ pub(crate) fn read_between(
     requires within { end ≤ length (elements d.now) }
     ensures { IfOk result (λ told. reverse told.items ≡ (read_back keep d.now.dim (elements d.now) first (end - first)).told) }
 {
-    let mut boxes = Vec::new(alloc);
+    let mut boxes = Vec::with_capacity(alloc, MOST_OPEN)?;
     let mut told = Vec::new(alloc);
     for n in (first..end).rev() {
         read(d, t, n, keep, &mut boxes, &mut told)?;

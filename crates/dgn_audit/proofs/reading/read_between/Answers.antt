@@ -1,15 +1,29 @@
-use Rattle.std.proofs.Common.{◌≡◌, ℕ, ◌-◌, ap, ◌∙◌, arith}
+use Rattle.std.proofs.Common.{◌≡◌, ℕ, ◌-◌, length, refl, ap, ◌∙◌, arith}
 use Rattle.elem_index.specs.Design.{elements}
 use Rattle.dgn_audit.specs.Backwards.{Pass, pass_of, read_back}
+use Rattle.dgn_audit.proofs.Few.{few_open}
 use Rattle.dgn_audit.proofs.Sitting.{back_step}
 use Rattle.dgn_audit.proofs.reading.read_between.Goals as goal
 
+pub read-requires-clause-room : goal.read-requires-clause-room
+read-requires-clause-room c =
+    let read = back_step c.args.keep c.args.d.now.dim (elements c.args.d.now) (c.loop-n.n - 1) c.loop-n.n c.args.end
+    (pass_of c.loop-n.boxes.items c.loop-n.told.items) _
+    (omega (arith, c.loop-n-test.true)) c.loop-n.auto.n c.loop-n.invariant.pass refl in
+    omega (
+      arith,
+      c.loop-n.invariant.room,
+      ap (λ (p : Pass). length p.open_boxes) read,
+      few_open c.args.d.now c.requires.whole c.args.keep (c.loop-n.n - 1) (c.args.end - (c.loop-n.n - 1)) (omega (arith, c.loop-n-test.true, c.loop-n.auto.n, c.requires.within)),
+    )
+
 pub loop-n-preserved : goal.loop-n-preserved
 loop-n-preserved c = record {
+  room = c.in_ok-read.ensures.capacity ∙ c.loop-n.invariant.room;
   after = omega (arith, c.loop-n-test.true);
   pass = back_step c.args.keep c.args.d.now.dim (elements c.args.d.now) (c.loop-n.n - 1) c.loop-n.n c.args.end
       (pass_of c.loop-n.boxes.items c.loop-n.told.items) (pass_of c.read.new.boxes.items c.read.new.told.items)
-      (omega (arith, c.loop-n-test.true)) c.loop-n.auto.n c.loop-n.invariant.pass c.in_ok-read.ensures;
+      (omega (arith, c.loop-n-test.true)) c.loop-n.auto.n c.loop-n.invariant.pass c.in_ok-read.ensures.pass;
 }
 
 pub returns : goal.returns
