@@ -6,7 +6,7 @@ ghost use Rattle.elem_index.specs.Design.{elements, IsWhole};
 ghost use Rattle.edit_ops.specs.Copying.{tree_copy, copy_cause, IsCopyRefused};
 
 use crate::asking::move_cause;
-use crate::copying::copy_of;
+use crate::copying::push_copy;
 use crate::edit_fault::EditFault;
 use crate::fencing::same_shift;
 use crate::live::live_numbers;
@@ -101,7 +101,6 @@ fn push_listed_copy(
         n,
         by: same_shift(by),
     };
-    let copy = copy_of(alloc, d, t, n, &live, &edit)?;
-    out.extend_from_slice(copy.as_slice())?;
+    push_copy(alloc, d, t, n, &live, &edit, out)?;
     Ok(())
 }
