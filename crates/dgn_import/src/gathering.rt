@@ -14,7 +14,7 @@ use crate::import_fault::ImportFault;
 use crate::second::Second;
 use crate::taking::taken_roots;
 use dgn_drawing::Shift;
-use edit_ops::{part_bytes, push_tree_copy};
+use edit_ops::{copy_tree, part_bytes};
 use elem_index::Design;
 use nest_tree::types::Nest;
 use patch_bytes::ByteList;
@@ -23,7 +23,7 @@ use std::alloc::{AllocError, Global};
 /// Gathers the trees of a second drawing that can stand behind a drawing of dimension `dim`: those of its roots, in
 /// file order, that aren't element 0, aren't silent and aren't marked deleted, and whose trees hold no broken number.
 /// Without `by` they are as they stand, and with it their live elements are displaced by so much
-/// (`edit_ops::push_tree_copy`).
+/// (`edit_ops::copy_tree`).
 ///
 /// Bad comes exactly where the second file doesn't open; else Dimension exactly where it has another dimension than
 /// `dim`, or `by` is given for other axes; else Refused exactly where the displacement of a tree is refused, with the
@@ -112,10 +112,7 @@ fn bytes_of(
             let bytes = plain_bytes(alloc, d, t, roots)?;
             Ok(ByteList::from_vec(bytes))
         }
-        Some(by) => {
-            let bytes = moved_bytes(alloc, d, t, roots, by)?;
-            Ok(ByteList::from_vec(bytes))
-        }
+        Some(by) => moved_bytes(alloc, d, t, roots, by),
     }
 }
 
@@ -143,12 +140,12 @@ fn moved_bytes(
     t: &Nest,
     roots: &[u32],
     by: &Shift,
-) -> Result<Vec<u8>, ImportFault>
+) -> Result<ByteList, ImportFault>
     requires whole { IsWhole d.now }
     requires nesting { t.now.rows ≡ map row_of (elements d.now) }
     requires known { AllByRecursion (λ n. n < length (elements d.now)) roots.now }
     ensures moved { IfOk result
-        (λ bytes. bytes.items ≡ spelling (flat (import_trees d.now.dim (elements d.now) (Some by.now) roots.now))) }
+        (λ bytes. bytes ≡ spelling (flat (import_trees d.now.dim (elements d.now) (Some by.now) roots.now))) }
     ensures accepted { IfOk result
         (λ _. cause_of_roots d.now.dim (elements d.now) (Some by.now) roots.now ≡ None) }
     ensures refused { IfErr result
@@ -156,10 +153,11 @@ fn moved_bytes(
     ensures kept { IsShift by.now }
 {
     let _axes = by.axes;
-    let mut bytes = Vec::new(alloc);
-    bytes.reserve(d.body.len())?;
+    let mut room = Vec::new(alloc);
+    room.reserve(d.body.len())?;
+    let mut bytes = ByteList::from_vec(room);
     'roots: for n in roots {
-        push_tree_copy(alloc, d, t, *n, by, &mut bytes)?;
+        copy_tree(alloc, d, t, *n, by, &mut bytes)?;
     }
     Ok(bytes)
 }

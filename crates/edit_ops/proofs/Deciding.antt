@@ -1,6 +1,6 @@
 -- Whether an edit is refused, in the order in which its causes are asked.
-use Rattle.std.proofs.Common.{◌≡◌, ℕ, ◌<◌, List, [], length, Bool, cond, Option, Some, None, sym, ap, ◌∙◌, subst}
-use Rattle.std.specs.Prelude.{nat_lt}
+use Rattle.std.proofs.Common.{◌≡◌, ℕ, ◌<◌, List, [], length, Bool, cond, Option, Some, None, Result, Ok, Err, refl, sym, ap, ◌∙◌, subst}
+use Rattle.std.specs.Prelude.{nat_lt, IfErr}
 use Rattle.std.specs.Option.{option_or}
 use Rattle.std.proofs.lemmas.Bool.{ltb-true, lt-ltb}
 use Rattle.dgn_drawing.specs.declared.edit.Edit.{Edit}
@@ -13,11 +13,13 @@ use Rattle.dgn_drawing.specs.Opening.{Opens}
 use Rattle.dgn_drawing.specs.Nesting.{flat}
 use Rattle.edit_ops.specs.declared.cause.Cause.{Cause}
 use Rattle.edit_ops.specs.declared.cause.Cause.TheVariants as causes
+use Rattle.edit_ops.specs.declared.edit_fault.EditFault.{EditFault}
+use Rattle.edit_ops.specs.declared.edit_fault.EditFault.TheVariants as faults
 use Rattle.edit_ops.specs.declared.types.plan.Plan.{Plan}
 use Rattle.edit_ops.specs.Causes.{unknown, part_cause, causes_of, first_of, target_of, target_cause, cause_of}
-use Rattle.edit_ops.specs.Applying.{Refused, unless, apply, changed_forest, copied, IsEdit}
+use Rattle.edit_ops.specs.Applying.{Refused, unless, apply, changed_forest, copied, ChangesInPlace, IsEdit}
 use Rattle.edit_ops.specs.Written.{part_puts}
-use Rattle.edit_ops.specs.Planned.{IsPlan}
+use Rattle.edit_ops.specs.Planned.{IsPlan, IsRefused, IsStopped}
 use Rattle.edit_ops.proofs.Listed.{or_assoc}
 use Rattle.edit_ops.proofs.Accepted.{met}
 use Rattle.edit_ops.proofs.Appended.{append_plan}
@@ -70,6 +72,10 @@ append_refused dim es rest e c named is = with_cause dim es rest e c (append_fir
 same_some : (n m : ℕ) → Some n ≡ Some m → n ≡ m
 same_some n m is = cc
 
+-- so it is the copy of that element
+pub copy_named : (e : Edit) (m n : ℕ) (by : Displacement) → e ≡ edit.Copy m by → target_of e ≡ Some n → e ≡ edit.Copy n by
+copy_named e m n by is named = is ∙ ap (λ (k : ℕ). edit.Copy k by) (same_some m n (sym (ap target_of is) ∙ named))
+
 -- a copy without a cause is planned by its bytes
 pub copied_plan : (dim : ℕ) (es : List Element) (rest : ℕ) (e : Edit) (n m : ℕ) (by : Displacement) (p : Plan) → target_of e ≡ Some n → e ≡ edit.Copy m by → cause_of dim es rest e ≡ None
     → p.patches ≡ [] → p.append ≡ spelling (flat (copied dim es e n)) → IsPlan dim es rest e p
@@ -92,3 +98,26 @@ pub changed_plan : (f : List ℕ) (dim : ℕ) (es : List Element) (t : List ℕ)
     → ((m : ℕ) (by : Displacement) → e ≡ edit.Copy m by → ⊥) → cause_of dim es rest e ≡ None → p.patches ≡ part_puts dim es e n → p.append ≡ [] → IsPlan dim es rest e p
 changed_plan f dim es t rest e n p fits opens named other none patches append =
     plan_is f dim es t rest e n fits opens (in_place dim es e n named other) p none patches append
+
+-- an edit that changes elements where they stand has the same causes, whatever else the file has
+pub causes_in_place : (dim : ℕ) (es : List Element) (rest : ℕ) (e : Edit) → ChangesInPlace e → first_of (causes_of dim es rest e) ≡ first_of (causes_of dim es 0 e)
+causes_in_place dim es rest (edit.Move n by) here = refl
+causes_in_place dim es rest (edit.Copy n by) here = absurd here
+causes_in_place dim es rest (edit.Sym n change) here = refl
+causes_in_place dim es rest (edit.Delete n) here = refl
+causes_in_place dim es rest (edit.Append new) here = absurd here
+
+-- an edit of a part is one, where it isn't a copy
+pub is_in_place : (e : Edit) (n : ℕ) → target_of e ≡ Some n → ((m : ℕ) (by : Displacement) → e ≡ edit.Copy m by → ⊥) → ChangesInPlace e
+is_in_place (edit.Move m by) n named other = tt
+is_in_place (edit.Copy m by) n named other = other m by refl
+is_in_place (edit.Sym m change) n named other = tt
+is_in_place (edit.Delete m) n named other = tt
+is_in_place (edit.Append new) n named other = let x = named in cc
+
+-- a part's edit that is stopped by its first later cause is refused with it
+pub stopped_refused : (dim : ℕ) (es : List Element) (rest : ℕ) (e : Edit) (n : ℕ) (o : Option Cause) (r : Result Unit EditFault) → target_of e ≡ Some n → n < length es
+    → option_or (part_cause dim es n) (first_of (causes_of dim es rest e)) ≡ o → IfErr r (IsStopped o) → IfErr r (IsRefused (apply dim es rest e))
+stopped_refused dim es rest e n o (Ok x) named known is stopped = tt
+stopped_refused dim es rest e n o (Err (faults.Refused c)) named known is stopped = later_refused dim es rest e n c named known (is ∙ stopped)
+stopped_refused dim es rest e n o (Err faults.Memory) named known is stopped = tt

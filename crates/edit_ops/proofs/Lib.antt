@@ -27,6 +27,7 @@ pub mod Apart
 pub mod Rooted
 pub mod Least
 pub mod Deciding
+pub mod Lengthened
 pub mod Told
 pub mod Wider
 pub mod Worked

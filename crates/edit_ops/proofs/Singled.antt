@@ -166,6 +166,11 @@ module _ (d : Design) (whole : IsWhole d) (n m : ℕ) (f : Found) (found : IsFou
       ∙ ap (λ (p : ℕ). map (sum_put by p (spell e)) (spots_of d.dim f.kind (spell e))) (sym found.place)
       ∙ ap (λ (b : List ℕ). map (sum_put by f.place b) (spots_of d.dim f.kind b)) (sym found.bytes)
 
+-- what holds at Ok, whatever the answer is there
+pub ok_so : {A E : Type 0} (r : Result A E) (P : Type 0) → OnOk r P → IfOk r (λ _. P)
+ok_so (Ok x) P so = so
+ok_so (Err e) P so = tt
+
 -- what holds at Ok, of two things that do
 pub both_ok : {A E : Type 0} (r : Result A E) (P Q R : Type 0) → OnOk r Q → IfOk r (λ _. P) → (Q → P → R) → IfOk r (λ _. R)
 both_ok (Ok x) P Q R q p so = so q p
@@ -176,7 +181,3 @@ pub move_named : (e : Edit) (k n : ℕ) (by : Displacement) → e ≡ edit.Move 
 move_named e k n by is named =
     let same : k ≡ n = (let x = sym (ap target_of is) ∙ named in cc) in
     is ∙ ap (λ (i : ℕ). edit.Move i by) same
-
--- a move is no copy
-pub no_copy : (e : Edit) (n : ℕ) (by : Displacement) → e ≡ edit.Move n by → (m : ℕ) (other : Displacement) → e ≡ edit.Copy m other → ⊥
-no_copy e n by is m other copy = let x = sym is ∙ copy in cc

@@ -76,3 +76,11 @@ IsEdit (edit.Copy n by) = IsShift by
 IsEdit (edit.Sym n change) = IsLook change
 IsEdit (edit.Delete n) = Unit {0}
 IsEdit (edit.Append new) = IsNew new
+
+-- the edit changes elements where they stand: a move, a change of the look or a deletion
+abbrev pub ChangesInPlace : Edit → Type 0
+ChangesInPlace (edit.Move n by) = Unit {0}
+ChangesInPlace (edit.Copy n by) = ⊥
+ChangesInPlace (edit.Sym n change) = Unit {0}
+ChangesInPlace (edit.Delete n) = Unit {0}
+ChangesInPlace (edit.Append new) = ⊥

@@ -1,8 +1,10 @@
 ghost use Rattle.std.specs.Prelude.{◌≡◌, ◌+◌, ◌<◌, ◌≤◌, ◌++◌, length, slice_get, IsFalse, if◌then◌else◌};
 ghost use Rattle.std.specs.Option.{option_or};
 ghost use Rattle.dgn_layout.specs.Classes.{class_of, is_silent};
+ghost use Rattle.dgn_drawing.specs.declared.edit.Edit.{Edit};
 ghost use Rattle.elem_index.specs.Design.{elements, IsWhole};
-ghost use Rattle.edit_ops.specs.Causes.{unwidened, unmovable, lookless, unmarkable, first_cause, too_long, bytes_appended, first_of, causes_of, target_of};
+ghost use Rattle.edit_ops.specs.Applying.{ChangesInPlace};
+ghost use Rattle.edit_ops.specs.Causes.{unwidened, unmovable, lookless, unmarkable, first_cause, too_long, first_of, causes_of, target_of};
 ghost use Rattle.edit_ops.specs.Asking.{cause_in, MayBeAsked, MayBeAskedOf, locked_in};
 ghost use Rattle.edit_ops.specs.Trees.{above_of, live_of};
 ghost use Rattle.edit_ops.specs.Written.{found};
@@ -12,8 +14,9 @@ use crate::cause::Cause;
 use crate::causes::{other_axes, silent, too_long};
 use crate::finding::find;
 use crate::lone::{lone, lone_look_cause};
+use crate::making::size_made;
 use crate::sums::stays_on_plane;
-use dgn_drawing::{Edit, Shift};
+use dgn_drawing::{Edit, New, Shift};
 use dgn_layout::types::Class;
 use dgn_layout::{class, is_silent};
 use elem_head::properties;
@@ -22,40 +25,36 @@ use elem_index::Design;
 // The bit of an element's properties, 0x0100, that says that it is locked.
 const LOCKED: u32 = 8;
 
-// What is against an edit of a part that nothing keeps from any edit: `above` has the numbers of the headers above
-// the part, `live` those of its live elements, `appended` is how many bytes the edit appends, and `pending` how many
-// are to be appended already.
-pub fn edit_cause(
-    d: &Design,
-    edit: &Edit,
-    above: &[u32],
-    live: &[u32],
-    appended: usize,
-    pending: usize,
-) -> Option<Cause>
+// What is against an edit of a part where it stands, which nothing keeps from any edit: `above` has the numbers of the
+// headers above the part, and `live` those of its live elements.
+pub fn edit_cause(d: &Design, edit: &Edit, above: &[u32], live: &[u32]) -> Option<Cause>
     requires whole { IsWhole d.now }
+    requires in_place { ChangesInPlace edit.now }
     requires above { found (elements d.now) above.now ≡ above_of (elements d.now) (target_of edit.now) }
     requires live { found (elements d.now) live.now ≡ live_of (elements d.now) (target_of edit.now) }
-    requires appended { appended ≡ bytes_appended (elements d.now) edit.now }
-    requires few { appended ≤ 67108864 }
-    requires room { length d.now.body.items + (length d.now.tail.items + pending) ≤ 67108864 }
-    ensures { result ≡ first_of
-        (causes_of d.now.dim (elements d.now) (length d.now.tail.items + pending) edit.now) }
+    ensures { result ≡ first_of (causes_of d.now.dim (elements d.now) 0 edit.now) }
 {
     match edit {
         Edit::Move { by, .. } => locked(d, above, live)
             .or(other_axes(d.dim, by.axes))
             .or(first_cause(d, above, &Test::Widens))
             .or(move_cause(d, live, by)),
-        Edit::Copy { by, .. } => other_axes(d.dim, by.axes)
-            .or(move_cause(d, live, by))
-            .or(growth_cause(d, appended, pending)),
         Edit::Sym { .. } => look_cause(d, above, live),
         Edit::Delete { n } => locked(d, above, live)
             .or(silent(d, *n))
             .or(first_cause(d, live, &Test::Marks)),
-        Edit::Append(new) => other_axes(d.dim, new.axes).or(growth_cause(d, appended, pending)),
+        Edit::Copy { .. } | Edit::Append(_) => unreachable!(),
     }
+}
+
+// What is against an element that is appended. `pending` is how many bytes are to be appended already.
+pub fn append_cause(d: &Design, new: &New, pending: usize) -> Option<Cause>
+    requires whole { IsWhole d.now }
+    requires room { length d.now.body.items + (length d.now.tail.items + pending) ≤ 67108864 }
+    ensures { result ≡ first_of
+        (causes_of d.now.dim (elements d.now) (length d.now.tail.items + pending) (Edit.Append new.now)) }
+{
+    other_axes(d.dim, new.axes).or(growth_cause(d, size_made(new), pending))
 }
 
 // What is against another look of a part with these headers above it and these live elements. A part that is one
@@ -97,7 +96,7 @@ pub fn move_cause(d: &Design, live: &[u32], by: &Shift) -> Option<Cause>
 }
 
 // The file would be too long with so many bytes more.
-fn growth_cause(d: &Design, appended: usize, pending: usize) -> Option<Cause>
+pub fn growth_cause(d: &Design, appended: usize, pending: usize) -> Option<Cause>
     requires few { appended ≤ 67108864 }
     requires room { length d.now.body.items + (length d.now.tail.items + pending) ≤ 67108864 }
     ensures { result ≡ too_long

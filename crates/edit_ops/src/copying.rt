@@ -1,4 +1,4 @@
-ghost use Rattle.std.specs.Prelude.{ℕ, ◌≡◌, ◌+◌, ◌%◌, ◌<◌, ◌≤◌, List, ◌++◌, length, map, slice_index, slice_set, IfOk};
+ghost use Rattle.std.specs.Prelude.{ℕ, ◌≡◌, ◌+◌, ◌%◌, ◌<◌, ◌≤◌, List, ◌++◌, length, map, slice_index, slice_set, OnOk, OnErr};
 ghost use Rattle.std.specs.List.{AllByRecursion};
 ghost use Rattle.dgn_drawing.specs.Rows.{row_of};
 ghost use Rattle.dgn_drawing.specs.Nesting.{flat, forest};
@@ -8,14 +8,14 @@ ghost use Rattle.elem_index.specs.Offsets.{offset_of};
 ghost use Rattle.edit_ops.specs.Trees.{tree_at, live_tree};
 ghost use Rattle.patch_bytes.specs.Puts.{write, Span};
 ghost use Rattle.edit_ops.specs.Applying.{IsEdit, copied};
-ghost use Rattle.edit_ops.specs.Written.{found, IsReady};
+ghost use Rattle.edit_ops.specs.Written.{found, live_puts, IsReady};
 
 use crate::live::end_of;
 use crate::patches::push_live;
 use dgn_drawing::Edit;
 use elem_index::Design;
 use nest_tree::types::Nest;
-use patch_bytes::{ByteList, Patch, PatchList, swap_in};
+use patch_bytes::{Patch, PatchList, swap_in};
 use std::alloc::{AllocError, Global};
 
 // Bit C of an element's first byte.
@@ -54,30 +54,47 @@ pub fn part_len(d: &Design, t: &Nest, n: u32) -> usize
     place_of(d, end_of(t, n)) - place_of(d, n)
 }
 
-// The bytes of the copy of the part of element n: those of the part with what the edit puts into its live elements,
-// of which `live` has the numbers, and the head without bit C.
-pub fn copy_of(
+// Appends the bytes of the copy of the part of element n: those of the part with what the edit puts into its live
+// elements, of which `live` has the numbers, and the head without bit C. Where there is no memory, `out` is as before.
+pub fn push_copy(
     alloc: Global,
     d: &Design,
     t: &Nest,
     n: u32,
     live: &[u32],
     edit: &Edit,
-) -> Result<ByteList, AllocError>
+    out: &mut Vec<u8>,
+) -> Result<(), AllocError>
     requires whole { IsWhole d.now }
     requires nesting { t.now.rows ≡ map row_of (elements d.now) }
     requires known { n < length (elements d.now) }
     requires fits { IsEdit edit.now }
     requires live { found (elements d.now) live.now ≡ live_tree (elements d.now) n }
     requires ready { AllByRecursion (λ v. IsReady d.now.dim edit.now v.element) (live_tree (elements d.now) n) }
-    ensures { IfOk result (λ bytes. bytes ≡ spelling (flat (copied d.now.dim (elements d.now) edit.now n))) }
+    ensures copied { OnOk result
+        (out.new.items ≡ out.old.items ++ spelling (flat (copied d.now.dim (elements d.now) edit.now n))) }
+    ensures kept { OnErr result (out.new.items ≡ out.old.items) }
 {
     let mut patches = PatchList::new(alloc);
     push_live(&mut patches, d, live, edit)?;
-    let mut bytes = Vec::from_slice(alloc, part_bytes(d, t, n))?;
-    lay_all(&mut bytes, place_of(d, n) as u32, &patches);
-    free_first(&mut bytes);
-    Ok(ByteList::from_vec(bytes))
+    let start = out.len();
+    out.extend_from_slice(part_bytes(d, t, n))?;
+    lay_part(&mut out[start..], d, n, edit, &patches);
+    Ok(())
+}
+
+// Makes the bytes of the part of element n those of its copy, by the patches of the edit `_edit`.
+fn lay_part(copy: &mut [u8], d: &Design, n: u32, _edit: &Edit, patches: &PatchList)
+    requires whole { IsWhole d.now }
+    requires known { n < length (elements d.now) }
+    requires fits { IsEdit _edit.now }
+    requires ready { AllByRecursion (λ v. IsReady d.now.dim _edit.now v.element) (live_tree (elements d.now) n) }
+    requires patches { patches.now ≡ live_puts d.now.dim _edit.now (live_tree (elements d.now) n) }
+    requires same { copy.old ≡ spelling (flat (tree_at n (forest row_of (elements d.now)))) }
+    ensures { copy.new ≡ spelling (flat (copied d.now.dim (elements d.now) _edit.now n)) }
+{
+    lay_all(copy, place_of(d, n) as u32, patches);
+    free_first(copy);
 }
 
 // Takes bit C, which is its highest, from the first of some bytes.

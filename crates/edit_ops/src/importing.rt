@@ -6,7 +6,7 @@ ghost use Rattle.elem_index.specs.Design.{elements, IsWhole};
 ghost use Rattle.edit_ops.specs.Copying.{tree_copy, copy_cause, IsCopyRefused};
 
 use crate::asking::move_cause;
-use crate::copying::copy_of;
+use crate::copying::push_copy;
 use crate::edit_fault::EditFault;
 use crate::fencing::same_shift;
 use crate::live::live_numbers;
@@ -16,16 +16,17 @@ use elem_index::Design;
 use nest_tree::types::Nest;
 use patch_bytes::ByteList;
 use std::alloc::Global;
+use std::mem;
 
-/// Appends to `out` the bytes of a copy of the tree of root `n` of the design `d`, of which `t` is the nesting: the
-/// bytes of the tree, where its live elements stand displaced by `by`. It is the copy that `plan` makes of a part.
+/// Appends to `out` the bytes of a copy of the part of element `n`, which there is, of the design `d`, of which `t` is
+/// the nesting: the bytes of the part, where its live elements stand displaced by `by`. `plan` copies a part by it.
 ///
 /// Refused comes exactly where the displacement of a live element is refused: with Floating or Opaque for the least
 /// one of which not all coordinates are read, and else with OffPlane for the least one that would leave the design
 /// plane. Nothing else refuses it: not the length of a file, of which `out` needn't become a part. After a refusal,
 /// and where there is no memory, `out` is as before.
 ///
-/// It takes the time of the tree.
+/// Room that `out` has is kept. It takes the time of the part.
 pub fn copy_tree(
     alloc: Global,
     d: &Design,
@@ -43,14 +44,14 @@ pub fn copy_tree(
     ensures refused { IfErr result (IsCopyRefused (copy_cause d.now.dim (elements d.now) by.now n)) }
     ensures kept { OnErr result (out.new ≡ out.old) }
 {
-    let mut copy = Vec::new(alloc);
-    push_tree_copy(alloc, d, t, n, by, &mut copy)?;
-    out.push_all(&ByteList::from_vec(copy))?;
-    Ok(())
+    let mut bytes = mem::replace(out, ByteList::new(alloc)).into_vec();
+    let copied = push_tree_copy(alloc, d, t, n, by, &mut bytes);
+    *out = ByteList::from_vec(bytes);
+    copied
 }
 
-/// The same, where the bytes are put behind those of a vector.
-pub fn push_tree_copy(
+// The same, where the bytes are put behind those of a vector.
+fn push_tree_copy(
     alloc: Global,
     d: &Design,
     t: &Nest,
@@ -100,7 +101,6 @@ fn push_listed_copy(
         n,
         by: same_shift(by),
     };
-    let copy = copy_of(alloc, d, t, n, &live, &edit)?;
-    out.extend_from_slice(copy.as_slice())?;
+    push_copy(alloc, d, t, n, &live, &edit, out)?;
     Ok(())
 }

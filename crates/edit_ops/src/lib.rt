@@ -31,6 +31,6 @@ pub use cause::Cause;
 pub use copying::part_bytes;
 pub use edit_fault::EditFault;
 pub use fencing::plan_all;
-pub use importing::{copy_tree, push_tree_copy};
+pub use importing::copy_tree;
 pub use planning::plan;
 pub use sums::spots_in;

@@ -1,35 +1,37 @@
-ghost use Rattle.std.specs.Prelude.{◌≡◌, ◌+◌, ◌<◌, ◌≤◌, ◌++◌, length, map, Some, None, IfOk, IfErr, OnOk, OnErr};
-ghost use Rattle.std.specs.List.{AllByRecursion};
+ghost use Rattle.std.specs.Prelude.{◌≡◌, ◌+◌, ◌<◌, ◌≤◌, ◌++◌, length, map, Some, None, IfOk, IfErr, OnOk};
 ghost use Rattle.std.specs.Option.{option_or};
+ghost use Rattle.dgn_drawing.specs.declared.edit.Edit.{Edit};
 ghost use Rattle.dgn_drawing.specs.Spelling.{spelling};
 ghost use Rattle.dgn_drawing.specs.Rows.{row_of};
 ghost use Rattle.dgn_drawing.specs.Nesting.{flat};
 ghost use Rattle.elem_index.specs.Design.{elements, IsWhole};
 ghost use Rattle.edit_ops.specs.Trees.{above_tree, live_tree};
-ghost use Rattle.edit_ops.specs.Applying.{apply, copied, IsEdit};
-ghost use Rattle.edit_ops.specs.Causes.{target_of, part_cause, causes_of, first_of, bytes_appended};
-ghost use Rattle.edit_ops.specs.Planned.{IsPlan, IsPlanBehind, IsRefused};
-ghost use Rattle.edit_ops.specs.Written.{found, IsReady};
+ghost use Rattle.edit_ops.specs.Applying.{apply, ChangesInPlace, IsEdit};
+ghost use Rattle.edit_ops.specs.Causes.{target_of, part_cause, causes_of, first_of};
+ghost use Rattle.edit_ops.specs.Copying.{tree_copy};
+ghost use Rattle.edit_ops.specs.Planned.{IsPlan, IsPlanBehind, IsRefused, IsStopped};
+ghost use Rattle.edit_ops.specs.Written.{found, part_puts};
 
 use crate::above::put_numbers_above;
-use crate::asking::edit_cause;
+use crate::asking::{append_cause, edit_cause, growth_cause, move_cause};
 use crate::cause::Cause;
-use crate::causes::{part_cause, unknown};
-use crate::copying::{copy_of, part_len};
+use crate::causes::{other_axes, part_cause, unknown};
+use crate::copying::part_len;
 use crate::edit_fault::EditFault;
 use crate::finding::find;
+use crate::importing::copy_tree;
 use crate::live::put_live_numbers;
 use crate::lone::lone;
 use crate::lone_move::plan_lone_move;
-use crate::making::{size_made, spelled};
+use crate::making::spelled;
 use crate::numbers::{Numbers, no_numbers};
 use crate::patches::push_part;
 use crate::types::Plan;
-use dgn_drawing::Edit;
+use dgn_drawing::{Edit, Shift};
 use elem_index::Design;
 use nest_tree::types::Nest;
 use patch_bytes::{ByteList, PatchList};
-use std::alloc::{AllocError, Global};
+use std::alloc::Global;
 
 /// What an edit comes to on the design `d`, of which `t` is the nesting. `pending` is the number of bytes
 /// that are to be appended already.
@@ -128,90 +130,99 @@ fn plan_part(
         return Err(EditFault::Refused(cause));
     }
     put_numbers_above(d, t, n, &mut numbers.above)?;
+    if let Edit::Copy { by, .. } = edit {
+        return plan_copy(alloc, d, t, n, by, pending, numbers, &mut all.append);
+    }
     put_live_numbers(d, t, n, &mut numbers.live)?;
     plan_found(
-        alloc,
         d,
         t,
         n,
         edit,
-        pending,
         &numbers.above,
         &numbers.live,
-        all,
+        &mut all.patches,
     )
 }
 
-// The same, where `above` has the numbers of the headers above the part of element n, which there is, and `live` those of
-// its live elements. A part that is one element alone is moved in one pass.
-fn plan_found(
+// Appends the bytes of a copy of the part of element n, which there is, or says what stands against it. `numbers` has
+// those of the headers above the part. Where the file would be too long with the copy, none is made to say so.
+fn plan_copy(
     alloc: Global,
     d: &Design,
     t: &Nest,
     n: u32,
-    edit: &Edit,
+    by: &Shift,
     pending: usize,
-    above: &[u32],
-    live: &[u32],
-    all: &mut Plan,
+    numbers: &mut Numbers,
+    append: &mut ByteList,
 ) -> Result<(), EditFault>
     requires whole { IsWhole d.now }
     requires nesting { t.now.rows ≡ map row_of (elements d.now) }
     requires room { length d.now.body.items + (length d.now.tail.items + pending) ≤ 67108864 }
     requires known { n < length (elements d.now) }
+    requires above { found (elements d.now) numbers.old.above.items ≡ above_tree (elements d.now) n }
+    ensures copied { OnOk result
+        (append.new ≡ append.old ++ spelling (flat (tree_copy d.now.dim (elements d.now) by.now n))) }
+    ensures free { IfOk result (λ _. option_or (part_cause d.now.dim (elements d.now) n)
+        (first_of (causes_of d.now.dim (elements d.now) (length d.now.tail.items + pending) (Edit.Copy n by.now))) ≡ None) }
+    ensures refused { IfErr result (IsStopped (option_or (part_cause d.now.dim (elements d.now) n)
+        (first_of (causes_of d.now.dim (elements d.now) (length d.now.tail.items + pending) (Edit.Copy n by.now))))) }
+{
+    let first = part_cause(d, t, n, &numbers.above).or(other_axes(d.dim, by.axes));
+    if let Some(cause) = first {
+        return Err(EditFault::Refused(cause));
+    }
+    if let Some(long) = growth_cause(d, part_len(d, t, n), pending) {
+        put_live_numbers(d, t, n, &mut numbers.live)?;
+        let cause = move_cause(d, &numbers.live, by).unwrap_or(long);
+        return Err(EditFault::Refused(cause));
+    }
+    copy_tree(alloc, d, t, n, by, append)
+}
+
+// Appends what another edit puts into the part of element n, which there is, and into the headers above it, or says what
+// stands against it. `above` has the numbers of these headers, and `live` those of the live elements of the part. A part
+// that is one element alone is moved in one pass.
+fn plan_found(
+    d: &Design,
+    t: &Nest,
+    n: u32,
+    edit: &Edit,
+    above: &[u32],
+    live: &[u32],
+    patches: &mut PatchList,
+) -> Result<(), EditFault>
+    requires whole { IsWhole d.now }
+    requires nesting { t.now.rows ≡ map row_of (elements d.now) }
+    requires known { n < length (elements d.now) }
     requires target { target_of edit.now ≡ Some n }
+    requires in_place { ChangesInPlace edit.now }
     requires fits { IsEdit edit.now }
     requires above { found (elements d.now) above.now ≡ above_tree (elements d.now) n }
     requires live { found (elements d.now) live.now ≡ live_tree (elements d.now) n }
-    ensures planned { IfOk result
-        (λ _. IsPlanBehind d.now.dim (elements d.now) (length d.now.tail.items + pending) edit.now all.old all.new) }
-    ensures refused { IfErr result
-        (IsRefused (apply d.now.dim (elements d.now) (length d.now.tail.items + pending) edit.now)) }
+    ensures planned { OnOk result
+        (patches.new ≡ patches.old ++ part_puts d.now.dim (elements d.now) edit.now n) }
+    ensures free { IfOk result (λ _. option_or (part_cause d.now.dim (elements d.now) n)
+        (first_of (causes_of d.now.dim (elements d.now) 0 edit.now)) ≡ None) }
+    ensures refused { IfErr result (IsStopped (option_or (part_cause d.now.dim (elements d.now) n)
+        (first_of (causes_of d.now.dim (elements d.now) 0 edit.now)))) }
 {
     if let Edit::Move { by, .. } = edit {
         if let Some(m) = lone(above, live) {
             if let Some(found) = find(d, m) {
-                return plan_lone_move(d, t, n, m, found, above, by, &mut all.patches);
+                return plan_lone_move(d, t, n, m, found, above, by, patches);
             }
         }
     }
-    if let Some(cause) = later_cause(d, t, n, edit, above, live, pending) {
+    if let Some(cause) = later_cause(d, t, n, edit, above, live) {
         return Err(EditFault::Refused(cause));
     }
-    if let Edit::Copy { .. } = edit {
-        push_copy(alloc, d, t, n, live, edit, &mut all.append)?;
-        return Ok(());
-    }
-    push_part(&mut all.patches, d, n, above, live, edit)?;
+    push_part(patches, d, n, above, live, edit)?;
     Ok(())
 }
 
-// Appends the bytes of a copy of the part of element n, which nothing refuses. Where there is no memory for them,
-// nothing is appended.
-fn push_copy(
-    alloc: Global,
-    d: &Design,
-    t: &Nest,
-    n: u32,
-    live: &[u32],
-    edit: &Edit,
-    append: &mut ByteList,
-) -> Result<(), AllocError>
-    requires whole { IsWhole d.now }
-    requires nesting { t.now.rows ≡ map row_of (elements d.now) }
-    requires known { n < length (elements d.now) }
-    requires fits { IsEdit edit.now }
-    requires live { found (elements d.now) live.now ≡ live_tree (elements d.now) n }
-    requires ready { AllByRecursion (λ v. IsReady d.now.dim edit.now v.element) (live_tree (elements d.now) n) }
-    ensures appended { OnOk result
-        (append.new ≡ append.old ++ spelling (flat (copied d.now.dim (elements d.now) edit.now n))) }
-    ensures kept { OnErr result (append.new ≡ append.old) }
-{
-    let copy = copy_of(alloc, d, t, n, live, edit)?;
-    append.push_all(&copy)
-}
-
-// What refuses an edit of the part of element n, which there is.
+// What refuses such an edit.
 fn later_cause(
     d: &Design,
     t: &Nest,
@@ -219,35 +230,17 @@ fn later_cause(
     edit: &Edit,
     above: &[u32],
     live: &[u32],
-    pending: usize,
 ) -> Option<Cause>
     requires whole { IsWhole d.now }
     requires nesting { t.now.rows ≡ map row_of (elements d.now) }
-    requires room { length d.now.body.items + (length d.now.tail.items + pending) ≤ 67108864 }
-    requires known { n < length (elements d.now) }
     requires target { target_of edit.now ≡ Some n }
+    requires in_place { ChangesInPlace edit.now }
     requires above { found (elements d.now) above.now ≡ above_tree (elements d.now) n }
     requires live { found (elements d.now) live.now ≡ live_tree (elements d.now) n }
     ensures { result ≡ option_or (part_cause d.now.dim (elements d.now) n)
-        (first_of (causes_of d.now.dim (elements d.now) (length d.now.tail.items + pending) edit.now)) }
+        (first_of (causes_of d.now.dim (elements d.now) 0 edit.now)) }
 {
-    let appended = appended_by(d, t, n, edit);
-    part_cause(d, t, n, above).or(edit_cause(d, edit, above, live, appended, pending))
-}
-
-// How many bytes an edit of the part of element n, which there is, appends.
-fn appended_by(d: &Design, t: &Nest, n: u32, edit: &Edit) -> usize
-    requires whole { IsWhole d.now }
-    requires nesting { t.now.rows ≡ map row_of (elements d.now) }
-    requires known { n < length (elements d.now) }
-    requires target { target_of edit.now ≡ Some n }
-    ensures exact { result ≡ bytes_appended (elements d.now) edit.now }
-    ensures few { result ≤ 67108864 }
-{
-    match edit {
-        Edit::Copy { .. } => part_len(d, t, n),
-        _ => 0,
-    }
+    part_cause(d, t, n, above).or(edit_cause(d, edit, above, live))
 }
 
 // What an appended element comes to.
@@ -270,7 +263,7 @@ fn plan_append(
     let Edit::Append(new) = edit else {
         unreachable!()
     };
-    if let Some(cause) = edit_cause(d, edit, &[], &[], size_made(new), pending) {
+    if let Some(cause) = append_cause(d, new, pending) {
         return Err(EditFault::Refused(cause));
     }
     let bytes = spelled(alloc, new)?;

@@ -36,6 +36,13 @@ impl ByteList {
         ByteList { kept: bytes }
     }
 
+    /// The vector of the bytes. It takes no memory, and copies nothing.
+    pub fn into_vec(self) -> Vec<u8>
+        ensures { result.items ≡ self }
+    {
+        self.kept
+    }
+
     /// Adds `v` at the end. Where there is no memory for it, the list stays as it was.
     pub fn push(&mut self, v: u8) -> Result<(), AllocError>
         ensures ok { OnOk result (self.new ≡ self.old ++ v ∷ []) }

@@ -5,5 +5,5 @@ use Rattle.dgn_import.proofs.gathering.moved_bytes.Goals as goal
 
 pub roots-preserved : goal.roots-preserved
 roots-preserved c =
-    next_gathered c.args.d.now.dim (elements c.args.d.now) (Some c.args.by.now) c.args.roots.now c.roots.n-index c.roots.bytes.items c.roots-test.true c.roots.invariant
-    c.push_tree_copy.new.out.items c.in_ok-push_tree_copy.ensures.accepted c.in_ok-push_tree_copy.ensures.copied
+    next_gathered c.args.d.now.dim (elements c.args.d.now) (Some c.args.by.now) c.args.roots.now c.roots.n-index c.roots.bytes c.roots-test.true c.roots.invariant
+    c.copy_tree.new.out c.in_ok-copy_tree.ensures.accepted c.in_ok-copy_tree.ensures.copied

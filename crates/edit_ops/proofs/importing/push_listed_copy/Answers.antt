@@ -12,8 +12,8 @@ use Rattle.edit_ops.specs.Written.{found, IsReady}
 use Rattle.edit_ops.proofs.Accepted.{copy_ready}
 use Rattle.edit_ops.proofs.importing.push_listed_copy.Goals as goal
 
-pub copy_of-requires-clause-ready : goal.copy_of-requires-clause-ready
-copy_of-requires-clause-ready c =
+pub push_copy-requires-clause-ready : goal.push_copy-requires-clause-ready
+push_copy-requires-clause-ready c =
     let d = c.args.d.now in
     let es = elements c.args.d.now in
     let are : found (elements c.args.d.now) c.deref.result.now ≡ live_tree (elements c.args.d.now) c.args.n = ap (found (elements c.args.d.now)) c.deref.ensures.value ∙ c.in_ok-live.ensures.found in
