@@ -5,6 +5,7 @@ ghost use Rattle.elem_index.specs.Design.{IsWhole};
 
 use super::file;
 use crate::{Design, read_design};
+use dgn_drawing::Row;
 use sample_elements::{LINE, REFERENCE};
 use std::alloc::{AllocError, Global};
 
@@ -30,8 +31,8 @@ fn same_text(one: &Design, two: &Design) -> bool
         && one.tail.as_slice() == two.tail.as_slice()
 }
 
-// Whether two lists of offsets are the same.
-fn same_offsets(one: &[u32], two: &[u32]) -> bool
+// Whether two lists of rows are the same.
+fn same_rows(one: &[Row], two: &[Row]) -> bool
     ensures { result ≡ true → one.now ≡ two.now }
 {
     one == two
@@ -43,10 +44,9 @@ fn grown(design: &mut Design, piece: &[u8], long: &Design) -> Result<bool, Alloc
     requires long { IsWhole long.now }
     ensures { IfOk result (λ same. same ≡ true → IsWhole design.new) }
 {
-    let count = design.offsets().len();
-    if long.offsets().len() != count + 1
-        || !same_offsets(&long.offsets()[..count], design.offsets())
-    {
+    let first = design.rows()?;
+    let all = long.rows()?;
+    if all.len() != first.len() + 1 || !same_rows(&all[..first.len()], &first) {
         return Ok(false);
     }
     design.reserve_index(1)?;
@@ -59,23 +59,22 @@ fn grown(design: &mut Design, piece: &[u8], long: &Design) -> Result<bool, Alloc
 }
 
 // Cuts the body to that of the shorter design, and shrinks. True where that makes it that one.
-fn shrunk(design: &mut Design, short: &Design) -> bool
+fn shrunk(design: &mut Design, short: &Design) -> Result<bool, AllocError>
     requires long { IsWhole design.old }
     requires short { IsWhole short.now }
-    ensures { result ≡ true → IsWhole design.new }
+    ensures { IfOk result (λ same. same ≡ true → IsWhole design.new) }
 {
-    let count = short.offsets().len();
-    if design.offsets().len() < count
-        || !same_offsets(&design.offsets()[..count], short.offsets())
-    {
-        return false;
+    let all = design.rows()?;
+    let first = short.rows()?;
+    if all.len() < first.len() || !same_rows(&all[..first.len()], &first) {
+        return Ok(false);
     }
     design.body.truncate(short.body.len());
     if !same_text(design, short) {
-        return false;
+        return Ok(false);
     }
     design.shrink(short.count());
-    design.offsets() == short.offsets()
+    Ok(design.offsets() == short.offsets())
 }
 
 #[test]
@@ -91,7 +90,7 @@ fn a_design_grows_and_shrinks(rt: HostRuntime) -> Result<(), AllocError> {
             assert_eq!(rt; design.offsets(), [0, 1536].as_slice());
             assert!(rt; grown(&mut design, &REFERENCE, &long)?);
             assert_eq!(rt; design.offsets(), [0, 1536, 1588].as_slice());
-            assert!(rt; shrunk(&mut design, &short));
+            assert!(rt; shrunk(&mut design, &short)?);
             assert_eq!(rt; design.offsets(), [0, 1536].as_slice());
         }
         _ => panic!(rt; "no design"),
