@@ -18,7 +18,8 @@ use Rattle.dgn_drawing.specs.Opening.{BeginsWithTcb, elements_of}
 use Rattle.dgn_drawing.proofs.Fronts.{body_spelled}
 use Rattle.elem_index.specs.declared.design.Design.{Design}
 use Rattle.elem_index.specs.Offsets.{offset_of, offsets_of}
-use Rattle.elem_index.specs.Design.{kept_of, elements, IsWhole, IsBehind, SameText}
+use Rattle.elem_index.specs.Design.{kept_of, kinds_of, kind_bytes, elements, IsWhole, IsBehind, SameText}
+use Rattle.elem_index.proofs.KindBytes.{kind_bytes-front}
 use Rattle.elem_index.proofs.Places.{length-offsets, get_or-offsets}
 use Rattle.edit_ops.proofs.Seen.{four_bytes}
 use Rattle.nest_tree.specs.Nested.{Nested}
@@ -140,8 +141,8 @@ module _ (d : Design) (t : Nested) (l : LogState) (kept : IsKept d t l) (len : �
       body_before : c ≡ back d.body.items last.last
       body_before = undone.body ∙ ap (back d.body.items) same_last.1
 
-      -- a design that has the body before, but all the offsets
-      module _ (e : Design) (axes : e.dim ≡ d.dim) (body : e.body.items ≡ c) (tail : e.tail.items ≡ d.tail.items) (offsets : kept_of e ≡ kept_of d) where
+      -- a design that has the body before, but all the offsets and bytes
+      module _ (e : Design) (axes : e.dim ≡ d.dim) (body : e.body.items ≡ c) (tail : e.tail.items ≡ d.tail.items) (offsets : kept_of e ≡ kept_of d) (kinds : kinds_of e ≡ kinds_of d) where
         elements_before : elements e ≡ elements_of d.dim (back d.body.items last.last)
         elements_before = ap (λ (n : ℕ). elements_of n e.body.items) axes ∙ ap (elements_of d.dim) (body ∙ body_before)
 
@@ -153,6 +154,10 @@ module _ (d : Design) (t : Nested) (l : LogState) (kept : IsKept d t l) (len : �
               ap (take count) (offsets ∙ kept.whole.kept)
               ∙ sym (offsets_front (elements_of d.dim (back d.body.items last.last)) (elements d) count front_rows)
               ∙ ap offsets_of (sym elements_before);
+          kinds =
+              ap (take count) (kinds ∙ kept.whole.kinds)
+              ∙ sym (kind_bytes-front (elements_of d.dim (back d.body.items last.last)) (elements d) count front_rows)
+              ∙ ap kind_bytes (sym elements_before);
         }
 
         -- and one that has those of its elements

@@ -17,7 +17,8 @@ use Rattle.dgn_drawing.specs.Opening.{offsets_from}
 use Rattle.dgn_drawing.proofs.Offsets.{take-offsets_from, sizes-rows}
 use Rattle.elem_index.specs.declared.design.Design.{Design}
 use Rattle.elem_index.specs.Offsets.{offsets_of}
-use Rattle.elem_index.specs.Design.{kept_of, spare_of, elements, IsOpen, IsWhole, IsFront, SameText}
+use Rattle.elem_index.specs.Design.{kept_of, kinds_of, spare_of, kind_bytes, elements, IsOpen, IsWhole, IsFront, SameText}
+use Rattle.elem_index.proofs.KindBytes.{kind_bytes-front}
 use Rattle.elem_index.proofs.Places.{length-kept, few_elements}
 use Rattle.nest_tree.specs.Nested.{Nested}
 use Rattle.nest_tree.specs.Shapes.{IsRow}
@@ -82,8 +83,8 @@ each_second (x ∷ xs) ys each = each_second xs ys each.1
 
 module _ (d : Design) (t : Nested) (l : LogState) (kept : IsKept d t l) (ps : List Put) (append : List ℕ) (rows : List Row)
     (room : HasRoom (length append) (length rows) d t l) (change : IsChange d.dim d.tail.items d.body.items ps append rows) where
-  -- a design that has the new body, but the offsets of the old one
-  module _ (e : Design) (axes : e.dim ≡ d.dim) (body : e.body.items ≡ write d.body.items ps ++ append) (tail : e.tail.items ≡ d.tail.items) (offsets : kept_of e ≡ kept_of d) (spare : spare_of e ≡ spare_of d) where
+  -- a design that has the new body, but the offsets and bytes of the old one
+  module _ (e : Design) (axes : e.dim ≡ d.dim) (body : e.body.items ≡ write d.body.items ps ++ append) (tail : e.tail.items ≡ d.tail.items) (offsets : kept_of e ≡ kept_of d) (kinds : kinds_of e ≡ kinds_of d) (spare : spare_of e ≡ spare_of d) where
     opens_new : OpensAt e.dim e.tail.items e.body.items
     opens_new = opens_same d.dim d.tail.items (write d.body.items ps ++ append) e.dim e.tail.items e.body.items axes tail body change.opens
 
@@ -102,6 +103,7 @@ module _ (d : Design) (t : Nested) (l : LogState) (kept : IsKept d t l) (ps : Li
         record {
           is_open = open_of e opens_new;
           first = offsets ∙ kept.whole.kept ∙ offsets_front (elements d) (elements e) n front ∙ ap (λ (k : ℕ). take k (offsets_of (elements e))) (sym old);
+          kinds = kinds ∙ kept.whole.kinds ∙ kind_bytes-front (elements d) (elements e) n front ∙ ap (λ (k : ℕ). take k (kind_bytes (elements e))) (sym old);
           room = omega (arith, many, ap (length {A = ℕ}) offsets, length-kept d kept.whole, spare, room.offsets);
         }
 

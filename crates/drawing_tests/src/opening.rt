@@ -8,8 +8,6 @@ use sample_elements::{
 };
 use std::alloc::{AllocError, Global};
 
-mod growth;
-
 // A TCB whose first byte and byte 1214 are given, and two pieces and a tail behind it.
 fn file(
     alloc: Global,

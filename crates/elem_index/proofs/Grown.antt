@@ -9,7 +9,8 @@ use Rattle.dgn_drawing.specs.Opening.{offsets_from}
 use Rattle.dgn_drawing.proofs.Offsets.{take-offsets_from, sizes-rows}
 use Rattle.elem_index.specs.declared.design.Design.{Design}
 use Rattle.elem_index.specs.Offsets.{offset_of, offsets_of}
-use Rattle.elem_index.specs.Design.{kept_of, spare_of, elements, IsOpen, IsWhole, IsFront, IsBehind}
+use Rattle.elem_index.specs.Design.{kept_of, kinds_of, spare_of, kind_byte, kind_bytes, elements, IsOpen, IsWhole, IsFront, IsBehind}
+use Rattle.elem_index.proofs.KindBytes.{kind_bytes-take, kind_bytes-front}
 use Rattle.elem_index.proofs.Places.{length-offsets, get_or-offsets}
 
 -- elements with the same rows have the same offsets
@@ -68,16 +69,19 @@ offset-from (e ∷ es) zero (suc n) from = absurd (omega arith)
 offset-from (e ∷ es) (suc m) (suc n) from =
     omega (arith, offset-from es m n (omega arith), length-append (spell e) (spelling (take m es)), length-append (spell e) (spelling (take n es)))
 
--- what a body that was written to owes to the kept offsets
-module _ (old new : Design) (whole : IsWhole old) (is_open : IsOpen new) (kept : kept_of new ≡ kept_of old) where
+-- what a body that was written to owes to the kept offsets and bytes
+module _ (old new : Design) (whole : IsWhole old) (is_open : IsOpen new) (kept : kept_of new ≡ kept_of old) (kinds : kinds_of new ≡ kinds_of old) where
   -- before it grows: the first elements have the rows that there were, and there is room for the others
   pub front_after : map row_of (take (length (elements old)) (elements new)) ≡ map row_of (elements old) → length (elements new) ≤ length (elements old) + spare_of new → IsFront new
   front_after rows room =
+      let n : ℕ = length (elements old) in
       let is : kept_of new ≡ offsets_of (elements old) = kept ∙ whole.kept in
-      let long : length (kept_of new) ≡ length (elements old) = ap (length {A = ℕ}) is ∙ length-offsets (elements old) in
+      let long : length (kept_of new) ≡ n = ap (length {A = ℕ}) is ∙ length-offsets (elements old) in
+      let front : map row_of (elements old) ≡ take n (map row_of (elements new)) = sym rows ∙ sym (take-map row_of n (elements new)) in
       record {
         is_open = is_open;
         first = is ∙ offsets-front (elements old) (elements new) rows ∙ ap (λ (k : ℕ). take k (offsets_of (elements new))) (sym long);
+        kinds = kinds ∙ whole.kinds ∙ kind_bytes-front (elements old) (elements new) n front ∙ ap (λ (k : ℕ). take k (kind_bytes (elements new))) (sym long);
         room = omega (arith, long, room);
       }
 
@@ -88,4 +92,5 @@ module _ (old new : Design) (whole : IsWhole old) (is_open : IsOpen new) (kept :
         is_open = is_open;
         many = many;
         first = ap (take count) (kept ∙ whole.kept) ∙ sym (offsets-take count (elements old)) ∙ offsets-rows (take count (elements old)) (elements new) rows;
+        kinds = ap (take count) (kinds ∙ whole.kinds) ∙ sym (kind_bytes-take count (elements old)) ∙ ap (map kind_byte) rows;
       }

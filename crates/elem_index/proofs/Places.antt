@@ -3,7 +3,7 @@ use Rattle.std.proofs.Common.{◌≡◌, ℕ, zero, suc, ◌+◌, ◌-◌, ◌<�
 use Rattle.std.specs.Prelude.{slice_get, vec_len, Option, Some, None, option_map, IsFalse, Bool, not}
 use Rattle.std.specs.List.{AllByRecursion}
 use Rattle.std.specs.declared.result.Result.TheVariants.{Ok}
-use Rattle.std.proofs.lemmas.List.{append-nil, take_at, drop_at, take-append-drop, drop-drop, take_all, take_more, map-append, length-map, drop_more}
+use Rattle.std.proofs.lemmas.List.{append-nil, take_at, drop_at, take-append-drop, drop-drop, take_all, take_more, length-map}
 use Rattle.dgn_drawing.specs.Element.{Element}
 use Rattle.dgn_drawing.specs.Spelling.{spell, spelling, size_of}
 use Rattle.dgn_drawing.specs.WellFormed.{IsDimension, IsWellFormed}
@@ -12,7 +12,6 @@ use Rattle.dgn_drawing.proofs.Read.{size_said-spell, element_fault-spell}
 use Rattle.dgn_drawing.proofs.Rows.{row_at-spell}
 use Rattle.elem_head.specs.Head.{size_of as size_said}
 use Rattle.dgn_drawing.specs.Rows.{row_of, row_at}
-use Rattle.dgn_drawing.specs.Nesting.{BeginsFree}
 use Rattle.dgn_drawing.specs.Opening.{dimension, Opens}
 use Rattle.dgn_drawing.proofs.Opening.{dimension_is}
 use Rattle.dgn_drawing.proofs.Fronts.{opens_elements, opens_of, body_spelled, four_each}
@@ -23,11 +22,11 @@ use Rattle.std.proofs.lemmas.Bool.{cases_lt, both_ways}
 use Rattle.elem_index.specs.declared.design.Design.{Design}
 use Rattle.elem_index.specs.Offsets.{offset_of, offsets_of}
 use Rattle.elem_index.specs.Opened.{opening}
-use Rattle.elem_index.specs.Design.{elements, IsWhole}
+use Rattle.elem_index.specs.Design.{elements, kind_bytes, IsWhole}
 use Rattle.elem_index.specs.Answers.{IsRun, opened_of}
 
 -- a run that is split at its end is a whole design
-module _ (d : Design) (f : List ℕ) (p : ℕ) (run : IsRun f d.kept.items p) (few : length f ≤ 67108864) (axes : d.dim ≡ dimension f)
+module _ (d : Design) (f : List ℕ) (p : ℕ) (run : IsRun f d.kept.items d.kinds.items p) (few : length f ≤ 67108864) (axes : d.dim ≡ dimension f)
     (body : d.body.items ≡ take p f) (tail : d.tail.items ≡ drop p f) where
   both : f ≡ d.body.items ++ d.tail.items
   both = sym (take-append-drop p f) ∙ ap (λ (x : List ℕ). x ++ drop p f) (sym body) ∙ ap (λ (x : List ℕ). d.body.items ++ x) (sym tail)
@@ -48,6 +47,7 @@ module _ (d : Design) (f : List ℕ) (p : ℕ) (run : IsRun f d.kept.items p) (f
       opens = opens_of d.body.items d.tail.items d.dim run.elements opens_both;
     };
     kept = run.offsets ∙ ap offsets_of (sym same_elements);
+    kinds = run.bytes ∙ ap kind_bytes (sym same_elements);
   }
 
   pub run_told : opening f ≡ Ok (opened_of d)
@@ -71,7 +71,7 @@ opened_axes f dim es t opens = subst IsDimension (sym opens.axes) (dimension_is 
 
 -- a whole design's elements, offsets and body
 module _ (d : Design) (whole : IsWhole d) where
-  opening_of : Opens (d.body.items ++ d.tail.items) d.dim (elements d) d.tail.items
+  pub opening_of : Opens (d.body.items ++ d.tail.items) d.dim (elements d) d.tail.items
   opening_of = whole.is_open.opens
 
   pub axes_of : IsDimension d.dim
@@ -188,17 +188,17 @@ taken : (r : Option Element) (b : List ℕ) → Some b ≡ option_map spell r �
 taken None b is = absurd (let f = is in cc)
 taken (Some e) b is = (e, refl, cc)
 
-take_one_more : (es : List Element) (n : ℕ) (e : Element) → slice_get es n ≡ Some e → take (n + 1) es ≡ take n es ++ e ∷ []
+pub take_one_more : (es : List Element) (n : ℕ) (e : Element) → slice_get es n ≡ Some e → take (n + 1) es ≡ take n es ++ e ∷ []
 take_one_more es n e found =
     take_more es n e (slice_get_within es n e found) ∙ ap (λ (x : Element). take n es ++ x ∷ []) (get_or_from_slice_get es n e e found)
 
-is_false : (b : Bool) → not b ≡ true → IsFalse b
+pub is_false : (b : Bool) → not b ≡ true → IsFalse b
 is_false false is = refl
 is_false true is = absurd (both_ways false refl is)
 
--- the bytes of an element of a whole design, and the row that is read from them
+-- the bytes of an element of a whole design are sound, and its row is read from them
 module _ (d : Design) (whole : IsWhole d) (n : ℕ) (b : List ℕ) (is : Some b ≡ option_map spell (slice_get (elements d) n)) where
-  this : (e : Element) × (slice_get (elements d) n ≡ Some e) × (b ≡ spell e)
+  pub this : (e : Element) × (slice_get (elements d) n ≡ Some e) × (b ≡ spell e)
   this = taken (slice_get (elements d) n) b is
 
   good : IsWellFormed d.dim this.0
@@ -207,16 +207,9 @@ module _ (d : Design) (whole : IsWhole d) (n : ℕ) (b : List ℕ) (is : Some b 
   pub sound_here : IsSound b
   sound_here = subst IsSound (sym this.2) (sound_spell d.dim this.0 (axes_of d whole) good)
 
-  pub rows_more : (row : Row) → row ≡ row_at b → map row_of (take (n + 1) (elements d)) ≡ map row_of (take n (elements d)) ++ row ∷ []
-  rows_more row read =
-      ap (map row_of) (take_one_more (elements d) n this.0 this.1) ∙ map-append row_of (take n (elements d)) (this.0 ∷ [])
-      ∙ ap (λ (r : Row). map row_of (take n (elements d)) ++ r ∷ []) (sym (row_at-spell d.dim this.0 (axes_of d whole) good) ∙ ap row_at (sym this.2) ∙ sym read)
+  pub row_read : row_at b ≡ row_of this.0
+  row_read = ap row_at this.2 ∙ row_at-spell d.dim this.0 (axes_of d whole) good
 
-  -- and where it has no bit C, the elements from there on begin without it
-  pub free_here : (row : Row) → row ≡ row_at b → not row.cbit ≡ true → BeginsFree row_of (drop n (elements d))
-  free_here row read free =
-      let same : row_of this.0 ≡ row = sym (row_at-spell d.dim this.0 (axes_of d whole) good) ∙ ap row_at (sym this.2) ∙ sym read in
-      let within = slice_get_within (elements d) n this.0 this.1 in
-      let from : drop n (elements d) ≡ this.0 ∷ drop (n + 1) (elements d)
-      = drop_more (elements d) n this.0 within ∙ ap (λ (e : Element). e ∷ drop (n + 1) (elements d)) (get_or_from_slice_get (elements d) n this.0 this.0 this.1) in
-      subst (BeginsFree row_of) (sym from) (subst (λ (r : Row). IsFalse r.cbit) (sym same) (is_false row.cbit free))
+  -- and so its total
+  pub total_read : (total : ℕ) → total ≡ (row_at b).total → option_map (λ (e : Element). (row_of e).total) (slice_get (elements d) n) ≡ Some total
+  total_read total read = ap (option_map (λ (e : Element). (row_of e).total)) this.1 ∙ ap Some (sym (read ∙ ap (λ (r : Row). r.total) row_read))

@@ -1,8 +1,8 @@
 -- How the walk through a file goes on and ends.
-use Rattle.std.proofs.Common.{◌≡◌, ℕ, ◌+◌, ◌*◌, ◌%◌, ◌<◌, take, map, length-append, ◌≤◌, List, [], ◌∷◌, ◌++◌, length, drop, get_or, refl, sym, ap, ◌∙◌, subst, arith, true, false, length-drop, inl, inr}
+use Rattle.std.proofs.Common.{◌≡◌, ℕ, ◌+◌, ◌*◌, ◌/◌, ◌%◌, ◌==◌, ◌<◌, take, map, length-append, ◌≤◌, List, [], ◌∷◌, ◌++◌, length, drop, get_or, refl, sym, ap, ◌∙◌, subst, arith, true, false}
 use Rattle.std.specs.Prelude.{Option, Some, None}
 use Rattle.std.specs.Option.{is_some}
-use Rattle.std.proofs.lemmas.List.{get_or_default, drop_all, length-take-le, get_or-take, length-map}
+use Rattle.std.proofs.lemmas.List.{get_or_default, length-take-le, get_or-take, length-map}
 use Rattle.std.proofs.lemmas.Bool.Decides.{nat_tests}
 use Rattle.dgn_layout.specs.Classes.{class_of, is_silent}
 use Rattle.dgn_layout.specs.declared.types.Class.{Class}
@@ -11,14 +11,17 @@ use Rattle.dgn_drawing.specs.Faults.{element_fault}
 use Rattle.dgn_drawing.proofs.Ends.{silent_sound}
 use Rattle.std.proofs.lemmas.Bool.{both_ways}
 use Rattle.dgn_drawing.specs.Element.{Element}
-use Rattle.dgn_drawing.specs.Spelling.{spelling, size_of}
-use Rattle.dgn_drawing.specs.WellFormed.{IsBytes, begins_with_mark}
+use Rattle.dgn_drawing.specs.Spelling.{bit, spelling, size_of}
+use Rattle.dgn_drawing.specs.Rows.{row_of}
+use Rattle.dgn_drawing.specs.WellFormed.{IsBytes}
 use Rattle.dgn_drawing.specs.Reading.{element_at}
 use Rattle.dgn_drawing.specs.Opening.{NotDesign, Cut, Short, Attr, is_tcb, dimension, is_tail, Front, first_element, is_cut, StandsAt, HasFault}
 use Rattle.dgn_drawing.proofs.Fronts.{front_none, front_more, front_ends, four_each}
 use Rattle.dgn_drawing.proofs.Opening.{dimension_is}
 use Rattle.elem_index.specs.declared.open_fault.OpenFault.{OpenFault}
 use Rattle.elem_index.specs.Offsets.{offsets_of}
+use Rattle.elem_index.specs.Design.{kind_byte, kind_byte_at, kind_bytes}
+use Rattle.elem_index.proofs.KindBytes.{kind_bytes-more}
 use Rattle.elem_index.specs.Answers.{HasToldFault, TellsFault, BeginsSound, BeginsFaulty, BeginsBare, Steps, StandsSound, StandsFaulty, HasCount, IsRun}
 use Rattle.elem_index.specs.Opened.{opening}
 use Rattle.dgn_drawing.proofs.Offsets.{length-offsets_from, offsets_from-more}
@@ -36,14 +39,24 @@ told f bytes (OpenFault.Short at) has = opening-fault f (Short at) bytes has
 told f bytes (OpenFault.Attr at) has = opening-fault f (Attr at) bytes has
 told f bytes OpenFault.Memory has = tt
 
--- elements stand before the place, and these are their offsets
-pub record Going (f kept : List ℕ) (p : ℕ) : Type 0 where
+-- elements stand before the place, and these are their offsets and bytes
+pub record Going (f kept kinds : List ℕ) (p : ℕ) : Type 0 where
   pub elements : List Element
   pub front : Front f elements p
   pub offsets : kept ≡ offsets_of elements
+  pub bytes : kinds ≡ kind_bytes elements
 
-pub going_start : (f : List ℕ) → Going f [] 0
-going_start f = record { elements = []; front = front_none f; offsets = refl }
+pub going_start : (f : List ℕ) → Going f [] [] 0
+going_start f = record { elements = []; front = front_none f; offsets = refl; bytes = refl }
+
+-- the byte of the first element of some bytes is read from these
+first_kind : (dim : ℕ) (b : List ℕ) → kind_byte_at b ≡ kind_byte (row_of (element_at dim (first_element b)))
+unfolding element_at
+first_kind dim b =
+    let zeroth : get_or (first_element b) 0 0 ≡ get_or b 0 0 = get_or-take (size_said b) b 0 0 (omega arith) in
+    let second : get_or (first_element b) 1 0 ≡ get_or b 1 0 = get_or-take (size_said b) b 1 0 (omega arith) in
+    ap (λ (x : ℕ). x % 128 + bit 128 (get_or b 0 0 / 128 % 2 == 1)) (sym second)
+    ∙ ap (λ (x : ℕ). get_or (first_element b) 1 0 % 128 + bit 128 (x / 128 % 2 == 1)) (sym zeroth)
 
 -- a step that gives a place is over an element, and one that gives none is where the elements end
 pub steps_over : (f : List ℕ) (p q : ℕ) (at : Option ℕ) → is_some at ≡ true → Steps f p q at → StandsSound f p q
@@ -54,9 +67,9 @@ pub steps_end : (f : List ℕ) (p q : ℕ) (at : Option ℕ) → is_some at ≡ 
 steps_end f p q None none step = step
 steps_end f p q (Some at) none step = absurd (both_ways true none refl)
 
-module _ (f : List ℕ) (bytes : IsBytes f) (tcb : is_tcb f ≡ true) (kept : List ℕ) (p : ℕ) (going : Going f kept p) where
+module _ (f : List ℕ) (bytes : IsBytes f) (tcb : is_tcb f ≡ true) (kept kinds : List ℕ) (p : ℕ) (going : Going f kept kinds p) where
   -- behind an element without fault the walk goes on
-  pub going_more : (at q : ℕ) → (at ≡ p) × StandsSound f p q → Going f (kept ++ at ∷ []) q
+  pub going_more : (at q : ℕ) → (at ≡ p) × StandsSound f p q → Going f (kept ++ at ∷ []) (kinds ++ kind_byte_at (drop p f) ∷ []) q
   going_more at q step =
       let stands = step.1 in
       let es = going.elements in
@@ -67,15 +80,19 @@ module _ (f : List ℕ) (bytes : IsBytes f) (tcb : is_tcb f ≡ true) (kept : Li
         elements = es ++ element_at (dimension f) (first_element (drop p f)) ∷ [];
         front = subst (λ (s : ℕ). Front f (es ++ element_at (dimension f) (first_element (drop p f)) ∷ []) s) (ap (λ (s : ℕ). p + s) (sym begins.long) ∙ sym stands.ends) front;
         offsets = ap (λ (x : List ℕ). x ++ at ∷ []) going.offsets ∙ ap (λ (k : ℕ). offsets_of es ++ k ∷ []) (step.0 ∙ sym place) ∙ sym (offsets_from-more 0 es _);
+        bytes =
+            ap (λ (x : List ℕ). x ++ kind_byte_at (drop p f) ∷ []) going.bytes ∙ ap (λ (k : ℕ). kind_bytes es ++ k ∷ []) (first_kind (dimension f) (drop p f))
+            ∙ sym (kind_bytes-more es (element_at (dimension f) (first_element (drop p f))));
       }
 
   -- at a tail the elements end
-  pub run_ends : (q : ℕ) → (is_tail (drop p f) ≡ true) × (q ≡ p) → IsRun f kept q
-  run_ends q ends = subst (IsRun f kept) (sym ends.1) (record {
+  pub run_ends : (q : ℕ) → (is_tail (drop p f) ≡ true) × (q ≡ p) → IsRun f kept kinds q
+  run_ends q ends = subst (IsRun f kept kinds) (sym ends.1) (record {
     elements = going.elements;
     opens = front_ends f bytes tcb going.elements p going.front ends.0;
     front = going.front.spelled;
     offsets = going.offsets;
+    bytes = going.bytes;
     within = going.front.within;
     found = opening-opens f (record { dim = dimension f; elements = going.elements; tail = drop p f }) bytes (front_ends f bytes tcb going.elements p going.front ends.0);
   })
@@ -125,22 +142,23 @@ bare_sound dim b bare =
 -- so many elements stand before the place
 pub record Counted (f : List ℕ) (count p : ℕ) : Type 0 where
   pub kept : List ℕ
-  pub going : Going f kept p
+  pub kinds : List ℕ
+  pub going : Going f kept kinds p
   pub all : count ≡ length kept
 
 pub counted_start : (f : List ℕ) → Counted f 0 0
-counted_start f = record { kept = []; going = going_start f; all = refl }
+counted_start f = record { kept = []; kinds = []; going = going_start f; all = refl }
 
 -- as many as there are offsets
-pub count_ends : (f kept : List ℕ) (count p : ℕ) → count ≡ length kept → IsRun f kept p → HasCount f count
-count_ends f kept count p all run = record {
+pub count_ends : (f kept kinds : List ℕ) (count p : ℕ) → count ≡ length kept → IsRun f kept kinds p → HasCount f count
+count_ends f kept kinds count p all run = record {
   opened = record { dim = dimension f; elements = run.elements; tail = drop p f };
   found = run.found;
   counted = all ∙ ap (length {A = ℕ}) run.offsets ∙ length-offsets_from 0 (map size_of run.elements) ∙ length-map run.elements size_of;
 }
 
-pub counted_more : (f kept : List ℕ) (count p q : ℕ) → count ≡ length kept → Going f (kept ++ p ∷ []) q → Counted f (count + 1) q
-counted_more f kept count p q all going = record { kept = kept ++ p ∷ []; going = going; all = omega (arith, all, length-append kept (p ∷ [])) }
+pub counted_more : (f kept kinds : List ℕ) (count p q : ℕ) → count ≡ length kept → Going f (kept ++ p ∷ []) kinds q → Counted f (count + 1) q
+counted_more f kept kinds count p q all going = record { kept = kept ++ p ∷ []; kinds = kinds; going = going; all = omega (arith, all, length-append kept (p ∷ [])) }
 
 -- there are no more elements than bytes before the place
 pub counted_small : (f : List ℕ) (count p : ℕ) → Counted f count p → 4 * count ≤ length f

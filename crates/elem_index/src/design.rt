@@ -1,27 +1,22 @@
-ghost use Rattle.std.specs.Prelude.{◌≡◌, ◌≤◌, ◌<◌, ◌+◌, ◌++◌, ◌↔◌, length, vec_len, IfOk, IfErr, IsErrOf, IsNone, IfSome, OnOk, map, slice_get, option_map};
+ghost use Rattle.std.specs.Prelude.{◌≡◌, ◌≤◌, ◌<◌, ◌+◌, ◌++◌, ◌↔◌, length, vec_len, IfOk, IfErr, IsErrOf, IsNone, IfSome, slice_get, option_map};
 ghost use Rattle.dgn_drawing.specs.Spelling.{spell};
-ghost use Rattle.dgn_drawing.specs.Rows.{row_of};
 ghost use Rattle.elem_index.specs.Offsets.{offset_of, offsets_of};
 ghost use Rattle.elem_index.specs.Opened.{opening};
-ghost use Rattle.elem_index.specs.Design.{elements, IsWhole, IsBlock};
+ghost use Rattle.elem_index.specs.Design.{elements, IsWhole};
 ghost use Rattle.elem_index.specs.Answers.{HasCount, HasToldFault, Tells, TellsFault};
 
 use crate::beginning::{begins_with_tcb, dimension};
 use crate::open_fault::OpenFault;
 use crate::walk::{count_in, elements_in};
-use dgn_drawing::{Row, row_of};
-use std::alloc::{AllocError, Global};
+use std::alloc::Global;
 
 mod growth;
-
-// How many rows a block has at the least, if there are so many.
-const ROW_BLOCK: usize = 4096;
+mod rows;
 
 /// A design file that is open: its dimension, the bytes of its elements, and the bytes behind them.
 ///
-/// Elements are numbered in file order, from 0. Where each one begins is kept beside the bytes. Whoever
-/// writes to the body or the tail and moves an element's beginning calls `grow` or `shrink` before any
-/// other call.
+/// Elements are numbered in file order, from 0. Where each one begins is kept beside the bytes, with its type and bit C.
+/// Whoever writes to the body or the tail and changes one of these calls `grow` or `shrink` before any other call.
 #[derive(Drop)]
 pub struct Design {
     /// The dimension, 2 or 3.
@@ -32,6 +27,8 @@ pub struct Design {
     pub tail: Vec<u8>,
     // The byte at which each element begins.
     kept: Vec<u32>,
+    // The type of each element, and 128 more where it has bit C.
+    kinds: Vec<u8>,
 }
 
 /// Opens the bytes of a file.
@@ -50,13 +47,14 @@ pub fn read_design(alloc: Global, mut bytes: Vec<u8>) -> Result<Design, OpenFaul
         return Err(OpenFault::NotDesign);
     }
     let dim = dimension(&bytes);
-    let (kept, end) = elements_in(alloc, &bytes)?;
+    let (kept, kinds, end) = elements_in(alloc, &bytes)?;
     match bytes.split_off(end) {
         Ok(tail) => Ok(Design {
             dim,
             body: bytes,
             tail,
             kept,
+            kinds,
         }),
         Err(_) => Err(OpenFault::Memory),
     }
@@ -129,44 +127,5 @@ impl Design {
         ensures { result.now ≡ offsets_of (elements self.now) }
     {
         self.kept.as_slice()
-    }
-
-    /// Puts the rows of some elements, from number `n` on, in place of what the list holds: of 4096 and of those with bit C
-    /// that follow, or of as many as there are. So what is behind them nests apart.
-    pub fn row_block(&self, n: u32, rows: &mut Vec<Row>) -> Result<(), AllocError>
-        requires whole { IsWhole self.now }
-        requires known { n < length (elements self.now) }
-        ensures block { OnOk result (IsBlock (elements self.now) n rows.new.items) }
-    {
-        rows.clear();
-        for at in n..self.count() {
-            match self.element(at) {
-                Some(bytes) => {
-                    let row = row_of(bytes);
-                    if ROW_BLOCK <= rows.len() && !row.cbit {
-                        return Ok(());
-                    }
-                    rows.push(row)?;
-                }
-                None => unreachable!(),
-            }
-        }
-        Ok(())
-    }
-
-    /// The row of each element, in file order: what the nesting looks at.
-    pub fn rows(&self) -> Result<Vec<Row>, AllocError>
-        requires { IsWhole self.now }
-        ensures { IfOk result (λ rows. rows.items ≡ map row_of (elements self.now)) }
-    {
-        let count = self.count();
-        let mut rows = Vec::with_capacity(*self.kept.allocator(), self.kept.len())?;
-        for n in 0..count {
-            match self.element(n) {
-                Some(bytes) => rows.push(row_of(bytes))?,
-                None => unreachable!(),
-            }
-        }
-        Ok(rows)
     }
 }

@@ -4,6 +4,7 @@
 
 mod beginning;
 mod design;
+mod kind_byte;
 pub mod laws;
 mod open_fault;
 mod walk;

@@ -6,6 +6,7 @@ ghost use Rattle.elem_index.specs.Answers.{Steps, StandsFaulty, HasCount, IsRun,
 ghost use Rattle.elem_index.specs.Opened.{opening};
 
 use crate::beginning::{dimension, next_size};
+use crate::kind_byte::kind_byte;
 use crate::open_fault::OpenFault;
 use std::alloc::Global;
 
@@ -53,23 +54,25 @@ impl Walk {
     }
 }
 
-// The offsets of all elements of the file, and the byte behind the last one.
-pub(crate) fn elements_in(alloc: Global, f: &[u8]) -> Result<(Vec<u32>, usize), OpenFault>
+// The offsets of all elements of the file, type and bit C of each in a byte, and the byte behind the last one. A head is
+// at hand when the walk is at it, so that is the time to keep what the rows want of it.
+pub(crate) fn elements_in(alloc: Global, f: &[u8]) -> Result<(Vec<u32>, Vec<u8>, usize), OpenFault>
     requires few { length f.now ≤ 67108864 }
     requires tcb { is_tcb f.now ≡ true }
-    ensures opens { IfOk result (λ run. IsRun f.now run.0.items run.1) }
+    ensures opens { IfOk result (λ run. IsRun f.now run.0.items run.1.items run.2) }
     ensures fault { IfErr result (HasToldFault f.now) }
     ensures told { IfErr result (TellsFault (opening f.now)) }
 {
     let mut walk = Walk::begin(f);
     let mut kept = Vec::new(alloc);
+    let mut kinds = Vec::new(alloc);
     'elements: while let Some(at) = walk.next_place(f)? {
-        match kept.push(at) {
-            Ok(()) => {}
-            Err(_) => return Err(OpenFault::Memory),
+        let (_, rest) = f.split_at(at as usize);
+        if kept.push(at).is_err() || kinds.push(kind_byte(rest)).is_err() {
+            return Err(OpenFault::Memory);
         }
     }
-    Ok((kept, walk.at))
+    Ok((kept, kinds, walk.at))
 }
 
 // How many elements the file has.
