@@ -9,8 +9,8 @@ use Rattle.elem_index.specs.Design.{elements, IsWhole}
 use Rattle.dgn_session.specs.Kept.{started}
 use Rattle.dgn_session.specs.State.{SessionValue}
 use Rattle.dgn_tool.specs.Generation.{drawing_of}
-use Rattle.dgn_tool.specs.Generator.{generated}
-use Rattle.dgn_tool.proofs.GeneratedFile.{generated_opens}
+use Rattle.dgn_generator.specs.Generator.{generated}
+use Rattle.dgn_generator.proofs.GeneratedFile.{generated_opens}
 
 -- it isn't too long
 pub few_made : (seed count : ℕ) (bytes : Vec ℕ Global) → count ≤ 200000 → bytes.items ≡ generated seed count → vec_len bytes ≤ 67108864

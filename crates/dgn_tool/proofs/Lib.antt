@@ -7,9 +7,6 @@ mod Tallied
 mod Finished
 mod Filled
 mod Undone
-mod TreeBytes
-mod Growing
-mod GeneratedFile
 mod Begun
 mod Links
 mod Tried

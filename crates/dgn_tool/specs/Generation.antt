@@ -15,7 +15,7 @@ use Rattle.edit_script.specs.declared.command.Command.TheVariants as command
 use Rattle.dgn_tool.specs.Commands.{begun}
 use Rattle.dgn_tool.specs.Given.{Given, given_all, after_all, refused_count, trees_of_all}
 use Rattle.dgn_tool.specs.Filling.{file_made}
-use Rattle.dgn_tool.specs.Generator.{generated_elements}
+use Rattle.dgn_generator.specs.Generator.{generated_elements}
 use Rattle.dgn_tool.specs.Lines.{numbered}
 use Rattle.dgn_tool.specs.Ended.{Outcome, file_after}
 use Rattle.dgn_tool.specs.declared.status.Status.TheVariants as statuses

@@ -18,5 +18,3 @@ pub mod Told
 pub mod Laws
 pub mod PatchLaws
 pub mod FitLaws
-pub mod Generator
-pub mod Fronts

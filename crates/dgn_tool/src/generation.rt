@@ -11,7 +11,7 @@ ghost use Rattle.dgn_tool.specs.Outcome.{IsEnding, ComesTo, IsFaultless};
 
 use crate::ending::stopped;
 use crate::filling::filling_len;
-use crate::generator::generate;
+use dgn_generator::generate;
 use crate::lines::push_numbered;
 use crate::status::Status;
 use crate::tally::{Tally, run_unsaid};

@@ -3,7 +3,6 @@
 ghost use Rattle.dgn_tool.specs.Laws.{UntouchedBytesStay, AppliedGivesTheSame};
 ghost use Rattle.dgn_tool.specs.PatchLaws.{RefusesWhereOneDiffers, RefusesNoneElse, AppliesAll, WritesTheSame};
 ghost use Rattle.dgn_tool.specs.FitLaws.{FitsEndFindings};
-ghost use Rattle.dgn_tool.specs.Generator.{GeneratedDrawingsOpen};
 ghost use Rattle.dgn_tool.specs.Generation.{FixedScriptReads};
 
 /// The file that a run writes opens as the elements that the accepted commands make and the tail of the file that was
@@ -27,13 +26,6 @@ pub fn applied_gives_the_same()
 /// the elements of the tree that was fitted: none of them is a finding any more, and those of all other trees are as before.
 pub fn fits_end_findings()
     ensures { FitsEndFindings }
-{}
-
-/// The drawing of any seed and of at most 200000 elements behind its TCB opens as these elements: a drawing of the
-/// plane, each of whose elements is well formed. It has exactly as many elements as were asked for, and its TCB, and
-/// it isn't too long for a design file.
-pub fn generated_drawings_open()
-    ensures { GeneratedDrawingsOpen }
 {}
 
 /// The fixed script that is run on a generated drawing is read to its commands.

@@ -11,7 +11,6 @@ mod ending;
 mod fences;
 mod filling;
 mod generation;
-mod generator;
 mod importing;
 mod inputs;
 pub mod laws;
@@ -31,7 +30,7 @@ mod top;
 mod ways;
 
 pub use answers::answer;
-pub use generator::generate;
+pub use dgn_generator::generate;
 pub use importing::answer_import;
 pub use status::Status;
 pub use top::run;

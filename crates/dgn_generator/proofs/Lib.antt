@@ -1,0 +1,3 @@
+pub mod TreeBytes
+pub mod Growing
+pub mod GeneratedFile

@@ -1,7 +1,0 @@
-use Rattle.std.proofs.Common.{rules, append_assoc}
-use Rattle.dgn_tool.specs.Generator.{generated_elements}
-use Rattle.dgn_tool.proofs.generator.generate.Goals as goal
-
-pub returns : goal.returns
-unfolding generated_elements
-returns c = search (rules, append_assoc)

@@ -1,8 +1,0 @@
-use Rattle.dgn_tool.proofs.TreeBytes.{shape_spelled, two_pushed}
-use Rattle.dgn_tool.proofs.generator.trees.push_shape.Goals as goal
-
-pub returns : goal.returns
-returns c =
-    two_pushed c.args.bytes.now.items c.extend_from_slice.new.self.items c.extend_from_slice-2.new.self.items c.front.result c.shape_rest.result _ _ _
-    c.in_ok-extend_from_slice.ensures.items c.in_ok-extend_from_slice-2.ensures.items c.front.ensures c.shape_rest.ensures
-    (shape_spelled c.args.at.before c.args.at.x c.args.at.y)

@@ -1,5 +1,0 @@
-use Rattle.dgn_tool.proofs.GeneratedFile.{generated_opens}
-use Rattle.dgn_tool.proofs.laws.generated_drawings_open.Goals as goal
-
-pub returns : goal.returns
-returns c = generated_opens
