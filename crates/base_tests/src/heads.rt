@@ -34,9 +34,9 @@ fn heads(rt: HostRuntime) -> Result<(), Fail> {
         ),
     ];
     for (bytes, wanted) in rows {
-        assert_eq!(rt; head(&bytes), wanted);
+        assert!(rt; head(&bytes) == wanted);
     }
-    assert_eq!(rt; head(&LINE), head_row(2, false, 3, false, 24));
+    assert!(rt; head(&LINE) == head_row(2, false, 3, false, 24));
     Ok(())
 }
 
@@ -57,14 +57,14 @@ fn display_headers(rt: HostRuntime) -> Result<(), Fail> {
         b[32] = p0;
         b[33] = p1;
         b[34] = look;
-        assert_eq!(rt; properties(&b), u16::from(p0) + 256 * u16::from(p1));
-        assert_eq!(rt; attr_start(&b), start);
+        assert!(rt; properties(&b) == u16::from(p0) + 256 * u16::from(p1));
+        assert!(rt; attr_start(&b) == start);
         let wanted = types::Symb {
             color: 3,
             weight,
             style,
         };
-        assert_eq!(rt; symb(&b), wanted);
+        assert!(rt; symb(&b) == wanted);
     }
     Ok(())
 }

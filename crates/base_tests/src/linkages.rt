@@ -40,7 +40,7 @@ fn linkages(rt: HostRuntime) -> Result<(), Fail> {
     ];
     for (bytes, wanted) in rows {
         let given: Vec<Link> = links(bytes).collect(alloc)?;
-        assert_eq!(rt; given.as_slice(), wanted, "in {bytes:?}");
+        assert!(rt; given.as_slice() == wanted);
     }
     Ok(())
 }

@@ -22,23 +22,23 @@ const FIELD: Field = Field {
 #[test]
 fn worked_file_both_ways(rt: HostRuntime) -> Result<(), Fail> {
     let entries = read_patch(rt.alloc(), &FILE).ok().ok_or("no bad piece")?;
-    assert_eq!(rt; entries.len(), 1);
+    assert!(rt; entries.len() == 1);
     for entry in &entries {
-        assert_eq!(rt; entry.len, 1588);
-        assert_eq!(rt; entry.fields.len(), 1);
-        assert_eq!(rt; entry.fields.get(0), Some(FIELD));
-        assert_eq!(rt; entry.fields.get(1), None);
+        assert!(rt; entry.len == 1588);
+        assert!(rt; entry.fields.len() == 1);
+        assert!(rt; entry.fields.get(0) == Some(FIELD));
+        assert!(rt; entry.fields.get(1) == None);
         assert!(rt; entry.append.is_empty());
     }
-    assert_eq!(rt; patch_len(entries.as_slice()), 33);
+    assert!(rt; patch_len(entries.as_slice()) == 33);
     let mut out = Vec::new(rt.alloc());
     write_patch(rt.alloc(), &mut out, entries.as_slice())?;
-    assert_eq!(rt; out.as_slice(), FILE.as_slice());
+    assert!(rt; out.as_slice() == FILE.as_slice());
 
     let mut fields = FieldList::new(rt.alloc());
     assert!(rt; fields.is_empty());
     fields.push(FIELD)?;
-    assert_eq!(rt; fields.as_slice(), [FIELD].as_slice());
+    assert!(rt; fields.as_slice() == [FIELD].as_slice());
     Ok(())
 }
 
@@ -48,18 +48,16 @@ fn cut_files(rt: HostRuntime) -> Result<(), Fail> {
     for (first, last, offset) in [(0, 7, 0), (8, 11, 8), (12, 23, 12), (24, 32, 24)] {
         for len in first..=last {
             let cut = FILE.get(..len).ok_or("a front of the file")?;
-            assert_eq!(rt;
-                read_patch(rt.alloc(), cut).err(),
-                Some(PatchFault::At { offset }),
+            assert!(rt;
+                read_patch(rt.alloc(), cut).err() == Some(PatchFault::At { offset }),
                 "{len}"
             );
         }
     }
     let mut longer = FILE.to_vec(rt.alloc())?;
     longer.push(0)?;
-    assert_eq!(rt;
-        read_patch(rt.alloc(), longer.as_slice()).err(),
-        Some(PatchFault::At { offset: 33 })
+    assert!(rt;
+        read_patch(rt.alloc(), longer.as_slice()).err() == Some(PatchFault::At { offset: 33 })
     );
     Ok(())
 }
@@ -87,9 +85,8 @@ fn broken_rules(rt: HostRuntime) {
         if let Some(changed) = file.get_mut(at) {
             *changed = byte;
         }
-        assert_eq!(rt;
-            read_patch(rt.alloc(), &file).err(),
-            Some(PatchFault::At { offset }),
+        assert!(rt;
+            read_patch(rt.alloc(), &file).err() == Some(PatchFault::At { offset }),
             "{at} {byte}"
         );
     }
@@ -98,35 +95,3 @@ fn broken_rules(rt: HostRuntime) {
 const BEFORE: [u8; 8] = [1, 2, 3, 4, 5, 6, 7, 8];
 
 const AFTER: [u8; 10] = [1, 2, 0x00, 0x80, 0x00, 0x05, 7, 8, 9, 10];
-
-// The log's entry of an edit that wrote four bytes at 2 and appended two.
-#[test]
-fn taken_off_and_put_on(rt: HostRuntime) -> Result<(), Fail> {
-    let mut patches = PatchList::new(rt.alloc());
-    patches.push(Patch {
-        at: 2,
-        len: 4,
-        bytes: [3, 4, 5, 6],
-    })?;
-    let old = Entry { patches, len: 8 };
-    let entry = take_entry(rt.alloc(), &AFTER, &old)?;
-    let field = Field {
-        at: 2,
-        len: 4,
-        was: [3, 4, 5, 6],
-        put: [0x00, 0x80, 0x00, 0x05],
-    };
-    assert_eq!(rt; entry.len, 8);
-    assert_eq!(rt; entry.fields.as_slice(), [field].as_slice());
-    assert_eq!(rt; entry.append.as_slice(), [9, 10].as_slice());
-
-    let mut other = BEFORE;
-    other[5] = 7;
-    assert!(rt; !stands(&other, &entry));
-    assert!(rt; !stands(&AFTER, &entry));
-    let mut body = BEFORE.to_vec(rt.alloc())?;
-    assert!(rt; stands(&body, &entry));
-    apply_entry(&mut body, &entry)?;
-    assert_eq!(rt; body.as_slice(), AFTER.as_slice());
-    Ok(())
-}

@@ -29,7 +29,7 @@ fn sides(rt: HostRuntime) {
         (at(LOW, LOW), at(HIGH, HIGH), at(0, 1), 1),
     ];
     for (a, b, p, wanted) in rows {
-        assert_eq!(rt; side(a, b, p), wanted, "{p:?} by {a:?} and {b:?}");
+        assert!(rt; side(a, b, p) == wanted);
     }
 }
 
@@ -52,8 +52,8 @@ fn segments(rt: HostRuntime) {
         (at(LOW, LOW), at(HIGH, HIGH), at(0, 1), at(0, 1), false),
     ];
     for (p, q, r, s, wanted) in rows {
-        assert_eq!(rt; touch(p, q, r, s), wanted, "{p:?} {q:?} and {r:?} {s:?}");
-        assert_eq!(rt; touch(s, r, q, p), wanted, "{s:?} {r:?} and {q:?} {p:?}");
+        assert!(rt; touch(p, q, r, s) == wanted);
+        assert!(rt; touch(s, r, q, p) == wanted);
     }
 }
 
@@ -71,7 +71,7 @@ fn points_within(rt: HostRuntime) {
         (at(10, 5), false),
     ];
     for (p, wanted) in by_square {
-        assert_eq!(rt; within(p, &square), wanted, "{p:?} in the square");
+        assert!(rt; within(p, &square) == wanted);
     }
     // Level with the right corner inside and outside, with the lower corner and with the upper one.
     let diamond = [at(10, 0), at(20, 10), at(10, 20), at(0, 10)];
@@ -82,54 +82,11 @@ fn points_within(rt: HostRuntime) {
         (at(0, 20), false),
     ];
     for (p, wanted) in by_diamond {
-        assert_eq!(rt; within(p, &diamond), wanted, "{p:?} in the diamond");
+        assert!(rt; within(p, &diamond) == wanted);
     }
     let plane = [at(LOW, LOW), at(HIGH, LOW), at(HIGH, HIGH), at(LOW, HIGH)];
     for (p, wanted) in [(at(0, 0), true), (at(LOW, LOW), true), (at(HIGH, 0), false)] {
-        assert_eq!(rt; within(p, &plane), wanted, "{p:?} in the plane");
+        assert!(rt; within(p, &plane) == wanted);
     }
     assert!(rt; !within(at(0, 0), &[]));
-}
-
-#[test]
-fn points_are_kept_in_order(rt: HostRuntime) -> Result<(), Fail> {
-    let mut list = PointList::new(rt.alloc());
-    assert!(rt; list.is_empty());
-    for v in [CORNER, FAR, CORNER] {
-        list.push(v)?;
-    }
-    assert_eq!(rt; list.len(), 3);
-    assert_eq!(rt; list.as_slice(), [CORNER, FAR, CORNER].as_slice());
-    for (i, point) in [
-        (0, Some(CORNER)),
-        (1, Some(FAR)),
-        (3, None),
-        (usize::MAX, None),
-    ] {
-        assert_eq!(rt; list.get(i), point, "at {i}");
-    }
-    Ok(())
-}
-
-#[test]
-fn plane_points_are_kept_in_order(rt: HostRuntime) -> Result<(), Fail> {
-    let mut list = PtList::new(rt.alloc());
-    assert!(rt; list.is_empty());
-    for v in [at(1, 2), at(LOW, HIGH)] {
-        list.push(v)?;
-    }
-    assert_eq!(rt; list.len(), 2);
-    assert_eq!(rt; list.as_slice(), [at(1, 2), at(LOW, HIGH)].as_slice());
-    for (i, point) in [(0, Some(at(1, 2))), (1, Some(at(LOW, HIGH))), (2, None)] {
-        assert_eq!(rt; list.get(i), point, "at {i}");
-    }
-    Ok(())
-}
-
-#[test]
-fn points_are_equal_by_both_numbers(rt: HostRuntime) {
-    let point = Pt { x: 3, y: -4 };
-    for (x, y, equal) in [(3, -4, true), (3, 4, false), (-3, -4, false)] {
-        assert_eq!(rt; point == Pt { x, y }, equal, "at {x},{y}");
-    }
 }

@@ -15,20 +15,20 @@ const WORDS: [(u16, [u8; 3]); 7] = [
 #[test]
 fn words_and_signs(rt: HostRuntime) {
     for (word, signs) in WORDS {
-        assert_eq!(rt; unpack(word), Some(signs), "at {word}");
-        assert_eq!(rt; pack(signs), Some(word), "at {word}");
+        assert!(rt; unpack(word) == Some(signs), "at {word}");
+        assert!(rt; pack(signs) == Some(word), "at {word}");
     }
     for bytes in [*b"abc", *b"AB-", *b"\x00AB", *b"A\xC1B", *b"AB@"] {
-        assert_eq!(rt; pack(bytes), None, "at {bytes:?}");
+        assert!(rt; pack(bytes) == None);
     }
 }
 
 #[test]
 fn each_word_there_and_back(rt: HostRuntime) {
     for word in 0..64000 {
-        assert_eq!(rt; unpack(word).and_then(pack), Some(word), "at {word}");
+        assert!(rt; unpack(word).and_then(pack) == Some(word), "at {word}");
     }
     for word in 64000..=65535 {
-        assert_eq!(rt; unpack(word), None, "at {word}");
+        assert!(rt; unpack(word) == None, "at {word}");
     }
 }

@@ -43,23 +43,23 @@ fn texts(rt: HostRuntime) -> Result<(), Fail> {
         origin: [5, 6],
         chars: b"Hi there",
     };
-    assert_eq!(rt; text::<2>(&TEXT_2D), Some(words));
-    assert_eq!(rt; text::<2>(&TEXT_2D[..67]), None);
-    assert_eq!(rt; text::<2>(&TEXT_2D[..59]), None);
+    assert!(rt; text::<2>(&TEXT_2D) == Some(words));
+    assert!(rt; text::<2>(&TEXT_2D[..67]) == None);
+    assert!(rt; text::<2>(&TEXT_2D[..59]) == None);
     let empty = Words {
         origin: [0, 0],
         chars: b"",
     };
-    assert_eq!(rt; text::<2>(&[0; 60]), Some(empty));
+    assert!(rt; text::<2>(&[0; 60]) == Some(empty));
 
     let words = Words {
         origin: [7, -5, 65536],
         chars: b"DGN",
     };
-    assert_eq!(rt; text::<3>(&TEXT_3D), Some(words));
-    assert_eq!(rt; text::<3>(&TEXT_3D[..79]), Some(words));
-    assert_eq!(rt; text::<3>(&TEXT_3D[..78]), None);
-    assert_eq!(rt; text::<3>(&TEXT_3D[..75]), None);
+    assert!(rt; text::<3>(&TEXT_3D) == Some(words));
+    assert!(rt; text::<3>(&TEXT_3D[..79]) == Some(words));
+    assert!(rt; text::<3>(&TEXT_3D[..78]) == None);
+    assert!(rt; text::<3>(&TEXT_3D[..75]) == None);
     Ok(())
 }
 
@@ -67,11 +67,11 @@ fn texts(rt: HostRuntime) -> Result<(), Fail> {
 fn nodes(rt: HostRuntime) -> Result<(), Fail> {
     let mut flat = [0; 70];
     flat[62..].copy_from_slice(&ORIGIN_2D);
-    assert_eq!(rt; node::<2>(&flat), Some([5, -5]));
-    assert_eq!(rt; node::<2>(&flat[..69]), None);
+    assert!(rt; node::<2>(&flat) == Some([5, -5]));
+    assert!(rt; node::<2>(&flat[..69]) == None);
     let mut solid = [0; 86];
     solid[74..].copy_from_slice(&ORIGIN_3D);
-    assert_eq!(rt; node::<3>(&solid), Some([5, -5, 65536]));
-    assert_eq!(rt; node::<3>(&solid[..85]), None);
+    assert!(rt; node::<3>(&solid) == Some([5, -5, 65536]));
+    assert!(rt; node::<3>(&solid[..85]) == None);
     Ok(())
 }

@@ -30,13 +30,13 @@ fn values_read_and_written(rt: HostRuntime) -> Result<(), Fail> {
     for (value, as_long, as_range) in VALUES {
         let long_row = framed(as_long);
         let range_row = framed(as_range);
-        assert_eq!(rt; long(&long_row, 1), value);
-        assert_eq!(rt; range_long(&range_row, 1), value);
+        assert!(rt; long(&long_row, 1) == value);
+        assert!(rt; range_long(&range_row, 1) == value);
         let mut row = framed([0x55; 4]);
         put_long(&mut row, 1, value);
-        assert_eq!(rt; row, long_row);
+        assert!(rt; row == long_row);
         put_range_long(&mut row, 1, value);
-        assert_eq!(rt; row, range_row);
+        assert!(rt; row == range_row);
     }
     Ok(())
 }
@@ -44,15 +44,15 @@ fn values_read_and_written(rt: HostRuntime) -> Result<(), Fail> {
 #[test]
 fn words_read_and_written(rt: HostRuntime) -> Result<(), Fail> {
     let mut row = [0xA1, 0x93, 0x06, 0xA2];
-    assert_eq!(rt; word(&row, 1), 1683);
+    assert!(rt; word(&row, 1) == 1683);
     put_word(&mut row, 1, 11414);
-    assert_eq!(rt; row, [0xA1, 0x96, 0x2C, 0xA2]);
+    assert!(rt; row == [0xA1, 0x96, 0x2C, 0xA2]);
     Ok(())
 }
 
 #[test]
 fn longs_side_by_side(rt: HostRuntime) -> Result<(), Fail> {
     let row = [0xA1, 0x00, 0x00, 0x64, 0x00, 0xFF, 0xFF, 0xFB, 0xFF, 0xA2];
-    assert_eq!(rt; longs::<2>(&row, 1), [100, -5]);
+    assert!(rt; longs::<2>(&row, 1) == [100, -5]);
     Ok(())
 }

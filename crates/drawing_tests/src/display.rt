@@ -82,7 +82,7 @@ fn answer(
         Asked::Show => {
             let items = show(rt.alloc(), d, &t, Mask(mask))?;
             let count = count_shown(rt.alloc(), d, &t, Mask(mask))?;
-            assert_eq!(rt; count, items.len());
+            assert!(rt; count == items.len());
             Ok(items)
         }
         Asked::Tree(n) => {
@@ -109,10 +109,10 @@ fn a_cell_by_the_level_of_its_member(rt: HostRuntime) -> Result<(), Fail> {
     let none = Vec::new(alloc);
     // Levels 2, and 3 to 5 and 63.
     let rest = 1 << 3 | 1 << 4 | 1 << 5 | 1 << 63;
-    assert_eq!(rt; answer(&rt, &d, Asked::Show, 1 << 2)?, both);
-    assert_eq!(rt; answer(&rt, &d, Asked::Tree(1), 1 << 2)?, both);
-    assert_eq!(rt; answer(&rt, &d, Asked::Show, rest)?, none);
-    assert_eq!(rt; answer(&rt, &d, Asked::Tree(1), rest)?, none);
+    assert!(rt; answer(&rt, &d, Asked::Show, 1 << 2)? == both);
+    assert!(rt; answer(&rt, &d, Asked::Tree(1), 1 << 2)? == both);
+    assert!(rt; answer(&rt, &d, Asked::Show, rest)? == none);
+    assert!(rt; answer(&rt, &d, Asked::Tree(1), rest)? == none);
     Ok(())
 }
 
@@ -124,9 +124,9 @@ fn a_loose_cell_and_an_orphan(rt: HostRuntime) -> Result<(), Fail> {
     let mut orphan = Vec::new(alloc);
     orphan.push(line(alloc, 2, 0, 1)?)?;
     let none = Vec::new(alloc);
-    assert_eq!(rt; answer(&rt, &d, Asked::Show, ALL)?, orphan);
-    assert_eq!(rt; answer(&rt, &d, Asked::Tree(1), ALL)?, none);
-    assert_eq!(rt; answer(&rt, &d, Asked::Tree(2), ALL)?, orphan);
+    assert!(rt; answer(&rt, &d, Asked::Show, ALL)? == orphan);
+    assert!(rt; answer(&rt, &d, Asked::Tree(1), ALL)? == none);
+    assert!(rt; answer(&rt, &d, Asked::Tree(2), ALL)? == orphan);
     Ok(())
 }
 
@@ -140,8 +140,8 @@ fn runs(rt: HostRuntime) -> Result<(), Fail> {
     let mut header = Vec::new(alloc);
     header.push(plain((1, 0, 27, 1), [9, 9, 0], ItemBody::Boxed))?;
     let none = Vec::new(alloc);
-    assert_eq!(rt; answer(&rt, &d, Asked::Show, ALL)?, header);
-    assert_eq!(rt; answer(&rt, &d, Asked::Tree(1), ALL)?, header);
-    assert_eq!(rt; answer(&rt, &d, Asked::Tree(3), ALL)?, none);
+    assert!(rt; answer(&rt, &d, Asked::Show, ALL)? == header);
+    assert!(rt; answer(&rt, &d, Asked::Tree(1), ALL)? == header);
+    assert!(rt; answer(&rt, &d, Asked::Tree(3), ALL)? == none);
     Ok(())
 }

@@ -114,7 +114,7 @@ fn paths_about_a_square(rt: HostRuntime) -> Result<(), Fail> {
     ];
     for (name, kind, points, wanted) in rows {
         let items = [path(rt.alloc(), kind, points)?];
-        assert_eq!(rt; modes(&square, &items), wanted, "{name}");
+        assert!(rt; modes(&square, &items) == wanted, "{name}");
     }
     Ok(())
 }
@@ -125,20 +125,16 @@ fn texts_heads_and_groups(rt: HostRuntime) -> Result<(), Fail> {
     let square = fence(alloc, &SQUARE)?;
     // By the range, wherever the origin lies.
     for (low, high, wanted) in [(10, 20, INSIDE), (90, 110, ACROSS), (110, 120, OUTSIDE)] {
-        assert_eq!(rt;
-            modes(&square, &[text(alloc, low, high)]),
-            wanted,
+        assert!(rt;
+            modes(&square, &[text(alloc, low, high)]) == wanted,
             "{low} to {high}"
         );
     }
     let head = || item(5, ELSEWHERE, ItemBody::Group);
-    assert_eq!(rt; modes(&square, &[]), NO_PART);
-    assert_eq!(rt; modes(&square, &[head()]), NO_PART);
-    assert_eq!(rt; modes(&square, &[head(), text(alloc, 10, 20)]), INSIDE);
-    assert_eq!(rt;
-        modes(&square, &[text(alloc, 10, 20), text(alloc, 110, 120)]),
-        ACROSS
-    );
+    assert!(rt; modes(&square, &[]) == NO_PART);
+    assert!(rt; modes(&square, &[head()]) == NO_PART);
+    assert!(rt; modes(&square, &[head(), text(alloc, 10, 20)]) == INSIDE);
+    assert!(rt; modes(&square, &[text(alloc, 10, 20), text(alloc, 110, 120)]) == ACROSS);
     Ok(())
 }
 
@@ -177,7 +173,7 @@ fn one_line_by_its_bytes(rt: HostRuntime) -> Result<(), Fail> {
             f.takes_element(alloc, Mode::Overlap, 2, &LINE)?,
             f.takes_element(alloc, Mode::Void, 2, &LINE)?,
         );
-        assert_eq!(rt; modes, wanted, "{low} to {high}");
+        assert!(rt; modes == wanted, "{low} to {high}");
     }
     Ok(())
 }

@@ -39,35 +39,34 @@ fn has_places(rt: &(impl AllocGlobal + Abort), rows: &[Row], places: &[Place]) -
     let nested = nest(rt.alloc(), rows)?;
     let mut n = 0u32;
     for (knot, depth, parent, end, broken) in places {
-        assert_eq!(rt; nested.knot(n), Some(*knot), "knot {n}");
-        assert_eq!(rt; nested.depth(n), Some(*depth), "depth {n}");
-        assert_eq!(rt; nested.parent(n), Some(*parent), "parent {n}");
-        assert_eq!(rt; nested.span(n), Some((n, *end)), "span {n}");
-        assert_eq!(rt; nested.first_broken(n), Some(*broken), "first broken {n}");
+        assert!(rt; nested.knot(n) == Some(*knot), "knot {n}");
+        assert!(rt; nested.depth(n) == Some(*depth), "depth {n}");
+        assert!(rt; nested.parent(n) == Some(*parent), "parent {n}");
+        assert!(rt; nested.span(n) == Some((n, *end)), "span {n}");
+        assert!(rt; nested.first_broken(n) == Some(*broken), "first broken {n}");
         n = n.saturating_add(1);
     }
-    assert_eq!(rt; nested.span(n), None);
-    assert_eq!(rt; nested.first_broken(n), None);
+    assert!(rt; nested.span(n) == None);
+    assert!(rt; nested.first_broken(n) == None);
     Ok(())
 }
 
 // Two nestings tell the same of all numbers.
 fn are_same(rt: &impl Abort, one: &Nest, other: &Nest) -> Result<(), Fail> {
-    assert_eq!(rt; one.ends(), other.ends());
+    assert!(rt; one.ends() == other.ends());
     let mut n = 0u32;
     for _ in one.ends() {
-        assert_eq!(rt; one.span(n), other.span(n), "span {n}");
-        assert_eq!(rt; one.knot(n), other.knot(n), "knot {n}");
-        assert_eq!(rt; one.parent(n), other.parent(n), "parent {n}");
-        assert_eq!(rt;
-            one.first_broken(n),
-            other.first_broken(n),
+        assert!(rt; one.span(n) == other.span(n), "span {n}");
+        assert!(rt; one.knot(n) == other.knot(n), "knot {n}");
+        assert!(rt; one.parent(n) == other.parent(n), "parent {n}");
+        assert!(rt;
+            one.first_broken(n) == other.first_broken(n),
             "first broken {n}"
         );
         n = n.saturating_add(1);
     }
-    assert_eq!(rt; one.span(n), None);
-    assert_eq!(rt; other.span(n), None);
+    assert!(rt; one.span(n) == None);
+    assert!(rt; other.span(n) == None);
     Ok(())
 }
 

@@ -156,19 +156,16 @@ fn damaged_files(rt: HostRuntime) -> Result<(), AllocError> {
         match read_design(alloc, bytes) {
             Ok(_) => panic!(rt; "opened at {len}"),
             Err(found) => {
-                assert_eq!(rt; found, fault);
+                assert!(rt; found == fault);
                 let said = format!(in alloc; "{found}")?;
-                assert_eq!(rt; said.as_str(), text);
+                assert!(rt; said.as_str() == text);
             }
         }
     }
     let library = Vec::from_slice(alloc, &[0x08, 0x05, 0x17, 0x00])?;
-    assert_eq!(rt;
-        read_design(alloc, library).err(),
-        Some(OpenFault::NotDesign)
-    );
+    assert!(rt; read_design(alloc, library).err() == Some(OpenFault::NotDesign));
     let said = format!(in alloc; "{}", OpenFault::Memory)?;
-    assert_eq!(rt; said.as_str(), "no memory");
+    assert!(rt; said.as_str() == "no memory");
     Ok(())
 }
 
@@ -210,15 +207,15 @@ fn files_that_open(rt: HostRuntime) -> Result<(), AllocError> {
             Ok(design) => design,
             Err(fault) => panic!(rt; "{fault}"),
         };
-        assert_eq!(rt; design.dim, dim);
-        assert_eq!(rt; design.tail.as_slice(), tail);
-        assert_eq!(rt; design.count(), count);
-        assert_eq!(rt; design.offset(0), Some(0));
-        assert_eq!(rt; design.offset(count - 1), Some(last));
-        assert_eq!(rt; design.offset(count), None);
-        assert_eq!(rt; design.element(1), piece(one));
-        assert_eq!(rt; design.element(2), piece(two));
-        assert_eq!(rt; design.element(u32::MAX), None);
+        assert!(rt; design.dim == dim);
+        assert!(rt; design.tail.as_slice() == tail);
+        assert!(rt; design.count() == count);
+        assert!(rt; design.offset(0) == Some(0));
+        assert!(rt; design.offset(count - 1) == Some(last));
+        assert!(rt; design.offset(count) == None);
+        assert!(rt; design.element(1) == piece(one));
+        assert!(rt; design.element(2) == piece(two));
+        assert!(rt; design.element(u32::MAX) == None);
     }
     Ok(())
 }
@@ -234,7 +231,7 @@ fn rows_of_a_file(rt: HostRuntime) -> Result<(), AllocError> {
     };
     let rows = design.rows()?;
     let want = [(1536, 9, true, 0), (40, 12, false, 27), (52, 3, false, 0)];
-    assert_eq!(rt; rows.len(), want.len());
+    assert!(rt; rows.len() == want.len());
     for (row, (size, kind, cbit, total)) in rows.iter().zip(want) {
         let wanted = Row {
             size,
@@ -242,12 +239,12 @@ fn rows_of_a_file(rt: HostRuntime) -> Result<(), AllocError> {
             cbit,
             total,
         };
-        assert_eq!(rt; *row, wanted);
+        assert!(rt; *row == wanted);
     }
     let mut block = Vec::new(alloc);
     if design.count() == 3 {
         design.row_block(1, &mut block)?;
     }
-    assert_eq!(rt; block.as_slice(), &rows[1..]);
+    assert!(rt; block.as_slice() == &rows[1..]);
     Ok(())
 }

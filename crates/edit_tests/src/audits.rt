@@ -78,7 +78,7 @@ fn is_audited(
     let patches = plan_fit(rt.alloc(), d, &t, n);
     assert!(rt; patches.is_ok());
     if let Ok(patches) = patches {
-        assert_eq!(rt; patches.len(), fields);
+        assert!(rt; patches.len() == fields);
     }
     Ok(())
 }
@@ -123,7 +123,7 @@ fn is_refused(
 {
     let t = nest_design(rt.alloc(), d)?;
     let fault = plan_fit(rt.alloc(), d, &t, n).err();
-    assert_eq!(rt; fault, Some(FitFault::Refused(cause)));
+    assert!(rt; fault == Some(FitFault::Refused(cause)));
     Ok(())
 }
 

@@ -197,7 +197,7 @@ fn copies(rt: HostRuntime) -> Result<(), Fail> {
         by: along(10, 10),
     };
     let copy = appended(alloc, 2, &[&CELL, &MEMBER], &edit)?;
-    assert_eq!(rt; copy.as_slice(), FREED_COPY.as_slice());
+    assert!(rt; copy.as_slice() == FREED_COPY.as_slice());
     let edit = Edit::Copy {
         n: 1,
         by: along(0, 0),
@@ -218,10 +218,10 @@ fn copied_trees(rt: HostRuntime) -> Result<(), Fail> {
     copy.push(9)?;
     let far = along(i32::MAX, 0);
     let refused = copy_tree(alloc, &design, &nesting, 1, &far, &mut copy).err();
-    assert_eq!(rt; refused, Some(EditFault::Refused(Cause::OffPlane(1))));
-    assert_eq!(rt; copy.len(), 1);
+    assert!(rt; refused == Some(EditFault::Refused(Cause::OffPlane(1))));
+    assert!(rt; copy.len() == 1);
     copy_tree(alloc, &design, &nesting, 1, &along(0, 0), &mut copy)?;
-    assert_eq!(rt; copy.as_slice().get(1..), Some(LINE.as_slice()));
+    assert!(rt; copy.as_slice().get(1..) == Some(LINE.as_slice()));
     Ok(())
 }
 
@@ -237,7 +237,7 @@ fn length_limits(rt: HostRuntime) -> Result<(), Fail> {
     let fits = planned(alloc, 2, &[&CELL, &MEMBER], &edit, free - 52)?;
     assert!(rt; fits.is_ok());
     let long = planned(alloc, 2, &[&CELL, &MEMBER], &edit, free - 51)?;
-    assert_eq!(rt; long.err(), Some(EditFault::Refused(Cause::TooLong)));
+    assert!(rt; long.err() == Some(EditFault::Refused(Cause::TooLong)));
     Ok(())
 }
 
@@ -311,18 +311,12 @@ fn new_text(alloc: Global) -> Result<New, AllocError> {
 fn appended_elements(rt: HostRuntime) -> Result<(), Fail> {
     let alloc = rt.alloc();
     let line = Edit::Append(new_line(alloc)?);
-    assert_eq!(rt;
-        appended(alloc, 2, &[], &line)?.as_slice(),
-        NEW_LINE.as_slice()
-    );
+    assert!(rt; appended(alloc, 2, &[], &line)?.as_slice() == NEW_LINE.as_slice());
     let text = Edit::Append(new_text(alloc)?);
-    assert_eq!(rt; appended(alloc, 2, &[], &text)?.as_slice(), TEXT.as_slice());
+    assert!(rt; appended(alloc, 2, &[], &text)?.as_slice() == TEXT.as_slice());
     let chain = Edit::Append(new_chain(alloc)?);
-    assert_eq!(rt;
-        appended(alloc, 3, &[], &chain)?.as_slice(),
-        NEW_CHAIN.as_slice()
-    );
+    assert!(rt; appended(alloc, 3, &[], &chain)?.as_slice() == NEW_CHAIN.as_slice());
     let refused = planned(alloc, 3, &[], &line, 0)?.err();
-    assert_eq!(rt; refused, Some(EditFault::Refused(Cause::Dimension)));
+    assert!(rt; refused == Some(EditFault::Refused(Cause::Dimension)));
     Ok(())
 }

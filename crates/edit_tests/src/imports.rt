@@ -44,8 +44,8 @@ fn sound_trees_are_taken(rt: HostRuntime) -> Result<(), Fail> {
         let Ok(found) = gathered(&rt, 2, drawing(alloc, 0x08, 0, &pieces)?, by)? else {
             panic!(rt; "nothing is gathered");
         };
-        assert_eq!(rt; found.trees, 2);
-        assert_eq!(rt; found.bytes.as_slice(), wanted.as_slice());
+        assert!(rt; found.trees == 2);
+        assert!(rt; found.bytes.as_slice() == wanted.as_slice());
     }
     Ok(())
 }
@@ -58,8 +58,8 @@ fn causes_count_in_the_second_file(rt: HostRuntime) -> Result<(), Fail> {
     let Ok(found) = gathered(&rt, 2, drawing(alloc, 0x08, 0, &pieces)?, None)? else {
         panic!(rt; "nothing is gathered");
     };
-    assert_eq!(rt; found.trees, 1);
-    assert_eq!(rt; found.bytes.len(), 200);
+    assert!(rt; found.trees == 1);
+    assert!(rt; found.bytes.len() == 200);
     let flat = along(2, 1, 1);
     let space = along(3, 1, 1);
     let rows = [
@@ -70,7 +70,7 @@ fn causes_count_in_the_second_file(rt: HostRuntime) -> Result<(), Fail> {
     ];
     for (dim, by, fault) in rows {
         let answer = gathered(&rt, dim, drawing(alloc, 0x08, 0, &pieces)?, Some(by))?;
-        assert_eq!(rt; answer.err(), Some(fault));
+        assert!(rt; answer.err() == Some(fault));
     }
     Ok(())
 }
@@ -81,17 +81,14 @@ fn second_files(rt: HostRuntime) -> Result<(), Fail> {
     let alloc = rt.alloc();
     let three = Vec::from_slice(alloc, &[0x08, 0x09, 0xFE])?;
     let fault = gathered(&rt, 2, three, None)?.err();
-    assert_eq!(rt; fault, Some(ImportFault::Bad(SecondFault::NotDesign)));
+    assert!(rt; fault == Some(ImportFault::Bad(SecondFault::NotDesign)));
     let cut = drawing(alloc, 0x08, 0, &[&[0x01, 0x03]])?;
     let fault = gathered(&rt, 2, cut, None)?.err();
-    assert_eq!(rt;
-        fault,
-        Some(ImportFault::Bad(SecondFault::Cut { at: 1536 }))
-    );
+    assert!(rt; fault == Some(ImportFault::Bad(SecondFault::Cut { at: 1536 })));
     let Ok(found) = gathered(&rt, 2, drawing(alloc, 0x08, 0, &[&[0xFF, 0xFF]])?, None)? else {
         panic!(rt; "nothing is gathered");
     };
-    assert_eq!(rt; found.trees, 0);
+    assert!(rt; found.trees == 0);
     assert!(rt; found.bytes.is_empty());
     Ok(())
 }

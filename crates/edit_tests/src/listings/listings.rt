@@ -50,7 +50,7 @@ fn elements_and_refs(rt: HostRuntime) -> Result<(), Fail> {
         assert!(rt; bytes.len() <= 67108864);
         let design = read_design(alloc, bytes)?;
         let said = listed(alloc, &design)?;
-        assert_eq!(rt; said.as_slice(), text.as_bytes());
+        assert!(rt; said.as_slice() == text.as_bytes());
     }
     Ok(())
 }
@@ -91,7 +91,7 @@ fn linkages(rt: HostRuntime) -> Result<(), Fail> {
     ];
     for (n, text) in rows {
         let said = linked(alloc, &design, n)?;
-        assert_eq!(rt; said.as_slice(), text.as_bytes(), "links {n}");
+        assert!(rt; said.as_slice() == text.as_bytes(), "links {n}");
     }
     Ok(())
 }

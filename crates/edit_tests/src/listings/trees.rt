@@ -32,7 +32,7 @@ fn says(
         assert!(rt; *n < design.count());
         let mut out = Vec::new(rt.alloc());
         write_tree(rt.alloc(), &mut out, &design, &nesting, *n)?;
-        assert_eq!(rt; out.as_slice(), text.as_bytes(), "tree {n}");
+        assert!(rt; out.as_slice() == text.as_bytes(), "tree {n}");
     }
     Ok(())
 }
