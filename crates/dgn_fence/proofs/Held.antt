@@ -53,7 +53,7 @@ itself p = record {
   above = omega (arith, ints);
 }
 
-all_kept : (b : Bounds) (q : Pt) (ps : List Pt) → IsIn b q → IsIn (fold grown b ps) q
+pub all_kept : (b : Bounds) (q : Pt) (ps : List Pt) → IsIn b q → IsIn (fold grown b ps) q
 all_kept b q [] i = i
 all_kept b q (p ∷ ps) i = all_kept (grown b p) q ps (kept b p q i)
 
@@ -61,7 +61,7 @@ all_held : (b : Bounds) (ps : List Pt) → AreIn (fold grown b ps) ps
 all_held b [] = tt
 all_held b (p ∷ ps) = (all_kept (grown b p) p ps (held b p), all_held (grown b p) ps)
 
-same_some : {A : Type 0} (a b : A) → Some a ≡ Some b → a ≡ b
+pub same_some : {A : Type 0} (a b : A) → Some a ≡ Some b → a ≡ b
 same_some a b e = cc
 
 pub bounds_hold : (ps : List Pt) (b : Bounds) → bounds_of ps ≡ Some b → AreIn b ps

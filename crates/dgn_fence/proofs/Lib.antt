@@ -3,3 +3,4 @@ pub mod Held
 pub mod Misses
 pub mod Outlines
 pub mod Drawn
+pub mod Rectangles

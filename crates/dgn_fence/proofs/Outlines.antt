@@ -1,5 +1,5 @@
 -- The outline of an item, and what is taken where bounds alone tell it.
-use Rattle.std.proofs.Common.{◌≡◌, inl, inr, ℕ, zero, suc, ◌+◌, ◌≤◌, ◌==◌, ℤ, Bool, true, false, Option, Some, None, option_map, List, [], ◌∷◌, length, map, drop, refl, sym, ap, ◌∙◌, cond, arith}
+use Rattle.std.proofs.Common.{◌≡◌, inl, inr, ℕ, zero, suc, ◌+◌, ◌≤◌, ◌==◌, ℤ, Bool, true, false, Option, Some, None, option_map, List, [], ◌∷◌, length, map, drop, refl, sym, subst, ap, ◌∙◌, cond, arith}
 use Rattle.std.specs.Prelude.{slice_get}
 use Rattle.std.specs.List.{fold, list_any, list_all}
 use Rattle.std.specs.Option.{option_to_list}
@@ -20,7 +20,7 @@ use Rattle.dgn_fence.specs.Segments.{flat, path_segments, body_segments, segment
 use Rattle.dgn_fence.specs.Taken.{any_touches, touches_fence, first_point_of, begins_within, is_inside, overlaps, has_some, takes}
 use Rattle.dgn_fence.specs.Limits.{at, grown, bounds_of, body_bounds, extent_of, is_apart, misses}
 use Rattle.dgn_fence.specs.Outlines.{path_outline, body_outline, outline_of, misses_all, told_by_bounds, untouched_taken}
-use Rattle.dgn_fence.proofs.Held.{item_bare}
+use Rattle.dgn_fence.proofs.Held.{IsIn, itself, kept, all_kept, same_some, item_bare}
 use Rattle.dgn_fence.proofs.Segments.{path_begins}
 use Rattle.dgn_fence.proofs.Misses.{neither, edge_missed, far_outside, far_untouched}
 
@@ -57,9 +57,6 @@ none_left xs i b past = rw (drop_all i xs past) refl
 
 -- ---- an outline has the first point and the bounds
 
-same_some : {A : Type 0} (a b : A) → Some a ≡ Some b → a ≡ b
-same_some a b e = cc
-
 around_of : Option Outline → Option Bounds
 around_of o = option_map (λ (x : Outline). x.around) o
 
@@ -93,6 +90,27 @@ body_first kind range ItemBody.Boxed = refl
 body_first kind range (ItemBody.Cell name origin) = refl
 body_first kind range (ItemBody.Node origin) = refl
 body_first kind range ItemBody.Group = refl
+
+-- ---- an outline's bounds hold its first point
+
+path_begun : (ps : List Pt) (o : Outline) → path_outline ps ≡ Some o → IsIn o.around o.first
+path_begun [] o is = absurd cc
+path_begun (p ∷ ps) o is = subst (λ (a : Outline). IsIn a.around a.first) (same_some _ _ is) (all_kept (at p) p ps (itself p))
+
+range_begun : (range : Box3) → IsIn (grown (at (flat range.lo)) (flat range.hi)) (flat range.lo)
+range_begun range = kept (at (flat range.lo)) (flat range.hi) (flat range.lo) (itself (flat range.lo))
+
+body_begun : (range : Box3) (body : ItemBody) (o : Outline) → body_outline range body ≡ Some o → IsIn o.around o.first
+body_begun range (ItemBody.Path points) o is = path_begun (map flat points) o is
+body_begun range (ItemBody.Text origin chars) o is = subst (λ (a : Outline). IsIn a.around a.first) (same_some _ _ is) (range_begun range)
+body_begun range ItemBody.Boxed o is = subst (λ (a : Outline). IsIn a.around a.first) (same_some _ _ is) (range_begun range)
+body_begun range (ItemBody.Cell name origin) o is = absurd cc
+body_begun range (ItemBody.Node origin) o is = absurd cc
+body_begun range ItemBody.Group o is = absurd cc
+
+pub begun_in : (item : Option Item) (o : Outline) → outline_of item ≡ Some o → IsIn o.around o.first
+begun_in None o is = absurd cc
+begun_in (Some item) o is = body_begun item.range item.body o is
 
 -- ---- edges that bounds miss
 

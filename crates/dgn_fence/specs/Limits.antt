@@ -1,7 +1,8 @@
 -- Bounds of points: a box by its low and its high corner. Contracts of private functions alone cite this.
-use Rattle.std.specs.Prelude.{◌≡◌, ◌≤◌, int_le, Bool, ◌&&◌, ◌||◌, if◌then◌else◌, Option, Some, None, List, [], ◌∷◌, length, map}
+use Rattle.std.specs.Prelude.{◌≡◌, ◌≤◌, int_lt, int_le, Bool, false, ◌&&◌, ◌||◌, if◌then◌else◌, Option, Some, None, List, [], ◌∷◌, length, map}
 use Rattle.std.specs.List.{fold}
 use Rattle.std.specs.Int.{int_min, int_max}
+use Rattle.std.specs.Ordering.{int_eq}
 use Rattle.range_code.specs.declared.Box3.{Box3}
 use Rattle.plane_geom.specs.declared.pt.Pt.{Pt}
 use Rattle.plane_geom.specs.Boxes.{lies_apart, lies_beside}
@@ -54,14 +55,28 @@ is_apart a b = lies_apart a.low a.high b.low b.high
 abbrev pub misses : Bounds → Pt → Pt → Bool
 misses b r s = is_apart b (grown (at r) s) || lies_beside b.low b.high r s
 
+-- whether bounds lie strictly inside others
+abbrev pub is_enclosed : Bounds → Bounds → Bool
+is_enclosed a b = (int_lt b.low.x a.low.x && int_lt a.high.x b.high.x) && (int_lt b.low.y a.low.y && int_lt a.high.y b.high.y)
+
+-- whether of four corners the sides stand upright and lie level in turn, from a standing one on
+abbrev pub stands : Pt → Pt → Pt → Pt → Bool
+stands a b c d = int_eq a.x b.x && (int_eq b.y c.y && (int_eq c.x d.x && int_eq d.y a.y))
+
+-- whether corners are, in order, those of a rectangle with sides along the axes, which may be flat
+abbrev pub is_upright : List Pt → Bool
+is_upright (a ∷ b ∷ c ∷ d ∷ []) = stands a b c d || stands b c d a
+is_upright other = false
+
 -- those of an item, beside those of a fence: none where they lie apart
 abbrev pub near_bounds : Option Bounds → Option Bounds → Option Bounds
 near_bounds None other = None
 near_bounds (Some fence) None = None
 near_bounds (Some fence) (Some item) = if is_apart item fence then None else Some item
 
--- what a fence keeps: 3 to 256 corners, and their bounds
-pub record IsFence (corners : List Pt) (bounds : Bounds) : Type 0 where
+-- what a fence keeps: 3 to 256 corners, their bounds, and whether they are those of an upright rectangle
+pub record IsFence (corners : List Pt) (bounds : Bounds) (upright : Bool) : Type 0 where
   pub least : 3 ≤ length corners
   pub most : length corners ≤ 256
   pub bounded : bounds_of corners ≡ Some bounds
+  pub shaped : upright ≡ is_upright corners

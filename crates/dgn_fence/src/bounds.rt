@@ -4,7 +4,7 @@ ghost use Rattle.std.specs.Prelude.{◌≡◌, ◌&&◌, ◌||◌, int_lt, int_l
 ghost use Rattle.plane_geom.specs.Turns.{turn};
 ghost use Rattle.plane_geom.specs.Touches.{on_one_side};
 ghost use Rattle.plane_geom.specs.Boxes.{low_right, high_left, lies_beside};
-ghost use Rattle.dgn_fence.specs.Limits.{at, least, greatest, grown, bounds_of, is_held, is_apart, misses};
+ghost use Rattle.dgn_fence.specs.Limits.{at, least, greatest, grown, bounds_of, is_held, is_apart, is_enclosed, misses};
 
 use plane_geom::{Pt, side};
 
@@ -81,6 +81,30 @@ impl Bounds {
         ensures { result ≡ int_lt self.high.y other.low.y || int_lt other.high.y self.low.y }
     {
         self.high.y < other.low.y || other.high.y < self.low.y
+    }
+
+    // Whether they lie strictly inside `other`.
+    #[inline(always)]
+    pub(crate) fn is_enclosed(self, other: Bounds) -> bool
+        ensures { result ≡ is_enclosed self other }
+    {
+        self.is_between_sides(other) && self.is_between_levels(other)
+    }
+
+    // Whether they lie strictly between the left and the right side of `other`.
+    #[inline(always)]
+    fn is_between_sides(self, other: Bounds) -> bool
+        ensures { result ≡ int_lt other.low.x self.low.x && int_lt self.high.x other.high.x }
+    {
+        other.low.x < self.low.x && self.high.x < other.high.x
+    }
+
+    // Whether they lie strictly between its lower and its upper side.
+    #[inline(always)]
+    fn is_between_levels(self, other: Bounds) -> bool
+        ensures { result ≡ int_lt other.low.y self.low.y && int_lt self.high.y other.high.y }
+    {
+        other.low.y < self.low.y && self.high.y < other.high.y
     }
 
     // Whether all segments within them miss the one from `r` to `s`, by its bounds or by its line.

@@ -11,6 +11,7 @@ mod fence_fault;
 mod making;
 mod outline;
 pub mod types;
+mod upright;
 
 pub use fence_fault::FenceFault;
 pub use making::fence;

@@ -158,22 +158,40 @@ fn square(low: i32, high: i32) -> [Pt; 4] {
     ]
 }
 
+// In which modes the fence with these corners takes the line.
+fn modes_of_line(alloc: Global, corners: &[Pt]) -> Result<(bool, bool, bool), Fail> {
+    let f = fence(alloc, corners)?;
+    Ok((
+        f.takes_element(alloc, Mode::Inside, 2, &LINE)?,
+        f.takes_element(alloc, Mode::Overlap, 2, &LINE)?,
+        f.takes_element(alloc, Mode::Void, 2, &LINE)?,
+    ))
+}
+
 #[test]
 fn one_line_by_its_bytes(rt: HostRuntime) -> Result<(), Fail> {
     let alloc = rt.alloc();
     for (low, high, wanted) in [
         (-10, 200, INSIDE),
+        (-1, 101, INSIDE),
         (0, 100, ACROSS),
+        (-10, 100, ACROSS),
+        (0, 200, ACROSS),
         (40, 60, OUTSIDE),
         (300, 400, OUTSIDE),
     ] {
-        let f = fence(alloc, &square(low, high))?;
-        let modes = (
-            f.takes_element(alloc, Mode::Inside, 2, &LINE)?,
-            f.takes_element(alloc, Mode::Overlap, 2, &LINE)?,
-            f.takes_element(alloc, Mode::Void, 2, &LINE)?,
+        let [a, b, c, d] = square(low, high);
+        // Either way round.
+        assert!(rt;
+            modes_of_line(alloc, &[a, b, c, d])? == wanted,
+            "{low} to {high}"
         );
-        assert!(rt; modes == wanted, "{low} to {high}");
+        assert!(rt;
+            modes_of_line(alloc, &[a, d, c, b])? == wanted,
+            "{high} to {low}"
+        );
     }
+    let [a, b, c, d] = square(-10, 200);
+    assert!(rt; modes_of_line(alloc, &[a, c, b, d])? == ACROSS, "a bow");
     Ok(())
 }

@@ -8,6 +8,7 @@ ghost use Rattle.dgn_drawing.specs.Reading.{element_at};
 ghost use Rattle.dgn_drawing.specs.Shown.{its_item};
 ghost use Rattle.plane_geom.specs.declared.pt.Pt.{Pt};
 ghost use Rattle.plane_geom.specs.Points.{same_point, same_point_equiv};
+ghost use Rattle.plane_geom.specs.Boxes.{IsInBox};
 ghost use Rattle.dgn_fence.specs.Segments.{segments_of};
 ghost use Rattle.dgn_fence.specs.Taken.{begins_within, is_inside, overlaps, parts, takes};
 ghost use Rattle.dgn_fence.specs.Limits.{IsFence, bounds_of, extent_of, near_bounds};
@@ -17,6 +18,7 @@ use crate::bounds::{Bounds, bounds_of};
 use crate::edges::{misses_all, touches_fence};
 use crate::extent::{extent, first_point, has_part, is_part};
 use crate::outline::{Outline, read_outline};
+use crate::upright::is_upright;
 use dgn_drawing::types::Item;
 use dgn_drawing::{Mode, item};
 use plane_geom::{Pt, within};
@@ -30,6 +32,8 @@ pub struct Fence {
     corners: Vec<Pt>,
     // The bounds of the corners, outside of which nothing is within and no edge runs.
     bounds: Bounds,
+    // Whether they are those of an upright rectangle, which takes at once what lies strictly inside its bounds.
+    upright: bool,
 }
 
 impl Model for Fence {
@@ -37,7 +41,7 @@ impl Model for Fence {
 
     ghost view = { λ f. f.corners.items };
 
-    ghost invariant = { λ f. IsFence f.corners.items f.bounds };
+    ghost invariant = { λ f. IsFence f.corners.items f.bounds f.upright };
 }
 
 impl Fence {
@@ -50,7 +54,12 @@ impl Fence {
         let Some(bounds) = bounds_of(corners.as_slice()) else {
             unreachable!()
         };
-        Fence { corners, bounds }
+        let upright = is_upright(corners.as_slice());
+        Fence {
+            corners,
+            bounds,
+            upright,
+        }
     }
 
     /// Whether the fence takes the items of a tree in `mode`. An item with segments is a part: a path,
@@ -96,12 +105,17 @@ impl Fence {
         }
     }
 
-    // Whether what has that outline begins within the fence, where bounds tell that it touches no edge.
+    // Whether what has that outline begins within the fence, where bounds tell that it touches no edge. Of an
+    // upright rectangle they tell it by themselves where they lie strictly inside.
     fn told_by_bounds(&self, outline: Outline) -> Option<bool>
+        requires begins { IsInBox outline.around.low outline.around.high outline.first }
         ensures { result ≡ told_by_bounds (bounds_of self.now) self.now outline }
     {
         if outline.around.is_apart(self.bounds) {
             return Some(false);
+        }
+        if self.upright && outline.around.is_enclosed(self.bounds) {
+            return Some(true);
         }
         if misses_all(self.corners.as_slice(), outline.around) {
             return Some(within(outline.first, self.corners.as_slice()));

@@ -4,8 +4,12 @@ use Rattle.dgn_drawing.specs.declared.types.item.Item.{Item}
 use Rattle.dgn_drawing.specs.Items.{item_of}
 use Rattle.dgn_drawing.specs.Reading.{element_at}
 use Rattle.dgn_fence.specs.Taken.{takes}
-use Rattle.dgn_fence.proofs.Outlines.{told_taken, anywhere}
+use Rattle.dgn_fence.proofs.Outlines.{begun_in, told_taken, anywhere}
 use Rattle.dgn_fence.proofs.types.fence.Fence.takes_element.Goals as goal
+
+-- the bounds of an outline hold its first point
+pub told_by_bounds-requires : goal.told_by_bounds-requires
+told_by_bounds-requires c = record { begins = begun_in (item_of c.args.dim 0 0 (element_at c.args.dim c.args.b.now)) c.in-Some.outline (sym c.in-Some.ensures) }
 
 pub returns-in-Some-told_by_bounds : goal.returns-in-Some-told_by_bounds
 returns-in-Some-told_by_bounds c = λ number depth.
