@@ -1,12 +1,10 @@
 // Worked drawings: the rows of their elements, and the place of each one.
 
-ghost use Rattle.std.specs.Prelude.{◌≡◌, ◌<◌, ◌≤◌, ◌+◌, ◌++◌, drop, length};
-ghost use Rattle.dgn_drawing.specs.Nesting.{BeginsFree, itself};
+ghost use Rattle.std.specs.Prelude.{◌≡◌, ◌<◌, ◌≤◌, length};
 ghost use Rattle.std.specs.List.{AllByRecursion};
 ghost use Rattle.nest_tree.specs.Shapes.{IsRow};
 
 use dgn_drawing::Row;
-use nest_tree::types::Nest;
 use nest_tree::*;
 use std::process::Abort;
 use std::test::Fail;
@@ -49,51 +47,6 @@ fn has_places(rt: &(impl AllocGlobal + Abort), rows: &[Row], places: &[Place]) -
     assert!(rt; nested.span(n) == None);
     assert!(rt; nested.first_broken(n) == None);
     Ok(())
-}
-
-// Two nestings tell the same of all numbers.
-fn are_same(rt: &impl Abort, one: &Nest, other: &Nest) -> Result<(), Fail> {
-    assert!(rt; one.ends() == other.ends());
-    let mut n = 0u32;
-    for _ in one.ends() {
-        assert!(rt; one.span(n) == other.span(n), "span {n}");
-        assert!(rt; one.knot(n) == other.knot(n), "knot {n}");
-        assert!(rt; one.parent(n) == other.parent(n), "parent {n}");
-        assert!(rt;
-            one.first_broken(n) == other.first_broken(n),
-            "first broken {n}"
-        );
-        n = n.saturating_add(1);
-    }
-    assert!(rt; one.span(n) == None);
-    assert!(rt; other.span(n) == None);
-    Ok(())
-}
-
-// A nesting of `first` that grows by `more`, of which all are `all`, and that loses them again, tells
-// what a fresh one does.
-fn grows_and_shrinks(
-    rt: &(impl AllocGlobal + Abort),
-    first: &[Row],
-    more: &[Row],
-    all: &[Row],
-) -> Result<(), Fail>
-    requires some { 0 < length first.now }
-    requires whole { length first.now ≤ length all.now }
-    requires few { length all.now < 4294967295 }
-    requires long { length first.now + length more.now < 4294967295 }
-    requires each { AllByRecursion IsRow first.now }
-    requires more { AllByRecursion IsRow more.now }
-    requires all { AllByRecursion IsRow all.now }
-    requires free { BeginsFree itself more.now }
-    requires cut { BeginsFree itself (drop (length first.now) (first.now ++ more.now)) }
-{
-    let mut nested = nest(rt.alloc(), first)?;
-    nested.reserve(more.len() as u32)?;
-    nested.grow(more);
-    are_same(rt, &nested, &nest(rt.alloc(), all)?)?;
-    nested.shrink(first.len() as u32);
-    are_same(rt, &nested, &nest(rt.alloc(), first)?)
 }
 
 // The first element.
@@ -165,27 +118,6 @@ fn runs(rt: HostRuntime) -> Result<(), Fail> {
             (Knot::Leaf, 1, Some(1), 3, None),
             (Knot::Run, 0, None, 5, None),
             (Knot::Leaf, 1, Some(3), 5, None),
-        ],
-    )
-}
-
-#[test]
-fn grown_and_cut(rt: HostRuntime) -> Result<(), Fail> {
-    grows_and_shrinks(
-        &rt,
-        &[tcb(), row(92, 2, false, 52), row(52, 3, true, 0)],
-        &[
-            row(92, 2, false, 53),
-            row(52, 3, true, 0),
-            row(52, 3, true, 0),
-        ],
-        &[
-            tcb(),
-            row(92, 2, false, 52),
-            row(52, 3, true, 0),
-            row(92, 2, false, 53),
-            row(52, 3, true, 0),
-            row(52, 3, true, 0),
         ],
     )
 }
