@@ -24,8 +24,9 @@ fn design(
 {
     let mut bytes = drawing(rt.alloc(), 0x08, 0, pieces)?;
     for (at, byte) in other {
-        if let Some(place) = bytes.get_mut(at.saturating_add(1536)) {
-            *place = *byte;
+        let place = at.saturating_add(1536);
+        if place < bytes.len() {
+            bytes[place] = *byte;
         }
     }
     assert!(rt; bytes.len() <= 67108864);
