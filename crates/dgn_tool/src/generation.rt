@@ -11,12 +11,12 @@ ghost use Rattle.dgn_tool.specs.Outcome.{IsEnding, ComesTo, IsFaultless};
 
 use crate::ending::stopped;
 use crate::filling::filling_len;
-use dgn_generator::generate;
 use crate::lines::push_numbered;
 use crate::status::Status;
 use crate::tally::{Tally, run_unsaid};
 use crate::top::write_drawing;
 use dgn_desk::{Desk, say_all};
+use dgn_generator::generate;
 use dgn_session::Session;
 use edit_script::{Command, ScriptFault, read_script};
 use elem_index::read_design;
