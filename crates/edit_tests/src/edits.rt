@@ -307,16 +307,23 @@ fn new_text(alloc: Global) -> Result<New, AllocError> {
     })
 }
 
+// Whether this element, appended to a drawing without others, has these bytes.
+fn appends(alloc: Global, axes: u8, new: New, wanted: &[u8]) -> Result<bool, Fail> {
+    let bytes = appended(alloc, axes, &[], &Edit::Append(new))?;
+    Ok(bytes.as_slice() == wanted)
+}
+
+// What refuses this element, appended to a drawing without others.
+fn refused(alloc: Global, axes: u8, new: New) -> Result<Option<EditFault>, Fail> {
+    Ok(planned(alloc, axes, &[], &Edit::Append(new), 0)?.err())
+}
+
 #[test]
 fn appended_elements(rt: HostRuntime) -> Result<(), Fail> {
     let alloc = rt.alloc();
-    let line = Edit::Append(new_line(alloc)?);
-    assert!(rt; appended(alloc, 2, &[], &line)?.as_slice() == NEW_LINE.as_slice());
-    let text = Edit::Append(new_text(alloc)?);
-    assert!(rt; appended(alloc, 2, &[], &text)?.as_slice() == TEXT.as_slice());
-    let chain = Edit::Append(new_chain(alloc)?);
-    assert!(rt; appended(alloc, 3, &[], &chain)?.as_slice() == NEW_CHAIN.as_slice());
-    let refused = planned(alloc, 3, &[], &line, 0)?.err();
-    assert!(rt; refused == Some(EditFault::Refused(Cause::Dimension)));
+    assert!(rt; appends(alloc, 2, new_line(alloc)?, &NEW_LINE)?);
+    assert!(rt; appends(alloc, 2, new_text(alloc)?, &TEXT)?);
+    assert!(rt; appends(alloc, 3, new_chain(alloc)?, &NEW_CHAIN)?);
+    assert!(rt; refused(alloc, 3, new_line(alloc)?)? == Some(EditFault::Refused(Cause::Dimension)));
     Ok(())
 }

@@ -41,6 +41,21 @@ fn is_part(file: Option<&[u8]>, whole: Option<&[u8]>) -> bool {
     }
 }
 
+// Runs these words over that desk, with no call failing. Gives how the run ends, and the desk.
+fn goes(alloc: Global, list: &[&str]) -> Result<(Status, MemDesk), AllocError> {
+    let mut desk = desk_of_all(alloc)?;
+    let status = ends(alloc, list, &mut desk)?;
+    Ok((status, desk))
+}
+
+// The same with this call failing.
+fn fails(alloc: Global, list: &[&str], call: u64) -> Result<(Status, MemDesk), AllocError> {
+    let mut desk = desk_of_all(alloc)?;
+    desk.fail_at(call)?;
+    let status = ends(alloc, list, &mut desk)?;
+    Ok((status, desk))
+}
+
 // Runs these words once for each call that they made over the desk on which none failed, with that call
 // failing.
 fn fails_in_turn<R: Abort + Alloc<A = Global>>(
@@ -51,9 +66,7 @@ fn fails_in_turn<R: Abort + Alloc<A = Global>>(
     let alloc = rt.alloc();
     let mut call = 0;
     for act in whole.acts() {
-        let mut desk = desk_of_all(alloc)?;
-        desk.fail_at(call)?;
-        let status = ends(alloc, list, &mut desk)?;
+        let (status, desk) = fails(alloc, list, call)?;
         if matches!(act, Act::BeginRead | Act::Read) {
             assert!(rt; status == Status::ReadFault);
             assert!(rt; desk.said().is_empty() && desk.file("out").is_none());
@@ -92,8 +105,8 @@ fn each_call_fails_in_turn(rt: HostRuntime) -> Result<(), Fail> {
         ),
     ];
     for (list, calls, said) in rows {
-        let mut whole = desk_of_all(alloc)?;
-        assert!(rt; ends(alloc, list, &mut whole)? == Status::Done);
+        let (status, whole) = goes(alloc, list)?;
+        assert!(rt; status == Status::Done);
         assert!(rt; whole.said() == said);
         assert!(rt; letters(alloc, whole.acts())?.as_slice() == calls);
         fails_in_turn(&rt, list, &whole)?;

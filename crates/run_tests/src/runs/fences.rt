@@ -87,10 +87,8 @@ ok
 refused nothing
 ";
 
-// A fence of 256 corners is set, and one of 257 is not.
-#[test]
-fn many_corners(rt: HostRuntime) -> Result<(), Fail> {
-    let alloc = rt.alloc();
+// Two commands: a fence of 256 corners, and one of 257.
+fn fences_of_many(alloc: Global) -> Result<Vec<u8>, AllocError> {
     let mut script = Vec::new(alloc);
     for corners in [256, 257] {
         script.extend_from_slice(b"fence")?;
@@ -99,6 +97,14 @@ fn many_corners(rt: HostRuntime) -> Result<(), Fail> {
         }
         script.extend_from_slice(b"\n")?;
     }
+    Ok(script)
+}
+
+// The first of these is set, and the other is not.
+#[test]
+fn many_corners(rt: HostRuntime) -> Result<(), Fail> {
+    let alloc = rt.alloc();
+    let script = fences_of_many(alloc)?;
     let out = design(alloc, 0, &[&END])?;
     let files = (design(alloc, 0, &[&END])?, script.as_slice());
     let said = b"ok\nrefused many\n".as_slice();

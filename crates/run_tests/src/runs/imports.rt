@@ -24,23 +24,55 @@ const SAID: &[u8] = b"ok 1\nrefused import floating 3\n1 0 3 1 0 0 0 path 0,0 10
 2 0 2 1 0 0 0 cell [ABC       ] 0,0\n3 1 3 1 0 0 0 path 0,0 100,50\n4 1 16 1 0 0 0 box 5,5 9,9\nshown 4\nok\n\
 1 0 3 1 0 0 0 path 0,0 100,50\nshown 1\n";
 
+// Runs these lists of words one after the other over a desk with this script and that cell as the second file. Gives how the
+// last one ends, all that is said, and the file `out`. No test rests on more of it.
+fn runs(
+    alloc: Global,
+    script: &[u8],
+    lists: &[&[&str]],
+) -> Result<(Status, Vec<u8>, Vec<u8>), AllocError> {
+    let mut desk = desk_with(alloc, script, library(alloc)?)?;
+    let mut status = Status::Memory;
+    for list in lists {
+        status = ends(alloc, list, &mut desk)?;
+    }
+    let said = Vec::from_slice(alloc, desk.said())?;
+    let out = Vec::from_slice(alloc, desk.file("out").unwrap_or(b""))?;
+    Ok((status, said, out))
+}
+
 #[test]
 fn an_import(rt: HostRuntime) -> Result<(), Fail> {
     let alloc = rt.alloc();
-    let mut desk = desk_with(alloc, SCRIPT, library(alloc)?)?;
-    assert!(rt; ends(alloc, &EDIT, &mut desk)? == Status::SomeRefused);
-    assert!(rt; desk.said() == SAID);
-    assert!(rt; desk.file("out") == desk.file("in"));
-    // the patch file of one that is left, applied, gives the file that `edit` writes
-    let mut desk = desk_with(alloc, b"import lib\n", library(alloc)?)?;
-    assert!(rt; ends(alloc, &["pack", "in", "s", "p"], &mut desk)? == Status::Done);
-    assert!(rt; desk.said() == b"entries 1\n".as_slice());
-    assert!(rt; ends(alloc, &["apply", "in", "p", "out"], &mut desk)? == Status::Done);
-    let out = design(alloc, 0, &[&LINE, &CELL_OF_81, &MEMBER, &ARC, &END])?;
-    assert!(rt; desk.file("out") == Some(out.as_slice()));
-    assert!(rt; ends(alloc, &EDIT, &mut desk)? == Status::Done);
-    assert!(rt; desk.file("out") == Some(out.as_slice()));
+    let (status, said, out) = runs(alloc, SCRIPT, &[&EDIT])?;
+    assert!(rt; status == Status::SomeRefused);
+    assert!(rt; said.as_slice() == SAID);
+    assert!(rt; out == design(alloc, 0, &[&LINE, &END])?);
     Ok(())
+}
+
+// The patch file of an import that is left, applied, gives the file that `edit` writes.
+#[test]
+fn a_packed_import(rt: HostRuntime) -> Result<(), Fail> {
+    let alloc = rt.alloc();
+    let whole = design(alloc, 0, &[&LINE, &CELL_OF_81, &MEMBER, &ARC, &END])?;
+    let (status, _, out) = runs(alloc, b"import lib\n", &[&EDIT])?;
+    assert!(rt; status == Status::Done);
+    assert!(rt; out == whole);
+    let pack: [&str; 4] = ["pack", "in", "s", "p"];
+    let apply: [&str; 4] = ["apply", "in", "p", "out"];
+    let (status, said, out) = runs(alloc, b"import lib\n", &[&pack, &apply])?;
+    assert!(rt; status == Status::Done);
+    assert!(rt; said.as_slice() == b"entries 1\napplied 1\n".as_slice());
+    assert!(rt; out == whole);
+    Ok(())
+}
+
+// How an import of this second file ends, and what it says.
+fn comes_to(alloc: Global, lib: Vec<u8>) -> Result<(Status, Vec<u8>), AllocError> {
+    let mut desk = desk_with(alloc, b"import lib\n", lib)?;
+    let status = ends(alloc, &EDIT, &mut desk)?;
+    Ok((status, Vec::from_slice(alloc, desk.said())?))
 }
 
 #[test]
@@ -76,9 +108,9 @@ fn imports_that_are_refused(rt: HostRuntime) -> Result<(), Fail> {
         ),
     ];
     for (lib, status, said) in rows {
-        let mut desk = desk_with(alloc, b"import lib\n", lib)?;
-        assert!(rt; ends(alloc, &EDIT, &mut desk)? == status);
-        assert!(rt; desk.said() == said);
+        let (ended, told) = comes_to(alloc, lib)?;
+        assert!(rt; ended == status);
+        assert!(rt; told.as_slice() == said);
     }
     Ok(())
 }
