@@ -1,11 +1,9 @@
 -- What a session comes to when trees are appended to its drawing.
-use Rattle.std.proofs.Common.{◌≡◌, ℕ, ◌+◌, ◌≤◌, List, [], ◌∷◌, ◌++◌, length, take, drop, map, reverse, Option, Some, None, refl, sym, ap, ◌∙◌, subst, arith, length-append}
-use Rattle.std.specs.List.{AllByRecursion}
+use Rattle.std.proofs.Common.{◌≡◌, ℕ, ◌+◌, ◌≤◌, List, [], ◌∷◌, ◌++◌, length, drop, map, reverse, Option, None, refl, sym, ap, ◌∙◌, subst, arith, length-append}
 use Rattle.std.proofs.lemmas.Grind.{flat_map-append}
 use Rattle.std.proofs.lemmas.List.{take_at, drop_at}
 use Rattle.patch_bytes.specs.Puts.{Put, write}
 use Rattle.plane_geom.specs.declared.pt.Pt.{Pt}
-use Rattle.undo_log.specs.declared.entry.Entry.{Entry}
 use Rattle.undo_log.specs.LogState.{LogState}
 use Rattle.undo_log.specs.Entries.{entry_of}
 use Rattle.dgn_drawing.specs.Element.{Element}
@@ -18,11 +16,9 @@ use Rattle.dgn_drawing.proofs.Fronts.{body_spelled, elements-spelling}
 use Rattle.elem_index.specs.declared.design.Design.{Design}
 use Rattle.elem_index.specs.Design.{elements}
 use Rattle.edit_ops.specs.Causes.{too_long}
-use Rattle.edit_ops.specs.Fields.{Field}
-use Rattle.edit_ops.specs.declared.types.plan.Plan.{Plan}
 use Rattle.edit_ops.proofs.Appended.{appended_opens, short_left}
 use Rattle.dgn_import.specs.Gathering.{AreTrees}
-use Rattle.dgn_session.specs.State.{SessionValue, state_of, value_with}
+use Rattle.dgn_session.specs.State.{state_of, value_with}
 use Rattle.dgn_session.specs.Imported.{imported, import_entry}
 use Rattle.dgn_session.specs.Kept.{OpensAt, AreKept, value_of}
 use Rattle.dgn_session.specs.Carried.{IsSoundPlan, plan_of}

@@ -1,7 +1,6 @@
 -- What a session keeps when an edit is carried out.
-use Rattle.std.proofs.Common.{◌≡◌, ℕ, ◌+◌, ◌<◌, List, [], ◌∷◌, ◌++◌, length, take, drop, map, reverse, refl, sym, ap, ◌∙◌, subst, arith, length-append}
+use Rattle.std.proofs.Common.{◌≡◌, ℕ, ◌+◌, List, [], ◌∷◌, ◌++◌, length, take, drop, map, reverse, refl, sym, ap, ◌∙◌, subst, arith, length-append}
 use Rattle.std.specs.Prelude.{Vec}
-use Rattle.std.specs.List.{AllByRecursion}
 use Rattle.std.proofs.lemmas.List.{take_at, drop_at, take-map, length-map, reverse-append}
 use Rattle.patch_bytes.specs.Puts.{Put, write}
 use Rattle.undo_log.specs.declared.entry.Entry.{Entry}
@@ -19,14 +18,14 @@ use Rattle.elem_index.specs.declared.design.Design.{Design}
 use Rattle.elem_index.specs.Offsets.{offsets_of}
 use Rattle.elem_index.specs.Design.{kept_of, kinds_of, spare_of, kind_bytes, elements, IsOpen, IsWhole, IsFront, SameText}
 use Rattle.elem_index.proofs.KindBytes.{kind_bytes-front}
-use Rattle.elem_index.proofs.Places.{length-kept, few_elements}
+use Rattle.elem_index.proofs.Places.{length-kept}
 use Rattle.nest_tree.specs.Nested.{Nested}
-use Rattle.nest_tree.specs.Shapes.{IsRow}
-use Rattle.level_view.proofs.Rows.{rows_each}
 use Rattle.dgn_session.specs.Kept.{rows_of, OpensAt, IsUnder, Leads, AreKept, IsKept}
-use Rattle.dgn_session.specs.Carried.{HasRoom, IsChange}
+use Rattle.dgn_session.specs.Carried.{IsSpelling, IsBehind, Grows, HasRoom, IsFollowed, IsChange, IsSoundPlan}
+use Rattle.edit_ops.specs.declared.types.plan.Plan.{Plan}
 use Rattle.dgn_session.proofs.Rising.{olds_rise}
 use Rattle.dgn_session.proofs.Leading.{may_commit, leads_back}
+use Rattle.dgn_session.proofs.Planned.{free_rows}
 
 -- vectors that are the same have the same items
 pub same_items : {X Z : Type 0} {v w : Vec X Z} → v ≡ w → v.items ≡ w.items
@@ -76,13 +75,8 @@ module _ (dim : ℕ) (tail b : List ℕ) (ps : List Put) (append : List ℕ) (ro
       subst (AreKept dim tail (write b ps ++ append)) (sym (reverse-append es (entry_of b ps ∷ [])))
       (change.opens, leads, subst (λ (x : List ℕ). AreKept dim tail x (reverse es)) (sym (leads_back b ps append change.rise)) kept)
 
--- rows behind others
-each_second : (xs ys : List Row) → AllByRecursion IsRow (xs ++ ys) → AllByRecursion IsRow ys
-each_second [] ys each = each
-each_second (x ∷ xs) ys each = each_second xs ys each.1
-
 module _ (d : Design) (t : Nested) (l : LogState) (kept : IsKept d t l) (ps : List Put) (append : List ℕ) (rows : List Row)
-    (room : HasRoom (length append) (length rows) d t l) (change : IsChange d.dim d.tail.items d.body.items ps append rows) where
+    (room : HasRoom (length append) (length rows) d l) (change : IsChange d.dim d.tail.items d.body.items ps append rows) where
   -- a design that has the new body, but the offsets and bytes of the old one
   module _ (e : Design) (axes : e.dim ≡ d.dim) (body : e.body.items ≡ write d.body.items ps ++ append) (tail : e.tail.items ≡ d.tail.items) (offsets : kept_of e ≡ kept_of d) (kinds : kinds_of e ≡ kinds_of d) (spare : spare_of e ≡ spare_of d) where
     opens_new : OpensAt e.dim e.tail.items e.body.items
@@ -114,13 +108,6 @@ module _ (d : Design) (t : Nested) (l : LogState) (kept : IsKept d t l) (ps : Li
           ap (λ (n : ℕ). rows_of n g.body.items) same.dim ∙ ap (rows_of e.dim) (same_items same.body) ∙ rows_new
           ∙ ap (λ (x : List Row). x ++ rows) (sym kept.nesting)
 
-      pub few_rows : length t.rows + length rows < 4294967295
-      few_rows =
-          omega (arith, few_elements g whole, length-map (elements g) row_of, ap (length {A = Row}) rows_grown, length-append t.rows rows)
-
-      pub each_row : AllByRecursion IsRow rows
-      each_row = each_second t.rows rows (rows_each g whole (t.rows ++ rows) (sym rows_grown))
-
       pub kept_after : (u : Nested) (m : LogState) → u.rows ≡ t.rows ++ rows → m.entries ≡ l.entries ++ entry_of d.body.items ps ∷ [] → IsKept g u m
       kept_after u m nesting entries = record {
         whole = whole;
@@ -131,3 +118,51 @@ module _ (d : Design) (t : Nested) (l : LogState) (kept : IsKept d t l) (ps : Li
             (same.dim ∙ axes) (same_items same.tail ∙ tail) (same_items same.body ∙ body) (ap (reverse {A = Entry}) entries)
             (kept_more d.dim d.tail.items d.body.items ps append rows change l.entries kept.back);
       }
+
+-- what is kept stays kept where room is made
+pub kept_with_room : (d : Design) (t : Nested) (l : LogState) → IsKept d t l → (e : Design) (m : LogState) → IsWhole e → e.dim ≡ d.dim → e.tail.items ≡ d.tail.items → e.body.items ≡ d.body.items → m.entries ≡ l.entries → IsKept e t m
+kept_with_room d t l kept e m whole axes tail body entries = record {
+  whole = whole;
+  nesting = kept.nesting ∙ sym (ap (λ (n : ℕ). rows_of n e.body.items) axes ∙ ap (rows_of d.dim) body);
+  back = kept_same d.dim d.tail.items d.body.items e.dim e.tail.items e.body.items (reverse l.entries) (reverse m.entries) axes tail body (ap (reverse {A = Entry}) entries) kept.back;
+}
+
+-- and where the nesting is that of the same rows
+pub kept_shrunk : (d : Design) (t u : Nested) (l : LogState) → IsKept d t l → u.rows ≡ t.rows → IsKept d u l
+kept_shrunk d t u l kept same = record { whole = kept.whole; nesting = same ∙ kept.nesting; back = kept.back }
+
+-- a change of a body is one of a body that is the same
+pub change_same : (dim : ℕ) (tail b : List ℕ) (ps : List Put) (append : List ℕ) (rows : List Row) (dim' : ℕ) (tail' b' : List ℕ) → dim' ≡ dim → tail' ≡ tail → b' ≡ b → IsChange dim tail b ps append rows → IsChange dim' tail' b' ps append rows
+change_same dim tail b ps append rows dim' tail' b' axes behind body change =
+    subst (λ (n : ℕ). IsChange n tail' b' ps append rows) (sym axes)
+    (subst (λ (x : List ℕ). IsChange dim x b' ps append rows) (sym behind)
+    (subst (λ (x : List ℕ). IsChange dim tail x ps append rows) (sym body) change))
+
+-- the first rows of those that have grown, and the others
+pub behind_taken : (old new : List Row) (n : ℕ) → IsBehind old new → n ≡ length old → take n new ≡ old
+behind_taken old new n is many = ap (take n) is.are ∙ take_at old is.more n (sym many)
+
+pub behind_left : (old new : List Row) (n : ℕ) → IsBehind old new → n ≡ length old → BeginsFree itself (drop n new)
+behind_left old new n is many = subst (BeginsFree itself) (sym (ap (drop n) is.are ∙ drop_at old is.more n (sym many))) is.free
+
+-- rows that have grown by those of elements without bit C at their front lie behind the others
+pub grown_behind : (b : List ℕ) (old new : List Row) (count : ℕ) → IsSpelling b → Grows b old new count → IsBehind old new
+grown_behind b old new count spelled grown = record {
+  more = map row_of spelled.1;
+  are = grown.are spelled.0 spelled.1 spelled.2;
+  free = free_rows spelled.1 spelled.3;
+}
+
+-- there is room for those
+pub room_for : (b : List ℕ) (old new : List Row) (d : Design) (l : LogState) (rows : List Row) → IsFollowed b old new d l → new ≡ old ++ rows → HasRoom (length b) (length rows) d l
+room_for b old new d l rows followed are =
+    let many : followed.count ≡ length rows = omega (arith, followed.grown.many, ap (length {A = Row}) are, length-append old rows) in
+    subst (λ (n : ℕ). HasRoom (length b) n d l) many followed.room
+
+free_elements : (es : List Element) → BeginsFree itself (map row_of es) → BeginsFree row_of es
+free_elements [] free = free
+free_elements (e ∷ es) free = free
+
+-- what a sound plan appends spells elements
+pub plan_spells : (dim : ℕ) (tail b : List ℕ) (p : Plan) → IsSoundPlan dim tail b p → IsSpelling p.append
+plan_spells dim tail b p sound = (dim, sound.new, sound.spells, free_elements sound.new sound.change.free)

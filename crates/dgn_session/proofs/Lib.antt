@@ -1,4 +1,5 @@
 pub mod Spelled
+pub mod Following
 pub mod Rising
 pub mod Becoming
 pub mod Leading

@@ -1,5 +1,5 @@
 -- What is taken of an element by itself.
-use Rattle.std.proofs.Common.{◌≡◌, Bool, false, None, List, [], Result, refl, sym, ◌∙◌}
+use Rattle.std.proofs.Common.{◌≡◌, false, None, List, [], Result, refl, sym}
 use Rattle.std.specs.Prelude.{IfOk, Ok, Err}
 use Rattle.plane_geom.specs.declared.pt.Pt.{Pt}
 use Rattle.dgn_drawing.specs.declared.mode.Mode.{Mode}

@@ -21,7 +21,7 @@ use Rattle.edit_ops.specs.declared.types.plan.Plan.{Plan}
 use Rattle.edit_ops.specs.Fields.{Field, filled}
 use Rattle.dgn_session.specs.State.{entry_with}
 use Rattle.dgn_session.specs.Kept.{OpensAt}
-use Rattle.dgn_session.specs.Carried.{Spells, IsSpelling, AreRowsOf, IsChange, IsSoundPlan}
+use Rattle.dgn_session.specs.Carried.{Spells, IsChange, IsSoundPlan}
 use Rattle.dgn_session.proofs.Becoming.{Become}
 use Rattle.dgn_session.proofs.Rising.{filled_rise, olds_filled}
 use Rattle.dgn_session.proofs.Leading.{leads_back}
@@ -47,7 +47,7 @@ parted made n = ap spelling (sym (take-append-drop n made)) ∙ flat_map-append 
 each_behind : (dim n : ℕ) (es : List Element) → AllByRecursion (IsWellFormed dim) es → AllByRecursion (IsWellFormed dim) (drop n es)
 each_behind dim n es each = recursion_from_All (IsWellFormed dim) (drop n es) (All-drop (IsWellFormed dim) n es (All-from_recursion (IsWellFormed dim) es each))
 
-free_rows : (es : List Element) → BeginsFree row_of es → BeginsFree itself (map row_of es)
+pub free_rows : (es : List Element) → BeginsFree row_of es → BeginsFree itself (map row_of es)
 free_rows [] free = free
 free_rows (e ∷ es) free = free
 
@@ -92,9 +92,6 @@ module _ (dim : ℕ) (tail b : List ℕ) (opens_at : OpensAt dim tail b) (fields
   pub append_spells : Spells dim (drop (length (elements_of dim b)) made) p.append
   append_spells = record { axes = made_axes; each = each_behind dim (length (elements_of dim b)) made becomes.opens.each; text = append_is }
 
-  pub append_spelled : IsSpelling p.append
-  append_spelled = (dim, drop (length (elements_of dim b)) made, append_spells)
-
   -- the patches rise
   patches_rise : Span 0 p.patches (length b)
   patches_rise =
@@ -107,25 +104,24 @@ module _ (dim : ℕ) (tail b : List ℕ) (opens_at : OpensAt dim tail b) (fields
   entry_leads = leads_back b p.patches p.append patches_rise
 
   -- it is a change, with the rows of what it appends
-  pub change_is : (rows : List Row) → AreRowsOf p.append rows → IsChange dim tail b p.patches p.append rows
-  change_is rows are =
+  change_is : IsChange dim tail b p.patches p.append (map row_of (drop (length (elements_of dim b)) made))
+  change_is =
       let n : ℕ = length (elements_of dim b) in
-      let new : rows ≡ map row_of (drop n made) = are dim (drop n made) append_spells in
       record {
         opens = opens_after;
         rise = patches_rise;
         behind =
             ap (map row_of) (made_are ∙ sym (take-append-drop n made))
             ∙ map-append row_of (take n made) (drop n made)
-            ∙ ap (λ (l : List Row). l ++ map row_of (drop n made)) becomes.rows
-            ∙ ap (λ (l : List Row). map row_of (elements_of dim b) ++ l) (sym new);
-        free = subst (BeginsFree itself) (sym new) (free_rows (drop n made) becomes.appended);
+            ∙ ap (λ (l : List Row). l ++ map row_of (drop n made)) becomes.rows;
+        free = free_rows (drop n made) becomes.appended;
       }
 
   -- and it may be carried out
   pub plan_sound : IsSoundPlan dim tail b p
   plan_sound = record {
-    spelled = append_spelled;
+    new = drop (length (elements_of dim b)) made;
+    spells = append_spells;
     short = let few = opens_after.few in omega (arith, few, length-append (write b p.patches) p.append);
     change = change_is;
   }

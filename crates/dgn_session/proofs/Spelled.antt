@@ -1,18 +1,20 @@
 -- The rows of elements, read from their spellings one after the other.
 use Rattle.std.proofs.Common.{◌≡◌, ℕ, ◌+◌, ◌<◌, ◌≤◌, List, [], ◌∷◌, ◌++◌, length, take, drop, map, refl, sym, ap, ◌∙◌, subst, arith, length-append, append_assoc}
+use Rattle.std.specs.Prelude.{IsFalse}
 use Rattle.std.specs.List.{AllByRecursion}
-use Rattle.std.proofs.lemmas.List.{append-nil, take_at, drop_at, drop-drop, length-drop}
+use Rattle.std.proofs.lemmas.List.{take_at, drop_at, drop-drop, length-drop}
 use Rattle.elem_head.specs.Head.{size_of as size_said}
 use Rattle.dgn_drawing.specs.declared.row.Row.{Row}
 use Rattle.dgn_drawing.specs.Element.{Element}
 use Rattle.dgn_drawing.specs.Spelling.{spell, spelling, size_of}
 use Rattle.dgn_drawing.specs.WellFormed.{IsDimension, IsWellFormed}
 use Rattle.dgn_drawing.specs.Rows.{row_of, row_at}
+use Rattle.dgn_drawing.specs.Nesting.{BeginsFree}
 use Rattle.dgn_drawing.specs.Faults.{IsSound}
 use Rattle.dgn_drawing.proofs.Read.{size_said-spell, size-spell}
 use Rattle.dgn_drawing.proofs.Rows.{row_at-spell}
 use Rattle.elem_index.proofs.Places.{sound_spell}
-use Rattle.dgn_session.specs.Carried.{Spells, IsSpelling, AreRowsOf}
+use Rattle.dgn_session.specs.Carried.{Spells, IsSpelling, Begins}
 
 -- the elements that are left from a place on, and the rows of those before it
 pub record Left (dim : ℕ) (es : List Element) (b : List ℕ) (rows : List Row) (at : ℕ) : Type 0 where
@@ -30,7 +32,7 @@ pub left_first : (b : List ℕ) → AreLeft b [] 0
 left_first b dim es spells = record { left = es; each = spells.each; rest = spells.text; read = refl; within = omega arith }
 
 -- each element has four bytes
-four : (dim : ℕ) (e : Element) → IsDimension dim → IsWellFormed dim e → 4 ≤ size_of e
+pub four : (dim : ℕ) (e : Element) → IsDimension dim → IsWellFormed dim e → 4 ≤ size_of e
 four dim e axes good = omega (arith, size-spell dim e axes good)
 
 -- the element that begins the bytes from a place on
@@ -117,13 +119,31 @@ module _ (b : List ℕ) (rows : List Row) (at : ℕ) (rest : List ℕ) (are : Ar
         within = omega arith;
       }
 
--- at the end of the bytes all rows are read
-all_read : (dim : ℕ) (es : List Element) (b : List ℕ) (rows : List Row) (at : ℕ) → IsDimension dim → length b ≤ at → (left : List Element) → AllByRecursion (IsWellFormed dim) left → drop at b ≡ spelling left → rows ++ map row_of left ≡ map row_of es → rows ≡ map row_of es
-all_read dim es b rows at axes past [] each text read = sym (append-nil rows) ∙ read
-all_read dim es b rows at axes past (e ∷ left) each text read =
+  -- where it has no bit C, what is read is a block
+  pub block_before : (size : ℕ) (first : List ℕ) (row : Row) → size ≡ size_said rest → first ≡ take size rest → row ≡ row_at first → IsFalse row.cbit → (dim : ℕ) (es : List Element) → Spells dim es b → Begins dim es b rows at
+  block_before size first row said front reads free dim es spells =
+      let f = first_of_left b rows at rest are is within dim es spells in
+      let one : row ≡ row_of f.element = reads ∙ ap row_at (first_is dim es spells size first said front) ∙ row_at-spell dim f.element spells.axes f.good in
+      record {
+        others = f.element ∷ f.behind;
+        spells = record { axes = spells.axes; each = (f.good, f.each); text = sym is ∙ f.text };
+        are = f.read;
+        free = subst (λ (r : Row). IsFalse r.cbit) one free;
+      }
+
+-- at the end of the bytes nothing is left
+none_left : (dim : ℕ) (b : List ℕ) (at : ℕ) → IsDimension dim → length b ≤ at → (left : List Element) → AllByRecursion (IsWellFormed dim) left → drop at b ≡ spelling left → BeginsFree row_of left
+none_left dim b at axes past [] each text = tt
+none_left dim b at axes past (e ∷ left) each text =
     absurd (omega (arith, four dim e axes each.0, ap (length {A = ℕ}) text, length-append (spell e) (spelling left), length-drop at b))
 
-pub rows_read : (b : List ℕ) (rows : List Row) (at : ℕ) → AreLeft b rows at → length b ≤ at → AreRowsOf b rows
-rows_read b rows at are past dim es spells =
+-- so all that is read is a block
+pub block_at_end : (b : List ℕ) (rows : List Row) (at : ℕ) → AreLeft b rows at → length b ≤ at → (dim : ℕ) (es : List Element) → Spells dim es b → Begins dim es b rows at
+block_at_end b rows at are past dim es spells =
     let l = are dim es spells in
-    all_read dim es b rows at spells.axes past l.left l.each l.rest l.read
+    record {
+      others = l.left;
+      spells = record { axes = spells.axes; each = l.each; text = l.rest };
+      are = l.read;
+      free = none_left dim b at spells.axes past l.left l.each l.rest;
+    }

@@ -1,5 +1,5 @@
 -- What an edit needs to be carried out, and what an undo looks for.
-use Rattle.std.specs.Prelude.{ℕ, ◌≡◌, ◌+◌, ◌<◌, ◌≤◌, List, [], ◌∷◌, ◌++◌, length, map, slice_index, vec_len, vec_capacity}
+use Rattle.std.specs.Prelude.{ℕ, ◌≡◌, ◌+◌, ◌<◌, ◌≤◌, List, [], ◌∷◌, ◌++◌, length, drop, map, slice_index, vec_len, vec_capacity}
 use Rattle.std.specs.List.{AllByRecursion}
 use Rattle.patch_bytes.specs.Puts.{Put, write, Span}
 use Rattle.undo_log.specs.declared.entry.Entry.{Entry}
@@ -12,7 +12,6 @@ use Rattle.dgn_drawing.specs.Rows.{row_of}
 use Rattle.dgn_drawing.specs.Nesting.{BeginsFree, itself}
 use Rattle.elem_index.specs.declared.design.Design.{Design}
 use Rattle.elem_index.specs.Design.{spare_of}
-use Rattle.nest_tree.specs.Nested.{Nested}
 use Rattle.edit_ops.specs.declared.types.plan.Plan.{Plan}
 use Rattle.dgn_session.specs.Kept.{rows_of, OpensAt}
 
@@ -22,20 +21,48 @@ pub record Spells (dim : ℕ) (es : List Element) (b : List ℕ) : Type 0 where
   pub each : AllByRecursion (IsWellFormed dim) es
   pub text : b ≡ spelling es
 
--- they are those of some elements
+-- they are those of some elements, of which the first, if there is one, has no bit C
 abbrev pub IsSpelling : List ℕ → Type 0
-IsSpelling b = (dim : ℕ) × (es : List Element) × Spells dim es b
+IsSpelling b = (dim : ℕ) × (es : List Element) × Spells dim es b × BeginsFree row_of es
 
--- these are the rows of the elements that they spell
-abbrev pub AreRowsOf : List ℕ → List Row → Type 0
-AreRowsOf b rows = (dim : ℕ) (es : List Element) → Spells dim es b → rows ≡ map row_of es
+-- bytes begin with elements that have these rows; from place `at` on they spell the others, of which the first, if there
+-- is one, has no bit C
+pub record Begins (dim : ℕ) (es : List Element) (b : List ℕ) (rows : List Row) (at : ℕ) : Type 0 where
+  pub others : List Element
+  pub spells : Spells dim others (drop at b)
+  pub are : rows ++ map row_of others ≡ map row_of es
+  pub free : BeginsFree row_of others
 
--- there is room for one more entry, so many more bytes of the body, and so many more elements
-pub record HasRoom (bytes rows : ℕ) (d : Design) (t : Nested) (l : LogState) : Type 0 where
+-- so many bytes are a block: some, if there are any, which begin with elements that have these rows, whatever elements
+-- the bytes spell
+pub record IsBlock (b : List ℕ) (rows : List Row) (size : ℕ) : Type 0 where
+  pub begins : (dim : ℕ) (es : List Element) → Spells dim es b → Begins dim es b rows size
+  pub some : 0 < length b → 0 < size
+  pub within : size ≤ length b
+  pub few : length rows ≤ size
+
+-- rows are others and some behind them, of which the first, if there is one, has no bit C
+pub record IsBehind (old new : List Row) : Type 0 where
+  pub more : List Row
+  pub are : new ≡ old ++ more
+  pub free : BeginsFree itself more
+
+-- rows are others and, behind them, those of so many elements, whatever elements the bytes spell
+pub record Grows (b : List ℕ) (old new : List Row) (count : ℕ) : Type 0 where
+  pub are : (dim : ℕ) (es : List Element) → Spells dim es b → new ≡ old ++ map row_of es
+  pub many : length new ≡ length old + count
+
+-- there is room for one more entry, so many more bytes of the body, and what is kept of so many more elements
+pub record HasRoom (bytes rows : ℕ) (d : Design) (l : LogState) : Type 0 where
   pub entry : 1 ≤ l.spare
   pub body : vec_len d.body + bytes ≤ vec_capacity d.body
   pub offsets : rows ≤ spare_of d
-  pub nesting : rows ≤ t.spare
+
+-- rows have grown by those of the elements that bytes spell, and there is room for one more entry and for these bytes
+pub record IsFollowed (b : List ℕ) (old new : List Row) (d : Design) (l : LogState) : Type 0 where
+  pub count : ℕ
+  pub grown : Grows b old new count
+  pub room : HasRoom (length b) count d l
 
 -- a body into which patches are written, and behind which bytes are put: it opens with the tail; the patches rise in
 -- the body; and the rows of its elements are those of the body's and these, the first of which has no bit C
@@ -51,9 +78,10 @@ plan_of ps append = record { patches = ps; append = append }
 
 -- a plan that may be carried out on a body: what it appends spells elements, and with their rows it is a change
 pub record IsSoundPlan (dim : ℕ) (tail b : List ℕ) (p : Plan) : Type 0 where
-  pub spelled : IsSpelling p.append
+  pub new : List Element
+  pub spells : Spells dim new p.append
   pub short : length p.append ≤ 67108864
-  pub change : (rows : List Row) → AreRowsOf p.append rows → IsChange dim tail b p.patches p.append rows
+  pub change : IsChange dim tail b p.patches p.append (map row_of new)
 
 -- the last of some entries has this length
 pub record HasLast (entries : List Entry) (len : ℕ) : Type 0 where

@@ -1,5 +1,5 @@
 -- An import in the session machine: what it leaves, its entry, and when it is refused.
-use Rattle.std.specs.Prelude.{ℕ, ◌≡◌, List, [], ◌∷◌, ◌++◌, length, Some}
+use Rattle.std.specs.Prelude.{ℕ, ◌≡◌, List, [], ◌∷◌, ◌++◌, Some}
 use Rattle.undo_log.specs.declared.entry.Entry.{Entry}
 use Rattle.dgn_drawing.specs.Element.{Element}
 use Rattle.edit_ops.specs.declared.edit_fault.EditFault.{EditFault}

@@ -1,29 +1,60 @@
-// The rows of the elements that an edit appends.
+// The nesting follows what an edit appends, block by block: no more rows are kept than those of a block.
 
-ghost use Rattle.std.specs.Prelude.{◌≤◌, length, IfOk};
-ghost use Rattle.dgn_session.specs.Carried.{IsSpelling, AreRowsOf};
+ghost use Rattle.std.specs.Prelude.{◌≤◌, length, IfOk, OnErr};
+ghost use Rattle.dgn_session.specs.Carried.{IsSpelling, IsBlock, IsBehind, Grows};
 
 use dgn_drawing::{Row, row_of};
 use elem_head::head;
+use nest_tree::types::Nest;
 use std::alloc::{AllocError, Global};
 
 // How many bytes say the size of an element.
 const HEAD_END: usize = 4;
 
-// The row of each element that the bytes spell, in their order.
-pub(crate) fn rows_of(alloc: Global, bytes: &[u8]) -> Result<Vec<Row>, AllocError>
-    requires { IsSpelling bytes.now }
-    ensures rows { IfOk result (λ rows. AreRowsOf bytes.now rows.items) }
-    ensures few { IfOk result (λ rows. length rows.items ≤ length bytes.now) }
+// How many rows a block has at the least, if there are so many.
+const BLOCK: usize = 4096;
+
+// Grows the nesting by the elements that the bytes spell, and says how many these are. Where there is no memory, it may
+// have grown by some of them.
+pub(crate) fn nest_appended(alloc: Global, nest: &mut Nest, bytes: &[u8]) -> Result<u32, AllocError>
+    requires spelled { IsSpelling bytes.now }
+    requires short { length bytes.now ≤ 67108864 }
+    requires few { length nest.old.rows ≤ 67108864 }
+    ensures grown { IfOk result (Grows bytes.now nest.old.rows nest.new.rows) }
+    ensures begun { OnErr result (IsBehind nest.old.rows nest.new.rows) }
 {
     let mut rows = Vec::new(alloc);
+    let mut rest = bytes;
+    let mut count = 0;
+    'blocks: while !rest.is_empty() {
+        let size = read_block(rest, &mut rows)?;
+        nest.reserve(rows.len() as u32)?;
+        nest.grow(&rows);
+        count += rows.len() as u32;
+        let (_, behind) = rest.split_at(size);
+        rest = behind;
+    }
+    Ok(count)
+}
+
+// Puts the rows of the first elements that the bytes spell in place of what the list holds: of 4096 and of those with
+// bit C that follow, or of as many as there are. So what is behind them nests apart. The answer is how many bytes they have.
+fn read_block(bytes: &[u8], rows: &mut Vec<Row>) -> Result<usize, AllocError>
+    requires { IsSpelling bytes.now }
+    ensures block { IfOk result (IsBlock bytes.now rows.new.items) }
+{
+    rows.clear();
     let mut at = 0;
     'elements: while at < bytes.len() {
         let (_, rest) = bytes.split_at(at);
         let size = HEAD_END + 2 * usize::from(head(rest).words);
         let (first, _) = rest.split_at(size);
-        rows.push(row_of(first))?;
+        let row = row_of(first);
+        if BLOCK <= rows.len() && !row.cbit {
+            return Ok(at);
+        }
+        rows.push(row)?;
         at += size;
     }
-    Ok(rows)
+    Ok(at)
 }

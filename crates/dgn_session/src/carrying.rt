@@ -1,14 +1,13 @@
 // An edit is carried out.
 
-ghost use Rattle.std.specs.Prelude.{◌≡◌, [], ◌∷◌, ◌++◌, length, OnOk, OnErr};
+ghost use Rattle.std.specs.Prelude.{◌≡◌, ◌≤◌, [], ◌∷◌, ◌++◌, length, OnOk, OnErr};
 ghost use Rattle.patch_bytes.specs.Puts.{write};
 ghost use Rattle.undo_log.specs.Entries.{entry_of};
 ghost use Rattle.dgn_session.specs.Kept.{IsKept};
-ghost use Rattle.dgn_session.specs.Carried.{HasRoom, IsChange, IsSoundPlan, plan_of};
+ghost use Rattle.dgn_session.specs.Carried.{IsSpelling, IsBehind, IsFollowed, IsSoundPlan, plan_of};
 
-use crate::appended::rows_of;
+use crate::appended::nest_appended;
 use crate::room::make_room;
-use dgn_drawing::Row;
 use edit_ops::types::Plan;
 use elem_index::Design;
 use nest_tree::types::Nest;
@@ -59,32 +58,36 @@ pub(crate) fn carry_bytes(
     ensures same_body { OnErr result (design.new.body.items ≡ design.old.body.items) }
     ensures same_entries { OnErr result (log.new.entries ≡ log.old.entries) }
 {
-    let rows = rows_of(alloc, append)?;
-    make_room(design, nest, log, append.len(), rows.len() as u32)?;
-    carry_out(design, nest, log, patches, append, &rows);
+    let before = design.count();
+    if let Err(error) = follow(alloc, design, nest, log, append) {
+        nest.shrink(before);
+        return Err(error);
+    }
+    log.commit(&mut design.body, patches, append);
+    design.grow();
     Ok(())
 }
 
-// Takes no memory: writes the patches, puts the bytes behind the body, adds the entry, and lets offsets and nesting follow.
-// These are the rows of the elements that it appends.
-fn carry_out(
+// Lets the nesting follow what is to be appended, and makes room for it. All else stays as it was; where there is no
+// memory, the nesting may have grown by some of it.
+fn follow(
+    alloc: Global,
     design: &mut Design,
     nest: &mut Nest,
     log: &mut Log,
-    patches: PatchList,
     append: &[u8],
-    rows: &[Row],
-)
+) -> Result<(), AllocError>
     requires kept { IsKept design.old nest.old log.old }
-    requires room { HasRoom (length append.now) (length rows.now) design.old nest.old log.old }
-    requires change { IsChange design.old.dim design.old.tail.items design.old.body.items patches append.now rows.now }
-    ensures kept { IsKept design.new nest.new log.new }
+    requires spelled { IsSpelling append.now }
+    requires short { length append.now ≤ 67108864 }
+    ensures kept { IsKept design.new nest.old log.new }
     ensures dim { design.new.dim ≡ design.old.dim }
-    ensures body { design.new.body.items ≡ write design.old.body.items patches ++ append.now }
     ensures tail { design.new.tail.items ≡ design.old.tail.items }
-    ensures entries { log.new.entries ≡ log.old.entries ++ entry_of design.old.body.items patches ∷ [] }
+    ensures body { design.new.body.items ≡ design.old.body.items }
+    ensures entries { log.new.entries ≡ log.old.entries }
+    ensures followed { OnOk result (IsFollowed append.now nest.old.rows nest.new.rows design.new log.new) }
+    ensures begun { OnErr result (IsBehind nest.old.rows nest.new.rows) }
 {
-    log.commit(&mut design.body, patches, append);
-    design.grow();
-    nest.grow(rows);
+    let count = nest_appended(alloc, nest, append)?;
+    make_room(design, log, append.len(), count)
 }

@@ -1,18 +1,36 @@
-use Rattle.std.proofs.Common.{◌≡◌, ℕ, List, sym, subst}
-use Rattle.patch_bytes.specs.Puts.{Put}
-use Rattle.dgn_drawing.specs.declared.row.Row.{Row}
-use Rattle.dgn_session.specs.Carried.{AreRowsOf, IsChange}
+use Rattle.std.proofs.Common.{map, refl}
+use Rattle.dgn_drawing.specs.Rows.{row_of}
+use Rattle.elem_index.specs.declared.design.Design.{Design}
+use Rattle.dgn_session.specs.Carried.{plan_of}
+use Rattle.dgn_session.proofs.Keeping.{plan_spells, change_same, room_for, front_after, kept_after}
+use Rattle.dgn_session.proofs.Leading.{patches_within, patches_apart}
 use Rattle.dgn_session.proofs.carrying.carry_bytes.Goals as goal
 
--- a change of a body is one of a body that is the same
-change_same : (dim : ℕ) (tail b : List ℕ) (ps : List Put) (append : List ℕ) (rows : List Row) (dim' : ℕ) (tail' b' : List ℕ) → dim' ≡ dim → tail' ≡ tail → b' ≡ b → IsChange dim tail b ps append rows → IsChange dim' tail' b' ps append rows
-change_same dim tail b ps append rows dim' tail' b' axes behind body change =
-    subst (λ (n : ℕ). IsChange n tail' b' ps append rows) (sym axes)
-    (subst (λ (x : List ℕ). IsChange dim x b' ps append rows) (sym behind)
-    (subst (λ (x : List ℕ). IsChange dim tail x ps append rows) (sym body) change))
+pub follow-requires-clause-spelled : goal.follow-requires-clause-spelled
+follow-requires-clause-spelled c = plan_spells c.args.design.now.dim c.args.design.now.tail.items c.args.design.now.body.items (plan_of c.args.patches c.args.append.now) c.requires.sound
 
-pub carry_out-requires-clause-change : goal.carry_out-requires-clause-change
-carry_out-requires-clause-change c =
-    let rows : AreRowsOf c.args.append.now c.deref.result.now = subst (AreRowsOf c.args.append.now) (sym c.deref.ensures.value) c.in_ok-rows.ensures.rows in
-    change_same c.args.design.now.dim c.args.design.now.tail.items c.args.design.now.body.items c.args.patches c.args.append.now c.deref.result.now c.make_room.new.design.dim c.make_room.new.design.tail.items c.make_room.new.design.body.items
-    c.make_room.ensures.dim c.make_room.ensures.tail c.make_room.ensures.body (c.requires.sound.change c.deref.result.now rows)
+pub commit-requires-clause-within : goal.commit-requires-clause-within
+commit-requires-clause-within c =
+    let change = change_same c.args.design.now.dim c.args.design.now.tail.items c.args.design.now.body.items c.args.patches c.args.append.now (map row_of c.requires.sound.new) c.follow.new.design.dim c.follow.new.design.tail.items c.follow.new.design.body.items c.follow.ensures.dim c.follow.ensures.tail c.follow.ensures.body c.requires.sound.change in
+    patches_within c.follow.new.design.body.items c.args.patches c.args.append.now change.rise
+
+pub commit-requires-clause-apart : goal.commit-requires-clause-apart
+commit-requires-clause-apart c = patches_apart c.args.design.now.body.items c.args.patches c.args.append.now c.requires.sound.change.rise
+
+pub grow-requires : goal.grow-requires
+grow-requires c =
+    let change = change_same c.args.design.now.dim c.args.design.now.tail.items c.args.design.now.body.items c.args.patches c.args.append.now (map row_of c.requires.sound.new) c.follow.new.design.dim c.follow.new.design.tail.items c.follow.new.design.body.items c.follow.ensures.dim c.follow.ensures.tail c.follow.ensures.body c.requires.sound.change in
+    let followed = c.in_default.ensures.followed in
+    let room = room_for c.args.append.now c.args.nest.now.rows c.follow.new.nest.rows c.follow.new.design c.follow.new.log (map row_of c.requires.sound.new) followed (followed.grown.are c.args.design.now.dim c.requires.sound.new c.requires.sound.spells) in
+    let e : Design = record { dim = c.follow.new.design.dim; body = c.commit.new.buf; tail = c.follow.new.design.tail; kept = c.follow.new.design.kept; kinds = c.follow.new.design.kinds } in
+    front_after c.follow.new.design c.args.nest.now c.follow.new.log c.follow.ensures.kept c.args.patches c.args.append.now (map row_of c.requires.sound.new) room change e refl c.commit.ensures.body refl refl refl refl
+
+pub returns-clause-kept : goal.returns-clause-kept
+returns-clause-kept c =
+    let change = change_same c.args.design.now.dim c.args.design.now.tail.items c.args.design.now.body.items c.args.patches c.args.append.now (map row_of c.requires.sound.new) c.follow.new.design.dim c.follow.new.design.tail.items c.follow.new.design.body.items c.follow.ensures.dim c.follow.ensures.tail c.follow.ensures.body c.requires.sound.change in
+    let followed = c.in_default.ensures.followed in
+    let grown = followed.grown.are c.args.design.now.dim c.requires.sound.new c.requires.sound.spells in
+    let room = room_for c.args.append.now c.args.nest.now.rows c.follow.new.nest.rows c.follow.new.design c.follow.new.log (map row_of c.requires.sound.new) followed grown in
+    let e : Design = record { dim = c.follow.new.design.dim; body = c.commit.new.buf; tail = c.follow.new.design.tail; kept = c.follow.new.design.kept; kinds = c.follow.new.design.kinds } in
+    kept_after c.follow.new.design c.args.nest.now c.follow.new.log c.follow.ensures.kept c.args.patches c.args.append.now (map row_of c.requires.sound.new) room change e refl c.commit.ensures.body refl refl refl refl
+    c.grow.new.self c.grow.ensures.text c.grow.ensures.whole c.follow.new.nest c.commit.new.self grown c.commit.ensures.entries

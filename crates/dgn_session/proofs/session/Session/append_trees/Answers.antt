@@ -1,6 +1,5 @@
-use Rattle.std.proofs.Common.{◌≡◌, ◌+◌, ◌∷◌, [], ◌++◌, None, length, sym, ◌∙◌, subst}
+use Rattle.std.proofs.Common.{◌≡◌, ◌∷◌, [], ◌++◌, sym, ◌∙◌, subst}
 use Rattle.dgn_drawing.specs.Opening.{elements_of}
-use Rattle.edit_ops.specs.Causes.{too_long}
 use Rattle.dgn_import.specs.Gathering.{AreTrees}
 use Rattle.dgn_session.specs.State.{SessionValue, state_of, value_with}
 use Rattle.dgn_session.specs.Imported.{imported, import_entry}

@@ -1,6 +1,6 @@
 use Rattle.std.proofs.Common.{◌-◌, ◌≤◌, length}
 use Rattle.dgn_session.proofs.Spelled.{AreLeft}
-use Rattle.dgn_session.proofs.appended.rows_of.Given as goal
+use Rattle.dgn_session.proofs.appended.read_block.Given as goal
 
 pub record Reading (l : goal.Live-elements) : Type 0 where
   pub left : AreLeft l.bytes l.rows.items l.at
