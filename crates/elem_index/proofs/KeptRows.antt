@@ -59,7 +59,7 @@ module _ (d : Design) (whole : IsWhole d) (n : ℕ) (known : n < length (element
   abbrev pub row : Row
   row = row_of here.0
 
-  found : option_map row_of (slice_get (elements d) n) ≡ Some row
+  pub found : option_map row_of (slice_get (elements d) n) ≡ Some row
   found = ap (option_map row_of) here.1.found
 
   read : row_at (spell here.0) ≡ row

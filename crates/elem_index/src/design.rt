@@ -2,7 +2,7 @@ ghost use Rattle.std.specs.Prelude.{◌≡◌, ◌≤◌, ◌<◌, ◌+◌, ◌+
 ghost use Rattle.dgn_drawing.specs.Spelling.{spell};
 ghost use Rattle.elem_index.specs.Offsets.{offset_of, offsets_of};
 ghost use Rattle.elem_index.specs.Opened.{opening};
-ghost use Rattle.elem_index.specs.Design.{elements, IsWhole};
+ghost use Rattle.elem_index.specs.Design.{elements, kind_bytes, IsWhole};
 ghost use Rattle.elem_index.specs.Answers.{HasCount, HasToldFault, Tells, TellsFault};
 
 use crate::beginning::{begins_with_tcb, dimension};
@@ -127,5 +127,13 @@ impl Design {
         ensures { result.now ≡ offsets_of (elements self.now) }
     {
         self.kept.as_slice()
+    }
+
+    /// Type and bit C of each element in one byte, in file order: the type, and 128 more where it has bit C.
+    pub fn kind_bytes(&self) -> &[u8]
+        requires { IsWhole self.now }
+        ensures { result.now ≡ kind_bytes (elements self.now) }
+    {
+        self.kinds.as_slice()
     }
 }

@@ -10,5 +10,6 @@ pub mod Onward
 pub mod Places
 pub mod Rows
 pub mod Blocks
+pub mod Runs
 pub mod Counted
 pub mod Leaves

@@ -23,6 +23,7 @@ pub mod Nestable
 pub mod Cut
 pub mod Grown
 pub mod PlainRows
+pub mod Kept
 pub mod Pushing
 pub mod Reached
 pub mod Blocks

@@ -1,6 +1,6 @@
 -- Roots with nothing below them, as most elements of a drawing are: how their rows tell them, and what is kept
 -- of them.
-use Rattle.std.specs.Prelude.{ℕ, ◌≡◌, ◌&&◌, not, Bool, true, false, None}
+use Rattle.std.specs.Prelude.{ℕ, ◌≡◌, ◌<◌, ◌-◌, ◌%◌, ◌&&◌, leb, not, Bool, true, false, None, List, [], ◌∷◌}
 use Rattle.dgn_layout.specs.declared.types.Class.{Class}
 use Rattle.dgn_layout.specs.Classes.{class_of}
 use Rattle.dgn_drawing.specs.declared.row.Row.{Row}
@@ -23,3 +23,24 @@ IsPlain r = is_plain r ≡ true
 -- what is said of such a root that ends before number `end`
 abbrev pub plain_mark : ℕ → Mark
 plain_mark end = record { knot = Leaf; depth = 0; parent = None; end = end }
+
+-- the first of some places, or the one behind them
+abbrev pub next_place : List ℕ → ℕ → ℕ
+next_place [] end = end
+next_place (p ∷ ps) end = p
+
+-- the row of an element that counts no members, by its first place, the place behind it, and type and bit C in one byte:
+-- the type, and 128 more where it has bit C
+abbrev pub kept_row : ℕ → ℕ → ℕ → Row
+kept_row place next kind = record { size = next - place; kind = kind % 128; cbit = leb 128 kind; total = 0 }
+
+-- the rows of such elements, one behind the other, by these of each; the last one ends at place `end`
+abbrev pub kept_rows : List ℕ → List ℕ → ℕ → List Row
+kept_rows [] kinds end = []
+kept_rows (p ∷ ps) [] end = []
+kept_rows (p ∷ ps) (k ∷ ks) end = kept_row p (next_place ps end) k ∷ kept_rows ps ks end
+
+-- a byte of such an element: it has no bit C, and no header's type
+pub record IsPlainKind (kind : ℕ) : Type 0 where
+  pub free : kind < 128
+  pub leaf : is_header (class_of kind) ≡ false

@@ -18,3 +18,4 @@ pub mod types;
 
 pub use knot::Knot;
 pub use nesting::nest;
+pub use plain::plain_run;

@@ -6,7 +6,7 @@ ghost use Rattle.dgn_drawing.specs.Numbering.{span_of, depth_of, parent_of, knot
 ghost use Rattle.nest_tree.specs.Shapes.{knot_told, IsRow};
 ghost use Rattle.nest_tree.specs.Places.{marks_in, link_of, end_told, NestApart};
 ghost use Rattle.nest_tree.specs.Passing.{broken_in, first_at, if_below};
-ghost use Rattle.nest_tree.specs.Plain.{IsPlain};
+ghost use Rattle.nest_tree.specs.Plain.{IsPlain, IsPlainKind, kept_rows};
 ghost use Rattle.nest_tree.specs.Nested.{Nested, nested_of, IsNest};
 
 use crate::broken::{add_broken, cut_broken};
@@ -142,6 +142,22 @@ impl Nest {
             Err(_) => unreachable!(),
         }
         self.seen = seen;
+    }
+
+    /// Adds elements behind the others which are roots with nothing below them (`plain_run`), by what is kept of them: the
+    /// place where each begins, type and bit C of each in a byte, and the place where the last one ends. It takes no memory.
+    pub fn grow_plain(&mut self, places: &[u32], kinds: &[u8], end: u32)
+        requires room { length places.now ≤ self.old.spare }
+        requires few { length self.old.rows + length places.now < 4294967295 }
+        requires each { length kinds.now ≡ length places.now }
+        requires plain { AllByRecursion IsPlainKind kinds.now }
+        ensures { self.new.rows ≡ self.old.rows ++ kept_rows places.now kinds.now end }
+    {
+        let count = places.len() as u32;
+        let first = self.ends.len() as u32;
+        push_numbers(first + 1, count, &mut self.ends);
+        self.links.push_plain(count);
+        self.seen = self.seen.then(&Step::Kept(places, kinds, end));
     }
 
     /// Keeps the first `count` elements. The others nest apart from them, since the first of these has

@@ -1,11 +1,11 @@
 // Roots with nothing below them, of which a block often has nothing else.
 
-ghost use Rattle.std.specs.Prelude.{◌≡◌, ◌+◌, ◌<◌, ◌≤◌, ◌++◌, length, take, vec_len, vec_capacity};
+ghost use Rattle.std.specs.Prelude.{◌≡◌, ◌+◌, ◌<◌, ◌≤◌, ◌++◌, length, take, slice_index, vec_len, vec_capacity};
 ghost use Rattle.std.specs.List.{AllByRecursion, range_with_len};
 ghost use Rattle.dgn_layout.specs.Classes.{class_of};
 ghost use Rattle.dgn_drawing.specs.Nesting.{front_count};
 ghost use Rattle.nest_tree.specs.Depths.{IsWordTotal};
-ghost use Rattle.nest_tree.specs.Plain.{is_header, is_plain};
+ghost use Rattle.nest_tree.specs.Plain.{is_header, is_plain, IsPlainKind};
 
 use dgn_drawing::Row;
 
@@ -35,6 +35,34 @@ pub(crate) fn plain_front(rows: &[Row]) -> usize
         }
     }
     rows.len()
+}
+
+/// How many of the elements with these types and bits C, each in one byte, are roots with nothing below them, from the front
+/// on: the type, and 128 more where it has bit C. The one behind them, if there is one, has no bit C, so it nests apart.
+pub fn plain_run(kinds: &[u8]) -> usize
+    ensures within { result ≤ length kinds.now }
+    ensures plain { AllByRecursion IsPlainKind (take result kinds.now) }
+    ensures free { 0 < result → result < length kinds.now → slice_index kinds.now result < 128 }
+{
+    let count = plain_kinds(kinds);
+    if count < kinds.len() && 128 <= kinds[count] {
+        count.saturating_sub(1)
+    } else {
+        count
+    }
+}
+
+// How many of these bytes from the front on are of such elements.
+fn plain_kinds(kinds: &[u8]) -> usize
+    ensures within { result ≤ length kinds.now }
+    ensures plain { AllByRecursion IsPlainKind (take result kinds.now) }
+{
+    for (i, kind) in kinds.iter().enumerate() {
+        if 128 <= *kind || is_header(*kind) {
+            return i;
+        }
+    }
+    kinds.len()
 }
 
 // Puts so many numbers, from `first` on, behind the others. There is room for them.

@@ -1,7 +1,7 @@
-use Rattle.std.proofs.Common.{◌≡◌, ℕ, ◌-◌, List, length, reverse, sym, ap, ◌∙◌, arith}
+use Rattle.std.proofs.Common.{◌≡◌, ℕ, ◌-◌, length, reverse, sym, ap, ◌∙◌, arith}
 use Rattle.elem_index.specs.Design.{elements}
 use Rattle.level_view.specs.Back.{read_back}
-use Rattle.level_view.specs.Numbers.{numbers_of, with_number}
+use Rattle.level_view.specs.Numbers.{numbers_of}
 use Rattle.level_view.proofs.Counted.{number_step}
 use Rattle.level_view.proofs.Stands.{all_found}
 use Rattle.level_view.proofs.counting.numbers_shown.Goals as goal

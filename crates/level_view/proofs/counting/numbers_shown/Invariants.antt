@@ -1,4 +1,4 @@
-use Rattle.std.proofs.Common.{◌≡◌, ◌-◌, ◌≤◌, reverse}
+use Rattle.std.proofs.Common.{◌≡◌, ◌-◌, reverse}
 use Rattle.elem_index.specs.Design.{elements}
 use Rattle.level_view.specs.Back.{read_back}
 use Rattle.level_view.specs.Numbers.{numbers_of}

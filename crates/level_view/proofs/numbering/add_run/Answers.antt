@@ -1,4 +1,4 @@
-use Rattle.std.proofs.Common.{◌≡◌, ◌++◌, List, ℕ, Bool, reverse, ap, ◌∙◌}
+use Rattle.std.proofs.Common.{◌++◌, List, ℕ, Bool, reverse, ap, ◌∙◌}
 use Rattle.dgn_drawing.specs.Reading.{element_at}
 use Rattle.level_view.specs.Numbers.{alone_if, is_alone}
 use Rattle.level_view.proofs.Results.{ok_same}

@@ -1,0 +1,43 @@
+use Rattle.std.proofs.Common.{◌∙◌, ap, sym, subst, arith, length, take}
+use Rattle.std.specs.List.{AllByRecursion}
+use Rattle.std.proofs.lemmas.List.{length-map, length-take}
+use Rattle.dgn_drawing.specs.declared.row.Row.{Row}
+use Rattle.dgn_drawing.specs.Rows.{row_of}
+use Rattle.dgn_drawing.specs.Nesting.{BeginsFree, itself}
+use Rattle.elem_index.specs.Design.{elements}
+use Rattle.elem_index.proofs.Places.{few_elements}
+use Rattle.nest_tree.specs.Shapes.{IsRow}
+use Rattle.level_view.proofs.Blocks.{block_each, block_free}
+use Rattle.level_view.proofs.nesting.nest_block.Goals as goal
+
+pub overflow_cast-len : goal.overflow_cast-len
+overflow_cast-len c =
+    let block = c.in_ok-row_block.ensures.block in
+    omega (arith, few_elements c.args.d.now c.requires.whole, block.within, c.len.ensures, c.row_block.new.rows.ok.0)
+
+pub overflow_cast-result : goal.overflow_cast-result
+overflow_cast-result c =
+    let block = c.in_ok-row_block.ensures.block in
+    omega (arith, few_elements c.args.d.now c.requires.whole, block.within, c.len-2.ensures, c.row_block.new.rows.ok.0)
+
+pub overflow_add-result : goal.overflow_add-result
+overflow_add-result c =
+    let block = c.in_ok-row_block.ensures.block in
+    omega (arith, few_elements c.args.d.now c.requires.whole, block.within, c.len-2.ensures, c.row_block.new.rows.ok.0)
+
+pub grow-requires-clause-few : goal.grow-requires-clause-few
+grow-requires-clause-few c =
+    let block = c.in_ok-row_block.ensures.block in
+    let before = ap (length {A = Row}) (c.in_ok-reserve.ensures.rows ∙ c.requires.before) in
+    let count = length-map (take c.args.n (elements c.args.d.now)) row_of in
+    let front = length-take c.args.n (elements c.args.d.now) in
+    omega (arith, few_elements c.args.d.now c.requires.whole, ap (length {A = Row}) c.deref.ensures.value, block.within, before, count, front)
+
+pub grow-requires-clause-each : goal.grow-requires-clause-each
+grow-requires-clause-each c =
+    subst (AllByRecursion IsRow) (sym c.deref.ensures.value) (block_each c.args.d.now c.requires.whole c.args.n c.row_block.new.rows.items c.in_ok-row_block.ensures.block)
+
+pub grow-requires-clause-free : goal.grow-requires-clause-free
+grow-requires-clause-free c =
+    subst (BeginsFree itself) (sym c.deref.ensures.value)
+    (block_free (elements c.args.d.now) c.args.n c.row_block.new.rows.items c.in_ok-row_block.ensures.block c.requires.free)
