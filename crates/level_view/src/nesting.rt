@@ -3,10 +3,10 @@
 ghost use Rattle.std.specs.Prelude.{◌≡◌, ◌≤◌, ◌<◌, ◌+◌, ◌++◌, length, take, drop, map, slice_index, IfOk};
 ghost use Rattle.std.specs.List.{AllByRecursion};
 ghost use Rattle.dgn_drawing.specs.Rows.{row_of};
-ghost use Rattle.dgn_drawing.specs.Nesting.{BeginsFree};
 ghost use Rattle.elem_index.specs.Offsets.{offset_of};
 ghost use Rattle.elem_index.specs.Design.{elements, kind_bytes, IsWhole};
 ghost use Rattle.nest_tree.specs.Plain.{IsPlainKind};
+ghost use Rattle.level_view.specs.Nested.{IsNestedTo};
 
 use dgn_drawing::Row;
 use elem_index::Design;
@@ -41,12 +41,9 @@ pub fn nest_design(alloc: Global, d: &Design) -> Result<Nest, AllocError>
 fn nest_next(d: &Design, nest: &mut Nest, n: u32, rows: &mut Vec<Row>) -> Result<u32, AllocError>
     requires whole { IsWhole d.now }
     requires known { n < length (elements d.now) }
-    requires before { nest.old.rows ≡ map row_of (take n (elements d.now)) }
-    requires free { BeginsFree row_of (drop n (elements d.now)) }
-    ensures nested { IfOk result (λ m. nest.new.rows ≡ map row_of (take m (elements d.now))) }
+    requires before { IsNestedTo (elements d.now) n nest.old.rows }
+    ensures nested { IfOk result (λ m. IsNestedTo (elements d.now) m nest.new.rows) }
     ensures some { IfOk result (λ m. n < m) }
-    ensures within { IfOk result (λ m. m ≤ length (elements d.now)) }
-    ensures free { IfOk result (λ m. BeginsFree row_of (drop m (elements d.now))) }
 {
     let run = run_from(d, n);
     if run < LONG_RUN {
@@ -62,12 +59,9 @@ fn nest_next(d: &Design, nest: &mut Nest, n: u32, rows: &mut Vec<Row>) -> Result
 fn nest_block(d: &Design, nest: &mut Nest, n: u32, rows: &mut Vec<Row>) -> Result<u32, AllocError>
     requires whole { IsWhole d.now }
     requires known { n < length (elements d.now) }
-    requires before { nest.old.rows ≡ map row_of (take n (elements d.now)) }
-    requires free { BeginsFree row_of (drop n (elements d.now)) }
-    ensures nested { IfOk result (λ m. nest.new.rows ≡ map row_of (take m (elements d.now))) }
+    requires before { IsNestedTo (elements d.now) n nest.old.rows }
+    ensures nested { IfOk result (λ m. IsNestedTo (elements d.now) m nest.new.rows) }
     ensures some { IfOk result (λ m. n < m) }
-    ensures within { IfOk result (λ m. m ≤ length (elements d.now)) }
-    ensures free { IfOk result (λ m. BeginsFree row_of (drop m (elements d.now))) }
 {
     d.row_block(n, rows)?;
     nest.reserve(rows.len() as u32)?;

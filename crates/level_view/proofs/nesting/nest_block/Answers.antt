@@ -28,7 +28,7 @@ overflow_add-result c =
 pub grow-requires-clause-few : goal.grow-requires-clause-few
 grow-requires-clause-few c =
     let block = c.in_ok-row_block.ensures.block in
-    let before = ap (length {A = Row}) (c.in_ok-reserve.ensures.rows ∙ c.requires.before) in
+    let before = ap (length {A = Row}) (c.in_ok-reserve.ensures.rows ∙ c.requires.before.are) in
     let count = length-map (take c.args.n (elements c.args.d.now)) row_of in
     let front = length-take c.args.n (elements c.args.d.now) in
     omega (arith, few_elements c.args.d.now c.requires.whole, ap (length {A = Row}) c.deref.ensures.value, block.within, before, count, front)
@@ -40,4 +40,4 @@ grow-requires-clause-each c =
 pub grow-requires-clause-free : goal.grow-requires-clause-free
 grow-requires-clause-free c =
     subst (BeginsFree itself) (sym c.deref.ensures.value)
-    (block_free (elements c.args.d.now) c.args.n c.row_block.new.rows.items c.in_ok-row_block.ensures.block c.requires.free)
+    (block_free (elements c.args.d.now) c.args.n c.row_block.new.rows.items c.in_ok-row_block.ensures.block c.requires.before.free)
