@@ -59,7 +59,7 @@ movable m Class.Boxed is = absurd (let x = is in cc)
 movable m Class.Silent is = absurd (let x = is in cc)
 
 -- one that has a look isn't silent
-looks : (m : ℕ) (c : Class) → lookless m c ≡ None → is_silent c ≡ false
+pub looks : (m : ℕ) (c : Class) → lookless m c ≡ None → is_silent c ≡ false
 looks m Class.Vertices is = refl
 looks m Class.Words is = refl
 looks m Class.Counted is = refl

@@ -1,5 +1,5 @@
 -- What keeps a tree from any edit, by the rows of its elements.
-use Rattle.std.proofs.Common.{◌≡◌, ℕ, zero, suc, ◌+◌, ◌-◌, List, [], ◌∷◌, length, map, cond, refl, sym, ap, ◌∙◌}
+use Rattle.std.proofs.Common.{◌≡◌, ℕ, zero, suc, ◌+◌, ◌-◌, ◌<◌, List, [], ◌∷◌, length, map, false, cond, refl, sym, ap, ◌∙◌, arith}
 use Rattle.std.specs.Prelude.{Option, Some, None, option_map, slice_get, Bool, nat_lt}
 use Rattle.std.specs.Option.{option_or, option_to_list}
 use Rattle.std.proofs.lemmas.List.{length-map}
@@ -7,14 +7,17 @@ use Rattle.dgn_drawing.specs.declared.row.Row.{Row}
 use Rattle.dgn_drawing.specs.Element.{Element}
 use Rattle.dgn_drawing.specs.Rows.{row_of}
 use Rattle.dgn_drawing.specs.Nesting.{Forest, forest, itself}
-use Rattle.dgn_drawing.specs.Numbering.{Mark, marks_of, mark_of, is_broken_as, is_broken, first_from, first_broken_of, headers_of, first_or, root_of}
-use Rattle.nest_tree.proofs.Climbing.{headers_by_rows}
+use Rattle.dgn_drawing.specs.Numbering.{Mark, marks_of, mark_of, parent_of, is_broken_as, is_broken, first_from, first_broken_of, headers_of, first_or, root_of}
+use Rattle.nest_tree.proofs.Climbing.{headers_by_rows, ends_climb, ends_first, root_known}
 use Rattle.nest_tree.proofs.ByRows.{forest_rows, marks-map}
 use Rattle.edit_ops.specs.declared.cause.Cause.{Cause}
+use Rattle.edit_ops.specs.declared.cause.Cause.TheVariants as causes
 use Rattle.edit_ops.specs.declared.asked.Test.TheVariants as tests
 use Rattle.edit_ops.specs.Trees.{Live, above_tree, found_at}
 use Rattle.edit_ops.specs.Causes.{broken, broken_in, first_cause, part_cause}
 use Rattle.edit_ops.specs.Asking.{broken_by, cause_in}
+use Rattle.edit_ops.specs.Written.{found}
+use Rattle.edit_ops.proofs.Climbed.{found_above}
 use Rattle.edit_ops.proofs.Listed.{or_assoc, cause_both, cause_alone}
 
 -- elements are numbered as their rows are
@@ -85,3 +88,18 @@ part_cause_is dim es rows n above a b c by over is_a is_b is_c =
     ∙ ap (λ (x : Option Cause). option_or (broken (broken_in es (root_of row_of es n))) (option_or x c)) second
     ∙ ap (λ (x : Option Cause). option_or (broken (broken_in es (root_of row_of es n))) (option_or (first_cause dim tests.Lives (above_tree es n)) x)) third
     ∙ ap (λ (x : Option Cause). option_or (broken (broken_in es (root_of row_of es n))) x) (sym (cause_both dim tests.Lives (above_tree es n) (option_to_list (found_at es n))))
+
+-- above a root there are no headers, and nothing keeps its part from any edit where it is live and no number of its tree is broken
+module _ (es : List Element) (rows : List Row) (n : ℕ) (by : rows ≡ map row_of es) (root : parent_of itself rows n ≡ Some None) where
+  pub none_above : above_tree es n ≡ []
+  none_above =
+      sym (found_above es n)
+      ∙ ap (found es) (sym (headers_by_rows row_of es n) ∙ ap (λ (r : List Row). headers_of itself r n) (sym by) ∙ ends_climb itself rows n (sym root))
+
+  pub root_free : (dim : ℕ) (e : Element) → n < length es → first_broken_of itself rows n ≡ Some None → slice_get es n ≡ Some e → e.deleted ≡ false → part_cause dim es n ≡ None
+  root_free dim e known sound there alive =
+      let within : n < length rows = omega (arith, ap (length {A = Row}) by, length-map es row_of) in
+      let own : root_of itself rows n ≡ Some n = root_known itself rows n within ∙ ap Some (ends_first itself rows n (sym root)) in
+      let unbroken : broken (broken_by rows (root_of itself rows n)) ≡ None = ap (λ (o : Option ℕ). broken (broken_by rows o)) own ∙ ap broken sound in
+      let lives : cause_in dim tests.Lives n (slice_get es n) ≡ None = ap (cause_in dim tests.Lives n) there ∙ ap (λ (b : Bool). cond b (Some (causes.Deleted n)) None) alive in
+      sym (part_cause_is dim es rows n [] None None None by (sym none_above) (sym unbroken) refl (sym lives))

@@ -1,6 +1,6 @@
 -- What a test has against one element of a drawing, by its number; and when it is asked whether elements stay on
 -- the plane: where each can be moved, so that all their coordinates are read.
-use Rattle.std.specs.Prelude.{ℕ, ◌≡◌, ◌&&◌, not, Bool, IsTrue, List, [], ◌∷◌, Option, Some, None}
+use Rattle.std.specs.Prelude.{ℕ, ◌≡◌, ◌&&◌, not, Bool, IsTrue, List, Option, Some, None}
 use Rattle.elem_head.specs.Head.{properties_of}
 use Rattle.dgn_layout.specs.Classes.{class_of, is_silent}
 use Rattle.dgn_layout.specs.Spots.{has_spots}
@@ -37,8 +37,3 @@ locked_in kind b = not (is_silent (class_of kind)) && says_locked (properties_of
 abbrev pub broken_by : List Row → Option ℕ → Option (Option ℕ)
 broken_by rows (Some root) = first_broken_of itself rows root
 broken_by rows None = None
-
--- the number of the one live element of a part that stands below no header
-abbrev pub lone_of : List ℕ → List ℕ → Option ℕ
-lone_of [] (m ∷ []) = Some m
-lone_of above live = None

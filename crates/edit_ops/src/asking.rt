@@ -13,7 +13,6 @@ use crate::asked::Test;
 use crate::cause::Cause;
 use crate::causes::{other_axes, silent, too_long};
 use crate::finding::find;
-use crate::lone::{lone, lone_look_cause};
 use crate::making::size_made;
 use crate::sums::stays_on_plane;
 use dgn_drawing::{Edit, New, Shift};
@@ -39,7 +38,7 @@ pub fn edit_cause(d: &Design, edit: &Edit, above: &[u32], live: &[u32]) -> Optio
             .or(other_axes(d.dim, by.axes))
             .or(first_cause(d, above, &Test::Widens))
             .or(move_cause(d, live, by)),
-        Edit::Sym { .. } => look_cause(d, above, live),
+        Edit::Sym { .. } => locked(d, above, live).or(first_cause(d, live, &Test::Looks)),
         Edit::Delete { n } => locked(d, above, live)
             .or(silent(d, *n))
             .or(first_cause(d, live, &Test::Marks)),
@@ -55,20 +54,6 @@ pub fn append_cause(d: &Design, new: &New, pending: usize) -> Option<Cause>
         (causes_of d.now.dim (elements d.now) (length d.now.tail.items + pending) (Edit.Append new.now)) }
 {
     other_axes(d.dim, new.axes).or(growth_cause(d, size_made(new), pending))
-}
-
-// What is against another look of a part with these headers above it and these live elements. A part that is one
-// element by itself below no header is looked at once.
-fn look_cause(d: &Design, above: &[u32], live: &[u32]) -> Option<Cause>
-    requires { IsWhole d.now }
-    ensures { result ≡ option_or (first_cause d.now.dim Test.Unlocked
-        (found (elements d.now) above.now ++ found (elements d.now) live.now))
-        (first_cause d.now.dim Test.Looks (found (elements d.now) live.now)) }
-{
-    match lone(above, live) {
-        Some(m) => lone_look_cause(d, m),
-        None => locked(d, above, live).or(first_cause(d, live, &Test::Looks)),
-    }
 }
 
 // A header above a part, or a live element of it, is locked.
@@ -210,7 +195,7 @@ pub fn lookless(m: u32, class: Class) -> Option<Cause>
 }
 
 // Element m can't be marked deleted, by its type.
-fn unmarkable(m: u32, kind: u8) -> Option<Cause>
+pub fn unmarkable(m: u32, kind: u8) -> Option<Cause>
     ensures { result ≡ unmarkable m kind }
 {
     if kind == 127 {

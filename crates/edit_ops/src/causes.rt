@@ -1,4 +1,5 @@
-ghost use Rattle.std.specs.Prelude.{◌≡◌, ◌<◌, length, map, slice_get};
+ghost use Rattle.std.specs.Prelude.{◌≡◌, ◌<◌, length, map, slice_get, Some, None, if◌then◌else◌};
+ghost use Rattle.dgn_layout.specs.Classes.{class_of, is_silent};
 ghost use Rattle.dgn_drawing.specs.Rows.{row_of};
 ghost use Rattle.dgn_drawing.specs.Nesting.{itself};
 ghost use Rattle.dgn_drawing.specs.Numbering.{root_of};
@@ -70,9 +71,19 @@ pub fn silent(d: &Design, n: u32) -> Option<Cause>
     requires { IsWhole d.now }
     ensures { result ≡ silent n (slice_get (elements d.now) n) }
 {
-    match find(d, n) {
-        Some(found) if is_silent(found.kind) => Some(Cause::Opaque(n)),
-        _ => None,
+    let found = find(d, n)?;
+    silent_at(n, found.kind)
+}
+
+// Nothing is read of element n, by its type.
+pub fn silent_at(n: u32, kind: u8) -> Option<Cause>
+    requires { kind < 128 }
+    ensures { result ≡ (if is_silent (class_of kind) then Some (Cause.Opaque n) else None) }
+{
+    if is_silent(kind) {
+        Some(Cause::Opaque(n))
+    } else {
+        None
     }
 }
 

@@ -1,34 +1,60 @@
-// What is against an edit of a part that is one element by itself and stands below no header. The element is looked at
-// once.
+// Parts that are one live element by itself, which is then found once.
 
-ghost use Rattle.std.specs.Prelude.{◌≡◌, slice_get};
-ghost use Rattle.std.specs.Option.{option_or};
+ghost use Rattle.std.specs.Prelude.{◌≡◌, ◌<◌, length, map, false, Some, None, IfSome, IsTrue};
+ghost use Rattle.std.specs.Option.{option_to_list};
+ghost use Rattle.dgn_drawing.specs.Nesting.{flat, forest, itself};
+ghost use Rattle.dgn_drawing.specs.Numbering.{parent_of, first_broken_of};
+ghost use Rattle.dgn_drawing.specs.Rows.{row_of};
+ghost use Rattle.dgn_drawing.specs.Spelling.{spelling};
 ghost use Rattle.elem_index.specs.Design.{elements, IsWhole};
-ghost use Rattle.edit_ops.specs.declared.asked.Test.{Test};
-ghost use Rattle.edit_ops.specs.Asking.{cause_in, lone_of};
+ghost use Rattle.edit_ops.specs.Found.{IsFound, IsLone};
+ghost use Rattle.edit_ops.specs.Trees.{found_at, live_tree, tree_at};
 
-use crate::asking::{locked_at, lookless};
-use crate::cause::Cause;
-use crate::finding::find;
-use dgn_layout::class;
+use crate::finding::{Found, find};
+use crate::live::end_of;
 use elem_index::Design;
+use nest_tree::types::Nest;
 
-// The number of the one element of such a part, where no headers are above it and these are its live elements.
-pub fn lone(above: &[u32], live: &[u32]) -> Option<u32>
-    ensures { result ≡ lone_of above.now live.now }
+// Element n, which there is, where it is its whole part and isn't marked deleted.
+pub fn lone_at<'a>(d: &'a Design, t: &Nest, n: u32) -> Option<Found<'a>>
+    requires whole { IsWhole d.now }
+    requires nesting { t.now.rows ≡ map row_of (elements d.now) }
+    requires known { n < length (elements d.now) }
+    ensures found { IfSome result (IsFound d.now n) }
+    ensures alive { IfSome result (λ f. f.deleted ≡ false) }
+    ensures part { IfSome result
+        (λ f. spelling (flat (tree_at n (forest row_of (elements d.now)))) ≡ f.bytes.now) }
+    ensures live { IfSome result (λ _. live_tree (elements d.now) n ≡ option_to_list (found_at (elements d.now) n)) }
 {
-    match live {
-        [m] if above.is_empty() => Some(*m),
-        _ => None,
+    if end_of(t, n) - n != 1 {
+        return None;
+    }
+    let found = find(d, n)?;
+    if found.deleted {
+        return None;
+    }
+    Some(found)
+}
+
+// The same, where it also stands below no header and isn't broken, so that nothing keeps it from any edit.
+pub fn lone_root<'a>(d: &'a Design, t: &Nest, n: u32) -> Option<Found<'a>>
+    requires whole { IsWhole d.now }
+    requires nesting { t.now.rows ≡ map row_of (elements d.now) }
+    requires known { n < length (elements d.now) }
+    ensures found { IfSome result (IsFound d.now n) }
+    ensures lone { IfSome result (λ _. IsLone d.now n) }
+{
+    if is_sound_root(t, n) {
+        lone_at(d, t, n)
+    } else {
+        None
     }
 }
 
-// What is against another look of element m, where it is such a part.
-pub fn lone_look_cause(d: &Design, m: u32) -> Option<Cause>
-    requires whole { IsWhole d.now }
-    ensures { result ≡ option_or (cause_in d.now.dim Test.Unlocked m (slice_get (elements d.now) m))
-        (cause_in d.now.dim Test.Looks m (slice_get (elements d.now) m)) }
+// Whether element n is a root in whose tree no number is broken.
+fn is_sound_root(t: &Nest, n: u32) -> bool
+    ensures root { IsTrue result → parent_of itself t.now.rows n ≡ Some None }
+    ensures sound { IsTrue result → first_broken_of itself t.now.rows n ≡ Some None }
 {
-    let found = find(d, m)?;
-    locked_at(m, found.kind, found.bytes).or(lookless(m, class(found.kind)))
+    matches!(t.parent(n), Some(None)) && matches!(t.first_broken(n), Some(None))
 }

@@ -25,33 +25,11 @@ use crate::asking::unmovable;
 use crate::cause::Cause;
 use crate::copying::free_first;
 use crate::edit_fault::EditFault;
-use crate::finding::{Found, find};
-use crate::live::end_of;
+use crate::finding::Found;
 use crate::sums::{put_number, spots_in, sum};
 use dgn_drawing::Shift;
 use dgn_layout::{Spot, class};
 use elem_index::Design;
-use nest_tree::types::Nest;
-
-// Element n, which there is, where it is its whole part and isn't marked deleted.
-pub fn lone_at<'a>(d: &'a Design, t: &Nest, n: u32) -> Option<Found<'a>>
-    requires whole { IsWhole d.now }
-    requires nesting { t.now.rows ≡ map row_of (elements d.now) }
-    requires known { n < length (elements d.now) }
-    ensures found { IfSome result (IsFound d.now n) }
-    ensures part { IfSome result
-        (λ f. spelling (flat (tree_at n (forest row_of (elements d.now)))) ≡ f.bytes.now) }
-    ensures live { IfSome result (λ _. live_tree (elements d.now) n ≡ option_to_list (found_at (elements d.now) n)) }
-{
-    if end_of(t, n) - n != 1 {
-        return None;
-    }
-    let found = find(d, n)?;
-    if found.deleted {
-        return None;
-    }
-    Some(found)
-}
 
 // Appends the bytes of a copy of the part of element n, which is found and is all of its part and live, or says what
 // stands against it. Then, and where there is no memory, `out` is as before.

@@ -8,48 +8,38 @@ ghost use Rattle.range_code.specs.Plane.{is_on_plane};
 ghost use Rattle.dgn_layout.specs.Spots.{HoldsPoints, spots_of};
 ghost use Rattle.dgn_drawing.specs.declared.edit.Edit.{Edit};
 ghost use Rattle.dgn_drawing.specs.WellFormed.{IsDimension};
-ghost use Rattle.dgn_drawing.specs.Rows.{row_of};
 ghost use Rattle.dgn_drawing.specs.SpotNumbers.{sum_at};
 ghost use Rattle.elem_index.specs.Design.{elements, IsWhole};
 ghost use Rattle.patch_bytes.specs.PatchView.{put_of};
 ghost use Rattle.edit_ops.specs.declared.asked.Test.{Test};
-ghost use Rattle.edit_ops.specs.Trees.{above_tree, live_tree, found_at};
 ghost use Rattle.edit_ops.specs.Causes.{part_cause, causes_of, first_of, other_axes, off_plane};
 ghost use Rattle.edit_ops.specs.Asking.{cause_in};
 ghost use Rattle.edit_ops.specs.Planned.{IsStopped};
-ghost use Rattle.edit_ops.specs.Written.{found, part_puts, sum_put};
-ghost use Rattle.edit_ops.specs.Found.{IsFound};
+ghost use Rattle.edit_ops.specs.Written.{part_puts, sum_put};
+ghost use Rattle.edit_ops.specs.Found.{IsFound, IsLone};
 
 use crate::asking::{locked_at, unmovable};
 use crate::cause::Cause;
-use crate::causes::{other_axes, part_cause};
+use crate::causes::other_axes;
 use crate::edit_fault::EditFault;
 use crate::finding::Found;
 use crate::sums::{bytes_at, spots_in, sum};
 use dgn_drawing::Shift;
 use dgn_layout::{Spot, class};
 use elem_index::Design;
-use nest_tree::types::Nest;
 use patch_bytes::{Patch, PatchList};
 
-// Appends what a move puts into the part of element n, of which m, which is found, is the one live element, or says what
-// stands against it. `above` has the numbers of the headers above the part, of which there are none.
+// Appends what a move puts into the part of element n, which is found, or says what stands against it.
 pub fn plan_lone_move(
     d: &Design,
-    t: &Nest,
     n: u32,
-    m: u32,
-    element: Found,
-    above: &[u32],
+    found: Found,
     by: &Shift,
     patches: &mut PatchList,
 ) -> Result<(), EditFault>
     requires whole { IsWhole d.now }
-    requires nesting { t.now.rows ≡ map row_of (elements d.now) }
-    requires element { IsFound d.now m element }
-    requires above { found (elements d.now) above.now ≡ above_tree (elements d.now) n }
-    requires none { above_tree (elements d.now) n ≡ [] }
-    requires live { live_tree (elements d.now) n ≡ option_to_list (found_at (elements d.now) m) }
+    requires found { IsFound d.now n found }
+    requires lone { IsLone d.now n }
     ensures planned { OnOk result
         (patches.new ≡ patches.old ++ part_puts d.now.dim (elements d.now) (Edit.Move n by.now) n) }
     ensures free { IfOk result (λ _. option_or (part_cause d.now.dim (elements d.now) n)
@@ -57,10 +47,10 @@ pub fn plan_lone_move(
     ensures refused { IfErr result (IsStopped (option_or (part_cause d.now.dim (elements d.now) n)
         (first_of (causes_of d.now.dim (elements d.now) 0 (Edit.Move n by.now))))) }
 {
-    if let Some(cause) = part_cause(d, t, n, above).or(unfit_cause(d, m, element, by)) {
+    if let Some(cause) = unfit_cause(d, n, found, by) {
         return Err(EditFault::Refused(cause));
     }
-    push_staying(patches, d.dim, m, element, by)
+    push_staying(patches, d.dim, n, found, by)
 }
 
 // What is against any move along so many axes of element m, which is found: it is locked, the axes aren't those of the

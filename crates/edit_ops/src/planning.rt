@@ -18,11 +18,10 @@ use crate::cause::Cause;
 use crate::causes::{other_axes, part_cause, unknown};
 use crate::copying::part_len;
 use crate::edit_fault::EditFault;
-use crate::finding::find;
 use crate::importing::copy_tree;
 use crate::live::put_live_numbers;
-use crate::lone::lone;
-use crate::lone_move::plan_lone_move;
+use crate::lone::lone_root;
+use crate::lone_edit::plan_lone;
 use crate::making::spelled;
 use crate::numbers::{Numbers, no_numbers};
 use crate::patches::push_part;
@@ -129,20 +128,11 @@ fn plan_part(
     if let Some(cause) = unknown(d, n) {
         return Err(EditFault::Refused(cause));
     }
-    put_numbers_above(d, t, n, &mut numbers.above)?;
     if let Edit::Copy { by, .. } = edit {
+        put_numbers_above(d, t, n, &mut numbers.above)?;
         return plan_copy(alloc, d, t, n, by, pending, numbers, &mut all.append);
     }
-    put_live_numbers(d, t, n, &mut numbers.live)?;
-    plan_found(
-        d,
-        t,
-        n,
-        edit,
-        &numbers.above,
-        &numbers.live,
-        &mut all.patches,
-    )
+    plan_in_place(d, t, n, edit, numbers, &mut all.patches)
 }
 
 // Appends the bytes of a copy of the part of element n, which there is, or says what stands against it. `numbers` has
@@ -182,8 +172,37 @@ fn plan_copy(
 }
 
 // Appends what another edit puts into the part of element n, which there is, and into the headers above it, or says what
-// stands against it. `above` has the numbers of these headers, and `live` those of the live elements of the part. A part
-// that is one element alone is moved in one pass.
+// stands against it. Of a part that is one element by itself below no header no numbers are put.
+fn plan_in_place(
+    d: &Design,
+    t: &Nest,
+    n: u32,
+    edit: &Edit,
+    numbers: &mut Numbers,
+    patches: &mut PatchList,
+) -> Result<(), EditFault>
+    requires whole { IsWhole d.now }
+    requires nesting { t.now.rows ≡ map row_of (elements d.now) }
+    requires known { n < length (elements d.now) }
+    requires target { target_of edit.now ≡ Some n }
+    requires in_place { ChangesInPlace edit.now }
+    requires fits { IsEdit edit.now }
+    ensures planned { OnOk result
+        (patches.new ≡ patches.old ++ part_puts d.now.dim (elements d.now) edit.now n) }
+    ensures free { IfOk result (λ _. option_or (part_cause d.now.dim (elements d.now) n)
+        (first_of (causes_of d.now.dim (elements d.now) 0 edit.now)) ≡ None) }
+    ensures refused { IfErr result (IsStopped (option_or (part_cause d.now.dim (elements d.now) n)
+        (first_of (causes_of d.now.dim (elements d.now) 0 edit.now)))) }
+{
+    if let Some(found) = lone_root(d, t, n) {
+        return plan_lone(d, n, found, edit, patches);
+    }
+    put_numbers_above(d, t, n, &mut numbers.above)?;
+    put_live_numbers(d, t, n, &mut numbers.live)?;
+    plan_found(d, t, n, edit, &numbers.above, &numbers.live, patches)
+}
+
+// The same, whatever part it is. `above` has the numbers of the headers above it, and `live` those of its live elements.
 fn plan_found(
     d: &Design,
     t: &Nest,
@@ -208,13 +227,6 @@ fn plan_found(
     ensures refused { IfErr result (IsStopped (option_or (part_cause d.now.dim (elements d.now) n)
         (first_of (causes_of d.now.dim (elements d.now) 0 edit.now)))) }
 {
-    if let Edit::Move { by, .. } = edit {
-        if let Some(m) = lone(above, live) {
-            if let Some(found) = find(d, m) {
-                return plan_lone_move(d, t, n, m, found, above, by, patches);
-            }
-        }
-    }
     if let Some(cause) = later_cause(d, t, n, edit, above, live) {
         return Err(EditFault::Refused(cause));
     }

@@ -48,8 +48,8 @@ returns-in-Copy c =
       refused = stopped_refused d.dim es rest e c.args.n _ c.plan_copy.result c.requires.target known same c.plan_copy.ensures.refused;
     }
 
-pub plan_found-requires-clause-in_place : goal.plan_found-requires-clause-in_place
-plan_found-requires-clause-in_place c = is_in_place c.args.edit.now c.args.n c.requires.target c.in_default-edit.not-Copy
+pub plan_in_place-requires-clause-in_place : goal.plan_in_place-requires-clause-in_place
+plan_in_place-requires-clause-in_place c = is_in_place c.args.edit.now c.args.n c.requires.target c.in_default-edit.not-Copy
 
 pub returns : goal.returns
 returns c =
@@ -61,17 +61,17 @@ returns c =
     let here = is_in_place e c.args.n c.requires.target c.in_default-edit.not-Copy in
     let same = ap (option_or (part_cause d.dim es c.args.n)) (causes_in_place d.dim es rest e here) in
     let puts = part_puts d.dim es e c.args.n in
-    let after : Plan = record { patches = c.plan_found.new.patches; append = c.args.all.now.append } in
+    let after : Plan = record { patches = c.plan_in_place.new.patches; append = c.args.all.now.append } in
     record {
-      planned = both_ok c.plan_found.result
+      planned = both_ok c.plan_in_place.result
           (option_or (part_cause d.dim es c.args.n) (first_of (causes_of d.dim es 0 e)) ≡ None)
-          (c.plan_found.new.patches ≡ c.args.all.now.patches ++ puts)
+          (c.plan_in_place.new.patches ≡ c.args.all.now.patches ++ puts)
           (IsPlanBehind d.dim es rest e c.args.all.now after)
-          c.plan_found.ensures.planned c.plan_found.ensures.free
+          c.plan_in_place.ensures.planned c.plan_in_place.ensures.free
           (λ more free.
           writes_behind d.dim es rest e c.args.all.now after puts
           (changed_plan (d.body.items ++ d.tail.items) d.dim es d.tail.items rest e c.args.n (record { patches = puts; append = [] }) c.requires.fits c.requires.whole.is_open.opens c.requires.target
           c.in_default-edit.not-Copy (later_first d.dim es rest e c.args.n c.requires.target known ∙ same ∙ free) refl refl)
           more refl);
-      refused = stopped_refused d.dim es rest e c.args.n _ c.plan_found.result c.requires.target known same c.plan_found.ensures.refused;
+      refused = stopped_refused d.dim es rest e c.args.n _ c.plan_in_place.result c.requires.target known same c.plan_in_place.ensures.refused;
     }
