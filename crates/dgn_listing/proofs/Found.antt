@@ -1,5 +1,5 @@
 -- What is written of one finding, and of one more.
-use Rattle.std.proofs.Common.{ℕ, ◌≡◌, ◌+◌, ◌<◌, ◌++◌, List, length, take, get_or, Result, Ok, Err, ap, sym, ◌∙◌, append_assoc, [], ◌∷◌}
+use Rattle.std.proofs.Common.{ℕ, ◌≡◌, ◌+◌, ◌<◌, ◌≤◌, ◌++◌, List, length, take, take_all, get_or, Result, Ok, Err, ap, sym, ◌∙◌, append_assoc, [], ◌∷◌}
 use Rattle.std.specs.Prelude.{OnOk}
 use Rattle.std.specs.List.{flat_map}
 use Rattle.std.proofs.lemmas.List.{append-nil, take_more}
@@ -23,3 +23,12 @@ more_at {X} f xs i d old mid new within before one =
     let texts : flat_map f (take (i + 1) xs) ≡ flat_map f (take i xs) ++ f (get_or xs i d) =
     ap (flat_map f) (take_more xs i d within) ∙ (flat_map-append f (take i xs) (get_or xs i d ∷ []) ∙ ap (λ (t : List ℕ). flat_map f (take i xs) ++ t) (append-nil (f (get_or xs i d)))) in
     one ∙ (ap (λ (t : List ℕ). t ++ f (get_or xs i d)) before ∙ (append_assoc old (flat_map f (take i xs)) (f (get_or xs i d)) ∙ ap (λ (t : List ℕ). old ++ t) (sym texts)))
+
+-- the text of all
+pub all_at : {X : Type 0} (f : X → List ℕ) (xs : List X) (i : ℕ) (old new : List ℕ) → length xs ≤ i → new ≡ old ++ flat_map f (take i xs) → new ≡ old ++ flat_map f xs
+all_at {X} f xs i old new whole written = written ∙ ap (λ (ys : List X). old ++ flat_map f ys) (take_all i xs whole)
+
+-- a piece, and what is written behind it
+pub wrote : {E : Type 0} (r : Result (Unit {0}) E) (a b old mid new : List ℕ) → mid ≡ old ++ a → OnOk r (new ≡ mid ++ b) → OnOk r (new ≡ old ++ (a ++ b))
+wrote (Ok x) a b old mid new before more = more ∙ (ap (λ (t : List ℕ). t ++ b) before ∙ append_assoc old a b)
+wrote (Err e) a b old mid new before more = tt

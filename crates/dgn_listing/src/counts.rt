@@ -35,10 +35,29 @@ pub(crate) fn totals_of(alloc: Global, d: &Design) -> Result<Totals, AllocError>
         let Some(listed) = listed_at(d, n) else {
             unreachable!()
         };
-        count(&mut levels, listed.level)?;
-        count(&mut types, listed.kind)?;
+        count_both(&mut levels, listed.level, &mut types, listed.kind)?;
     }
     Ok(Totals { levels, types })
+}
+
+// Counts a level once more, and a type.
+fn count_both(
+    levels: &mut IndexMap<u8, u32>,
+    level: u8,
+    types: &mut IndexMap<u8, u32>,
+    kind: u8,
+) -> Result<(), AllocError>
+    requires level { unwrap_or (lookup (nat_eq level) levels.old.entries) 0 < 2 ^ 32 - 1 }
+    requires kind { unwrap_or (lookup (nat_eq kind) types.old.entries) 0 < 2 ^ 32 - 1 }
+    ensures levels { OnOk result (levels.new.entries
+        ≡ insert_entry nat_eq levels.old.entries level
+        (unwrap_or (lookup (nat_eq level) levels.old.entries) 0 + 1)) }
+    ensures types { OnOk result (types.new.entries
+        ≡ insert_entry nat_eq types.old.entries kind
+        (unwrap_or (lookup (nat_eq kind) types.old.entries) 0 + 1)) }
+{
+    count(levels, level)?;
+    count(types, kind)
 }
 
 // Counts a number once more.

@@ -1,4 +1,4 @@
-use Rattle.std.proofs.Common.{◌≡◌, ◌+◌, ap, sym, ◌∙◌, cond, Bool, ℕ, take, arith}
+use Rattle.std.proofs.Common.{◌≡◌, ◌+◌, ap, sym, ◌∙◌, cond, Bool, ℕ, take, take_all, arith}
 use Rattle.elem_index.specs.Design.{elements}
 use Rattle.dgn_listing.specs.RefTexts.{ref_count}
 use Rattle.dgn_listing.proofs.Listings.{ref_more}
@@ -18,3 +18,6 @@ loop-n-preserved c =
           w.found-is ∙ (c.loop-n.invariant
           ∙ sym (more ∙ (ap (λ (b : Bool). ref_count (take c.loop-n.n es) + (0 + cond b 1 0)) (sym w.if-is_ref.ensures) ∙ same)))
     ]
+
+pub returns : goal.returns
+returns c = c.loop-n.invariant ∙ ap ref_count (take_all c.loop-n.n (elements c.args.d.now) (omega arith))
