@@ -1,5 +1,5 @@
 -- Numbers of calls that are to fail: those that are above a call's number stay above every later one's.
-use Rattle.std.proofs.Common.{◌≡◌, ℕ, ◌≤◌, ◌==◌, ◌∷◌, ◌++◌, [], List, not, false, nat_le, IsTrue, refl, arith}
+use Rattle.std.proofs.Common.{◌≡◌, ℕ, ◌≤◌, ◌==◌, ◌∷◌, ◌++◌, [], List, not, false, true, nat_le, IsTrue, refl, arith}
 use Rattle.std.specs.List.{list_any}
 use Rattle.std.proofs.lemmas.Bool.{or_from, or_parts, leb-false, lt-leb, not-true, not_from_false}
 use Rattle.std.proofs.lemmas.List.{length-append}
@@ -30,3 +30,10 @@ stays_ahead fails later acts more act same longer willing =
 -- and the next call of a willing desk isn't on its list
 pub unlisted : (d : NumberedDesk) → IsTrue (none_ahead d) → is_listed d ≡ false
 unlisted d willing = none_there (next_number d.acts) d.fails (not-true _ willing)
+
+-- so the call doesn't fail
+pub unfailing : (d : NumberedDesk) (fails : List ℕ) (acts : List Act) → fails ≡ d.fails → acts ≡ d.acts → IsTrue (none_ahead d) → list_any (λ n. n == next_number acts) fails ≡ true → ⊥
+unfailing d fails acts same longer willing listed =
+    let none = unlisted d willing in
+    let there = rw (same, longer) at listed in
+    cc

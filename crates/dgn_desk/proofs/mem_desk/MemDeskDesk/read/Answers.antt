@@ -1,9 +1,17 @@
-use Rattle.std.proofs.Common.{◌∷◌, ◌++◌, [], ap, ◌∙◌}
+use Rattle.std.proofs.Common.{◌∷◌, ◌++◌, [], ap, sym, ◌∙◌}
 use Rattle.dgn_desk.specs.declared.act.Act.TheVariants.{Read}
-use Rattle.dgn_desk.proofs.Numbered.{stays_ahead}
+use Rattle.dgn_desk.proofs.Numbered.{stays_ahead, unfailing}
 use Rattle.dgn_desk.proofs.mem_desk.MemDeskDesk.read.Goals as goal
 
 pub returns-clause-stays : goal.returns-clause-stays
 returns-clause-stays c =
     stays_ahead _ _ _ _ Read (ap (λ d. d.fails) c.self.view_is)
     (c.push_reserved-2.ensures.items ∙ ap (λ acts. acts ++ Read ∷ []) (c.reserve.ensures.items ∙ ap (λ d. d.acts) c.self.view_is))
+
+pub returns-then-is_listed-clause-stays : goal.returns-then-is_listed-clause-stays
+returns-then-is_listed-clause-stays c =
+    stays_ahead _ _ _ _ Read (ap (λ d. d.fails) c.self.view_is)
+    (c.push_reserved.ensures.items ∙ ap (λ acts. acts ++ Read ∷ []) (c.reserve.ensures.items ∙ ap (λ d. d.acts) c.self.view_is))
+
+pub returns-then-is_listed-clause-able : goal.returns-then-is_listed-clause-able
+returns-then-is_listed-clause-able c = λ willing. absurd (unfailing c.args.self.now _ _ (ap (λ d. d.fails) c.self.view_is) (c.reserve.ensures.items ∙ ap (λ d. d.acts) c.self.view_is) willing (sym c.is_listed.ensures ∙ c.if-is_listed.true))
