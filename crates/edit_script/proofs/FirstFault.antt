@@ -10,7 +10,7 @@ use Rattle.edit_script.specs.declared.reading.Reading.TheVariants.{Nothing, Asks
 use Rattle.edit_script.specs.Imports.{is_import, limited, imports_with}
 use Rattle.edit_script.specs.Grammar.{command_of}
 use Rattle.edit_script.specs.Script.{commands_from, with_first, joined}
-use Rattle.edit_script.specs.Laws.{IsRead, AreRead, IsFirst, Means}
+use Rattle.edit_script.specs.Laws.{IsRead, IsFirst, Means}
 
 -- of a line that is read the limit changes nothing
 unlimited : (imports : ℕ) (r x : Reading) → (Bad ≡ x → ⊥) → limited imports r ≡ x → r ≡ x

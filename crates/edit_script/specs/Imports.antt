@@ -6,7 +6,7 @@ use Rattle.dgn_drawing.specs.Values.{Displacement}
 use Rattle.edit_script.specs.declared.command.Command.{Command}
 use Rattle.edit_script.specs.declared.command.Command.TheVariants as command
 use Rattle.edit_script.specs.declared.reading.Reading.{Reading}
-use Rattle.edit_script.specs.declared.reading.Reading.TheVariants.{Nothing, Asks, Bad}
+use Rattle.edit_script.specs.declared.reading.Reading.TheVariants.{Asks, Bad}
 use Rattle.edit_script.specs.Edits.{shift_named}
 
 -- a byte that may stand in a name: 33 to 126

@@ -29,21 +29,21 @@ fn read_command(alloc: Global, name: &[u8], rest: &[u8]) -> Result<Reading, Allo
     ensures { IfOk result (λ reading. reading ≡ reading_of name.now rest.now) }
 {
     let command = if name == b"line".as_slice() {
-        appends::read_line(alloc, rest)?
+        appends::read_line(alloc, rest)
     } else if name == b"string".as_slice() {
-        appends::read_string(alloc, rest)?
+        appends::read_string(alloc, rest)
     } else if name == b"shape".as_slice() {
-        appends::read_shape(alloc, rest)?
+        appends::read_shape(alloc, rest)
     } else if name == b"text".as_slice() {
-        appends::read_text(alloc, rest)?
+        appends::read_text(alloc, rest)
     } else if name == b"fence".as_slice() {
-        read_fence(alloc, rest)?
+        read_fence(alloc, rest)
     } else if name == b"import".as_slice() {
-        read_import(alloc, rest)?
+        read_import(alloc, rest)
     } else {
         return Ok(other_command(name, rest));
     };
-    Ok(Reading::asking(command))
+    Ok(Reading::asking(command?))
 }
 
 // What a line says that begins with this word, which is no name of an append and not `fence` or `import`, and goes on

@@ -1,7 +1,7 @@
-ghost use Rattle.std.specs.Prelude.{◌≡◌, ◌≤ℤ◌, pos, neg_ℤ, IfSome};
+ghost use Rattle.std.specs.Prelude.{◌≡◌, ◌≤ℤ◌, pos, neg_ℤ, IfSome, option_map};
 ghost use Rattle.std.specs.List.{list_all};
 ghost use Rattle.std.specs.Char.{is_ascii_digit};
-ghost use Rattle.edit_script.specs.Numbers.{is_number_word, number_within, signed_within};
+ghost use Rattle.edit_script.specs.Numbers.{is_number_word, number_within, negated, signed_within};
 
 /// The number that a word spells, a decimal without sign and without leading zeros, where it is at most `most`. None
 /// exactly where it spells no such number.
@@ -27,9 +27,25 @@ pub fn signed_number(word: &[u8], most: u32) -> Option<i64>
     ensures fits { IfSome result (λ n. (neg_ℤ (pos most) ≤ℤ n) × (n ≤ℤ pos most)) }
 {
     let [b'-', digits @ ..] = word else {
-        let value = number(word, most)?;
-        return Some(i64::from(value));
+        return unsigned(word, most);
     };
+    negated(digits, most)
+}
+
+// The number that a word without a dash spells.
+fn unsigned(word: &[u8], most: u32) -> Option<i64>
+    ensures value { result ≡ option_map pos (number_within most word.now) }
+    ensures fits { IfSome result (λ n. (neg_ℤ (pos most) ≤ℤ n) × (n ≤ℤ pos most)) }
+{
+    let value = number(word, most)?;
+    Some(i64::from(value))
+}
+
+// The number below 0 whose digits stand behind a dash.
+fn negated(digits: &[u8], most: u32) -> Option<i64>
+    ensures value { result ≡ negated (number_within most digits.now) }
+    ensures fits { IfSome result (λ n. (neg_ℤ (pos most) ≤ℤ n) × (n ≤ℤ pos most)) }
+{
     let value = number(digits, most)?;
     if value == 0 {
         None
