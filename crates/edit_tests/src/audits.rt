@@ -1,6 +1,6 @@
 // Worked drawings: a member that was moved, a usual file, and an arc in a cell; and what refuses a fit.
 
-ghost use Rattle.std.specs.Prelude.{IfOk};
+ghost use Rattle.std.specs.Prelude.{IfSome};
 ghost use Rattle.elem_index.specs.Design.{IsWhole};
 
 use dgn_audit::*;
@@ -11,41 +11,85 @@ use sample_elements::{
     ARC, CELL, CELL_OF_52, CELL_OF_81, FIRST_STRING, LOCKED_MEMBER, MEMBER, NODE, SECOND_STRING,
     SHAPE_HEADER, SHAPE_PART, SILENT, drawing,
 };
-use std::process::Abort;
-use std::test::Fail;
+use std::alloc::{AllocError, Global};
 
-// The design of the pieces behind a TCB, in which these bytes stand, at places counted from the TCB's end.
-fn design(
-    rt: &(impl AllocGlobal + Abort),
-    pieces: &[&[u8]],
-    other: &[(usize, u8)],
-) -> Result<Design, Fail>
-    ensures { IfOk result IsWhole }
-{
-    let mut bytes = drawing(rt.alloc(), 0x08, 0, pieces)?;
-    for (at, byte) in other {
+// Pieces behind a TCB, and bytes that stand in them, at places counted from the TCB's end.
+type Pieces = (&'static [&'static [u8]], &'static [(usize, u8)]);
+
+// The bytes of a drawing.
+fn bytes_of(alloc: Global, pieces: &Pieces) -> Result<Vec<u8>, AllocError> {
+    let (pieces, other) = pieces;
+    let mut bytes = drawing(alloc, 0x08, 0, pieces)?;
+    for (at, byte) in *other {
         let place = at.saturating_add(1536);
         if place < bytes.len() {
             bytes[place] = *byte;
         }
     }
-    assert!(rt; bytes.len() <= 67108864);
-    Ok(read_design(rt.alloc(), bytes)?)
+    Ok(bytes)
 }
 
-// A finding in the plane.
-fn finding(number: u32, stored: [i32; 4], hull: [i32; 4]) -> Finding {
-    Finding {
-        number,
-        axes: 2,
-        stored: Box3 {
-            lo: [stored[0], stored[1], 0],
-            hi: [stored[2], stored[3], 0],
-        },
-        hull: Box3 {
-            lo: [hull[0], hull[1], 0],
-            hi: [hull[2], hull[3], 0],
-        },
+// The design of a drawing.
+fn design(alloc: Global, pieces: &Pieces) -> Option<Design>
+    ensures { IfSome result IsWhole }
+{
+    match bytes_of(alloc, pieces) {
+        Ok(bytes) if bytes.len() <= 67108864 => read_design(alloc, bytes).ok(),
+        _ => None,
+    }
+}
+
+// What is told of a finding in the plane: its number, and the low and the high corner of the stored range and of the hull.
+type Told = (u32, [i32; 4], [i32; 4]);
+
+// A range in the plane.
+fn flat(corners: &[i32; 4]) -> Box3 {
+    Box3 {
+        lo: [corners[0], corners[1], 0],
+        hi: [corners[2], corners[3], 0],
+    }
+}
+
+// Whether a finding is what is told of it.
+fn is_told(found: &Finding, told: &Told) -> bool {
+    let (number, stored, hull) = told;
+    found.number == *number
+        && found.axes == 2
+        && found.stored == flat(stored)
+        && found.hull == flat(hull)
+}
+
+// Whether findings are what is told of them, and no others.
+fn are_told(found: &[Finding], told: &[Told]) -> bool {
+    for (one, other) in found.iter().zip(told) {
+        if !is_told(one, other) {
+            return false;
+        }
+    }
+    found.len() == told.len()
+}
+
+// Whether these are the findings of a drawing.
+fn finds(alloc: Global, d: &Design, told: &[Told]) -> bool
+    requires { IsWhole d.now }
+{
+    let Ok(t) = nest_design(alloc, d) else {
+        return false;
+    };
+    match audit(alloc, d, &t) {
+        Ok(found) => are_told(&found, told),
+        Err(_) => false,
+    }
+}
+
+// How many fields a fit of the tree that holds an element has.
+fn fit(alloc: Global, d: &Design, n: u32) -> Result<usize, FitFault>
+    requires { IsWhole d.now }
+{
+    let t = nest_design(alloc, d)?;
+    match plan_fit(alloc, d, &t, n) {
+        Ok(patches) => Ok(patches.len()),
+        Err(fault) => Err(fault),
     }
 }
 
@@ -63,79 +107,79 @@ const MOVED: [(usize, u8); 10] = [
     (142, 0x33),
 ];
 
-// The findings of a drawing are these, and a fit of the tree that holds element n has so many fields.
-fn is_audited(
-    rt: &(impl AllocGlobal + Abort),
-    d: &Design,
-    wanted: &[Finding],
-    n: u32,
-    fields: usize,
-) -> Result<(), Fail>
-    requires { IsWhole d.now }
-{
-    let t = nest_design(rt.alloc(), d)?;
-    let found = audit(rt.alloc(), d, &t)?;
-    assert!(rt; found.as_slice() == wanted);
-    let patches = plan_fit(rt.alloc(), d, &t, n);
-    assert!(rt; patches.is_ok());
-    if let Ok(patches) = patches {
-        assert!(rt; patches.len() == fields);
-    }
-    Ok(())
-}
-
-#[test]
-fn audited_and_fitted(rt: HostRuntime) -> Result<(), Fail> {
-    let moved = design(&rt, &[&CELL, &MEMBER], &MOVED)?;
-    let one = [finding(1, [0, 0, 101, 51], [1, 1, 101, 51])];
-    is_audited(&rt, &moved, &one, 2, 8)?;
-    let usual = design(
-        &rt,
+// A drawing, its findings, and how many fields a fit of the tree that holds an element has.
+const AUDITED: [(Pieces, &[Told], u32, usize); 3] = [
+    (
+        (&[&CELL, &MEMBER], &MOVED),
+        &[(1, [0, 0, 101, 51], [1, 1, 101, 51])],
+        2,
+        8,
+    ),
+    (
+        (
+            &[
+                &SILENT,
+                &SILENT,
+                &SILENT,
+                &NODE,
+                &FIRST_STRING,
+                &SECOND_STRING,
+                &SHAPE_HEADER,
+                &SHAPE_PART,
+            ],
+            &[],
+        ),
         &[
-            &SILENT,
-            &SILENT,
-            &SILENT,
-            &NODE,
-            &FIRST_STRING,
-            &SECOND_STRING,
-            &SHAPE_HEADER,
-            &SHAPE_PART,
+            (4, [0, 0, 0, 0], [0, -10, 0, 0]),
+            (7, [0, 0, 0, 0], [0, 0, 10, 10]),
         ],
-        &[],
-    )?;
-    let two = [
-        finding(4, [0, 0, 0, 0], [0, -10, 0, 0]),
-        finding(7, [0, 0, 0, 0], [0, 0, 10, 10]),
-    ];
-    is_audited(&rt, &usual, &two, 0, 0)?;
-    let arc = design(&rt, &[&CELL_OF_81, &MEMBER, &ARC], &[(162, 0xC8)])?;
-    let wide = [finding(1, [0, 0, 100, 50], [0, 0, 200, 50])];
-    is_audited(&rt, &arc, &wide, 3, 8)
+        0,
+        0,
+    ),
+    (
+        (&[&CELL_OF_81, &MEMBER, &ARC], &[(162, 0xC8)]),
+        &[(1, [0, 0, 100, 50], [0, 0, 200, 50])],
+        3,
+        8,
+    ),
+];
+
+// Whether a drawing has these findings, and a fit of the tree that holds an element so many fields.
+fn is_audited(alloc: Global, pieces: &Pieces, told: &[Told], n: u32, fields: usize) -> bool {
+    match design(alloc, pieces) {
+        Some(d) => finds(alloc, &d, told) && fit(alloc, &d, n) == Ok(fields),
+        None => false,
+    }
 }
 
-// A fit of the tree that holds element n is refused with this cause.
-fn is_refused(
-    rt: &(impl AllocGlobal + Abort),
-    d: &Design,
-    n: u32,
-    cause: FitCause,
-) -> Result<(), Fail>
-    requires { IsWhole d.now }
-{
-    let t = nest_design(rt.alloc(), d)?;
-    let fault = plan_fit(rt.alloc(), d, &t, n).err();
-    assert!(rt; fault == Some(FitFault::Refused(cause)));
-    Ok(())
-}
-
+// What is found in drawings, and what a fit writes.
 #[test]
-fn fits_that_are_refused(rt: HostRuntime) -> Result<(), Fail> {
-    let plain = design(&rt, &[&CELL, &MEMBER], &[])?;
-    is_refused(&rt, &plain, 99, FitCause::Unknown(99))?;
-    let loose = design(&rt, &[&CELL_OF_52, &MEMBER], &[])?;
-    is_refused(&rt, &loose, 1, FitCause::Broken(1))?;
-    let dead = design(&rt, &[&CELL, &MEMBER], &[(1, 0x82)])?;
-    is_refused(&rt, &dead, 2, FitCause::Deleted(1))?;
-    let locked = design(&rt, &[&CELL, &LOCKED_MEMBER], &[])?;
-    is_refused(&rt, &locked, 1, FitCause::Locked(2))
+fn audited_and_fitted(rt: HostRuntime) {
+    for (pieces, told, n, fields) in &AUDITED {
+        assert!(rt; is_audited(rt.alloc(), pieces, told, *n, *fields), "of {n}");
+    }
+}
+
+// A drawing, and why a fit of the tree that holds an element is refused.
+const REFUSED: [(Pieces, u32, FitCause); 4] = [
+    ((&[&CELL, &MEMBER], &[]), 99, FitCause::Unknown(99)),
+    ((&[&CELL_OF_52, &MEMBER], &[]), 1, FitCause::Broken(1)),
+    ((&[&CELL, &MEMBER], &[(1, 0x82)]), 2, FitCause::Deleted(1)),
+    ((&[&CELL, &LOCKED_MEMBER], &[]), 1, FitCause::Locked(2)),
+];
+
+// Whether a fit of the tree that holds an element is refused with this cause.
+fn is_refused(alloc: Global, pieces: &Pieces, n: u32, cause: FitCause) -> bool {
+    match design(alloc, pieces) {
+        Some(d) => fit(alloc, &d, n) == Err(FitFault::Refused(cause)),
+        None => false,
+    }
+}
+
+// Each cause refuses a fit.
+#[test]
+fn fits_that_are_refused(rt: HostRuntime) {
+    for (pieces, n, cause) in &REFUSED {
+        assert!(rt; is_refused(rt.alloc(), pieces, *n, *cause), "of {n}");
+    }
 }

@@ -1,8 +1,9 @@
 // Plans of edits on worked drawings.
 
-ghost use Rattle.std.specs.Prelude.{◌≡◌, ◌≤◌, [], ◌∷◌, length, IfOk};
+ghost use Rattle.std.specs.Prelude.{◌≡◌, ◌≤◌, [], ◌∷◌, length, IfOk, IfSome};
 ghost use Rattle.elem_index.specs.Design.{IsWhole};
 
+use crate::joined::are_joined;
 use crate::shifts::along;
 use dgn_drawing::{Edit, New, NewShape, Shift, SymbChange};
 use edit_ops::types::Plan;
@@ -13,27 +14,27 @@ use level_view::nest_design;
 use patch_bytes::{ByteList, Patch};
 use plane_geom::PointList;
 use sample_elements::{
-    CELL, FREED_COPY, LINE, LOCKED_MEMBER, MEMBER, NEW_CHAIN, NEW_LINE, SHARED_CELL, TEXT, drawing,
+    CELL, CELL_OF_52, FREED_COPY, LINE, LOCKED_MEMBER, MEMBER, NEW_CHAIN, NEW_LINE, SHARED_CELL,
+    TEXT, drawing,
 };
 use std::alloc::{AllocError, Global};
 use std::test::Fail;
 
 // A drawing of few bytes: a TCB of two or three axes, these elements, and no tail.
-fn opened(alloc: Global, axes: u8, elements: &[&[u8]]) -> Result<Design, Fail>
-    ensures whole { IfOk result IsWhole }
-    ensures few { IfOk result (λ d. length d.body.items ≤ 1700) }
-    ensures alone { IfOk result (λ d. length d.tail.items ≡ 0) }
+fn opened(alloc: Global, axes: u8, elements: &[&[u8]]) -> Option<Design>
+    ensures whole { IfSome result IsWhole }
+    ensures few { IfSome result (λ d. length d.body.items ≤ 1700) }
+    ensures alone { IfSome result (λ d. length d.tail.items ≡ 0) }
 {
     let mark = if axes == 3 { 0x40 } else { 0 };
-    let bytes = drawing(alloc, 0x08, mark, elements)?;
+    let bytes = drawing(alloc, 0x08, mark, elements).ok()?;
     if bytes.len() > 67108864 {
-        return Err(Fail::from("too long"));
+        return None;
     }
-    let design = read_design(alloc, bytes)?;
-    if design.body.len() > 1700 || !design.tail.is_empty() {
-        return Err(Fail::from("more bytes"));
+    match read_design(alloc, bytes) {
+        Ok(design) if design.body.len() <= 1700 && design.tail.is_empty() => Some(design),
+        _ => None,
     }
-    Ok(design)
 }
 
 // What an edit of a drawing of these elements comes to, where at most 67107164 bytes are pending.
@@ -43,12 +44,14 @@ fn planned(
     elements: &[&[u8]],
     edit: &Edit,
     pending: usize,
-) -> Result<Result<Plan, EditFault>, Fail>
+) -> Result<Plan, EditFault>
     requires { pending ≤ 67107164 }
 {
-    let design = opened(alloc, axes, elements)?;
+    let Some(design) = opened(alloc, axes, elements) else {
+        return Err(EditFault::Memory);
+    };
     let nesting = nest_design(alloc, &design)?;
-    Ok(plan(alloc, &design, &nesting, edit, pending))
+    plan(alloc, &design, &nesting, edit, pending)
 }
 
 // Whether patches put so many bytes at each of these places.
@@ -62,14 +65,11 @@ fn are_patches(patches: &[Patch], len: u8, wanted: &[(u32, [u8; 4])]) -> bool {
 }
 
 // Whether an edit of the cell and its member is planned as these patches, with nothing to append.
-fn is_planned(
-    alloc: Global,
-    edit: &Edit,
-    len: u8,
-    wanted: &[(u32, [u8; 4])],
-) -> Result<bool, Fail> {
-    let plan = planned(alloc, 2, &[&CELL, &MEMBER], edit, 0)??;
-    Ok(plan.append.is_empty() && are_patches(plan.patches.as_slice(), len, wanted))
+fn is_planned(alloc: Global, edit: Edit, len: u8, wanted: &[(u32, [u8; 4])]) -> bool {
+    match planned(alloc, 2, &[&CELL, &MEMBER], &edit, 0) {
+        Ok(plan) => plan.append.is_empty() && are_patches(plan.patches.as_slice(), len, wanted),
+        Err(_) => false,
+    }
 }
 
 // The fourteen fields of the cell and its member, moved by 5,7.
@@ -112,133 +112,162 @@ const LOOKS: [(u32, [u8; 4]); 2] = [(1570, [0x1C, 0x09, 0, 0]), (1662, [0x1C, 0x
 // The deleted bit of both.
 const MARKS: [(u32, [u8; 4]); 2] = [(1537, [0x82, 0, 0, 0]), (1629, [0x83, 0, 0, 0])];
 
+// A cell with its member is moved, or its member alone; it is given a look, and it is marked deleted.
 #[test]
-fn plans_of_a_cell(rt: HostRuntime) -> Result<(), Fail> {
+fn plans_of_a_cell(rt: HostRuntime) {
     let alloc = rt.alloc();
     let by = along(5, 7);
-    assert!(rt; is_planned(alloc, &Edit::Move { n: 1, by }, 4, &MOVED_CELL)?);
+    assert!(rt; is_planned(alloc, Edit::Move { n: 1, by }, 4, &MOVED_CELL));
     let by = along(1, 1);
-    assert!(rt; is_planned(alloc, &Edit::Move { n: 2, by }, 4, &MOVED_MEMBER)?);
+    assert!(rt; is_planned(alloc, Edit::Move { n: 2, by }, 4, &MOVED_MEMBER));
     let change = SymbChange {
         color: Some(9),
         weight: Some(3),
         style: Some(4),
     };
-    assert!(rt; is_planned(alloc, &Edit::Sym { n: 1, change }, 2, &LOOKS)?);
-    assert!(rt; is_planned(alloc, &Edit::Delete { n: 1 }, 1, &MARKS)?);
-    Ok(())
+    assert!(rt; is_planned(alloc, Edit::Sym { n: 1, change }, 2, &LOOKS));
+    assert!(rt; is_planned(alloc, Edit::Delete { n: 1 }, 1, &MARKS));
 }
 
-// Whether an edit of two elements is refused with this cause.
-fn is_refused(
+// Why an edit of two elements is refused, if it is, where at most 67107164 bytes are pending.
+fn refusal(
     alloc: Global,
     top: &[u8],
     member: &[u8],
-    edit: &Edit,
-    cause: Cause,
-) -> Result<bool, Fail> {
-    match planned(alloc, 2, &[top, member], edit, 0)? {
-        Err(EditFault::Refused(first)) => Ok(first == cause),
-        _ => Ok(false),
-    }
+    edit: Edit,
+    pending: usize,
+) -> Option<EditFault>
+    requires { pending ≤ 67107164 }
+{
+    planned(alloc, 2, &[top, member], &edit, pending).err()
+}
+
+// Whether an edit of two elements is refused with this cause.
+fn is_refused(alloc: Global, top: &[u8], member: &[u8], edit: Edit, cause: Cause) -> bool {
+    refusal(alloc, top, member, edit, 0) == Some(EditFault::Refused(cause))
 }
 
 // A header whose total no members have, a locked member, and a shared cell definition.
 #[test]
-fn refused_edits(rt: HostRuntime) -> Result<(), Fail> {
-    let mut loose = CELL;
-    loose[36] = 0x34;
+fn refused_edits(rt: HostRuntime) {
+    let alloc = rt.alloc();
     let by = Shift {
         axes: 3,
         by: [1, 1, 1],
     };
-    let rows = [
-        (CELL, MEMBER, Edit::Delete { n: 9 }, Cause::Unknown(9)),
-        (CELL, MEMBER, Edit::Delete { n: 0 }, Cause::Opaque(0)),
-        (CELL, MEMBER, Edit::Copy { n: 1, by }, Cause::Dimension),
-        (loose, MEMBER, Edit::Delete { n: 1 }, Cause::Broken(1)),
-        (loose, MEMBER, Edit::Delete { n: 2 }, Cause::Broken(2)),
-        (CELL, LOCKED_MEMBER, Edit::Delete { n: 1 }, Cause::Locked(2)),
-    ];
-    for (top, member, edit, cause) in &rows {
-        assert!(rt; is_refused(rt.alloc(), top, member, edit, *cause)?);
-    }
-    let edit = Edit::Move {
-        n: 2,
-        by: along(1, 1),
-    };
-    assert!(rt; is_refused(rt.alloc(), &SHARED_CELL, &MEMBER, &edit, Cause::Opaque(1))?);
-    Ok(())
+    let copy = Edit::Copy { n: 1, by };
+    assert!(rt;
+        is_refused(
+            alloc,
+            &CELL,
+            &MEMBER,
+            Edit::Delete { n: 9 },
+            Cause::Unknown(9)
+        )
+    );
+    assert!(rt;
+        is_refused(
+            alloc,
+            &CELL,
+            &MEMBER,
+            Edit::Delete { n: 0 },
+            Cause::Opaque(0)
+        )
+    );
+    assert!(rt; is_refused(alloc, &CELL, &MEMBER, copy, Cause::Dimension));
+    assert!(rt;
+        is_refused(
+            alloc,
+            &CELL_OF_52,
+            &MEMBER,
+            Edit::Delete { n: 1 },
+            Cause::Broken(1)
+        )
+    );
+    assert!(rt;
+        is_refused(
+            alloc,
+            &CELL_OF_52,
+            &MEMBER,
+            Edit::Delete { n: 2 },
+            Cause::Broken(2)
+        )
+    );
+    assert!(rt;
+        is_refused(
+            alloc,
+            &CELL,
+            &LOCKED_MEMBER,
+            Edit::Delete { n: 1 },
+            Cause::Locked(2)
+        )
+    );
+    let by = along(1, 1);
+    let shared = Edit::Move { n: 2, by };
+    assert!(rt; is_refused(alloc, &SHARED_CELL, &MEMBER, shared, Cause::Opaque(1)));
 }
 
-// What an edit of a drawing of these elements appends, where it writes nothing into it.
-fn appended(alloc: Global, axes: u8, elements: &[&[u8]], edit: &Edit) -> Result<ByteList, Fail> {
-    let plan = planned(alloc, axes, elements, edit, 0)??;
-    if !plan.patches.is_empty() {
-        return Err(Fail::from("patches"));
-    }
-    Ok(plan.append)
-}
-
-// Whether bytes are two parts, one behind the other.
-fn are_joined(bytes: &[u8], first: &[u8], second: &[u8]) -> bool {
-    match (bytes.get(..first.len()), bytes.get(first.len()..)) {
-        (Some(head), Some(rest)) => head == first && rest == second,
-        _ => false,
+// Whether an edit of a drawing of these elements appends these parts, and writes nothing into it.
+fn appends(alloc: Global, axes: u8, elements: &[&[u8]], edit: Edit, parts: &[&[u8]]) -> bool {
+    match planned(alloc, axes, elements, &edit, 0) {
+        Ok(plan) => plan.patches.is_empty() && are_joined(plan.append.as_slice(), parts),
+        Err(_) => false,
     }
 }
 
 // A copied member has no bit C, and stands where it was moved to; a copied cell is locked where it was.
 #[test]
-fn copies(rt: HostRuntime) -> Result<(), Fail> {
-    let alloc = rt.alloc();
-    let edit = Edit::Copy {
-        n: 2,
-        by: along(10, 10),
+fn copies(rt: HostRuntime) {
+    let by = along(10, 10);
+    let member = Edit::Copy { n: 2, by };
+    assert!(rt; appends(rt.alloc(), 2, &[&CELL, &MEMBER], member, &[&FREED_COPY]));
+    let by = along(0, 0);
+    let cell = Edit::Copy { n: 1, by };
+    let pieces: [&[u8]; 2] = [&CELL, &LOCKED_MEMBER];
+    assert!(rt; appends(rt.alloc(), 2, &pieces, cell, &pieces));
+}
+
+// Copies the line of a drawing, displaced, behind what is there.
+fn copies_line(alloc: Global, by: &Shift, copy: &mut ByteList) -> Result<(), EditFault> {
+    let Some(design) = opened(alloc, 2, &[&LINE]) else {
+        return Err(EditFault::Memory);
     };
-    let copy = appended(alloc, 2, &[&CELL, &MEMBER], &edit)?;
-    assert!(rt; copy.as_slice() == FREED_COPY.as_slice());
-    let edit = Edit::Copy {
-        n: 1,
-        by: along(0, 0),
-    };
-    let copy = appended(alloc, 2, &[&CELL, &LOCKED_MEMBER], &edit)?;
-    assert!(rt; are_joined(copy.as_slice(), &CELL, &LOCKED_MEMBER));
-    Ok(())
+    let nesting = nest_design(alloc, &design)?;
+    if design.count() <= 1 {
+        return Err(EditFault::Memory);
+    }
+    copy_tree(alloc, &design, &nesting, 1, by, copy)
 }
 
 // A tree is copied behind what is there, and one that would leave the plane isn't.
 #[test]
 fn copied_trees(rt: HostRuntime) -> Result<(), Fail> {
     let alloc = rt.alloc();
-    let design = opened(alloc, 2, &[&LINE])?;
-    let nesting = nest_design(alloc, &design)?;
-    assert!(rt; 1 < design.count());
     let mut copy = ByteList::new(alloc);
     copy.push(9)?;
-    let far = along(i32::MAX, 0);
-    let refused = copy_tree(alloc, &design, &nesting, 1, &far, &mut copy).err();
-    assert!(rt; refused == Some(EditFault::Refused(Cause::OffPlane(1))));
+    let off = Err(EditFault::Refused(Cause::OffPlane(1)));
+    assert!(rt; copies_line(alloc, &along(i32::MAX, 0), &mut copy) == off);
     assert!(rt; copy.len() == 1);
-    copy_tree(alloc, &design, &nesting, 1, &along(0, 0), &mut copy)?;
+    assert!(rt; copies_line(alloc, &along(0, 0), &mut copy) == Ok(()));
     assert!(rt; copy.as_slice().get(1..) == Some(LINE.as_slice()));
     Ok(())
 }
 
+// Why a copy of 52 bytes is refused, if it is, where at most 67107164 bytes are pending.
+fn refusal_of_copy(alloc: Global, pending: usize) -> Option<EditFault>
+    requires { pending ≤ 67107164 }
+{
+    let by = along(0, 0);
+    refusal(alloc, &CELL, &MEMBER, Edit::Copy { n: 2, by }, pending)
+}
+
 // A copy of 52 bytes just fits behind so many pending ones, and not behind one more.
 #[test]
-fn length_limits(rt: HostRuntime) -> Result<(), Fail> {
-    let alloc = rt.alloc();
+fn length_limits(rt: HostRuntime) {
     let free = 67108864 - 1680;
-    let edit = Edit::Copy {
-        n: 2,
-        by: along(0, 0),
-    };
-    let fits = planned(alloc, 2, &[&CELL, &MEMBER], &edit, free - 52)?;
-    assert!(rt; fits.is_ok());
-    let long = planned(alloc, 2, &[&CELL, &MEMBER], &edit, free - 51)?;
-    assert!(rt; long.err() == Some(EditFault::Refused(Cause::TooLong)));
-    Ok(())
+    assert!(rt; refusal_of_copy(rt.alloc(), free - 52) == None);
+    let long = EditFault::Refused(Cause::TooLong);
+    assert!(rt; refusal_of_copy(rt.alloc(), free - 51) == Some(long));
 }
 
 // A list of two points.
@@ -308,22 +337,28 @@ fn new_text(alloc: Global) -> Result<New, AllocError> {
 }
 
 // Whether this element, appended to a drawing without others, has these bytes.
-fn appends(alloc: Global, axes: u8, new: New, wanted: &[u8]) -> Result<bool, Fail> {
-    let bytes = appended(alloc, axes, &[], &Edit::Append(new))?;
-    Ok(bytes.as_slice() == wanted)
+fn is_appended(alloc: Global, axes: u8, new: Result<New, AllocError>, wanted: &[u8]) -> bool {
+    match new {
+        Ok(new) => appends(alloc, axes, &[], Edit::Append(new), &[wanted]),
+        Err(_) => false,
+    }
 }
 
-// What refuses this element, appended to a drawing without others.
-fn refused(alloc: Global, axes: u8, new: New) -> Result<Option<EditFault>, Fail> {
-    Ok(planned(alloc, axes, &[], &Edit::Append(new), 0)?.err())
+// Why this element isn't appended to a drawing of three axes.
+fn refusal_of_new(alloc: Global, new: Result<New, AllocError>) -> Option<EditFault> {
+    match new {
+        Ok(new) => planned(alloc, 3, &[], &Edit::Append(new), 0).err(),
+        Err(_) => None,
+    }
 }
 
+// A line, a text and a line string in space are appended; a line of two axes isn't appended in space.
 #[test]
-fn appended_elements(rt: HostRuntime) -> Result<(), Fail> {
+fn appended_elements(rt: HostRuntime) {
     let alloc = rt.alloc();
-    assert!(rt; appends(alloc, 2, new_line(alloc)?, &NEW_LINE)?);
-    assert!(rt; appends(alloc, 2, new_text(alloc)?, &TEXT)?);
-    assert!(rt; appends(alloc, 3, new_chain(alloc)?, &NEW_CHAIN)?);
-    assert!(rt; refused(alloc, 3, new_line(alloc)?)? == Some(EditFault::Refused(Cause::Dimension)));
-    Ok(())
+    assert!(rt; is_appended(alloc, 2, new_line(alloc), &NEW_LINE));
+    assert!(rt; is_appended(alloc, 2, new_text(alloc), &TEXT));
+    assert!(rt; is_appended(alloc, 3, new_chain(alloc), &NEW_CHAIN));
+    let dimension = EditFault::Refused(Cause::Dimension);
+    assert!(rt; refusal_of_new(alloc, new_line(alloc)) == Some(dimension));
 }

@@ -8,6 +8,8 @@ mod edits;
 #[cfg(test)]
 mod imports;
 #[cfg(test)]
+mod joined;
+#[cfg(test)]
 mod listings;
 #[cfg(test)]
 mod sessions;
