@@ -3,62 +3,86 @@
 ghost use Rattle.std.specs.Prelude.{IfOk};
 ghost use Rattle.elem_index.specs.Design.{IsWhole};
 
+use crate::told::{Body, Told, is_told};
 use dgn_drawing::Mask;
-use dgn_drawing::types::{Item, ItemBody};
-use elem_head::types::Symb;
-use elem_index::{Design, read_design};
+use dgn_drawing::types::Item;
+use elem_index::{Design, OpenFault, read_design};
 use level_view::*;
-use plane_geom::PointList;
-use range_code::Box3;
-use sample_elements::{CELL, MEMBER, SPLINE, blank, drawing, with_byte};
-use std::alloc::{AllocError, Global};
+use sample_elements::{CELL, CELL_OF_52, MEMBER, MEMBER_ON_2, SPLINE, drawing};
+use std::alloc::Global;
 use std::process::Abort;
-use std::test::Fail;
 
-// A point list of two points.
-fn path(alloc: Global, points: [[i32; 3]; 2]) -> Result<ItemBody, AllocError> {
-    let mut list = PointList::new(alloc);
-    for point in points {
-        list.push(point)?;
-    }
-    Ok(ItemBody::Path(list))
-}
+// A part of a B-spline, whose range is that of its header.
+const PART: [u8; 36] = [
+    0x81, 0x1A, 0x10, 0x00, 0x00, 0x80, 0x00, 0x00, 0x00, 0x80, 0x00, 0x00, 0x00, 0x80, 0x00, 0x00,
+    0x00, 0x80, 0x09, 0x00, 0x00, 0x80, 0x09, 0x00, 0x00, 0x80, 0x00, 0x00, 0x00, 0x00, 0x02, 0x00,
+    0x00, 0x00, 0x00, 0x00,
+];
 
-// An item of no colour, weight and style in the plane, with a range from 0,0 on.
-fn plain(head: (u32, u32, u8, u8), high: [i32; 3], body: ItemBody) -> Item {
-    let (number, depth, kind, level) = head;
-    Item {
-        number,
-        depth,
-        kind,
-        level,
-        symb: Symb {
-            color: 0,
-            weight: 0,
-            style: 0,
-        },
-        axes: 2,
-        range: Box3 {
-            lo: [0, 0, 0],
-            hi: high,
-        },
-        body,
-    }
-}
-
-// The line from 0,0 to 100,50 with that number, depth and level.
-fn line(alloc: Global, number: u32, depth: u32, level: u8) -> Result<Item, AllocError> {
-    let body = path(alloc, [[0, 0, 0], [100, 50, 0]])?;
-    Ok(plain((number, depth, 3, level), [100, 50, 0], body))
-}
+// The header of a shared cell definition with the same range.
+const SHARED: [u8; 36] = [
+    0x01, 0x22, 0x10, 0x00, 0x00, 0x80, 0x00, 0x00, 0x00, 0x80, 0x00, 0x00, 0x00, 0x80, 0x00, 0x00,
+    0x00, 0x80, 0x09, 0x00, 0x00, 0x80, 0x09, 0x00, 0x00, 0x80, 0x00, 0x00, 0x00, 0x00, 0x02, 0x00,
+    0x00, 0x00, 0x00, 0x00,
+];
 
 // The design of the pieces behind a TCB.
-fn design(rt: &(impl AllocGlobal + Abort), pieces: &[&[u8]]) -> Result<Design, Fail>
+fn design(alloc: Global, pieces: &[&[u8]]) -> Result<Design, OpenFault>
     ensures { IfOk result IsWhole }
 {
-    let bytes = drawing(rt.alloc(), 0x08, 0, pieces)?;
-    assert!(rt; bytes.len() <= 67108864);
-    Ok(read_design(rt.alloc(), bytes)?)
+    match drawing(alloc, 0x08, 0, pieces) {
+        Ok(bytes) if bytes.len() <= 67108864 => read_design(alloc, bytes),
+        _ => Err(OpenFault::Memory),
+    }
+}
+
+// Whether items are what is told of them, and no others.
+fn are_told(items: &[Item], told: &[Told]) -> bool {
+    for (item, one) in items.iter().zip(told) {
+        if !is_told(item, one) {
+            return false;
+        }
+    }
+    items.len() == told.len()
+}
+
+// Whether so much is shown of all.
+fn shows_all(alloc: Global, d: &Design, mask: u64, told: &[Told]) -> bool
+    requires { IsWhole d.now }
+{
+    let Ok(t) = nest_design(alloc, d) else {
+        return false;
+    };
+    match show(alloc, d, &t, Mask(mask)) {
+        Ok(items) => are_told(&items, told),
+        Err(_) => false,
+    }
+}
+
+// Whether so many items are counted of all.
+fn counts(alloc: Global, d: &Design, mask: u64, count: usize) -> bool
+    requires { IsWhole d.now }
+{
+    let Ok(t) = nest_design(alloc, d) else {
+        return false;
+    };
+    count_shown(alloc, d, &t, Mask(mask)) == Ok(count)
+}
+
+// Whether so much is shown of the tree of a root.
+fn shows_tree(alloc: Global, d: &Design, n: u32, mask: u64, told: &[Told]) -> bool
+    requires { IsWhole d.now }
+{
+    let Ok(t) = nest_design(alloc, d) else {
+        return false;
+    };
+    if t.parent(n) != Some(None) {
+        return false;
+    }
+    match tree_items(alloc, d, &t, n, Mask(mask)) {
+        Ok(items) => are_told(&items, told),
+        Err(_) => false,
+    }
 }
 
 // Which tree is looked at: all, or that of a root.
@@ -68,80 +92,124 @@ enum Asked {
     Tree(u32),
 }
 
-// What is shown of all or of one tree.
-fn answer(
-    rt: &(impl AllocGlobal + Abort),
-    d: &Design,
-    asked: Asked,
-    mask: u64,
-) -> Result<Vec<Item>, Fail>
-    requires { IsWhole d.now }
-{
-    let t = nest_design(rt.alloc(), d)?;
+// What stands behind a TCB, what is looked at, the levels that are shown, and the items.
+type Row = (&'static [&'static [u8]], Asked, u64, &'static [Told]);
+
+// Whether so much is shown.
+fn is_shown(alloc: Global, row: &Row) -> bool {
+    let (pieces, asked, mask, told) = row;
+    let Ok(d) = design(alloc, pieces) else {
+        return false;
+    };
     match asked {
-        Asked::Show => {
-            let items = show(rt.alloc(), d, &t, Mask(mask))?;
-            let count = count_shown(rt.alloc(), d, &t, Mask(mask))?;
-            assert!(rt; count == items.len());
-            Ok(items)
-        }
-        Asked::Tree(n) => {
-            assert!(rt; t.parent(n) == Some(None));
-            Ok(tree_items(rt.alloc(), d, &t, n, Mask(mask))?)
-        }
+        Asked::Show => { shows_all(alloc, &d, *mask, told) && counts(alloc, &d, *mask, told.len()) }
+        Asked::Tree(n) => shows_tree(alloc, &d, *n, *mask, told),
+    }
+}
+
+// Each row's items are shown.
+fn all_shown<R: Abort + Alloc<A = Global>>(rt: &R, rows: &[Row]) {
+    for row in rows {
+        assert!(rt; is_shown(rt.alloc(), row));
     }
 }
 
 const ALL: u64 = u64::MAX;
 
+// Levels 3 to 5 and 63.
+const REST: u64 = 0x8000_0000_0000_0038;
+
+// The range of the cell and its member.
+const RANGE: [[i32; 3]; 2] = [[0, 0, 0], [100, 50, 0]];
+
+// The line from 0,0 to 100,50.
+const LINE: Body = Body::Path(&[[0, 0, 0], [100, 50, 0]]);
+
+// The cell ABC with its member, which is on level 2.
+const BOTH: [Told; 2] = [
+    Told {
+        place: (1, 0),
+        kind: 2,
+        level: 1,
+        axes: 2,
+        range: RANGE,
+        body: Body::Cell([1683, 0]),
+    },
+    Told {
+        place: (2, 1),
+        kind: 3,
+        level: 2,
+        axes: 2,
+        range: RANGE,
+        body: LINE,
+    },
+];
+
+// A cell is shown by the level of its member.
 #[test]
-fn a_cell_by_the_level_of_its_member(rt: HostRuntime) -> Result<(), Fail> {
-    let alloc = rt.alloc();
-    let member = with_byte(MEMBER, 0, 0x82);
-    let d = design(&rt, &[&CELL, &member])?;
-    let cell = ItemBody::Cell {
-        name: [1683, 0],
-        origin: [0, 0, 0],
-    };
-    let mut both = Vec::new(alloc);
-    both.push(plain((1, 0, 2, 1), [100, 50, 0], cell))?;
-    both.push(line(alloc, 2, 1, 2)?)?;
-    let none = Vec::new(alloc);
-    // Levels 2, and 3 to 5 and 63.
-    let rest = 1 << 3 | 1 << 4 | 1 << 5 | 1 << 63;
-    assert!(rt; answer(&rt, &d, Asked::Show, 1 << 2)? == both);
-    assert!(rt; answer(&rt, &d, Asked::Tree(1), 1 << 2)? == both);
-    assert!(rt; answer(&rt, &d, Asked::Show, rest)? == none);
-    assert!(rt; answer(&rt, &d, Asked::Tree(1), rest)? == none);
-    Ok(())
+fn a_cell_by_the_level_of_its_member(rt: HostRuntime) {
+    const ROWS: [Row; 4] = [
+        (&[&CELL, &MEMBER_ON_2], Asked::Show, 1 << 2, &BOTH),
+        (&[&CELL, &MEMBER_ON_2], Asked::Tree(1), 1 << 2, &BOTH),
+        (&[&CELL, &MEMBER_ON_2], Asked::Show, REST, &[]),
+        (&[&CELL, &MEMBER_ON_2], Asked::Tree(1), REST, &[]),
+    ];
+    all_shown(&rt, &ROWS);
 }
 
+// The member of a cell whose total no members have.
+const ORPHAN: [Told; 1] = [Told {
+    place: (2, 0),
+    kind: 3,
+    level: 1,
+    axes: 2,
+    range: RANGE,
+    body: LINE,
+}];
+
+// Nothing is shown of a cell without members, and its orphan by itself.
 #[test]
-fn a_loose_cell_and_an_orphan(rt: HostRuntime) -> Result<(), Fail> {
-    let alloc = rt.alloc();
-    let cell = with_byte(CELL, 36, 52);
-    let d = design(&rt, &[&cell, &MEMBER])?;
-    let mut orphan = Vec::new(alloc);
-    orphan.push(line(alloc, 2, 0, 1)?)?;
-    let none = Vec::new(alloc);
-    assert!(rt; answer(&rt, &d, Asked::Show, ALL)? == orphan);
-    assert!(rt; answer(&rt, &d, Asked::Tree(1), ALL)? == none);
-    assert!(rt; answer(&rt, &d, Asked::Tree(2), ALL)? == orphan);
-    Ok(())
+fn a_loose_cell_and_an_orphan(rt: HostRuntime) {
+    const ROWS: [Row; 3] = [
+        (&[&CELL_OF_52, &MEMBER], Asked::Show, ALL, &ORPHAN),
+        (&[&CELL_OF_52, &MEMBER], Asked::Tree(1), ALL, &[]),
+        (&[&CELL_OF_52, &MEMBER], Asked::Tree(2), ALL, &ORPHAN),
+    ];
+    all_shown(&rt, &ROWS);
 }
 
+// The header of a B-spline.
+const HEADER: [Told; 1] = [Told {
+    place: (1, 0),
+    kind: 27,
+    level: 1,
+    axes: 2,
+    range: [[0, 0, 0], [9, 9, 0]],
+    body: Body::Boxed,
+}];
+
+// A B-spline is shown by its header, and a shared cell definition isn't shown.
 #[test]
-fn runs(rt: HostRuntime) -> Result<(), Fail> {
-    let alloc = rt.alloc();
-    let spline = SPLINE;
-    let part = blank(0x81, 26);
-    let shared = blank(0x01, 34);
-    let d = design(&rt, &[&spline, &part, &shared, &MEMBER])?;
-    let mut header = Vec::new(alloc);
-    header.push(plain((1, 0, 27, 1), [9, 9, 0], ItemBody::Boxed))?;
-    let none = Vec::new(alloc);
-    assert!(rt; answer(&rt, &d, Asked::Show, ALL)? == header);
-    assert!(rt; answer(&rt, &d, Asked::Tree(1), ALL)? == header);
-    assert!(rt; answer(&rt, &d, Asked::Tree(3), ALL)? == none);
-    Ok(())
+fn runs(rt: HostRuntime) {
+    const ROWS: [Row; 3] = [
+        (
+            &[&SPLINE, &PART, &SHARED, &MEMBER],
+            Asked::Show,
+            ALL,
+            &HEADER,
+        ),
+        (
+            &[&SPLINE, &PART, &SHARED, &MEMBER],
+            Asked::Tree(1),
+            ALL,
+            &HEADER,
+        ),
+        (
+            &[&SPLINE, &PART, &SHARED, &MEMBER],
+            Asked::Tree(3),
+            ALL,
+            &[],
+        ),
+    ];
+    all_shown(&rt, &ROWS);
 }

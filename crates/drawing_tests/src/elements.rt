@@ -4,18 +4,14 @@
 ghost use Rattle.std.specs.Prelude.{◌≡◌, ◌+◌, ◌≤◌, ◌↔◌, IsTrue, length};
 ghost use Rattle.elem_head.specs.Head.{size_of};
 
-use dgn_drawing::types::{Item, ItemBody};
+use crate::told::{Body, Told, is_body, is_told};
+use dgn_drawing::types::Item;
 use dgn_drawing::*;
 use elem_head::head;
-use elem_head::types::Symb;
-use patch_bytes::ByteList;
-use plane_geom::PointList;
-use range_code::Box3;
 use sample_elements::{
     CELL, CHAIN, DRAWN_ARC, LINE, NODE, REFERENCE, SHAPE_HEADER, SPACE_CHAIN, TEXT, with_word,
 };
 use std::alloc::{AllocError, Global};
-use std::test::Fail;
 
 // Whether the bytes are as many as their size word says.
 fn is_whole(b: &[u8]) -> bool
@@ -86,35 +82,49 @@ fn shown(alloc: Global, space: bool, b: &[u8]) -> Result<Option<Item>, AllocErro
     }
 }
 
-// A list of points.
-fn points(alloc: Global, all: &[[i32; 3]]) -> Result<PointList, AllocError> {
-    let mut list = PointList::new(alloc);
-    for point in all {
-        list.push(*point)?;
-    }
-    Ok(list)
-}
-
-// A list of bytes.
-fn bytes(alloc: Global, all: &[u8]) -> Result<ByteList, AllocError> {
-    let mut list = ByteList::new(alloc);
-    for byte in all {
-        list.push(*byte)?;
-    }
-    Ok(list)
-}
-
-// Whether the element `b` is shown in the plane with this body.
-fn is_shown(alloc: Global, b: &[u8], body: &ItemBody) -> Result<bool, AllocError> {
-    match shown(alloc, false, b)? {
-        Some(found) => Ok(found.body == *body),
-        None => Ok(false),
+// Whether an element is shown in the plane with this body.
+fn is_shown(alloc: Global, b: &[u8], body: &Body) -> bool {
+    match shown(alloc, false, b) {
+        Ok(Some(item)) => is_body(&item.body, body),
+        _ => false,
     }
 }
 
+// Whether an element is shown in space so.
+fn is_shown_in_space(alloc: Global, b: &[u8], told: &Told) -> bool {
+    match shown(alloc, true, b) {
+        Ok(Some(item)) => is_told(&item, told),
+        _ => false,
+    }
+}
+
+// Whether an element isn't shown in the plane.
+fn is_hidden(alloc: Global, b: &[u8]) -> bool {
+    matches!(shown(alloc, false, b), Ok(None))
+}
+
+// Elements, and the bodies that are shown of them.
+const BODIES: [(&[u8], Body); 5] = [
+    (&TEXT, Body::Text([5, 6, 0], b"Hi there")),
+    (&CELL, Body::Cell([1683, 0])),
+    (&NODE, Body::Node),
+    (&SHAPE_HEADER, Body::Group),
+    (&DRAWN_ARC, Body::Boxed),
+];
+
+// The line string in space, as element 7 at depth 1.
+const CHAIN_ITEM: Told = Told {
+    place: (7, 1),
+    kind: 4,
+    level: 1,
+    axes: 3,
+    range: [[1, 2, 3], [4, 5, 6]],
+    body: Body::Path(&[[1, 2, 3], [4, 5, 6]]),
+};
+
+// The row of a cell, and what is shown of elements by their bytes alone.
 #[test]
-fn rows_and_items(rt: HostRuntime) -> Result<(), Fail> {
-    let alloc = rt.alloc();
+fn rows_and_items(rt: HostRuntime) {
     let want = Row {
         size: 92,
         kind: 2,
@@ -122,37 +132,9 @@ fn rows_and_items(rt: HostRuntime) -> Result<(), Fail> {
         total: 53,
     };
     assert!(rt; row(&CELL) == Some(want));
-    let text = ItemBody::Text {
-        origin: [5, 6, 0],
-        chars: bytes(alloc, b"Hi there")?,
-    };
-    assert!(rt; is_shown(alloc, &TEXT, &text)?);
-    let cell = ItemBody::Cell {
-        name: [1683, 0],
-        origin: [0, 0, 0],
-    };
-    assert!(rt; is_shown(alloc, &CELL, &cell)?);
-    assert!(rt; is_shown(alloc, &NODE, &ItemBody::Node([0, 0, 0]))?);
-    assert!(rt; is_shown(alloc, &SHAPE_HEADER, &ItemBody::Group)?);
-    assert!(rt; is_shown(alloc, &DRAWN_ARC, &ItemBody::Boxed)?);
-    assert!(rt; shown(alloc, false, &REFERENCE)? == None);
-    let chain = Item {
-        number: 7,
-        depth: 1,
-        kind: 4,
-        level: 1,
-        symb: Symb {
-            color: 0,
-            weight: 0,
-            style: 0,
-        },
-        axes: 3,
-        range: Box3 {
-            lo: [1, 2, 3],
-            hi: [4, 5, 6],
-        },
-        body: ItemBody::Path(points(alloc, &[[1, 2, 3], [4, 5, 6]])?),
-    };
-    assert!(rt; shown(alloc, true, &SPACE_CHAIN)? == Some(chain));
-    Ok(())
+    for (b, body) in &BODIES {
+        assert!(rt; is_shown(rt.alloc(), b, body));
+    }
+    assert!(rt; is_hidden(rt.alloc(), &REFERENCE));
+    assert!(rt; is_shown_in_space(rt.alloc(), &SPACE_CHAIN, &CHAIN_ITEM));
 }

@@ -13,3 +13,5 @@ mod nesting;
 mod opening;
 #[cfg(test)]
 mod scripts;
+#[cfg(test)]
+mod told;

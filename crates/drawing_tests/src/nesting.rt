@@ -5,9 +5,9 @@ ghost use Rattle.std.specs.List.{AllByRecursion};
 ghost use Rattle.nest_tree.specs.Shapes.{IsRow};
 
 use dgn_drawing::Row;
+use nest_tree::types::Nest;
 use nest_tree::*;
-use std::process::Abort;
-use std::test::Fail;
+use std::alloc::Global;
 
 // A row by its size, type, bit C and total.
 fn row(size: u32, kind: u8, cbit: bool, total: u16) -> Row
@@ -28,25 +28,38 @@ fn row(size: u32, kind: u8, cbit: bool, total: u16) -> Row
 // of its span.
 type Place = (Knot, u32, Option<u32>, u32, Option<u32>);
 
-// Each element of the rows has its place, and behind the last one there is none.
-fn has_places(rt: &(impl AllocGlobal + Abort), rows: &[Row], places: &[Place]) -> Result<(), Fail>
+// Whether an element has this place.
+fn has_place(nested: &Nest, n: u32, place: &Place) -> bool {
+    let (knot, depth, parent, end, broken) = place;
+    nested.knot(n) == Some(*knot)
+        && nested.depth(n) == Some(*depth)
+        && nested.parent(n) == Some(*parent)
+        && nested.span(n) == Some((n, *end))
+        && nested.first_broken(n) == Some(*broken)
+}
+
+// Whether each element has its place, and behind the last one there is none.
+fn are_places(nested: &Nest, places: &[Place]) -> bool {
+    let mut n = 0u32;
+    for place in places {
+        if !has_place(nested, n, place) {
+            return false;
+        }
+        n = n.saturating_add(1);
+    }
+    nested.span(n) == None && nested.first_broken(n) == None
+}
+
+// Whether the elements of the rows have these places.
+fn has_places(alloc: Global, rows: &[Row], places: &[Place]) -> bool
     requires some { 0 < length rows.now }
     requires few { length rows.now < 4294967295 }
     requires each { AllByRecursion IsRow rows.now }
 {
-    let nested = nest(rt.alloc(), rows)?;
-    let mut n = 0u32;
-    for (knot, depth, parent, end, broken) in places {
-        assert!(rt; nested.knot(n) == Some(*knot), "knot {n}");
-        assert!(rt; nested.depth(n) == Some(*depth), "depth {n}");
-        assert!(rt; nested.parent(n) == Some(*parent), "parent {n}");
-        assert!(rt; nested.span(n) == Some((n, *end)), "span {n}");
-        assert!(rt; nested.first_broken(n) == Some(*broken), "first broken {n}");
-        n = n.saturating_add(1);
+    match nest(alloc, rows) {
+        Ok(nested) => are_places(&nested, places),
+        Err(_) => false,
     }
-    assert!(rt; nested.span(n) == None);
-    assert!(rt; nested.first_broken(n) == None);
-    Ok(())
 }
 
 // The first element.
@@ -56,68 +69,68 @@ fn tcb() -> Row
     row(1536, 9, false, 0)
 }
 
+const A_CELL_AND_ITS_MEMBER: [Place; 3] = [
+    (Knot::Leaf, 0, None, 1, None),
+    (Knot::Group, 0, None, 3, None),
+    (Knot::Leaf, 1, Some(1), 3, None),
+];
+
+// A cell holds its member.
 #[test]
-fn a_cell_and_its_member(rt: HostRuntime) -> Result<(), Fail> {
-    has_places(
-        &rt,
-        &[tcb(), row(92, 2, false, 53), row(52, 3, true, 0)],
-        &[
-            (Knot::Leaf, 0, None, 1, None),
-            (Knot::Group, 0, None, 3, None),
-            (Knot::Leaf, 1, Some(1), 3, None),
-        ],
-    )
+fn a_cell_and_its_member(rt: HostRuntime) {
+    let rows = [tcb(), row(92, 2, false, 53), row(52, 3, true, 0)];
+    assert!(rt; has_places(rt.alloc(), &rows, &A_CELL_AND_ITS_MEMBER));
 }
 
+const BROKEN_NESTING: [Place; 3] = [
+    (Knot::Leaf, 0, None, 1, None),
+    (Knot::Loose, 0, None, 2, Some(1)),
+    (Knot::Leaf, 0, None, 3, Some(2)),
+];
+
+// Where a total is too small, the header is loose and its member an orphan.
 #[test]
-fn broken_nesting(rt: HostRuntime) -> Result<(), Fail> {
-    has_places(
-        &rt,
-        &[tcb(), row(92, 2, false, 52), row(52, 3, true, 0)],
-        &[
-            (Knot::Leaf, 0, None, 1, None),
-            (Knot::Loose, 0, None, 2, Some(1)),
-            (Knot::Leaf, 0, None, 3, Some(2)),
-        ],
-    )
+fn broken_nesting(rt: HostRuntime) {
+    let rows = [tcb(), row(92, 2, false, 52), row(52, 3, true, 0)];
+    assert!(rt; has_places(rt.alloc(), &rows, &BROKEN_NESTING));
 }
 
+const NESTED_GROUPS: [Place; 4] = [
+    (Knot::Leaf, 0, None, 1, None),
+    (Knot::Group, 0, None, 4, None),
+    (Knot::Group, 1, Some(1), 4, None),
+    (Knot::Leaf, 2, Some(2), 4, None),
+];
+
+// A group in a group.
 #[test]
-fn nested_groups(rt: HostRuntime) -> Result<(), Fail> {
-    has_places(
-        &rt,
-        &[
-            tcb(),
-            row(92, 2, false, 112),
-            row(92, 2, true, 66),
-            row(78, 6, true, 0),
-        ],
-        &[
-            (Knot::Leaf, 0, None, 1, None),
-            (Knot::Group, 0, None, 4, None),
-            (Knot::Group, 1, Some(1), 4, None),
-            (Knot::Leaf, 2, Some(2), 4, None),
-        ],
-    )
+fn nested_groups(rt: HostRuntime) {
+    let rows = [
+        tcb(),
+        row(92, 2, false, 112),
+        row(92, 2, true, 66),
+        row(78, 6, true, 0),
+    ];
+    assert!(rt; has_places(rt.alloc(), &rows, &NESTED_GROUPS));
 }
 
+const RUNS: [Place; 5] = [
+    (Knot::Leaf, 0, None, 1, None),
+    (Knot::Run, 0, None, 3, None),
+    (Knot::Leaf, 1, Some(1), 3, None),
+    (Knot::Run, 0, None, 5, None),
+    (Knot::Leaf, 1, Some(3), 5, None),
+];
+
+// A run holds those behind it with bit C.
 #[test]
-fn runs(rt: HostRuntime) -> Result<(), Fail> {
-    has_places(
-        &rt,
-        &[
-            tcb(),
-            row(36, 27, false, 0),
-            row(36, 26, true, 0),
-            row(36, 34, false, 0),
-            row(52, 3, true, 0),
-        ],
-        &[
-            (Knot::Leaf, 0, None, 1, None),
-            (Knot::Run, 0, None, 3, None),
-            (Knot::Leaf, 1, Some(1), 3, None),
-            (Knot::Run, 0, None, 5, None),
-            (Knot::Leaf, 1, Some(3), 5, None),
-        ],
-    )
+fn runs(rt: HostRuntime) {
+    let rows = [
+        tcb(),
+        row(36, 27, false, 0),
+        row(36, 26, true, 0),
+        row(36, 34, false, 0),
+        row(52, 3, true, 0),
+    ];
+    assert!(rt; has_places(rt.alloc(), &rows, &RUNS));
 }

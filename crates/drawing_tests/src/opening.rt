@@ -1,5 +1,7 @@
 // The rows of files that open and of damaged ones, and the texts of the faults.
 
+ghost use Rattle.elem_index.specs.Design.{IsWhole};
+
 use dgn_drawing::Row;
 use elem_index::*;
 use sample_elements::{
@@ -8,243 +10,333 @@ use sample_elements::{
 };
 use std::alloc::{AllocError, Global};
 
-// A TCB whose first byte and byte 1214 are given, and two pieces and a tail behind it.
-fn file(
-    alloc: Global,
+// A file that is damaged: the first byte and byte 1214 of its TCB, the pieces behind it, the length that it is cut to, the
+// fault and its text.
+#[derive(Clone, Copy)]
+struct Damaged {
     first: u8,
     mark: u8,
-    one: &[u8],
-    two: &[u8],
-    tail: &[u8],
-) -> Result<Vec<u8>, AllocError> {
-    drawing(alloc, first, mark, &[one, two, tail])
+    pieces: &'static [&'static [u8]],
+    len: usize,
+    fault: OpenFault,
+    text: &'static str,
 }
 
-// What an element is that may not be there.
-fn piece(bytes: &[u8]) -> Option<&[u8]> {
-    if bytes.is_empty() { None } else { Some(bytes) }
+const DAMAGED: [Damaged; 13] = [
+    Damaged {
+        first: 0x08,
+        mark: 0,
+        pieces: &[],
+        len: 0,
+        fault: OpenFault::NotDesign,
+        text: "not-design at 0",
+    },
+    Damaged {
+        first: 0x08,
+        mark: 0,
+        pieces: &[],
+        len: 3,
+        fault: OpenFault::NotDesign,
+        text: "not-design at 0",
+    },
+    Damaged {
+        first: 0x09,
+        mark: 0,
+        pieces: &[&LINE],
+        len: 4000,
+        fault: OpenFault::NotDesign,
+        text: "not-design at 0",
+    },
+    Damaged {
+        first: 0x08,
+        mark: 0,
+        pieces: &[],
+        len: 1000,
+        fault: OpenFault::Cut { at: 0 },
+        text: "cut at 0",
+    },
+    Damaged {
+        first: 0xC8,
+        mark: 0,
+        pieces: &[],
+        len: 4,
+        fault: OpenFault::Cut { at: 0 },
+        text: "cut at 0",
+    },
+    Damaged {
+        first: 0x08,
+        mark: 0,
+        pieces: &[&LINE],
+        len: 1587,
+        fault: OpenFault::Cut { at: 1536 },
+        text: "cut at 1536",
+    },
+    Damaged {
+        first: 0x08,
+        mark: 0,
+        pieces: &[&LINE, &[0xFF]],
+        len: 4000,
+        fault: OpenFault::Cut { at: 1588 },
+        text: "cut at 1588",
+    },
+    Damaged {
+        first: 0x08,
+        mark: 0,
+        pieces: &[&LINE, &[0x01, 0x03, 0x00]],
+        len: 4000,
+        fault: OpenFault::Cut { at: 1588 },
+        text: "cut at 1588",
+    },
+    Damaged {
+        first: 0x08,
+        mark: 0,
+        pieces: &[&CHAIN_OF_THREE],
+        len: 4000,
+        fault: OpenFault::Short { at: 1536 },
+        text: "short at 1536",
+    },
+    Damaged {
+        first: 0x08,
+        mark: 0,
+        pieces: &[&LINE, &CHAIN_OF_THREE],
+        len: 4000,
+        fault: OpenFault::Short { at: 1588 },
+        text: "short at 1588",
+    },
+    Damaged {
+        first: 0x08,
+        mark: 0x40,
+        pieces: &[&SPACE_CHAIN_OF_THREE],
+        len: 4000,
+        fault: OpenFault::Short { at: 1536 },
+        text: "short at 1536",
+    },
+    Damaged {
+        first: 0x08,
+        mark: 0,
+        pieces: &[&LINE_WITH_ATTRIBUTES],
+        len: 4000,
+        fault: OpenFault::Attr { at: 1536 },
+        text: "attributes at 1536",
+    },
+    Damaged {
+        first: 0x08,
+        mark: 0,
+        pieces: &[&REFERENCE, &LINE_WITH_ATTRIBUTES],
+        len: 4000,
+        fault: OpenFault::Attr { at: 1546 },
+        text: "attributes at 1546",
+    },
+];
+
+// What keeps these bytes from being opened.
+fn fault_in(alloc: Global, bytes: Vec<u8>) -> Option<OpenFault> {
+    if bytes.len() > 67108864 {
+        return None;
+    }
+    read_design(alloc, bytes).err()
+}
+
+// What keeps a damaged file from being opened.
+fn fault_of(alloc: Global, file: &Damaged) -> Result<Option<OpenFault>, AllocError> {
+    let mut bytes = drawing(alloc, file.first, file.mark, file.pieces)?;
+    bytes.truncate(file.len);
+    Ok(fault_in(alloc, bytes))
+}
+
+// What is said of a fault.
+fn said(alloc: Global, fault: &OpenFault) -> Result<String, AllocError> {
+    format!(in alloc; "{fault}")
 }
 
 #[test]
 fn damaged_files(rt: HostRuntime) -> Result<(), AllocError> {
     let alloc = rt.alloc();
-    let nothing: [u8; 0] = [];
-    // The first byte, byte 1214, two pieces, the length that the file is cut to, the fault and its text.
-    let rows: [(u8, u8, &[u8], &[u8], usize, OpenFault, &str); 13] = [
-        (
-            0x08,
-            0,
-            &nothing,
-            &nothing,
-            0,
-            OpenFault::NotDesign,
-            "not-design at 0",
-        ),
-        (
-            0x08,
-            0,
-            &nothing,
-            &nothing,
-            3,
-            OpenFault::NotDesign,
-            "not-design at 0",
-        ),
-        (
-            0x09,
-            0,
-            &LINE,
-            &nothing,
-            4000,
-            OpenFault::NotDesign,
-            "not-design at 0",
-        ),
-        (
-            0x08,
-            0,
-            &nothing,
-            &nothing,
-            1000,
-            OpenFault::Cut { at: 0 },
-            "cut at 0",
-        ),
-        (
-            0xC8,
-            0,
-            &nothing,
-            &nothing,
-            4,
-            OpenFault::Cut { at: 0 },
-            "cut at 0",
-        ),
-        (
-            0x08,
-            0,
-            &LINE,
-            &nothing,
-            1587,
-            OpenFault::Cut { at: 1536 },
-            "cut at 1536",
-        ),
-        (
-            0x08,
-            0,
-            &LINE,
-            &[0xFF],
-            4000,
-            OpenFault::Cut { at: 1588 },
-            "cut at 1588",
-        ),
-        (
-            0x08,
-            0,
-            &LINE,
-            &[0x01, 0x03, 0x00],
-            4000,
-            OpenFault::Cut { at: 1588 },
-            "cut at 1588",
-        ),
-        (
-            0x08,
-            0,
-            &CHAIN_OF_THREE,
-            &nothing,
-            4000,
-            OpenFault::Short { at: 1536 },
-            "short at 1536",
-        ),
-        (
-            0x08,
-            0,
-            &LINE,
-            &CHAIN_OF_THREE,
-            4000,
-            OpenFault::Short { at: 1588 },
-            "short at 1588",
-        ),
-        (
-            0x08,
-            0x40,
-            &SPACE_CHAIN_OF_THREE,
-            &nothing,
-            4000,
-            OpenFault::Short { at: 1536 },
-            "short at 1536",
-        ),
-        (
-            0x08,
-            0,
-            &LINE_WITH_ATTRIBUTES,
-            &nothing,
-            4000,
-            OpenFault::Attr { at: 1536 },
-            "attributes at 1536",
-        ),
-        (
-            0x08,
-            0,
-            &REFERENCE,
-            &LINE_WITH_ATTRIBUTES,
-            4000,
-            OpenFault::Attr { at: 1546 },
-            "attributes at 1546",
-        ),
-    ];
-    for (first, mark, one, two, len, fault, text) in rows {
-        let mut bytes = file(alloc, first, mark, one, two, &nothing)?;
-        bytes.truncate(len);
-        assert!(rt; bytes.len() <= 67108864);
-        match read_design(alloc, bytes) {
-            Ok(_) => panic!(rt; "opened at {len}"),
-            Err(found) => {
-                assert!(rt; found == fault);
-                let said = format!(in alloc; "{found}")?;
-                assert!(rt; said.as_str() == text);
-            }
-        }
+    for file in &DAMAGED {
+        assert!(rt; fault_of(alloc, file)? == Some(file.fault), "{}", file.len);
+        assert!(rt; said(alloc, &file.fault)?.as_str() == file.text);
     }
     let library = Vec::from_slice(alloc, &[0x08, 0x05, 0x17, 0x00])?;
-    assert!(rt; read_design(alloc, library).err() == Some(OpenFault::NotDesign));
-    let said = format!(in alloc; "{}", OpenFault::Memory)?;
-    assert!(rt; said.as_str() == "no memory");
+    assert!(rt; fault_in(alloc, library) == Some(OpenFault::NotDesign));
+    assert!(rt; said(alloc, &OpenFault::Memory)?.as_str() == "no memory");
     Ok(())
+}
+
+// A file that opens: the first byte and byte 1214 of its TCB, the elements behind it, the tail, the dimension, how many
+// elements there are with the TCB, and where the last one begins.
+#[derive(Clone, Copy)]
+struct Sound {
+    first: u8,
+    mark: u8,
+    elements: &'static [&'static [u8]],
+    tail: &'static [u8],
+    dim: u8,
+    count: u32,
+    last: usize,
+}
+
+const SOUND: [Sound; 6] = [
+    Sound {
+        first: 0x08,
+        mark: 0,
+        elements: &[],
+        tail: &[],
+        dim: 2,
+        count: 1,
+        last: 0,
+    },
+    Sound {
+        first: 0x08,
+        mark: 0,
+        elements: &[&LINE],
+        tail: &[],
+        dim: 2,
+        count: 2,
+        last: 1536,
+    },
+    Sound {
+        first: 0xC8,
+        mark: 0,
+        elements: &[&LINE],
+        tail: &[0xFF, 0xFF],
+        dim: 2,
+        count: 2,
+        last: 1536,
+    },
+    Sound {
+        first: 0x08,
+        mark: 0,
+        elements: &[&REFERENCE, &LINE],
+        tail: &[0xFF, 0xFF, 0x00, 0x00, 0x00],
+        dim: 2,
+        count: 3,
+        last: 1546,
+    },
+    Sound {
+        first: 0x08,
+        mark: 0x40,
+        elements: &[&SPACE_CHAIN],
+        tail: &[0xFF, 0xFF, 0x08, 0x09],
+        dim: 3,
+        count: 2,
+        last: 1536,
+    },
+    Sound {
+        first: 0x08,
+        mark: 0xBF,
+        elements: &[&CHAIN_HEADER, &LINE],
+        tail: &[],
+        dim: 2,
+        count: 3,
+        last: 1576,
+    },
+];
+
+// A TCB whose first byte and byte 1214 are given, elements and a tail behind it.
+fn file(
+    alloc: Global,
+    first: u8,
+    mark: u8,
+    elements: &[&[u8]],
+    tail: &[u8],
+) -> Result<Vec<u8>, AllocError> {
+    let mut bytes = drawing(alloc, first, mark, elements)?;
+    bytes.extend_from_slice(tail)?;
+    Ok(bytes)
+}
+
+// Whether these are the elements behind the TCB, with none behind them.
+fn has_elements(design: &Design, elements: &[&[u8]]) -> bool
+    requires { IsWhole design.now }
+{
+    let mut n = 1u32;
+    for element in elements {
+        if design.element(n) != Some(*element) {
+            return false;
+        }
+        n = n.saturating_add(1);
+    }
+    design.element(n) == None && design.element(u32::MAX) == None
+}
+
+// Whether the first element begins at 0 and the last one there, and none behind it.
+fn has_ends(design: &Design, last: usize) -> bool
+    requires { IsWhole design.now }
+{
+    let count = design.count();
+    design.offset(0) == Some(0)
+        && design.offset(count.saturating_sub(1)) == Some(last)
+        && design.offset(count) == None
+}
+
+// Whether a file that opens is read as its row says.
+fn is_read(alloc: Global, row: &Sound) -> Result<bool, AllocError> {
+    let bytes = file(alloc, row.first, row.mark, row.elements, row.tail)?;
+    if bytes.len() > 67108864 {
+        return Ok(false);
+    }
+    match read_design(alloc, bytes) {
+        Ok(design) => Ok(
+            design.dim == row.dim
+                && design.tail.as_slice() == row.tail
+                && design.count() == row.count
+                && has_ends(&design, row.last)
+                && has_elements(&design, row.elements),
+        ),
+        Err(_) => Ok(false),
+    }
 }
 
 #[test]
 fn files_that_open(rt: HostRuntime) -> Result<(), AllocError> {
-    let alloc = rt.alloc();
-    let nothing: [u8; 0] = [];
-    // The first byte, byte 1214, two pieces, the tail, the dimension, the elements and the last offset.
-    let rows: [(u8, u8, &[u8], &[u8], &[u8], u8, u32, usize); 6] = [
-        (0x08, 0, &nothing, &nothing, &nothing, 2, 1, 0),
-        (0x08, 0, &LINE, &nothing, &nothing, 2, 2, 1536),
-        (0xC8, 0, &LINE, &nothing, &[0xFF, 0xFF], 2, 2, 1536),
-        (
-            0x08,
-            0,
-            &REFERENCE,
-            &LINE,
-            &[0xFF, 0xFF, 0x00, 0x00, 0x00],
-            2,
-            3,
-            1546,
-        ),
-        (
-            0x08,
-            0x40,
-            &SPACE_CHAIN,
-            &nothing,
-            &[0xFF, 0xFF, 0x08, 0x09],
-            3,
-            2,
-            1536,
-        ),
-        (0x08, 0xBF, &CHAIN_HEADER, &LINE, &nothing, 2, 3, 1576),
-    ];
-    for (first, mark, one, two, tail, dim, count, last) in rows {
-        let bytes = file(alloc, first, mark, one, two, tail)?;
-        assert!(rt; bytes.len() <= 67108864);
-        let design = match read_design(alloc, bytes) {
-            Ok(design) => design,
-            Err(fault) => panic!(rt; "{fault}"),
-        };
-        assert!(rt; design.dim == dim);
-        assert!(rt; design.tail.as_slice() == tail);
-        assert!(rt; design.count() == count);
-        assert!(rt; design.offset(0) == Some(0));
-        assert!(rt; design.offset(count - 1) == Some(last));
-        assert!(rt; design.offset(count) == None);
-        assert!(rt; design.element(1) == piece(one));
-        assert!(rt; design.element(2) == piece(two));
-        assert!(rt; design.element(u32::MAX) == None);
+    for row in &SOUND {
+        assert!(rt; is_read(rt.alloc(), row)?, "{}", row.last);
     }
     Ok(())
+}
+
+// The rows of a TCB with bit C, the header of a chain and a line.
+const ROWS: [Row; 3] = [
+    Row {
+        size: 1536,
+        kind: 9,
+        cbit: true,
+        total: 0,
+    },
+    Row {
+        size: 40,
+        kind: 12,
+        cbit: false,
+        total: 27,
+    },
+    Row {
+        size: 52,
+        kind: 3,
+        cbit: false,
+        total: 0,
+    },
+];
+
+// Whether a design has these rows, and as many of them as a block behind the first element.
+fn has_rows(alloc: Global, design: &Design, wanted: &[Row]) -> Result<bool, AllocError>
+    requires { IsWhole design.now }
+{
+    let rows = design.rows()?;
+    let mut block = Vec::new(alloc);
+    if 1 < design.count() {
+        design.row_block(1, &mut block)?;
+    }
+    Ok(rows.as_slice() == wanted && wanted.get(1..) == Some(block.as_slice()))
 }
 
 #[test]
 fn rows_of_a_file(rt: HostRuntime) -> Result<(), AllocError> {
     let alloc = rt.alloc();
-    let bytes = file(alloc, 0xC8, 0, &CHAIN_HEADER, &LINE, &[0xFF, 0xFF, 0x00])?;
+    let bytes = file(alloc, 0xC8, 0, &[&CHAIN_HEADER, &LINE], &[0xFF, 0xFF, 0x00])?;
     assert!(rt; bytes.len() <= 67108864);
-    let design = match read_design(alloc, bytes) {
-        Ok(design) => design,
+    match read_design(alloc, bytes) {
+        Ok(design) => assert!(rt; has_rows(alloc, &design, &ROWS)?),
         Err(fault) => panic!(rt; "{fault}"),
-    };
-    let rows = design.rows()?;
-    let want = [(1536, 9, true, 0), (40, 12, false, 27), (52, 3, false, 0)];
-    assert!(rt; rows.len() == want.len());
-    for (row, (size, kind, cbit, total)) in rows.iter().zip(want) {
-        let wanted = Row {
-            size,
-            kind,
-            cbit,
-            total,
-        };
-        assert!(rt; *row == wanted);
     }
-    let mut block = Vec::new(alloc);
-    if design.count() == 3 {
-        design.row_block(1, &mut block)?;
-    }
-    assert!(rt; block.as_slice() == &rows[1..]);
     Ok(())
 }

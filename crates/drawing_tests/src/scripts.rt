@@ -1,56 +1,40 @@
 // Scripts that are read, scripts that aren't, and the texts of the faults.
 
+use Told::{Corners, Fence, Import, Levels, Path, Plain, Text};
 use dgn_drawing::{Edit, FenceEdit, Mode, New, NewShape, Shift, SymbChange};
 use edit_script::*;
 use plane_geom::Pt;
 use std::alloc::{AllocError, Global};
+use std::process::Abort;
 use std::test::Fail;
 
-// The commands of a script, where it is read.
-fn commands_in(alloc: Global, script: &[u8]) -> Option<Vec<Command>> {
-    if script.len() > 1048576 {
-        return None;
-    }
-    read_script(alloc, script).ok()
+// What is told of a command.
+#[derive(Clone, Copy)]
+enum Told {
+    // One that names no list: its name, and its numbers in order. They begin with the element or the mode, which counts
+    // from 0. A displacement is its number of axes and three distances, and a look is three numbers, -1 where one isn't
+    // given. All behind the last is 0.
+    Plain(&'static str, [i64; 5]),
+    // It appends an element of this type with this pen along these points.
+    Path(u8, [u8; 5], &'static [[i32; 3]]),
+    // It appends a text of font 5 and justification 6 with so many axes, this origin, these multipliers and these
+    // characters.
+    Text(u8, [i32; 3], [i32; 2], &'static [u8]),
+    // It sets the fence to these corners.
+    Fence(&'static [Pt]),
+    // It sets the fence to so many corners.
+    Corners(usize),
+    // It sets this mask.
+    Levels(u64),
+    // It imports the file of this name with this displacement, or none.
+    Import(&'static [u8], Option<[i64; 5]>),
 }
 
-// The only command of a script, where it is read and has one.
-fn command_in(alloc: Global, script: &[u8]) -> Option<Command> {
-    let mut commands = commands_in(alloc, script)?;
-    if commands.len() == 1 {
-        commands.pop()
-    } else {
-        None
-    }
-}
+// A script, and what is told of its commands.
+type Row = (&'static [u8], &'static [Told]);
 
-// The number of the first bad line of a script, where it has one.
-fn bad_line(alloc: Global, script: &[u8]) -> Option<u32> {
-    if script.len() > 1048576 {
-        return None;
-    }
-    match read_script(alloc, script) {
-        Err(ScriptFault::Line { number }) => Some(number),
-        _ => None,
-    }
-}
-
-// A line: these bytes, and so many times a piece.
-fn line_of(alloc: Global, head: &[u8], piece: &[u8], count: u32) -> Result<Vec<u8>, AllocError> {
-    let mut line = head.to_vec(alloc)?;
-    for _ in 0..count {
-        line.extend_from_slice(piece)?;
-    }
-    Ok(line)
-}
-
-// A command that names no list: its name, and its numbers in order. They begin with the element or the mode, which
-// counts from 0. A displacement is its number of axes and three distances, and a look is three numbers, -1 where one
-// isn't given. All behind the last is 0.
-type Plain = (&'static str, [i64; 5]);
-
-// A command as its name and its numbers.
-fn plain(command: &Command) -> Plain {
+// A command that names no list, as its name and its numbers.
+fn plain(command: &Command) -> (&'static str, [i64; 5]) {
     match command {
         Command::Edit(edit) => plain_edit(edit),
         Command::Fenced(mode, edit) => plain_fenced(mode_number(*mode), edit),
@@ -69,7 +53,7 @@ fn plain(command: &Command) -> Plain {
 }
 
 // The same of an edit.
-fn plain_edit(edit: &Edit) -> Plain {
+fn plain_edit(edit: &Edit) -> (&'static str, [i64; 5]) {
     match edit {
         Edit::Move { n, by } => ("move", displaced(i64::from(*n), by)),
         Edit::Copy { n, by } => ("copy", displaced(i64::from(*n), by)),
@@ -80,7 +64,7 @@ fn plain_edit(edit: &Edit) -> Plain {
 }
 
 // The same of an edit by a fence in this mode.
-fn plain_fenced(mode: i64, edit: &FenceEdit) -> Plain {
+fn plain_fenced(mode: i64, edit: &FenceEdit) -> (&'static str, [i64; 5]) {
     match edit {
         FenceEdit::Move(by) => ("fmove", displaced(mode, by)),
         FenceEdit::Copy(by) => ("fcopy", displaced(mode, by)),
@@ -111,114 +95,251 @@ fn looking(first: i64, change: &SymbChange) -> [i64; 5] {
     ]
 }
 
-// Whether a script is read as these commands.
-fn reads_as(alloc: Global, script: &[u8], wanted: &[Plain]) -> bool {
-    let Some(commands) = commands_in(alloc, script) else {
-        return false;
-    };
-    for (command, (name, numbers)) in commands.iter().zip(wanted) {
-        let (its_name, its_numbers) = plain(command);
-        if its_name != *name || its_numbers != *numbers {
+// The level, the colour, the weight and the style of an element, and its number of axes.
+fn pen_of(new: &New) -> [u8; 5] {
+    let symb = new.symb;
+    [new.level, symb.color, symb.weight, symb.style, new.axes]
+}
+
+// The element that a command appends, where it appends one.
+fn new_of(command: &Command) -> Option<&New> {
+    match command {
+        Command::Edit(Edit::Append(new)) => Some(new),
+        _ => None,
+    }
+}
+
+// Whether an element is of this type and runs along these points.
+fn runs_along(shape: &NewShape, kind: u8, wanted: &[[i32; 3]]) -> bool {
+    match shape {
+        NewShape::Line(points) => kind == 3 && points.as_slice() == wanted,
+        NewShape::Chain(points) => kind == 4 && points.as_slice() == wanted,
+        NewShape::Shape(points) => kind == 6 && points.as_slice() == wanted,
+        NewShape::Text { .. } => false,
+    }
+}
+
+// Whether a command appends an element of this type with this pen along these points.
+fn is_path(command: &Command, kind: u8, pen: [u8; 5], wanted: &[[i32; 3]]) -> bool {
+    match new_of(command) {
+        Some(new) => pen_of(new) == pen && runs_along(&new.shape, kind, wanted),
+        None => false,
+    }
+}
+
+// Whether an element is a text of font 5 and justification 6 with this origin, these multipliers and these characters.
+fn has_text(shape: &NewShape, at: [i32; 3], multipliers: [i32; 2], wanted: &[u8]) -> bool {
+    match shape {
+        NewShape::Text {
+            font: 5,
+            just: 6,
+            length,
+            height,
+            origin,
+            chars,
+        } => *origin == at && [*length, *height] == multipliers && chars.as_slice() == wanted,
+        _ => false,
+    }
+}
+
+// Whether a command appends such a text with so many axes.
+fn is_text(
+    command: &Command,
+    axes: u8,
+    at: [i32; 3],
+    multipliers: [i32; 2],
+    wanted: &[u8],
+) -> bool {
+    match new_of(command) {
+        Some(new) => {
+            pen_of(new) == [9, 3, 2, 1, axes] && has_text(&new.shape, at, multipliers, wanted)
+        }
+        None => false,
+    }
+}
+
+// Whether a command sets the fence to these corners.
+fn is_fence(command: &Command, wanted: &[Pt]) -> bool {
+    match command {
+        Command::Fence(corners) => corners.as_slice() == wanted,
+        _ => false,
+    }
+}
+
+// Whether a command sets the fence to so many corners.
+fn has_corners(command: &Command, wanted: usize) -> bool {
+    match command {
+        Command::Fence(corners) => corners.len() == wanted,
+        _ => false,
+    }
+}
+
+// Whether a command is an import of this file with this displacement: its number of axes and the distances, or none.
+fn is_import(command: &Command, name: &[u8], wanted: Option<[i64; 5]>) -> bool {
+    match command {
+        Command::Import(word, None) => word.as_slice() == name && wanted.is_none(),
+        Command::Import(word, Some(by)) => {
+            word.as_slice() == name && wanted == Some(displaced(0, by))
+        }
+        _ => false,
+    }
+}
+
+// Whether a command sets this mask.
+fn is_mask(command: &Command, wanted: u64) -> bool {
+    match command {
+        Command::Levels(mask) => mask.0 == wanted,
+        _ => false,
+    }
+}
+
+// Whether a command is what is told of it.
+fn is_told(command: &Command, told: &Told) -> bool {
+    match told {
+        Plain(name, numbers) => {
+            let (its_name, its_numbers) = plain(command);
+            its_name == *name && its_numbers == *numbers
+        }
+        Path(kind, pen, points) => is_path(command, *kind, *pen, points),
+        Text(axes, at, multipliers, chars) => is_text(command, *axes, *at, *multipliers, chars),
+        Fence(corners) => is_fence(command, corners),
+        Corners(count) => has_corners(command, *count),
+        Levels(mask) => is_mask(command, *mask),
+        Import(name, by) => is_import(command, name, *by),
+    }
+}
+
+// Whether commands are what is told of them, and no others.
+fn are_told(commands: &[Command], told: &[Told]) -> bool {
+    for (command, one) in commands.iter().zip(told) {
+        if !is_told(command, one) {
             return false;
         }
     }
-    commands.len() == wanted.len()
+    commands.len() == told.len()
+}
+
+// Whether a script is read, and its commands are what is told of them.
+fn reads_as(alloc: Global, script: &[u8], told: &[Told]) -> bool {
+    if script.len() > 1048576 {
+        return false;
+    }
+    match read_script(alloc, script) {
+        Ok(commands) => are_told(&commands, told),
+        Err(_) => false,
+    }
+}
+
+// Each script is read as its row tells.
+fn all_read<R: Abort + Alloc<A = Global>>(rt: &R, rows: &[Row]) {
+    for (script, told) in rows {
+        assert!(rt; reads_as(rt.alloc(), script, told), "{}", script.len());
+    }
 }
 
 // Lines of blanks, comments, ends of lines; every command that names no list, with the least and the greatest numbers
 // of each place.
-const READ: [(&[u8], &[Plain]); 12] = [
+const READ: [Row; 12] = [
     (b"", &[]),
     (b"\r\n\n   \n# color 1 256\n   # \t\n#\r\n \r", &[]),
     (
         b"  color  1   3  \r\n\r\ncolor 1 4\r\n#\ncolor 9 1",
         &[
-            ("sym", [1, 3, -1, -1, 0]),
-            ("sym", [1, 4, -1, -1, 0]),
-            ("sym", [9, 1, -1, -1, 0]),
+            Plain("sym", [1, 3, -1, -1, 0]),
+            Plain("sym", [1, 4, -1, -1, 0]),
+            Plain("sym", [9, 1, -1, -1, 0]),
         ],
     ),
     (
         b"color 0 0\ncolor 4294967295 255\n",
         &[
-            ("sym", [0, 0, -1, -1, 0]),
-            ("sym", [4294967295, 255, -1, -1, 0]),
+            Plain("sym", [0, 0, -1, -1, 0]),
+            Plain("sym", [4294967295, 255, -1, -1, 0]),
         ],
     ),
     (
         b"sym 1 4 - -\nsym 2 - 31 7\nsym 1 1 2 3\nsym 3 - - -\r",
         &[
-            ("sym", [1, 4, -1, -1, 0]),
-            ("sym", [2, -1, 31, 7, 0]),
-            ("sym", [1, 1, 2, 3, 0]),
-            ("sym", [3, -1, -1, -1, 0]),
+            Plain("sym", [1, 4, -1, -1, 0]),
+            Plain("sym", [2, -1, 31, 7, 0]),
+            Plain("sym", [1, 1, 2, 3, 0]),
+            Plain("sym", [3, -1, -1, -1, 0]),
         ],
     ),
     (
         b"move 1 10 -5\n  move  1  0  0 0 \nmove 1 1 2 3\r\n",
         &[
-            ("move", [1, 2, 10, -5, 0]),
-            ("move", [1, 3, 0, 0, 0]),
-            ("move", [1, 3, 1, 2, 3]),
+            Plain("move", [1, 2, 10, -5, 0]),
+            Plain("move", [1, 3, 0, 0, 0]),
+            Plain("move", [1, 3, 1, 2, 3]),
         ],
     ),
     (
         b"move 1 4294967295 -4294967295",
-        &[("move", [1, 2, 4294967295, -4294967295, 0])],
+        &[Plain("move", [1, 2, 4294967295, -4294967295, 0])],
     ),
     (
         b"copy 1 10 -5\n copy 1 0 4294967295 -4294967295\r\n",
         &[
-            ("copy", [1, 2, 10, -5, 0]),
-            ("copy", [1, 3, 0, 4294967295, -4294967295]),
+            Plain("copy", [1, 2, 10, -5, 0]),
+            Plain("copy", [1, 3, 0, 4294967295, -4294967295]),
         ],
     ),
     (
         b"delete 1\n undo \ndelete 0\nnofence \n",
         &[
-            ("delete", [1, 0, 0, 0, 0]),
-            ("undo", [0; 5]),
-            ("delete", [0; 5]),
-            ("nofence", [0; 5]),
+            Plain("delete", [1, 0, 0, 0, 0]),
+            Plain("undo", [0; 5]),
+            Plain("delete", [0; 5]),
+            Plain("nofence", [0; 5]),
         ],
     ),
     (
         b"show\ntree 4294967295 \nelements\n refs \r\nlinks 7\naudit\nfit 3",
         &[
-            ("show", [0; 5]),
-            ("tree", [4294967295, 0, 0, 0, 0]),
-            ("elements", [0; 5]),
-            ("refs", [0; 5]),
-            ("links", [7, 0, 0, 0, 0]),
-            ("audit", [0; 5]),
-            ("fit", [3, 0, 0, 0, 0]),
+            Plain("show", [0; 5]),
+            Plain("tree", [4294967295, 0, 0, 0, 0]),
+            Plain("elements", [0; 5]),
+            Plain("refs", [0; 5]),
+            Plain("links", [7, 0, 0, 0, 0]),
+            Plain("audit", [0; 5]),
+            Plain("fit", [3, 0, 0, 0, 0]),
         ],
     ),
     (
         b"fmove overlap 1 0\n  fmove  inside 1  -2 3 \r\nfcopy void 0 4294967295",
         &[
-            ("fmove", [1, 2, 1, 0, 0]),
-            ("fmove", [0, 3, 1, -2, 3]),
-            ("fcopy", [2, 2, 0, 4294967295, 0]),
+            Plain("fmove", [1, 2, 1, 0, 0]),
+            Plain("fmove", [0, 3, 1, -2, 3]),
+            Plain("fcopy", [2, 2, 0, 4294967295, 0]),
         ],
     ),
     (
         b"fsym inside 5 - -\nfsym void - 31 7\nfdelete void\n select overlap ",
         &[
-            ("fsym", [0, 5, -1, -1, 0]),
-            ("fsym", [2, -1, 31, 7, 0]),
-            ("fdelete", [2, 0, 0, 0, 0]),
-            ("select", [1, 0, 0, 0, 0]),
+            Plain("fsym", [0, 5, -1, -1, 0]),
+            Plain("fsym", [2, -1, 31, 7, 0]),
+            Plain("fdelete", [2, 0, 0, 0, 0]),
+            Plain("select", [1, 0, 0, 0, 0]),
         ],
     ),
 ];
 
 #[test]
-fn scripts_that_are_read(rt: HostRuntime) -> Result<(), Fail> {
-    for (script, wanted) in READ {
-        assert!(rt; reads_as(rt.alloc(), script, wanted), "{}", script.len());
+fn scripts_that_are_read(rt: HostRuntime) {
+    all_read(&rt, &READ);
+}
+
+// The number of the first bad line of a script, or 0 where it is read.
+fn first_bad(alloc: Global, script: &[u8]) -> Option<u32> {
+    if script.len() > 1048576 {
+        return None;
     }
-    Ok(())
+    match read_script(alloc, script) {
+        Ok(_) => Some(0),
+        Err(ScriptFault::Line { number }) => Some(number),
+        Err(ScriptFault::Memory) => None,
+    }
 }
 
 // Scripts with the number of their first bad line.
@@ -336,154 +457,97 @@ const BAD: [&[u8]; 101] = [
     b"import a 1",
 ];
 
+// Each script has its first bad line there.
+fn all_bad<R: Abort + Alloc<A = Global>>(rt: &R, rows: &[(&[u8], u32)]) {
+    for (script, number) in rows {
+        assert!(rt; first_bad(rt.alloc(), script) == Some(*number));
+    }
+}
+
+// Each line is bad.
+fn each_bad<R: Abort + Alloc<A = Global>>(rt: &R, lines: &[&[u8]]) {
+    for line in lines {
+        assert!(rt; first_bad(rt.alloc(), line) == Some(1), "{}", line.len());
+    }
+}
+
+// A script isn't read where a line is bad, and the first such line is told.
 #[test]
-fn scripts_that_are_not_read(rt: HostRuntime) -> Result<(), Fail> {
-    for (script, number) in BAD_AT {
-        assert!(rt; bad_line(rt.alloc(), script) == Some(number));
-    }
-    for line in BAD {
-        assert!(rt; bad_line(rt.alloc(), line) == Some(1), "{}", line.len());
-    }
-    Ok(())
+fn scripts_that_are_not_read(rt: HostRuntime) {
+    all_bad(&rt, &BAD_AT);
+    each_bad(&rt, &BAD);
 }
 
-// The level, the colour, the weight and the style of an element, and its number of axes.
-fn pen_of(new: &New) -> [u8; 5] {
-    let symb = new.symb;
-    [new.level, symb.color, symb.weight, symb.style, new.axes]
-}
-
-// Whether a script is one command that appends an element of this type with this pen along these points.
-fn is_path(alloc: Global, script: &[u8], kind: u8, pen: [u8; 5], wanted: &[[i32; 3]]) -> bool {
-    let Some(Command::Edit(Edit::Append(new))) = command_in(alloc, script) else {
-        return false;
-    };
-    let (its, points) = match &new.shape {
-        NewShape::Line(points) => (3, points),
-        NewShape::Chain(points) => (4, points),
-        NewShape::Shape(points) => (6, points),
-        NewShape::Text { .. } => return false,
-    };
-    its == kind && pen_of(&new) == pen && points.as_slice() == wanted
-}
-
-// A script, and the type, the pen and the points of what it appends.
-const PATHS: [(&[u8], u8, [u8; 5], &[[i32; 3]]); 5] = [
+// What appends an element along points: its type, its pen and its points.
+const PATHS: [Row; 5] = [
     (
         b"line 0 0 0 0 0,0 1,2",
-        3,
-        [0, 0, 0, 0, 2],
-        &[[0, 0, 0], [1, 2, 0]],
+        &[Path(3, [0, 0, 0, 0, 2], &[[0, 0, 0], [1, 2, 0]])],
     ),
     (
         b"line 63 255 31 7 -2147483648,2147483647 -1,10\r\n",
-        3,
-        [63, 255, 31, 7, 2],
-        &[[-2147483648, 2147483647, 0], [-1, 10, 0]],
+        &[Path(
+            3,
+            [63, 255, 31, 7, 2],
+            &[[-2147483648, 2147483647, 0], [-1, 10, 0]],
+        )],
     ),
     (
         b"  line  9  3  2  1   1,2,3    4,5,-6  ",
-        3,
-        [9, 3, 2, 1, 3],
-        &[[1, 2, 3], [4, 5, -6]],
+        &[Path(3, [9, 3, 2, 1, 3], &[[1, 2, 3], [4, 5, -6]])],
     ),
     (
         b"string 9 3 2 1 1,2 3,4 5,6",
-        4,
-        [9, 3, 2, 1, 2],
-        &[[1, 2, 0], [3, 4, 0], [5, 6, 0]],
+        &[Path(4, [9, 3, 2, 1, 2], &[[1, 2, 0], [3, 4, 0], [5, 6, 0]])],
     ),
     (
         b"shape 9 3 2 1 0,0,1 9,0,1 9,9,1\n",
-        6,
-        [9, 3, 2, 1, 3],
-        &[[0, 0, 1], [9, 0, 1], [9, 9, 1]],
+        &[Path(6, [9, 3, 2, 1, 3], &[[0, 0, 1], [9, 0, 1], [9, 9, 1]])],
     ),
 ];
 
 #[test]
-fn paths_that_are_appended(rt: HostRuntime) -> Result<(), Fail> {
-    for (script, kind, pen, points) in PATHS {
-        assert!(rt;
-            is_path(rt.alloc(), script, kind, pen, points),
-            "{}",
-            script.len()
-        );
-    }
-    Ok(())
+fn paths_that_are_appended(rt: HostRuntime) {
+    all_read(&rt, &PATHS);
 }
 
-// Whether a script is one command that appends a text of font 5 and justification 6, with these multipliers, that stands
-// there and has these characters.
-fn is_text(
-    alloc: Global,
-    script: &[u8],
-    axes: u8,
-    at: [i32; 3],
-    multipliers: [i32; 2],
-    wanted: &[u8],
-) -> bool {
-    let Some(Command::Edit(Edit::Append(new))) = command_in(alloc, script) else {
-        return false;
-    };
-    let NewShape::Text {
-        font: 5,
-        just: 6,
-        length,
-        height,
-        origin,
-        chars,
-    } = &new.shape
-    else {
-        return false;
-    };
-    pen_of(&new) == [9, 3, 2, 1, axes]
-        && *origin == at
-        && [*length, *height] == multipliers
-        && chars.as_slice() == wanted
-}
-
-// A script, and the axes, the origin, the multipliers and the characters of the text that it appends.
-const TEXTS: [(&[u8], u8, [i32; 3], [i32; 2], &[u8]); 4] = [
+// What appends a text: its axes, its origin, its multipliers and its characters.
+const TEXTS: [Row; 4] = [
     (
         b"text 9 3 2 1 5 6 700 800 1,-2 A b  # c ",
-        2,
-        [1, -2, 0],
-        [700, 800],
-        b"A b  # c ",
+        &[Text(2, [1, -2, 0], [700, 800], b"A b  # c ")],
     ),
     (
         b"  text   9 3 2  1 5 6 2147483647 0  1,2,-3   x\r\n",
-        3,
-        [1, 2, -3],
-        [2147483647, 0],
-        b"  x",
+        &[Text(3, [1, 2, -3], [2147483647, 0], b"  x")],
     ),
-    (b"text 9 3 2 1 5 6 1 1 0,0  \n", 2, [0, 0, 0], [1, 1], b" "),
+    (
+        b"text 9 3 2 1 5 6 1 1 0,0  \n",
+        &[Text(2, [0, 0, 0], [1, 1], b" ")],
+    ),
     (
         b"text 9 3 2 1 5 6 1 1 0,0 \t\r\r\n",
-        2,
-        [0, 0, 0],
-        [1, 1],
-        b"\t\r",
+        &[Text(2, [0, 0, 0], [1, 1], b"\t\r")],
     ),
 ];
 
 #[test]
-fn texts_that_are_appended(rt: HostRuntime) -> Result<(), Fail> {
-    for (script, axes, at, multipliers, wanted) in TEXTS {
-        assert!(rt;
-            is_text(rt.alloc(), script, axes, at, multipliers, wanted),
-            "{}",
-            script.len()
-        );
+fn texts_that_are_appended(rt: HostRuntime) {
+    all_read(&rt, &TEXTS);
+}
+
+// A line: these bytes, and so many times a piece.
+fn line_of(alloc: Global, head: &[u8], piece: &[u8], count: usize) -> Result<Vec<u8>, AllocError> {
+    let mut line = head.to_vec(alloc)?;
+    for _ in 0..count {
+        line.extend_from_slice(piece)?;
     }
-    Ok(())
+    Ok(line)
 }
 
 // How a line begins, what follows, how often, and whether it is read: how many points and characters there may be, and how
 // long a name.
-const COUNTS: [(&[u8], &[u8], u32, bool); 14] = [
+const COUNTS: [(&[u8], &[u8], usize, bool); 14] = [
     (b"line 9 3 2 1", b" 1,2", 1, false),
     (b"line 9 3 2 1", b" 1,2", 3, false),
     (b"string 9 3 2 1", b" 1,2", 1, false),
@@ -502,30 +566,18 @@ const COUNTS: [(&[u8], &[u8], u32, bool); 14] = [
 
 #[test]
 fn how_many_points_and_characters(rt: HostRuntime) -> Result<(), Fail> {
-    for (head, piece, count, is_read) in COUNTS {
-        let line = line_of(rt.alloc(), head, piece, count)?;
-        assert!(rt;
-            commands_in(rt.alloc(), &line).is_some() == is_read,
-            "at {}",
-            count
-        );
+    for (head, piece, count, is_read) in &COUNTS {
+        let line = line_of(rt.alloc(), head, piece, *count)?;
+        let bad = if *is_read { 0 } else { 1 };
+        assert!(rt; first_bad(rt.alloc(), &line) == Some(bad), "at {count}");
     }
     Ok(())
 }
 
-// The corners of the fence that a script sets as its only command.
-fn corners_of(alloc: Global, script: &[u8]) -> Option<Vec<Pt>> {
-    match command_in(alloc, script)? {
-        Command::Fence(corners) => corners.as_slice().to_vec(alloc).ok(),
-        _ => None,
-    }
-}
-
-#[test]
-fn fences(rt: HostRuntime) -> Result<(), Fail> {
-    let alloc = rt.alloc();
-    let corners = corners_of(alloc, b"fence -10,2147483647 0,-2147483648\r\n").ok_or("no fence")?;
-    let wanted = [
+// A fence from one end of the design plane to the other.
+const FENCES: [Row; 1] = [(
+    b"fence -10,2147483647 0,-2147483648\r\n",
+    &[Fence(&[
         Pt {
             x: -10,
             y: 2147483647,
@@ -534,79 +586,60 @@ fn fences(rt: HostRuntime) -> Result<(), Fail> {
             x: 0,
             y: -2147483648,
         },
-    ];
-    assert!(rt; corners.as_slice() == wanted.as_slice());
+    ])],
+)];
+
+#[test]
+fn fences(rt: HostRuntime) -> Result<(), Fail> {
+    all_read(&rt, &FENCES);
     // how many corners a fence may have isn't asked here
     for count in [1, 300] {
-        let script = line_of(alloc, b"fence", b" 1,2", count)?;
-        let corners = corners_of(alloc, &script).ok_or("no fence")?;
-        assert!(rt; corners.len() == count as usize);
+        let script = line_of(rt.alloc(), b"fence", b" 1,2", count)?;
+        assert!(rt; reads_as(rt.alloc(), &script, &[Corners(count)]));
     }
     Ok(())
 }
 
-// A script that sets a mask, and the mask.
-const MASKS: [(&[u8], u64); 6] = [
-    (b"levels all", 0xFFFF_FFFF_FFFF_FFFF),
-    (b"levels none", 0),
-    (b"levels 0", 1),
-    (b"levels 3-5 63", 0x8000_0000_0000_0038),
-    (b"levels 0-63", 0xFFFF_FFFF_FFFF_FFFF),
-    (b" levels  7-7   1-2 2 ", 0x86),
-];
-
-// The mask that a script sets as its only command.
-fn mask_of(alloc: Global, script: &[u8]) -> Option<u64> {
-    match command_in(alloc, script)? {
-        Command::Levels(mask) => Some(mask.0),
-        _ => None,
-    }
-}
-
-#[test]
-fn masks(rt: HostRuntime) -> Result<(), Fail> {
-    for (script, wanted) in MASKS {
-        assert!(rt; mask_of(rt.alloc(), script) == Some(wanted));
-    }
-    Ok(())
-}
-
-// Whether a command is an import of this file with this displacement: its number of axes and the distances, or none.
-fn is_import(command: &Command, name: &[u8], wanted: Option<[i64; 5]>) -> bool {
-    match command {
-        Command::Import(word, None) => word.as_slice() == name && wanted.is_none(),
-        Command::Import(word, Some(by)) => {
-            word.as_slice() == name && wanted == Some(displaced(0, by))
-        }
-        _ => false,
-    }
-}
-
-// The lines of an import: its name and its displacement.
-const IMPORTS: [(&[u8], Option<[i64; 5]>); 4] = [
-    (b"lib", None),
-    (b"../!~", Some([0, 2, 1, -2, 0])),
-    (b"#", Some([0, 3, 1, 2, 3])),
-    (b"lib", None),
+// What sets a mask, and the mask.
+const MASKS: [Row; 6] = [
+    (b"levels all", &[Levels(0xFFFF_FFFF_FFFF_FFFF)]),
+    (b"levels none", &[Levels(0)]),
+    (b"levels 0", &[Levels(1)]),
+    (b"levels 3-5 63", &[Levels(0x8000_0000_0000_0038)]),
+    (b"levels 0-63", &[Levels(0xFFFF_FFFF_FFFF_FFFF)]),
+    (b" levels  7-7   1-2 2 ", &[Levels(0x86)]),
 ];
 
 #[test]
-fn imports_that_are_read(rt: HostRuntime) -> Result<(), Fail> {
-    let script = b"import lib\n import ../!~ 1 -2 \nimport # 1 2 3\nimport lib\n";
-    let commands = commands_in(rt.alloc(), script).ok_or("not read")?;
-    assert!(rt; commands.len() == 4);
-    for (command, (name, by)) in commands.iter().zip(IMPORTS) {
-        assert!(rt; is_import(command, name, by), "{}", name.len());
-    }
-    Ok(())
+fn masks(rt: HostRuntime) {
+    all_read(&rt, &MASKS);
+}
+
+// Four imports, of which the last is of the first one's file.
+const IMPORTS: [Row; 1] = [(
+    b"import lib\n import ../!~ 1 -2 \nimport # 1 2 3\nimport lib\n",
+    &[
+        Import(b"lib", None),
+        Import(b"../!~", Some([0, 2, 1, -2, 0])),
+        Import(b"#", Some([0, 3, 1, 2, 3])),
+        Import(b"lib", None),
+    ],
+)];
+
+#[test]
+fn imports_that_are_read(rt: HostRuntime) {
+    all_read(&rt, &IMPORTS);
+}
+
+// What is said of a fault.
+fn said(alloc: Global, fault: &ScriptFault) -> Result<String, AllocError> {
+    format!(in alloc; "{fault}")
 }
 
 #[test]
 fn texts_of_faults(rt: HostRuntime) -> Result<(), Fail> {
     let alloc = rt.alloc();
-    let line = ScriptFault::Line { number: 3 };
-    assert!(rt; format!(in alloc; "{line}")?.as_str() == "line 3");
-    let memory = ScriptFault::Memory;
-    assert!(rt; format!(in alloc; "{memory}")?.as_str() == "no memory");
+    assert!(rt; said(alloc, &ScriptFault::Line { number: 3 })?.as_str() == "line 3");
+    assert!(rt; said(alloc, &ScriptFault::Memory)?.as_str() == "no memory");
     Ok(())
 }
