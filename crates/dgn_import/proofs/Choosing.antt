@@ -38,9 +38,19 @@ module _ (es : List Element) (rows : List Row) (nesting : rows ≡ map row_of es
   pub all_found : (k : ℕ) (found : List ℕ) → length es ≤ k → StandsAt es rows test k found → found ≡ filter test (roots 0 (forest row_of es))
   all_found k found long at = sym (append-nil found) ∙ ap (λ (ns : List ℕ). found ++ filter test ns) (sym (from_end es k long)) ∙ at.all
 
+  stands_on : (k : ℕ) (found : List ℕ) → StandsAt es rows test k found → k < length es → GoesOn es (forest row_of es) 0 k
+  stands_on k found at known = root_goes_on es k known (ap parent_at (sym (mark-rows es rows k nesting)) ∙ at.root known)
+
+  -- a root that passes is the first of those that are left
+  pub first_passes : (k : ℕ) (found : List ℕ) → StandsAt es rows test k found → k < length es → test k ≡ true → (rest : List ℕ) × (left_from es test k ≡ k ∷ rest)
+  first_passes k found at known passes =
+      let on : GoesOn es (forest row_of es) 0 k = stands_on k found at known in
+      let rest : List ℕ = left_from es test on.mark.end in
+      (rest, ap (filter test) on.are ∙ cond-true (test k) (k ∷ rest) rest passes)
+
   module _ (k end : ℕ) (found : List ℕ) (at : StandsAt es rows test k found) (known : k < length es) (ends : Some end ≡ option_map (λ (m : Mark). m.end) (mark_of itself rows k)) where
     on : GoesOn es (forest row_of es) 0 k
-    on = root_goes_on es k known (ap parent_at (sym (mark-rows es rows k nesting)) ∙ at.root known)
+    on = stands_on k found at known
 
     end_is : end ≡ on.mark.end
     end_is = mark_told (λ (m : Mark). m.end) on.mark (mark_of row_of es k) end (ends ∙ ap (option_map (λ (m : Mark). m.end)) (mark-rows es rows k nesting)) on.marked

@@ -1,6 +1,6 @@
 -- What is gathered: its bytes are those of trees that can stand behind a drawing of the dimension.
-use Rattle.std.proofs.Common.{◌≡◌, ℕ, ◌==◌, List, length, true, false, Option, Some, None, refl, sym, ap, ◌∙◌, subst, inl, inr}
-use Rattle.std.specs.Prelude.{IfSome}
+use Rattle.std.proofs.Common.{◌≡◌, ℕ, ◌==◌, List, length, true, false, Option, Some, None, Result, Ok, Err, refl, sym, ap, ◌∙◌, subst, inl, inr}
+use Rattle.std.specs.Prelude.{IfOk, IfSome}
 use Rattle.std.proofs.lemmas.Bool.{cases_Bool, cond-true, cond-false, eqb-true, and_parts}
 use Rattle.dgn_drawing.specs.Values.{Displacement, IsShift}
 use Rattle.dgn_drawing.specs.Element.{Element}
@@ -10,6 +10,7 @@ use Rattle.dgn_drawing.specs.Nesting.{Forest, flat}
 use Rattle.dgn_drawing.specs.Opening.{Opens}
 use Rattle.dgn_drawing.proofs.Opening.{dimension_is}
 use Rattle.edit_ops.specs.declared.cause.Cause.{Cause}
+use Rattle.dgn_import.specs.declared.gathered.Gathered.{Gathered}
 use Rattle.dgn_import.specs.Gathering.{Trees, Dimension, fits, unless, gathered_in, taken, import_trees, cause_of_roots, AreTrees}
 use Rattle.dgn_import.specs.Laws.{NestApart, GatheredTreesNestApart}
 use Rattle.dgn_import.proofs.Taken.{taken_each}
@@ -50,17 +51,16 @@ nest_apart f dim own es t by b count opens known is = elim (cases_Bool (fits dim
 ]
 
 -- the trees of the roots that are taken, which nothing refuses, are what is gathered
-pub gathered_are : (dim own : ℕ) (es : List Element) (by : Option Displacement) (ns : List ℕ) (b : List ℕ) (count : ℕ) → fits dim own by ≡ true → ns ≡ taken es
-    → cause_of_roots own es by ns ≡ None → b ≡ spelling (flat (import_trees own es by ns)) → count ≡ length ns → gathered_in dim own es by ≡ Trees b count
-gathered_are dim own es by ns b count fit roots none text counted =
+gathered_are : (dim own : ℕ) (es : List Element) (by : Option Displacement) (b : List ℕ) (count : ℕ) → fits dim own by ≡ true
+    → cause_of_roots own es by (taken es) ≡ None → b ≡ spelling (flat (import_trees own es by (taken es))) → count ≡ length (taken es) → gathered_in dim own es by ≡ Trees b count
+gathered_are dim own es by b count fit none text counted =
     fitting dim own es by fit
-    ∙ ap (λ (l : List ℕ). unless (cause_of_roots own es by l) (import_trees own es by l) (length l)) (sym roots)
-    ∙ ap (λ (c : Option Cause). unless c (import_trees own es by ns) (length ns)) none
-    ∙ ap (λ (x : List ℕ). Trees x (length ns)) (sym text)
+    ∙ ap (λ (c : Option Cause). unless c (import_trees own es by (taken es)) (length (taken es))) none
+    ∙ ap (λ (x : List ℕ). Trees x (length (taken es))) (sym text)
     ∙ ap (Trees b) (sym counted)
 
 -- so the bytes are those of such trees
-pub are_trees : (f : List ℕ) (dim own : ℕ) (es : List Element) (t : List ℕ) (by : Option Displacement) (b : List ℕ) (count : ℕ)
+are_trees : (f : List ℕ) (dim own : ℕ) (es : List Element) (t : List ℕ) (by : Option Displacement) (b : List ℕ) (count : ℕ)
     → Opens f own es t → IfSome by IsShift → fits dim own by ≡ true → gathered_in dim own es by ≡ Trees b count → AreTrees dim b
 are_trees f dim own es t by b count opens known fit is =
     let n : NestApart dim es by b count = nest_apart f dim own es t by b count opens known is in
@@ -71,3 +71,17 @@ are_trees f dim own es t by b count opens known fit is =
       text = n.text;
       free = n.free;
     }
+
+module _ (dim own : ℕ) (es : List Element) (by : Option Displacement) (fit : fits dim own by ≡ true) where
+  -- what is gathered, where it is
+  pub gathered_ok : {E : Type 0} (r : Result Gathered E) → IfOk r (λ _. cause_of_roots own es by (taken es) ≡ None) → IfOk r (λ g. g.bytes ≡ spelling (flat (import_trees own es by (taken es))))
+      → IfOk r (λ g. g.trees ≡ length (taken es)) → IfOk r (λ g. gathered_in dim own es by ≡ Trees g.bytes g.trees)
+  gathered_ok (Ok g) none text counted = gathered_are dim own es by g.bytes g.trees fit none text counted
+  gathered_ok (Err e) none text counted = tt
+
+pub trees_ok : (f : List ℕ) (dim own : ℕ) (es : List Element) (t : List ℕ) (by : Option Displacement) → Opens f own es t → IfSome by IsShift → fits dim own by ≡ true
+    → {E : Type 0} (r : Result Gathered E) → IfOk r (λ _. cause_of_roots own es by (taken es) ≡ None) → IfOk r (λ g. g.bytes ≡ spelling (flat (import_trees own es by (taken es))))
+    → IfOk r (λ g. g.trees ≡ length (taken es)) → IfOk r (λ g. AreTrees dim g.bytes)
+trees_ok f dim own es t by opens known fit (Ok g) none text counted =
+    are_trees f dim own es t by g.bytes g.trees opens known fit (gathered_are dim own es by g.bytes g.trees fit none text counted)
+trees_ok f dim own es t by opens known fit (Err e) none text counted = tt

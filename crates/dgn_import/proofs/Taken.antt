@@ -145,7 +145,3 @@ taken_each es =
     all_both P Q (λ n. P n × Q n) (λ n root alone. (root, alone)) (roots 0 (forest row_of es)) (all_roots es) (roots_alone row_of es) in
     all_so (λ n. (P n × Q n) × (is_taken es n ≡ true)) (IsTakenRoot es) (λ n is. taken_root es n is.0.0 is.0.1 is.1) (taken es)
     (filter_each (λ n. P n × Q n) (is_taken es) (roots 0 (forest row_of es)) both)
-
--- so each is there
-pub taken_known : (es : List Element) → AllByRecursion (λ n. n < length es) (taken es)
-taken_known es = all_so (IsTakenRoot es) (λ n. n < length es) (λ n root. root.known) (taken es) (taken_each es)

@@ -1,24 +1,24 @@
-ghost use Rattle.std.specs.Prelude.{◌≡◌, ◌<◌, ◌≤◌, length, map, option_map, IfOk, IfErr, IfSome, Some, None};
-ghost use Rattle.std.specs.List.{AllByRecursion};
+ghost use Rattle.std.specs.Prelude.{◌≡◌, ◌<◌, ◌++◌, length, map, option_map, IfOk, IfErr, IfSome, OnOk, None};
 ghost use Rattle.dgn_drawing.specs.Rows.{row_of};
 ghost use Rattle.dgn_drawing.specs.Nesting.{flat};
 ghost use Rattle.dgn_drawing.specs.Spelling.{spelling};
 ghost use Rattle.elem_index.specs.Design.{elements, IsWhole};
 ghost use Rattle.dgn_drawing.specs.Values.{IsShift};
 ghost use Rattle.dgn_import.specs.Seconds.{value_of, IsSound};
-ghost use Rattle.dgn_import.specs.Gathering.{AreTrees, Trees, fits, gathered, gathered_in, import_trees, cause_of_roots};
+ghost use Rattle.dgn_import.specs.Gathering.{AreTrees, Trees, fits, gathered, gathered_in, taken, import_tree, import_trees, import_cause, cause_of_roots};
 ghost use Rattle.dgn_import.specs.Answers.{TellsFault, TellsCause};
 
 use crate::gathered::Gathered;
 use crate::import_fault::ImportFault;
 use crate::second::Second;
-use crate::taking::taken_roots;
+use crate::taking::{end_of, is_taken};
 use dgn_drawing::Shift;
 use edit_ops::{copy_tree, part_bytes};
 use elem_index::Design;
 use nest_tree::types::Nest;
 use patch_bytes::ByteList;
-use std::alloc::{AllocError, Global};
+use std::alloc::Global;
+use std::mem;
 
 /// Gathers the trees of a second drawing that can stand behind a drawing of dimension `dim`: those of its roots, in
 /// file order, that aren't element 0, aren't silent and aren't marked deleted, and whose trees hold no broken number.
@@ -69,17 +69,13 @@ fn gather_from(
     if !fits(dim, d.dim, by) {
         return Err(ImportFault::Dimension);
     }
-    let roots = taken_roots(alloc, d, t)?;
-    let bytes = bytes_of(alloc, d, t, &roots, by)?;
-    Ok(Gathered {
-        bytes,
-        trees: roots.len() as u32,
-    })
+    taken_trees(alloc, d, t, by)
 }
 
 // Whether a drawing of dimension `own` has that of the other, and the displacement is given for its axes.
 fn fits(dim: u8, own: u8, by: Option<&Shift>) -> bool
-    ensures { result ≡ fits dim own (option_map (λ b. b.now) by.entry) }
+    ensures fits { result ≡ fits dim own (option_map (λ b. b.now) by.entry) }
+    ensures kept { IfSome (option_map (λ b. b.now) by.entry) IsShift }
 {
     match by {
         None => own == dim,
@@ -87,77 +83,67 @@ fn fits(dim: u8, own: u8, by: Option<&Shift>) -> bool
     }
 }
 
-// The bytes of the trees of these roots, as they stand or displaced; or the first cause of the first of them whose
-// displacement is refused.
-fn bytes_of(
+// The trees that are taken, as they stand or displaced; or the first cause of the first of them whose displacement is
+// refused. Beside their bytes it takes no memory.
+fn taken_trees(
     alloc: Global,
     d: &Design,
     t: &Nest,
-    roots: &[u32],
     by: Option<&Shift>,
-) -> Result<ByteList, ImportFault>
+) -> Result<Gathered, ImportFault>
     requires whole { IsWhole d.now }
     requires nesting { t.now.rows ≡ map row_of (elements d.now) }
-    requires known { AllByRecursion (λ n. n < length (elements d.now)) roots.now }
     ensures bytes { IfOk result
-        (λ bytes. bytes ≡ spelling (flat (import_trees d.now.dim (elements d.now) (option_map (λ b. b.now) by.entry) roots.now))) }
+        (λ g. g.bytes ≡ spelling (flat (import_trees d.now.dim (elements d.now) (option_map (λ b. b.now) by.entry) (taken (elements d.now))))) }
+    ensures trees { IfOk result (λ g. g.trees ≡ length (taken (elements d.now))) }
     ensures accepted { IfOk result
-        (λ _. cause_of_roots d.now.dim (elements d.now) (option_map (λ b. b.now) by.entry) roots.now ≡ None) }
+        (λ _. cause_of_roots d.now.dim (elements d.now) (option_map (λ b. b.now) by.entry) (taken (elements d.now)) ≡ None) }
     ensures refused { IfErr result
-        (TellsCause (cause_of_roots d.now.dim (elements d.now) (option_map (λ b. b.now) by.entry) roots.now)) }
-    ensures kept { IfSome (option_map (λ b. b.now) by.entry) IsShift }
+        (TellsCause (cause_of_roots d.now.dim (elements d.now) (option_map (λ b. b.now) by.entry) (taken (elements d.now)))) }
 {
-    match by {
-        None => {
-            let bytes = plain_bytes(alloc, d, t, roots)?;
-            Ok(ByteList::from_vec(bytes))
-        }
-        Some(by) => moved_bytes(alloc, d, t, roots, by),
-    }
-}
-
-// The bytes of the trees of these roots, as they stand.
-fn plain_bytes(alloc: Global, d: &Design, t: &Nest, roots: &[u32]) -> Result<Vec<u8>, AllocError>
-    requires whole { IsWhole d.now }
-    requires nesting { t.now.rows ≡ map row_of (elements d.now) }
-    requires known { AllByRecursion (λ n. n < length (elements d.now)) roots.now }
-    ensures { IfOk result
-        (λ bytes. bytes.items ≡ spelling (flat (import_trees d.now.dim (elements d.now) None roots.now))) }
-{
-    let mut bytes = Vec::new(alloc);
-    bytes.reserve(d.body.len())?;
-    'roots: for n in roots {
-        bytes.extend_from_slice(part_bytes(d, t, *n))?;
-    }
-    Ok(bytes)
-}
-
-// The bytes of the trees of these roots, displaced; or the first cause of the first of them whose displacement is
-// refused.
-fn moved_bytes(
-    alloc: Global,
-    d: &Design,
-    t: &Nest,
-    roots: &[u32],
-    by: &Shift,
-) -> Result<ByteList, ImportFault>
-    requires whole { IsWhole d.now }
-    requires nesting { t.now.rows ≡ map row_of (elements d.now) }
-    requires known { AllByRecursion (λ n. n < length (elements d.now)) roots.now }
-    ensures moved { IfOk result
-        (λ bytes. bytes ≡ spelling (flat (import_trees d.now.dim (elements d.now) (Some by.now) roots.now))) }
-    ensures accepted { IfOk result
-        (λ _. cause_of_roots d.now.dim (elements d.now) (Some by.now) roots.now ≡ None) }
-    ensures refused { IfErr result
-        (TellsCause (cause_of_roots d.now.dim (elements d.now) (Some by.now) roots.now)) }
-    ensures kept { IsShift by.now }
-{
-    let _axes = by.axes;
     let mut room = Vec::new(alloc);
     room.reserve(d.body.len())?;
     let mut bytes = ByteList::from_vec(room);
-    'roots: for n in roots {
-        copy_tree(alloc, d, t, *n, by, &mut bytes)?;
+    let mut trees = 0;
+    let count = d.count();
+    let mut root = 0;
+    'roots: while root < count {
+        if is_taken(d, t, root) {
+            push_tree(alloc, d, t, root, by, &mut bytes)?;
+            trees += 1;
+        }
+        root = end_of(t, root);
     }
-    Ok(bytes)
+    Ok(Gathered { bytes, trees })
+}
+
+// Adds the bytes of the tree of root n, as it stands or displaced, behind the others; or the first cause for which its
+// displacement is refused.
+fn push_tree(
+    alloc: Global,
+    d: &Design,
+    t: &Nest,
+    n: u32,
+    by: Option<&Shift>,
+    out: &mut ByteList,
+) -> Result<(), ImportFault>
+    requires whole { IsWhole d.now }
+    requires nesting { t.now.rows ≡ map row_of (elements d.now) }
+    requires known { n < length (elements d.now) }
+    ensures pushed { OnOk result
+        (out.new ≡ out.old ++ spelling (flat (import_tree d.now.dim (elements d.now) (option_map (λ b. b.now) by.entry) n))) }
+    ensures accepted { OnOk result
+        (import_cause d.now.dim (elements d.now) (option_map (λ b. b.now) by.entry) n ≡ None) }
+    ensures refused { IfErr result
+        (TellsCause (import_cause d.now.dim (elements d.now) (option_map (λ b. b.now) by.entry) n)) }
+{
+    match by {
+        None => {
+            let mut bytes = mem::replace(out, ByteList::new(alloc)).into_vec();
+            bytes.extend_from_slice(part_bytes(d, t, n))?;
+            *out = ByteList::from_vec(bytes);
+        }
+        Some(by) => copy_tree(alloc, d, t, n, by, out)?,
+    }
+    Ok(())
 }

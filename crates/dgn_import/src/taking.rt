@@ -1,38 +1,16 @@
 // Which trees of a second drawing are taken.
 
-ghost use Rattle.std.specs.Prelude.{◌≡◌, ◌<◌, length, map, option_map, slice_get, Some, IfOk};
-ghost use Rattle.std.specs.List.{AllByRecursion};
+ghost use Rattle.std.specs.Prelude.{◌≡◌, ◌<◌, length, map, option_map, slice_get, Some};
 ghost use Rattle.dgn_drawing.specs.Rows.{row_of};
 ghost use Rattle.dgn_drawing.specs.Nesting.{itself};
 ghost use Rattle.dgn_drawing.specs.Numbering.{mark_of, first_broken_of};
 ghost use Rattle.elem_index.specs.Design.{elements, IsWhole};
-ghost use Rattle.dgn_import.specs.Gathering.{is_drawn, is_unbroken, is_taken, taken};
+ghost use Rattle.dgn_import.specs.Gathering.{is_drawn, is_unbroken, is_taken};
 
 use dgn_layout::is_silent;
 use elem_head::head;
 use elem_index::Design;
 use nest_tree::types::Nest;
-use std::alloc::{AllocError, Global};
-
-// The numbers of the roots whose trees are taken, in file order.
-pub(crate) fn taken_roots(alloc: Global, d: &Design, t: &Nest) -> Result<Vec<u32>, AllocError>
-    requires whole { IsWhole d.now }
-    requires nesting { t.now.rows ≡ map row_of (elements d.now) }
-    ensures roots { IfOk result (λ found. found.items ≡ taken (elements d.now)) }
-    ensures known { IfOk result (λ found. AllByRecursion (λ n. n < length (elements d.now)) found.items) }
-    ensures few { IfOk result (λ found. length found.items < 4294967296) }
-{
-    let mut found = Vec::new(alloc);
-    let count = d.count();
-    let mut root = 0;
-    'roots: while root < count {
-        if is_taken(d, t, root) {
-            found.push(root)?;
-        }
-        root = end_of(t, root);
-    }
-    Ok(found)
-}
 
 // The number behind the last element of the tree of a root.
 pub(crate) fn end_of(t: &Nest, root: u32) -> u32
@@ -46,7 +24,7 @@ pub(crate) fn end_of(t: &Nest, root: u32) -> u32
 }
 
 // Whether the tree of root n is taken.
-fn is_taken(d: &Design, t: &Nest, n: u32) -> bool
+pub(crate) fn is_taken(d: &Design, t: &Nest, n: u32) -> bool
     requires whole { IsWhole d.now }
     requires nesting { t.now.rows ≡ map row_of (elements d.now) }
     ensures { result ≡ is_taken (elements d.now) n }

@@ -6,11 +6,10 @@ use Rattle.std.proofs.lemmas.List.{append-nil, length-drop}
 use Rattle.dgn_drawing.specs.declared.row.Row.{Row}
 use Rattle.dgn_drawing.specs.Element.{Element}
 use Rattle.dgn_drawing.specs.Spelling.{spell, spelling}
-use Rattle.dgn_drawing.specs.WellFormed.{IsDimension, IsWellFormed}
 use Rattle.dgn_drawing.specs.Rows.{row_of}
 use Rattle.dgn_drawing.specs.Nesting.{BeginsFree, itself}
 use Rattle.nest_tree.specs.Shapes.{IsRow}
-use Rattle.nest_tree.proofs.Elements.{element_row}
+use Rattle.nest_tree.proofs.Nestable.{each_row}
 use Rattle.dgn_session.specs.Carried.{Spells, IsSpelling, IsBlock, IsBehind, Grows}
 use Rattle.dgn_session.proofs.Spelled.{four}
 
@@ -27,11 +26,6 @@ pub record HasFollowed (b rest : List ℕ) (old new : List Row) (count : ℕ) : 
   pub behind : IsBehind old new
   pub many : length new ≡ length old + count
   pub few : count + length rest ≤ length b
-
--- rows of elements may be nested
-each_row : (dim : ℕ) → IsDimension dim → (es : List Element) → AllByRecursion (IsWellFormed dim) es → AllByRecursion IsRow (map row_of es)
-each_row dim axes [] good = tt
-each_row dim axes (e ∷ es) good = ((element_row dim e axes good.0).is_row, each_row dim axes es good.1)
 
 each_front : (xs ys : List Row) → AllByRecursion IsRow (xs ++ ys) → AllByRecursion IsRow xs
 each_front [] ys each = tt

@@ -21,11 +21,10 @@ use Rattle.elem_index.proofs.KindBytes.{kind_bytes-front}
 use Rattle.elem_index.proofs.Places.{length-kept}
 use Rattle.nest_tree.specs.Nested.{Nested}
 use Rattle.dgn_session.specs.Kept.{rows_of, OpensAt, IsUnder, Leads, AreKept, IsKept}
-use Rattle.dgn_session.specs.Carried.{IsSpelling, IsBehind, Grows, HasRoom, IsFollowed, IsChange, IsSoundPlan}
+use Rattle.dgn_session.specs.Carried.{IsSpelling, HasRoom, IsFollowed, IsChange, IsSoundPlan}
 use Rattle.edit_ops.specs.declared.types.plan.Plan.{Plan}
 use Rattle.dgn_session.proofs.Rising.{olds_rise}
 use Rattle.dgn_session.proofs.Leading.{may_commit, leads_back}
-use Rattle.dgn_session.proofs.Planned.{free_rows}
 
 -- vectors that are the same have the same items
 pub same_items : {X Z : Type 0} {v w : Vec X Z} → v ≡ w → v.items ≡ w.items
@@ -119,39 +118,12 @@ module _ (d : Design) (t : Nested) (l : LogState) (kept : IsKept d t l) (ps : Li
             (kept_more d.dim d.tail.items d.body.items ps append rows change l.entries kept.back);
       }
 
--- what is kept stays kept where room is made
-pub kept_with_room : (d : Design) (t : Nested) (l : LogState) → IsKept d t l → (e : Design) (m : LogState) → IsWhole e → e.dim ≡ d.dim → e.tail.items ≡ d.tail.items → e.body.items ≡ d.body.items → m.entries ≡ l.entries → IsKept e t m
-kept_with_room d t l kept e m whole axes tail body entries = record {
-  whole = whole;
-  nesting = kept.nesting ∙ sym (ap (λ (n : ℕ). rows_of n e.body.items) axes ∙ ap (rows_of d.dim) body);
-  back = kept_same d.dim d.tail.items d.body.items e.dim e.tail.items e.body.items (reverse l.entries) (reverse m.entries) axes tail body (ap (reverse {A = Entry}) entries) kept.back;
-}
-
--- and where the nesting is that of the same rows
-pub kept_shrunk : (d : Design) (t u : Nested) (l : LogState) → IsKept d t l → u.rows ≡ t.rows → IsKept d u l
-kept_shrunk d t u l kept same = record { whole = kept.whole; nesting = same ∙ kept.nesting; back = kept.back }
-
 -- a change of a body is one of a body that is the same
 pub change_same : (dim : ℕ) (tail b : List ℕ) (ps : List Put) (append : List ℕ) (rows : List Row) (dim' : ℕ) (tail' b' : List ℕ) → dim' ≡ dim → tail' ≡ tail → b' ≡ b → IsChange dim tail b ps append rows → IsChange dim' tail' b' ps append rows
 change_same dim tail b ps append rows dim' tail' b' axes behind body change =
     subst (λ (n : ℕ). IsChange n tail' b' ps append rows) (sym axes)
     (subst (λ (x : List ℕ). IsChange dim x b' ps append rows) (sym behind)
     (subst (λ (x : List ℕ). IsChange dim tail x ps append rows) (sym body) change))
-
--- the first rows of those that have grown, and the others
-pub behind_taken : (old new : List Row) (n : ℕ) → IsBehind old new → n ≡ length old → take n new ≡ old
-behind_taken old new n is many = ap (take n) is.are ∙ take_at old is.more n (sym many)
-
-pub behind_left : (old new : List Row) (n : ℕ) → IsBehind old new → n ≡ length old → BeginsFree itself (drop n new)
-behind_left old new n is many = subst (BeginsFree itself) (sym (ap (drop n) is.are ∙ drop_at old is.more n (sym many))) is.free
-
--- rows that have grown by those of elements without bit C at their front lie behind the others
-pub grown_behind : (b : List ℕ) (old new : List Row) (count : ℕ) → IsSpelling b → Grows b old new count → IsBehind old new
-grown_behind b old new count spelled grown = record {
-  more = map row_of spelled.1;
-  are = grown.are spelled.0 spelled.1 spelled.2;
-  free = free_rows spelled.1 spelled.3;
-}
 
 -- there is room for those
 pub room_for : (b : List ℕ) (old new : List Row) (d : Design) (l : LogState) (rows : List Row) → IsFollowed b old new d l → new ≡ old ++ rows → HasRoom (length b) (length rows) d l

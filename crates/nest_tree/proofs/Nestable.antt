@@ -10,7 +10,7 @@ use Rattle.dgn_drawing.specs.Rows.{row_of}
 use Rattle.nest_tree.specs.Shapes.{IsRow}
 use Rattle.nest_tree.proofs.Elements.{element_row}
 
-each_row : (dim : ℕ) → IsDimension dim → (es : List Element) → AllByRecursion (IsWellFormed dim) es → AllByRecursion IsRow (map row_of es)
+pub each_row : (dim : ℕ) → IsDimension dim → (es : List Element) → AllByRecursion (IsWellFormed dim) es → AllByRecursion IsRow (map row_of es)
 each_row dim axes [] good = tt
 each_row dim axes (e ∷ es) good = ((element_row dim e axes good.0).is_row, each_row dim axes es good.1)
 

@@ -1,10 +1,10 @@
 -- Roots with nothing below them, as most elements of a drawing are: how their rows tell them, and what is kept
 -- of them.
-use Rattle.std.specs.Prelude.{ℕ, ◌≡◌, ◌<◌, ◌-◌, ◌%◌, ◌&&◌, leb, not, Bool, true, false, None, List, [], ◌∷◌}
+use Rattle.std.specs.Prelude.{ℕ, ◌≡◌, ◌<◌, ◌-◌, ◌%◌, ◌&&◌, leb, nat_lt, not, if◌then◌else◌, Bool, true, false, None, List, [], ◌∷◌, slice_index}
 use Rattle.dgn_layout.specs.declared.types.Class.{Class}
 use Rattle.dgn_layout.specs.Classes.{class_of}
 use Rattle.dgn_drawing.specs.declared.row.Row.{Row}
-use Rattle.dgn_drawing.specs.Nesting.{Leaf}
+use Rattle.dgn_drawing.specs.Nesting.{Leaf, front_count}
 use Rattle.dgn_drawing.specs.Numbering.{Mark}
 
 -- whether elements of a class can have others below them
@@ -44,3 +44,15 @@ kept_rows (p ∷ ps) (k ∷ ks) end = kept_row p (next_place ps end) k ∷ kept_
 pub record IsPlainKind (kind : ℕ) : Type 0 where
   pub free : kind < 128
   pub leaf : is_header (class_of kind) ≡ false
+
+-- whether a byte is that of such an element
+abbrev pub is_plain_kind : ℕ → Bool
+is_plain_kind kind = nat_lt kind 128 && not (is_header (class_of kind))
+
+-- where the byte behind the first `count` has bit C, the last of them stays with it
+abbrev pub nested_apart : List ℕ → ℕ → ℕ
+nested_apart kinds count = if leb 128 (slice_index kinds count) then count - 1 else count
+
+-- how many elements from the front on, by their bytes, are such roots that can be nested without those behind them
+abbrev pub run_count : List ℕ → ℕ
+run_count kinds = nested_apart kinds (front_count is_plain_kind kinds)

@@ -1,11 +1,11 @@
 // Roots with nothing below them, of which a block often has nothing else.
 
-ghost use Rattle.std.specs.Prelude.{◌≡◌, ◌+◌, ◌<◌, ◌≤◌, ◌++◌, length, take, slice_index, vec_len, vec_capacity};
+ghost use Rattle.std.specs.Prelude.{◌≡◌, ◌+◌, ◌<◌, ◌≤◌, ◌++◌, IsTrue, length, take, slice_index, vec_len, vec_capacity};
 ghost use Rattle.std.specs.List.{AllByRecursion, range_with_len};
 ghost use Rattle.dgn_layout.specs.Classes.{class_of};
 ghost use Rattle.dgn_drawing.specs.Nesting.{front_count};
 ghost use Rattle.nest_tree.specs.Depths.{IsWordTotal};
-ghost use Rattle.nest_tree.specs.Plain.{is_header, is_plain, IsPlainKind};
+ghost use Rattle.nest_tree.specs.Plain.{is_header, is_plain, is_plain_kind, run_count, IsPlainKind};
 
 use dgn_drawing::Row;
 
@@ -37,9 +37,13 @@ pub(crate) fn plain_front(rows: &[Row]) -> usize
     rows.len()
 }
 
-/// How many of the elements with these types and bits C, each in one byte, are roots with nothing below them, from the front
-/// on: the type, and 128 more where it has bit C. The one behind them, if there is one, has no bit C, so it nests apart.
+/// How many elements from the front on, where each is told by a byte, are roots with nothing below them, which can be
+/// nested without those behind them. The byte is the element's type, and 128 more where it has bit C.
+///
+/// They are all those in front that have neither bit C nor a header's type, or one less: where the one behind them has
+/// bit C, the last of them stays with it. So if some are counted, and there is one behind those, it has no bit C.
 pub fn plain_run(kinds: &[u8]) -> usize
+    ensures count { result ≡ run_count kinds.now }
     ensures within { result ≤ length kinds.now }
     ensures plain { AllByRecursion IsPlainKind (take result kinds.now) }
     ensures free { 0 < result → result < length kinds.now → slice_index kinds.now result < 128 }
@@ -52,13 +56,22 @@ pub fn plain_run(kinds: &[u8]) -> usize
     }
 }
 
+// Whether that is the byte of such an element.
+fn is_plain_kind(kind: u8) -> bool
+    ensures plain { result ≡ is_plain_kind kind }
+    ensures parts { IsTrue result → IsPlainKind kind }
+{
+    kind < 128 && !is_header(kind)
+}
+
 // How many of these bytes from the front on are of such elements.
 fn plain_kinds(kinds: &[u8]) -> usize
+    ensures count { result ≡ front_count is_plain_kind kinds.now }
     ensures within { result ≤ length kinds.now }
     ensures plain { AllByRecursion IsPlainKind (take result kinds.now) }
 {
     for (i, kind) in kinds.iter().enumerate() {
-        if 128 <= *kind || is_header(*kind) {
+        if !is_plain_kind(*kind) {
             return i;
         }
     }
