@@ -60,7 +60,7 @@ gathered_are dim own es by b count fit none text counted =
     ∙ ap (Trees b) (sym counted)
 
 -- so the bytes are those of such trees
-are_trees : (f : List ℕ) (dim own : ℕ) (es : List Element) (t : List ℕ) (by : Option Displacement) (b : List ℕ) (count : ℕ)
+pub are_trees : (f : List ℕ) (dim own : ℕ) (es : List Element) (t : List ℕ) (by : Option Displacement) (b : List ℕ) (count : ℕ)
     → Opens f own es t → IfSome by IsShift → fits dim own by ≡ true → gathered_in dim own es by ≡ Trees b count → AreTrees dim b
 are_trees f dim own es t by b count opens known fit is =
     let n : NestApart dim es by b count = nest_apart f dim own es t by b count opens known is in
