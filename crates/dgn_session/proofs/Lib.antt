@@ -13,3 +13,4 @@ pub mod Restored
 pub mod Lone
 pub mod Appending
 pub mod Refitted
+pub mod Overlapping

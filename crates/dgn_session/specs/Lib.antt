@@ -5,3 +5,4 @@ pub mod Carried
 pub mod Answers
 pub mod Laws
 pub mod Fits
+pub mod Selecting

@@ -1,16 +1,18 @@
 // The roots that a fence chooses.
 
-ghost use Rattle.std.specs.Prelude.{ℕ, ◌≡◌, ◌<◌, length, map, option_map, Some, IfOk};
+ghost use Rattle.std.specs.Prelude.{ℕ, ◌≡◌, ◌<◌, length, map, option_map, Some, IfOk, IsFalse};
 ghost use Rattle.dgn_drawing.specs.Rows.{row_of};
 ghost use Rattle.dgn_drawing.specs.Nesting.{itself};
 ghost use Rattle.dgn_drawing.specs.Numbering.{mark_of};
 ghost use Rattle.dgn_drawing.specs.WellFormed.{IsDimension};
+ghost use Rattle.dgn_drawing.specs.declared.mask.Mask.{Mask};
 ghost use Rattle.dgn_drawing.specs.Faults.{IsSoundIn};
 ghost use Rattle.dgn_drawing.specs.Reading.{element_at};
 ghost use Rattle.dgn_drawing.specs.Shown.{tree_shown, shown_alone, IsRoot};
 ghost use Rattle.dgn_fence.specs.Selected.{selected};
 ghost use Rattle.dgn_fence.specs.Taken.{takes};
 ghost use Rattle.elem_index.specs.Design.{elements, IsWhole};
+ghost use Rattle.dgn_session.specs.Selecting.{HasNone};
 
 use dgn_drawing::types::Item;
 use dgn_drawing::{Mask, Mode};
@@ -50,7 +52,7 @@ pub(crate) fn select(
 }
 
 // Whether the fence takes what the tree of a root shows. The items of a header are put into `items`, in the place of
-// what stands there; of a leaf no list is made.
+// what stands there; none is made of a leaf, nor where an overlap is needed and no element of the tree has one.
 fn takes_root(
     alloc: Global,
     design: &Design,
@@ -70,8 +72,38 @@ fn takes_root(
     if let Some(b) = lone_element(design, nest, root) {
         return takes_lone(alloc, design.dim, b, mask, fence, mode);
     }
+    let needs_overlap = matches!(mode, Mode::Inside | Mode::Overlap);
+    if needs_overlap && !some_overlaps(alloc, design, nest, root, fence)? {
+        return Ok(false);
+    }
     tree_items_into(alloc, design, nest, root, mask, items)?;
     Ok(fence.takes(mode, items))
+}
+
+// Whether some element of the tree of a root, shown or not, overlaps the fence by itself. Where none does, no part of what
+// the tree shows is inside or overlaps.
+fn some_overlaps(
+    alloc: Global,
+    design: &Design,
+    nest: &Nest,
+    root: u32,
+    fence: &Fence,
+) -> Result<bool, AllocError>
+    requires whole { IsWhole design.now }
+    requires nesting { nest.now.rows ≡ map row_of (elements design.now) }
+    requires root { IsRoot itself nest.now.rows root }
+    ensures none { IfOk result (λ some. IsFalse some → (mask : Mask) → HasNone fence.now (tree_shown design.now.dim mask (elements design.now) root)) }
+{
+    let end = end_of(nest, root);
+    'elements: for n in root..end {
+        let Some(b) = design.element(n) else {
+            unreachable!()
+        };
+        if fence.takes_element(alloc, Mode::Overlap, design.dim, b)? {
+            return Ok(true);
+        }
+    }
+    Ok(false)
 }
 
 // Whether the fence takes what the element `b` shows by itself.
