@@ -50,16 +50,6 @@ none_behind dim [] rest spells none = refl
 none_behind dim (e ∷ others) rest spells none =
     absurd (omega (arith, four dim e spells.axes spells.each.0, ap (length {A = ℕ}) spells.text, length-append (spell e) (spelling others)))
 
--- a nesting that has followed nothing yet
-pub followed_none : (b : List ℕ) (rows : List Row) → IsSpelling b → HasFollowed b b rows rows 0
-followed_none b rows spelled = record {
-  spelled = spelled;
-  follows = λ dim es spells. record { others = es; spells = spells; are = refl };
-  behind = record { more = []; are = sym (append-nil rows); free = tt };
-  many = omega arith;
-  few = omega arith;
-}
-
 module _ (b rest : List ℕ) (old new : List Row) (count : ℕ) (has : HasFollowed b rest old new count) (rows : List Row) (size : ℕ) (block : IsBlock rest rows size) where
   -- a block of what is left may be nested behind the others
   pub block_each : AllByRecursion IsRow rows

@@ -64,9 +64,6 @@ module _ (fence : List Pt) where
   part_none : (i : Item) (is : List Item) → IsPart i ≡ false → parts (i ∷ is) ≡ parts is
   part_none i is none = cond-false (IsPart i) (segments_of i ∷ parts is) (parts is) none
 
-  over : List (List (Pt × Pt)) → Bool
-  over ps = list_any (overlaps fence) ps
-
   clear_part : (i : Item) → IsPart i ≡ true → IsClear i → overlaps fence (segments_of i) ≡ false
   clear_part i part clear =
       let is : (has_some (segments_of i ∷ []) && list_any (overlaps fence) (segments_of i ∷ [])) ≡ false =
@@ -112,9 +109,6 @@ module _ (fence : List Pt) where
     -- no element from one number on and before another overlaps by itself
     abbrev pub ClearTo : ℕ → ℕ → Type 0
     ClearTo n end = (k depth : ℕ) (e : Element) → n ≤ k → k < end → slice_get es k ≡ Some e → takes Mode.Overlap fence (its_item dim k depth e) ≡ false
-
-    pub none_clear : (n : ℕ) → ClearTo n n
-    none_clear n = λ k depth e low high there. absurd (omega (arith, low, high))
 
     pub next_clear : (n m : ℕ) (e : Element) → ClearTo n m → slice_get es m ≡ Some e → ((k depth : ℕ) → false ≡ takes Mode.Overlap fence (its_item dim k depth e)) → ClearTo n (m + 1)
     next_clear n m e before here clear = λ k depth x low high there. elim (cases_lt k m) [
