@@ -12,7 +12,6 @@ use Rattle.dgn_drawing.specs.Spelling.{spell, spelling}
 use Rattle.dgn_drawing.specs.Values.{Displacement, IsShift}
 use Rattle.dgn_drawing.specs.WellFormed.{IsBytes}
 use Rattle.dgn_drawing.specs.Opening.{Fault, Opens, elements_of}
-use Rattle.dgn_drawing.proofs.Opening.{dimension_is}
 use Rattle.dgn_drawing.proofs.Fronts.{opens_of, elements-spelling}
 use Rattle.elem_index.specs.Opened.{Opened, opening}
 use Rattle.elem_index.proofs.Finds.{opens-opening}
@@ -20,13 +19,13 @@ use Rattle.edit_ops.specs.Causes.{too_long}
 use Rattle.edit_ops.specs.declared.cause.Cause.{Cause}
 use Rattle.edit_ops.proofs.Appended.{appended_opens}
 use Rattle.dgn_import.specs.Seconds.{SecondValue, Drawing, Faulty, as_second, second_of}
-use Rattle.dgn_import.specs.Gathering.{Gathering, Trees, Bad, Dimension, Refused, fits, gathered, gathered_in, AreTrees}
+use Rattle.dgn_import.specs.Gathering.{Gathering, Trees, Bad, Dimension, Refused, fits, gathered, AreTrees}
 use Rattle.dgn_import.proofs.Meant.{are_trees, other_dim}
 use Rattle.dgn_session.specs.State.{State}
 use Rattle.edit_script.specs.declared.command.Command.{Command}
 use Rattle.edit_script.specs.declared.command.Command.TheVariants as command
-use Rattle.edit_ops.specs.Fields.{Field, filled}
-use Rattle.dgn_tool.specs.Imports.{Importing, Appends, Declines, unless_long, importing, importing_of}
+use Rattle.edit_ops.specs.Fields.{filled}
+use Rattle.dgn_tool.specs.Imports.{Appends, unless_long, importing, importing_of}
 use Rattle.dgn_tool.specs.Given.{Given, Plain, Import, first_second, given, seconds_behind, given_all}
 use Rattle.dgn_tool.specs.Laws.{IsEditIn, steps_of}
 

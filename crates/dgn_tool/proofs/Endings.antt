@@ -230,11 +230,6 @@ script_there input script d (Some c) mid only opens has =
     let there : IsSome (maps.get c.files script) = has.1 (comes (bytes_of c.files input) d opens.0 opens.1) in
     rw only.1 there
 
--- IN is there where both are
-pub input_there : (input script : List ℕ) (old : Option Content) → IfSome old (λ c. HasBoth input script c.files) → HasFile input old
-input_there input script None has = tt
-input_there input script (Some c) has = has.0
-
 -- where IN opens, `check` says how many elements it has
 counts_so : (name : List ℕ) (d : Opened) (count : ℕ) (old : Option Content) → OpensAs name old d → count ≡ length d.elements → IfSome old (λ c. input_outcome (bytes_of c.files name) checked ≡ ended statuses.Done (numbered (codes "elements ") count))
 counts_so name d count None opens is = tt

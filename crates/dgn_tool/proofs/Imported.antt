@@ -1,5 +1,5 @@
 -- The cause that refuses an import, and the commands that name no second file.
-use Rattle.std.proofs.Common.{◌≡◌, ◌∷◌, ℕ, List, [], Option, refl}
+use Rattle.std.proofs.Common.{◌≡◌, ℕ, List, [], Option, refl}
 use Rattle.dgn_drawing.specs.Values.{Displacement}
 use Rattle.dgn_drawing.specs.Opening.{elements_of}
 use Rattle.edit_ops.specs.declared.cause.Cause.{Cause}

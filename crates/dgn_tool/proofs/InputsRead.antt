@@ -1,21 +1,19 @@
 -- A run that reads IN, SCRIPT and the second files: what it goes on with, or how it ended.
-use Rattle.std.proofs.Common.{◌≡◌, ◌≤◌, ◌<◌, ℕ, List, length, map, true, false, nat_le, Option, Some, None, Ok, Err, refl, sym, ap, ◌∙◌, subst, arith}
-use Rattle.std.specs.Prelude.{IfSome, IsSome, IsTrue, IsErrOf, codes}
+use Rattle.std.proofs.Common.{◌≡◌, ℕ, List, map, true, false, Option, Some, None, Ok, Err, sym, ap, ◌∙◌, subst}
+use Rattle.std.specs.Prelude.{IfSome, IsErrOf, codes}
 use Rattle.std.specs.List.{list_all}
-use Rattle.std.specs.FinMap as maps
 use Rattle.std.proofs.lemmas.Bool.{cond-true, cond-false}
-use Rattle.dgn_desk.specs.Content.{Content, Files, bytes_of, with_left, OnlyLeftDiffers, HasFile}
+use Rattle.dgn_desk.specs.Content.{Content, bytes_of, OnlyLeftDiffers}
 use Rattle.dgn_import.specs.Seconds.{SecondValue, second_of}
 use Rattle.elem_index.specs.Opened.{Opened}
-use Rattle.edit_script.specs.Script.{commands_of}
 use Rattle.edit_script.specs.declared.command.Command.{Command}
 use Rattle.dgn_tool.specs.Given.{Given, given_all}
 use Rattle.dgn_tool.specs.Ended.{Outcome, ended}
-use Rattle.dgn_tool.specs.SecondFiles.{names_in, files_named, is_within, seconded, stepped, AreThere, HasSeconds, ComeTo}
-use Rattle.dgn_tool.specs.Outcome.{input_outcome, scripted, run_outcome, ComesTo, ComesEarly, OpensAs, ReadsAs, EndsScript, EndsNamed, EndsInputs, GoesOn, HasBoth, HasAll, comes_to_script}
+use Rattle.dgn_tool.specs.SecondFiles.{names_in, files_named, is_within, stepped, AreThere, HasSeconds, ComeTo}
+use Rattle.dgn_tool.specs.Outcome.{scripted, run_outcome, ComesEarly, OpensAs, ReadsAs, EndsScript, EndsNamed, EndsInputs, GoesOn, HasBoth, HasAll}
 use Rattle.dgn_tool.specs.declared.status.Status.{Status}
 use Rattle.dgn_tool.specs.declared.status.Status.TheVariants as statuses
-use Rattle.dgn_tool.proofs.Endings.{through, read_twice, input_opens, script_reads, comes, script_there}
+use Rattle.dgn_tool.proofs.Endings.{through, input_opens, script_reads, comes}
 
 module _ (input script : List ℕ) where
   -- IN ended it

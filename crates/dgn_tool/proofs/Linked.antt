@@ -39,7 +39,7 @@ use Rattle.dgn_tool.specs.Given.{Given, Plain, Import, after_step, after_all}
 use Rattle.dgn_tool.specs.Remaining.{Made, Alone, Fenced, Fitted, Imported, fields_made, with_made, with_all_made, without_newest, with_import, with_command, with_step, with_steps}
 use Rattle.dgn_tool.specs.Laws.{IsOutside, IsEditIn}
 use Rattle.dgn_tool.proofs.Appending.{IsStep, import_behind, appended}
-use Rattle.dgn_tool.proofs.Stacked.{lists_made, IsStacked, step_stacks}
+use Rattle.dgn_tool.proofs.Stacked.{IsStacked, step_stacks}
 
 -- an edit made elements of others: they open with the tail, have no fewer bytes, the same ones at each place that it
 -- doesn't write, and there what it writes; its fields rise; and they keep the limit of a design file where those did

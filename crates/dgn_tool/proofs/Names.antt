@@ -1,6 +1,6 @@
 -- A name of a second file is text.
-use Rattle.std.proofs.Common.{◌≡◌, ◌∷◌, ℕ, zero, suc, ◌<◌, ◌≤◌, true, List, [], arith, get_or}
-use Rattle.std.specs.Prelude.{nat_le, IsAscii, IsUtf8}
+use Rattle.std.proofs.Common.{◌≡◌, ◌∷◌, ℕ, zero, suc, ◌<◌, true, List, [], arith, get_or}
+use Rattle.std.specs.Prelude.{nat_le, IsUtf8}
 use Rattle.std.specs.List.{list_all}
 use Rattle.std.proofs.lemmas.Bool.{and_parts}
 use Rattle.std.proofs.lemmas.Bool.Decides.{nat_tests}

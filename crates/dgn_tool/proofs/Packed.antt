@@ -1,11 +1,11 @@
 -- What is taken off a session's log are the packed entries of the edits that are left.
-use Rattle.std.proofs.Common.{◌≡◌, ℕ, ◌+◌, ◌<◌, ◌≤◌, min, Bool, true, false, cond, nat_lt, codes, List, [], ◌∷◌, ◌++◌, length, map, reverse, refl, sym, ap, ◌∙◌, subst, append_assoc, arith, length-append}
+use Rattle.std.proofs.Common.{◌≡◌, ℕ, ◌+◌, ◌<◌, ◌≤◌, min, Bool, true, false, cond, nat_lt, codes, List, [], ◌∷◌, ◌++◌, length, map, reverse, refl, sym, ap, ◌∙◌, subst, arith}
 use Rattle.std.proofs.lemmas.Bool.Decides.{nat_tests}
 use Rattle.std.proofs.lemmas.List.{append-nil, reverse-append, map-append, length-map}
 use Rattle.undo_log.specs.declared.entry.Entry.{Entry}
 use Rattle.undo_log.specs.Entries.{back, bodies}
 use Rattle.patch_file.specs.Spelling.{Packed, patch_spelling}
-use Rattle.patch_file.specs.Standing.{taken_of, all_taken, MayTake}
+use Rattle.patch_file.specs.Standing.{taken_of, all_taken}
 use Rattle.patch_file.specs.declared.patch_entry.PatchEntry.{PatchEntry}
 use Rattle.patch_file.specs.PatchView.{packed_of, all_packed}
 use Rattle.dgn_drawing.specs.Element.{Element}
@@ -17,14 +17,13 @@ use Rattle.dgn_session.specs.State.{State, SessionValue, state_of, earlier_of}
 use Rattle.dgn_session.specs.Kept.{AreKept}
 use Rattle.dgn_session.specs.Laws.{IsSound}
 use Rattle.dgn_session.proofs.Steps.{bodies_first}
-use Rattle.dgn_session.proofs.Cutting.{opens_kept}
 use Rattle.dgn_tool.specs.Commands.{begun}
 use Rattle.dgn_tool.specs.Given.{Given, after_all, refused_count}
 use Rattle.dgn_tool.specs.Ended.{ended}
 use Rattle.dgn_tool.specs.Lines.{numbered}
 use Rattle.dgn_tool.specs.declared.status.Status.TheVariants as statuses
 use Rattle.dgn_tool.specs.Remaining.{Made, with_steps}
-use Rattle.dgn_tool.specs.Packing.{entry_made, packed_made, packed_after, filed_patch, packed_from, IsLogOf, AllLogAs, TakesLast}
+use Rattle.dgn_tool.specs.Packing.{entry_made, packed_made, packed_after, filed_patch, packed_from, IsLogOf, AllLogAs}
 use Rattle.dgn_tool.proofs.Stacked.{lists_made, IsStacked, steps_stack}
 use Rattle.dgn_tool.proofs.Linked.{steps_dim}
 
@@ -67,48 +66,12 @@ packs cs from v d begins none logs after sound =
     ∙ ap (λ (k : ℕ). map (packed_made k) (reverse left)) dim
     ∙ ap (packed_after cs) begins
 
--- the newest entry of a session may be taken off its body
-newest_may : (dim : ℕ) (tail b : List ℕ) (e : Entry) (es entries : List Entry) → entries ≡ e ∷ es → AreKept dim tail b entries → MayTake b e
-newest_may dim tail b e es entries is kept =
-    let leads = (subst (AreKept dim tail b) is kept).1 in
-    record { long = leads.long; rising = leads.rise }
-
-pub may_take : (v : SessionValue) (before : List Entry) (e : Entry) → v.entries ≡ before ++ e ∷ [] → IsSound v → MayTake v.body e
-may_take v before e is sound =
-    newest_may v.dim v.tail v.body e (reverse before) (reverse v.entries) (ap (λ (es : List Entry). reverse es) is ∙ reverse-append before (e ∷ [])) sound
-
 -- Entries that are taken off, the newest first: what was taken so far, and what is left to take.
 
 -- these are taken off
 pub record TakenSo (from v : SessionValue) (taken : List PatchEntry) : Type 0 where
   pub whole : all_taken from.body (reverse from.entries) ≡ all_taken v.body (reverse v.entries) ++ reverse (all_packed taken)
   pub long : length v.entries + length taken ≡ length from.entries
-
-sum_none : (n : ℕ) → n + 0 ≡ n
-sum_none n = omega arith
-
-pub taken_none : (v : SessionValue) → TakenSo v v []
-taken_none v = record { whole = sym (append-nil (all_taken v.body (reverse v.entries))); long = sum_none (length v.entries) }
-
--- one more is
-pub taken_more : (from v new : SessionValue) (taken : List PatchEntry) (p : PatchEntry) → TakenSo from v taken → TakesLast v new (packed_of p) → TakenSo from new (taken ++ p ∷ [])
-taken_more from v new taken p so one =
-    let e : Entry = one.last in
-    let newest : reverse v.entries ≡ e ∷ reverse new.entries = ap (λ (es : List Entry). reverse es) one.dropped ∙ reverse-append new.entries (e ∷ []) in
-    let first : all_taken v.body (reverse v.entries) ≡ all_taken new.body (reverse new.entries) ++ packed_of p ∷ [] =
-    ap (all_taken v.body) newest
-    ∙ ap (λ (b : List ℕ). all_taken b (reverse new.entries) ++ taken_of v.body e ∷ []) (sym one.body)
-    ∙ ap (λ (q : Packed). all_taken new.body (reverse new.entries) ++ q ∷ []) (sym one.is) in
-    let last : packed_of p ∷ reverse (all_packed taken) ≡ reverse (all_packed (taken ++ p ∷ [])) =
-    sym (ap (λ (ps : List Packed). reverse ps) (map-append packed_of taken (p ∷ [])) ∙ reverse-append (all_packed taken) (packed_of p ∷ [])) in
-    record {
-      whole = so.whole
-          ∙ ap (λ (ps : List Packed). ps ++ reverse (all_packed taken)) first
-          ∙ append_assoc (all_taken new.body (reverse new.entries)) (packed_of p ∷ []) (reverse (all_packed taken))
-          ∙ ap (λ (ps : List Packed). all_taken new.body (reverse new.entries) ++ ps) last;
-      long =
-          omega (arith, so.long, ap (length {A = Entry}) one.dropped, length-append new.entries (e ∷ []), length-append taken (p ∷ []));
-    }
 
 -- a log is empty once as many are taken as it had
 none_left : (es : List Entry) → length es ≡ 0 → es ≡ []

@@ -54,28 +54,6 @@ stepped true true k b b' rest e = absurd (cc)
 stepped true false k b b' rest e = let same : b ≡ b' = cc in ap rest same
 stepped false y k b b' rest e = absurd (cc)
 
-differed : (x y : Bool) (k j : ℕ) (b : List ℕ) (rest : Patched) → cond (not x) (Differs k) (cond y Overruns (Made b)) ≡ Differs j → cond (not x) (Differs k) (cond y Overruns rest) ≡ Differs j
-differed true true k j b rest e = absurd (cc)
-differed true false k j b rest e = absurd (cc)
-differed false y k j b rest e = e
-
-overran : (x y : Bool) (k : ℕ) (b : List ℕ) (rest : Patched) → cond (not x) (Differs k) (cond y Overruns (Made b)) ≡ Overruns → cond (not x) (Differs k) (cond y Overruns rest) ≡ Overruns
-overran true true k b rest e = refl
-overran true false k b rest e = absurd (cc)
-overran false y k b rest e = absurd (cc)
-
-pub made_more : (tail k : ℕ) (b b' : List ℕ) (e : Packed) (es : List Packed) → put_from tail k b (e ∷ []) ≡ Made b' → put_from tail k b (e ∷ es) ≡ put_from tail (k + 1) b' es
-made_more tail k b b' e es made =
-    stepped (does_stand b e) (nat_lt 67108864 (length (put_on b e) + tail)) k (put_on b e) b' (λ c. put_from tail (k + 1) c es) made
-
-pub differs_more : (tail k j : ℕ) (b : List ℕ) (e : Packed) (es : List Packed) → put_from tail k b (e ∷ []) ≡ Differs j → put_from tail k b (e ∷ es) ≡ Differs j
-differs_more tail k j b e es made =
-    differed (does_stand b e) (nat_lt 67108864 (length (put_on b e) + tail)) k j (put_on b e) (put_from tail (k + 1) (put_on b e) es) made
-
-pub overruns_more : (tail k : ℕ) (b : List ℕ) (e : Packed) (es : List Packed) → put_from tail k b (e ∷ []) ≡ Overruns → put_from tail k b (e ∷ es) ≡ Overruns
-overruns_more tail k b e es made =
-    overran (does_stand b e) (nat_lt 67108864 (length (put_on b e) + tail)) k (put_on b e) (put_from tail (k + 1) (put_on b e) es) made
-
 -- how long a body is with an entry on it
 pub length-put_on : (b : List ℕ) (e : PatchEntry) → Stands b (packed_of e) → length (put_on b (packed_of e)) ≡ length b + length e.append
 length-put_on b e so =

@@ -1,5 +1,5 @@
 -- The steps of a run, one after the other: what those that ran have said and done, and what those that are left will.
-use Rattle.std.proofs.Common.{◌≡◌, ℕ, ◌+◌, ◌≤◌, Bool, true, false, Result, Ok, Err, OnErr, List, [], ◌∷◌, ◌++◌, take, drop, arith, Option, Some, None, refl, sym, ap, ◌∙◌, append_assoc}
+use Rattle.std.proofs.Common.{◌≡◌, ℕ, ◌+◌, ◌≤◌, Bool, true, false, Result, Ok, Err, OnErr, List, [], ◌∷◌, ◌++◌, take, drop, arith, Option, sym, ap, ◌∙◌, append_assoc}
 use Rattle.std.specs.Prelude.{option_map}
 use Rattle.std.specs.Int.{from_bool}
 use Rattle.std.proofs.lemmas.List.{append-nil, take-append-drop}
@@ -17,17 +17,8 @@ pub record Ran (all left : List Given) (refused : ℕ) (from s : State) (old now
   pub count : refused_count all from ≡ refused + refused_count left s
   pub state : after_all all from ≡ after_all left s
 
--- with nothing said, what is told is as it was
-spoken-nil : (old : Option Content) → old ≡ option_map (spoken []) old
-spoken-nil None = refl
-spoken-nil (Some c) = rw (append-nil c.said) refl
-
 sum_front : (a : ℕ) → 0 + a ≡ a
 sum_front a = omega arith
-
--- no command is done
-pub ran_none : (all : List Given) (s : State) (old : Option Content) → Ran all all 0 s s old old
-ran_none all s old = record { done = []; texts = refl; said = spoken-nil old; count = sym (sum_front (refused_count all s)); state = refl }
 
 sum_moved : (a b c : ℕ) → a + (b + c) ≡ (a + b) + c
 sum_moved a b c = omega arith

@@ -1,23 +1,20 @@
 -- Reading the second files of the imports, one after the other: what those that were read come to, and what is left.
-use Rattle.std.proofs.Common.{◌≡◌, ◌<◌, ◌≤◌, ◌∷◌, ◌++◌, ℕ, List, [], length, map, reverse, Bool, true, false, nat_le, Option, Some, None, vec_len, Vec, refl, sym, ap, ◌∙◌, subst, arith, append_assoc}
-use Rattle.std.specs.Prelude.{IfSome, IsSome, ◌&&◌, codes}
+use Rattle.std.proofs.Common.{◌≡◌, ◌<◌, ◌≤◌, ◌∷◌, ◌++◌, ℕ, List, [], length, map, reverse, Bool, true, false, Option, Some, None, refl, sym, ap, ◌∙◌, subst, arith, append_assoc}
+use Rattle.std.specs.Prelude.{IfSome, ◌&&◌, codes}
 use Rattle.std.specs.List.{list_all, AllByRecursion}
-use Rattle.std.specs.FinMap as maps
-use Rattle.std.proofs.lemmas.Bool.{and_parts, cond-true, cond-false}
+use Rattle.std.proofs.lemmas.Bool.{and_parts}
 use Rattle.std.proofs.lemmas.Bool.Decides.{nat_tests}
 use Rattle.std.proofs.lemmas.List.{append-nil, map-append, reverse-append, reverse-reverse}
-use Rattle.dgn_desk.specs.Content.{Content, Files, bytes_of, with_left, OnlyLeftDiffers, HasFile}
+use Rattle.dgn_desk.specs.Content.{Content, Files, bytes_of, OnlyLeftDiffers}
 use Rattle.dgn_import.specs.declared.second.Second.{Second}
 use Rattle.dgn_import.specs.Seconds.{SecondValue, second_of, value_of, IsSound}
-use Rattle.elem_index.specs.Opened.{Opened}
 use Rattle.edit_script.specs.declared.command.Command.{Command}
-use Rattle.dgn_tool.specs.Given.{Given, given_all}
 use Rattle.dgn_tool.specs.Ended.{Outcome, ended}
 use Rattle.dgn_tool.specs.SecondFiles.{names_of, names_in, files_named, is_within, waiting, AreThere, ComeTo, ComeBehind}
 use Rattle.dgn_tool.specs.Outcome.{ComesTo, EndsNamed}
 use Rattle.dgn_tool.specs.declared.status.Status.{Status}
 use Rattle.dgn_tool.specs.declared.status.Status.TheVariants as statuses
-use Rattle.dgn_tool.proofs.Endings.{through, items_within}
+use Rattle.dgn_tool.proofs.Endings.{through}
 
 -- Names, and more behind them.
 
@@ -127,21 +124,10 @@ read_there all left c old mid seconds only so there = next_there all left c old 
 
 -- One file.
 
-within_so : (f : List ℕ) → length f ≤ 67108864 → list_all is_within (f ∷ []) ≡ true
-within_so f few =
-    let test : is_within f ≡ true = grind (arith, nat_tests) in
-    ap (λ (b : Bool). b && true) test
-
 long_so : (f : List ℕ) → 67108864 < length f → list_all is_within (f ∷ []) ≡ false
 long_so f long =
     let test : is_within f ≡ false = grind (arith, nat_tests) in
     ap (λ (b : Bool). b && true) test
-
--- a file that was read comes to what was opened
-pub comes_so : (name text : List ℕ) (v : SecondValue) (old : Option Content) → IfSome old (λ c. text ≡ bytes_of c.files name) → length text ≤ 67108864 → v ≡ second_of text → ComeTo (name ∷ []) old (v ∷ [])
-comes_so name text v None whole few is = tt
-comes_so name text v (Some c) whole few is =
-    (within_so (bytes_of c.files name) (subst (λ (b : List ℕ). length b ≤ 67108864) whole few), ap (λ (w : SecondValue). w ∷ []) (is ∙ ap second_of whole))
 
 -- one that is too long ends the run
 ends_long : (name : List ℕ) (o : Files → Outcome) (old : Option Content) → IfSome old (λ c. list_all is_within (files_named (name ∷ []) c.files) ≡ false → o c.files ≡ ended statuses.TooLong (codes "too long import\n"))
@@ -169,10 +155,6 @@ none_added names (Some c) seconds none =
     (ap (λ (l : List (List ℕ)). list_all is_within (files_named l c.files)) none, sym (append-nil (map value_of seconds)) ∙ ap (λ (l : List (List ℕ)). map value_of seconds ++ map second_of (files_named l c.files)) (sym none))
 
 -- Sound second drawings.
-
-pub sound_more : (before : List Second) (second : Second) → AllByRecursion IsSound before → IsSound second → AllByRecursion IsSound (before ++ second ∷ [])
-sound_more [] second all one = (one, tt)
-sound_more (x ∷ before) second all one = (all.0, sound_more before second all.1 one)
 
 sound_back : (seconds turned : List Second) → AllByRecursion IsSound seconds → AllByRecursion IsSound turned → AllByRecursion IsSound (reverse seconds ++ turned)
 sound_back [] turned all more = more

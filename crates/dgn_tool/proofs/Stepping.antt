@@ -1,8 +1,8 @@
 -- The steps of commands with second files, one after the other.
-use Rattle.std.proofs.Common.{◌≡◌, ◌+◌, List, [], ◌∷◌, ℕ, drop, refl, sym, ap, ◌∙◌}
+use Rattle.std.proofs.Common.{◌≡◌, ◌+◌, List, [], ◌∷◌, ℕ, drop, sym, ap, ◌∙◌}
 use Rattle.dgn_import.specs.Seconds.{SecondValue}
 use Rattle.edit_script.specs.declared.command.Command.{Command}
-use Rattle.dgn_tool.specs.Given.{Given, given, seconds_behind, given_all}
+use Rattle.dgn_tool.specs.Given.{given, seconds_behind, given_all}
 
 -- the first of those that are left, and the others
 pub next_step : (cs : List Command) (i : ℕ) (c : Command) (vs vs' : List SecondValue) → drop i cs ≡ c ∷ drop (i + 1) cs → vs' ≡ seconds_behind c vs → given_all (drop i cs) vs ≡ given c vs ∷ given_all (drop (i + 1) cs) vs'

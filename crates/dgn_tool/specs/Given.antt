@@ -3,7 +3,6 @@
 use Rattle.std.specs.Prelude.{ℕ, ◌+◌, Bool, Option, List, [], ◌∷◌, ◌++◌, drop}
 use Rattle.std.specs.Int.{from_bool}
 use Rattle.dgn_drawing.specs.Values.{Displacement}
-use Rattle.dgn_import.specs.declared.second_fault.SecondFault.{SecondFault}
 use Rattle.dgn_import.specs.declared.second_fault.SecondFault.TheVariants as faults
 use Rattle.dgn_import.specs.Seconds.{SecondValue, Faulty}
 use Rattle.dgn_session.specs.State.{State}

@@ -1,6 +1,6 @@
 -- What holds of every drawing that opens, every list of commands and every list of second files for their imports, each
 -- the contract of a function in `laws`.
-use Rattle.std.specs.Prelude.{ℕ, ◌≡◌, ◌<◌, ◌≤◌, List, [], ◌∷◌, ◌++◌, length, map, slice_index, All, IfSome}
+use Rattle.std.specs.Prelude.{ℕ, ◌≡◌, ◌<◌, ◌≤◌, List, ◌++◌, length, map, slice_index, All, IfSome}
 use Rattle.patch_file.specs.Spelling.{AreEntries, patch_spelling}
 use Rattle.patch_file.specs.Standing.{AllStand, put_all}
 use Rattle.dgn_drawing.specs.Spelling.{spelling}

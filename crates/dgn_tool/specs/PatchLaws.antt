@@ -1,12 +1,12 @@
 -- What holds of every drawing that opens and every patch file that reads, each the contract of a function in `laws`.
-use Rattle.std.specs.Prelude.{ℕ, ◌≡◌, ◌+◌, ◌≤◌, List, [], ◌∷◌, ◌++◌, length, codes, Some, Ok, All}
+use Rattle.std.specs.Prelude.{ℕ, ◌≡◌, ◌+◌, ◌≤◌, List, ◌∷◌, ◌++◌, length, codes, Some, Ok, All}
 use Rattle.dgn_desk.specs.Content.{Files, bytes_of}
 use Rattle.dgn_drawing.specs.Spelling.{spelling}
 use Rattle.dgn_drawing.specs.WellFormed.{IsBytes}
 use Rattle.elem_index.specs.Opened.{Opened, opening}
 use Rattle.patch_file.specs.Spelling.{Packed, patch_spelling}
 use Rattle.patch_file.specs.Reading.{patch_of}
-use Rattle.patch_file.specs.Standing.{Stands, put_on, AllStand, put_all}
+use Rattle.patch_file.specs.Standing.{Stands, AllStand, put_all}
 use Rattle.edit_script.specs.declared.command.Command.{Command}
 use Rattle.dgn_tool.specs.Applied.{AllFit}
 use Rattle.dgn_tool.specs.Commands.{begun}

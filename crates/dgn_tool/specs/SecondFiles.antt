@@ -1,5 +1,5 @@
 -- The second files of a script's imports, which are read before its first command runs.
-use Rattle.std.specs.Prelude.{ℕ, ◌≡◌, ◌≤◌, nat_le, Bool, ◌&&◌, true, if◌then◌else◌, List, [], ◌∷◌, ◌++◌, length, map, codes, Option, Result, Ok, Err, IsSome, IfSome, ⊤}
+use Rattle.std.specs.Prelude.{ℕ, ◌≡◌, ◌≤◌, nat_le, Bool, true, if◌then◌else◌, List, [], ◌∷◌, ◌++◌, length, map, codes, Option, Result, Ok, Err, IsSome, IfSome, ⊤}
 use Rattle.std.specs.FinMap as maps
 use Rattle.std.specs.List.{list_all}
 use Rattle.std.specs.Prelude.{reverse}

@@ -3,11 +3,11 @@ use Rattle.std.proofs.lemmas.List.{drop_more, drop_all}
 use Rattle.dgn_import.specs.Seconds.{SecondValue}
 use Rattle.dgn_session.specs.State.{state_of}
 use Rattle.edit_script.specs.declared.command.Command.{Command}
-use Rattle.dgn_tool.specs.Given.{Given, given, given_all, step_text, texts_of, after_all}
+use Rattle.dgn_tool.specs.Given.{Given, given, given_all, step_text, texts_of}
 use Rattle.dgn_tool.specs.Outcome.{SaysFront}
 use Rattle.dgn_tool.specs.SecondFiles.{waiting}
 use Rattle.dgn_tool.proofs.Stepping.{next_step, none_left}
-use Rattle.dgn_tool.proofs.Ran.{Ran, ran_more, ran_part, ran_all, ran_said, ran_state, refused_few, on_err, ran_so_far}
+use Rattle.dgn_tool.proofs.Ran.{Ran, ran_more, ran_part, ran_all, ran_said, ran_state, refused_few, on_err}
 use Rattle.dgn_tool.proofs.commands.run_all.Goals as goal
 
 pub commands-preserved : goal.commands-preserved

@@ -1,11 +1,9 @@
-use Rattle.std.proofs.Common.{sym, ap, subst, List}
+use Rattle.std.proofs.Common.{sym, subst}
 use Rattle.elem_index.specs.Answers.{opened_of}
-use Rattle.edit_script.specs.declared.command.Command.{Command}
 use Rattle.dgn_tool.specs.Outcome.{ReadsAs}
-use Rattle.dgn_tool.specs.SecondFiles.{waiting}
 use Rattle.dgn_tool.specs.declared.status.Status.TheVariants as statuses
 use Rattle.dgn_tool.proofs.Endings.{read_twice}
-use Rattle.dgn_tool.proofs.InputsRead.{input_ends, script_ends_it, seconds_end_it, all_read, seconds_there, both_there, err_of}
+use Rattle.dgn_tool.proofs.InputsRead.{input_ends, script_ends_it, seconds_end_it, err_of}
 use Rattle.dgn_tool.proofs.inputs.read_inputs.Goals as goal
 
 pub returns-in-Err-clause-ended : goal.returns-in-Err-clause-ended

@@ -1,9 +1,5 @@
-use Rattle.std.proofs.Common.{rules, ◌≡◌, ◌∷◌, List, ℕ, [], Option, refl, sym, ap, subst, ◌∙◌}
-use Rattle.dgn_desk.specs.Content.{Content}
-use Rattle.dgn_import.specs.declared.second.Second.{Second}
-use Rattle.dgn_import.specs.Seconds.{value_of}
+use Rattle.std.proofs.Common.{◌≡◌, ◌∷◌, List, ℕ, [], refl, sym, ap, subst, ◌∙◌}
 use Rattle.dgn_tool.specs.SecondFiles.{names_of, ComeBehind}
-use Rattle.dgn_tool.specs.Outcome.{EndsNamed}
 use Rattle.dgn_tool.proofs.Endings.{wants, nothing_done}
 use Rattle.dgn_tool.proofs.Imported.{names_none}
 use Rattle.dgn_tool.proofs.SecondsRead.{second_added, none_added}

@@ -1,11 +1,10 @@
-use Rattle.std.proofs.Common.{◌≡◌, ◌+◌, ◌∷◌, List, ℕ, [], drop, refl, sym, ap, subst, ◌∙◌}
+use Rattle.std.proofs.Common.{◌≡◌, ◌+◌, ◌∷◌, List, drop, refl, sym, ap, subst, ◌∙◌}
 use Rattle.std.specs.List.{AllByRecursion}
-use Rattle.std.proofs.lemmas.List.{drop_more, drop_all}
-use Rattle.dgn_import.specs.declared.second.Second.{Second}
+use Rattle.std.proofs.lemmas.List.{drop_more}
 use Rattle.dgn_import.specs.Seconds.{IsSound}
 use Rattle.edit_script.specs.declared.command.Command.{Command}
 use Rattle.dgn_tool.proofs.Endings.{nothing_done, read_twice}
-use Rattle.dgn_tool.proofs.SecondsRead.{ReadSo, read_none, read_more, read_all_of, read_ends, read_there, sound_turned}
+use Rattle.dgn_tool.proofs.SecondsRead.{ReadSo, read_none, read_more, read_ends, read_there, sound_turned}
 use Rattle.dgn_tool.proofs.seconds.read_seconds.Goals as goal
 
 pub commands-init : goal.commands-init

@@ -1,7 +1,4 @@
-use Rattle.std.proofs.Common.{◌≡◌, List, ℕ, [], true, false, sym, ap, ◌∙◌, subst}
-use Rattle.std.specs.List.{list_all}
-use Rattle.std.proofs.lemmas.Bool.{cond-true, cond-false}
-use Rattle.edit_script.specs.Imports.{is_name_byte}
+use Rattle.std.proofs.Common.{sym, ◌∙◌}
 use Rattle.dgn_tool.proofs.Names.{name_is_text}
 use Rattle.dgn_tool.proofs.seconds.text_of.Goals as goal
 
