@@ -1,95 +1,111 @@
 // Every type in the plane and in space, and the places of small elements.
 
+ghost use Rattle.std.specs.Prelude.{◌≡◌, ◌⊎◌, ◌<◌};
+
 use dgn_layout::types::Class::{Boxed, Counted, Floating, Run, Silent, Vertices, Words};
 use dgn_layout::*;
+use std::alloc::{AllocError, Global};
 use std::test::Fail;
 
-// What is known of some types: their class, the types, the places of their fields in 2D and in 3D, and where
-// their bodies end in 2D and in 3D where the word at byte 36 is 2 and all other bytes are 0.
-const TYPES: [(types::Class, &[u8], &[u32], &[u32], usize, usize); 9] = [
-    (
-        Vertices,
-        &[3],
-        &[4, 8, 16, 20, 36, 40, 44, 48],
-        &[4, 8, 12, 16, 20, 24, 36, 40, 44, 48, 52, 56],
-        52,
-        60,
-    ),
-    (
-        Vertices,
-        &[4, 6, 11],
-        &[4, 8, 16, 20, 38, 42, 46, 50],
-        &[4, 8, 12, 16, 20, 24, 38, 42, 46, 50, 54, 58],
-        54,
-        62,
-    ),
-    (
-        Words,
-        &[17],
-        &[4, 8, 16, 20, 50, 54],
-        &[4, 8, 12, 16, 20, 24, 62, 66, 70],
-        60,
-        76,
-    ),
-    (
-        Counted,
-        &[7],
-        &[4, 8, 16, 20, 62, 66],
-        &[4, 8, 12, 16, 20, 24, 74, 78, 82],
-        70,
-        86,
-    ),
-    (
-        Counted,
-        &[2],
-        &[4, 8, 16, 20, 84, 88],
-        &[4, 8, 12, 16, 20, 24, 112, 116, 120],
-        92,
-        124,
-    ),
-    (
-        Counted,
-        &[12, 14, 18, 19],
-        &[4, 8, 16, 20],
-        &[4, 8, 12, 16, 20, 24],
-        40,
-        40,
-    ),
-    (Run, &[24, 27, 34], &[], &[], 36, 36),
-    (Floating, &[15, 16, 23], &[], &[], 36, 36),
-    (Boxed, &[22, 33, 35], &[], &[], 36, 36),
-];
-
-#[test]
-fn every_type(rt: HostRuntime) -> Result<(), Fail> {
+// The places of a type's fields in an element of 124 bytes whose word at byte 36 is 2, where all other bytes are 0, and
+// where its body ends, if it has one.
+fn places<const DIM: usize>(
+    alloc: Global,
+    kind: u8,
+) -> Result<(Vec<u32>, Option<usize>), AllocError>
+    requires dimension { (DIM ≡ 2) ⊎ (DIM ≡ 3) }
+    requires kind { kind < 128 }
+{
     let mut b = [0; 124];
     b[36] = 2;
-    let mut listed = 0u32;
+    let found: Vec<u32> = spots::<DIM>(kind, &b).map(|spot| spot.at).collect(alloc)?;
+    let end = if is_silent(kind) {
+        None
+    } else {
+        body_end::<DIM>(kind, &b)
+    };
+    Ok((found, end))
+}
+
+// How many of the types with these numbers are of that class, and have their fields at these places and their bodies' end
+// there, in the plane and in space.
+fn agreeing(
+    alloc: Global,
+    kinds: &[u8],
+    known: types::Class,
+    in_plane: (&[u32], Option<usize>),
+    in_space: (&[u32], Option<usize>),
+) -> Result<u8, AllocError> {
+    let mut count = 0u8;
     for kind in 0..128 {
-        let flat: Vec<u32> = spots::<2>(kind, &b)
-            .map(|spot| spot.at)
-            .collect(rt.alloc())?;
-        let deep: Vec<u32> = spots::<3>(kind, &b)
-            .map(|spot| spot.at)
-            .collect(rt.alloc())?;
-        let mut agrees = is_silent(kind)
-            && class(kind) == Silent
-            && flat.is_empty()
-            && deep.is_empty();
-        for (known, kinds, in_plane, in_space, plane_end, space_end) in TYPES {
-            if kinds.contains(&kind) {
-                listed = listed.saturating_add(1);
-                agrees = !is_silent(kind)
-                    && class(kind) == known
-                    && flat.as_slice() == in_plane
-                    && deep.as_slice() == in_space
-                    && body_end::<2>(kind, &b) == Some(plane_end)
-                    && body_end::<3>(kind, &b) == Some(space_end);
-            }
+        let (flat, flat_end) = places::<2>(alloc, kind)?;
+        let (deep, deep_end) = places::<3>(alloc, kind)?;
+        if kinds.contains(&kind)
+            && class(kind) == known
+            && flat.as_slice() == in_plane.0
+            && flat_end == in_plane.1
+            && deep.as_slice() == in_space.0
+            && deep_end == in_space.1
+        {
+            count = count.saturating_add(1);
         }
-        assert!(rt; agrees, "type {kind}");
     }
-    assert!(rt; listed == 20);
+    Ok(count)
+}
+
+#[test]
+fn types_with_points_and_texts(rt: HostRuntime) -> Result<(), Fail> {
+    let alloc = rt.alloc();
+    let plane: &[u32] = &[4, 8, 16, 20, 36, 40, 44, 48];
+    let space: &[u32] = &[4, 8, 12, 16, 20, 24, 36, 40, 44, 48, 52, 56];
+    assert!(rt; agreeing(alloc, &[3], Vertices, (plane, Some(52)), (space, Some(60)))? == 1);
+    let plane: &[u32] = &[4, 8, 16, 20, 38, 42, 46, 50];
+    let space: &[u32] = &[4, 8, 12, 16, 20, 24, 38, 42, 46, 50, 54, 58];
+    assert!(rt;
+        agreeing(
+            alloc,
+            &[4, 6, 11],
+            Vertices,
+            (plane, Some(54)),
+            (space, Some(62))
+        )? == 3
+    );
+    let plane: &[u32] = &[4, 8, 16, 20, 50, 54];
+    let space: &[u32] = &[4, 8, 12, 16, 20, 24, 62, 66, 70];
+    assert!(rt; agreeing(alloc, &[17], Words, (plane, Some(60)), (space, Some(76)))? == 1);
+    Ok(())
+}
+
+#[test]
+fn types_of_headers(rt: HostRuntime) -> Result<(), Fail> {
+    let alloc = rt.alloc();
+    let plane: &[u32] = &[4, 8, 16, 20, 62, 66];
+    let space: &[u32] = &[4, 8, 12, 16, 20, 24, 74, 78, 82];
+    assert!(rt; agreeing(alloc, &[7], Counted, (plane, Some(70)), (space, Some(86)))? == 1);
+    let plane: &[u32] = &[4, 8, 16, 20, 84, 88];
+    let space: &[u32] = &[4, 8, 12, 16, 20, 24, 112, 116, 120];
+    assert!(rt; agreeing(alloc, &[2], Counted, (plane, Some(92)), (space, Some(124)))? == 1);
+    let plane: &[u32] = &[4, 8, 16, 20];
+    let space: &[u32] = &[4, 8, 12, 16, 20, 24];
+    let others: &[u8] = &[12, 14, 18, 19];
+    assert!(rt; agreeing(alloc, others, Counted, (plane, Some(40)), (space, Some(40)))? == 4);
+    Ok(())
+}
+
+// Of all other types no field is given; of those that no class names the body has no end.
+#[test]
+fn types_without_places(rt: HostRuntime) -> Result<(), Fail> {
+    let alloc = rt.alloc();
+    let unread: (&[u32], Option<usize>) = (&[], Some(36));
+    let silent: (&[u32], Option<usize>) = (&[], None);
+    let mut all = Vec::new(alloc);
+    for kind in 0..128 {
+        all.push(kind)?;
+    }
+    assert!(rt; agreeing(alloc, &[24, 27, 34], Run, unread, unread)? == 3);
+    assert!(rt; agreeing(alloc, &[15, 16, 23], Floating, unread, unread)? == 3);
+    assert!(rt; agreeing(alloc, &[22, 33, 35], Boxed, unread, unread)? == 3);
+    assert!(rt; agreeing(alloc, &all, Silent, silent, silent)? == 108);
     Ok(())
 }
 
