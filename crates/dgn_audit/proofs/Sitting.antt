@@ -122,17 +122,6 @@ module _ (d : Design) (whole : IsWhole d) (n : ℕ) (s : Seat) (is : IsSeat d n 
     no_hull None boxes = refl
     no_hull (Some p) boxes = refl
 
-    -- one that is marked deleted takes away what is told below it
-    pub dead_read : s.deleted ≡ true → record { open_boxes = without n os; told = past s.end fs } ≡ read_marked keep d.dim n (mark_of row_of (elements d) n) (slice_get (elements d) n) (record { open_boxes = os; told = fs })
-    dead_read dead =
-        let gone : is.element.deleted ≡ true = sym is.deleted ∙ dead in
-        let hull = hull_in d.dim is.mark.knot is.element.kind is.element.body (box_for n os) in
-        ap (λ (k : ℕ). record { open_boxes = without n os; told = past k fs }) is.end
-        ∙ ap (λ (b : List OpenBox). record { open_boxes = b; told = past is.mark.end fs }) (sym (no_hull is.mark.parent (without n os)))
-        ∙ ap (λ (h : Option Box3). made h (past is.mark.end fs)) (sym (cond-true is.element.deleted None hull gone))
-        ∙ ap (made (tree_hull d.dim is.mark.knot is.element (box_for n os))) (sym (cond-true is.element.deleted (past is.mark.end fs) (told_as keep d.dim is.mark.knot n is.element (tree_hull d.dim is.mark.knot is.element (box_for n os)) ++ fs) gone))
-        ∙ marked_is
-
     module _ (lives : s.deleted ≡ false) where
       alive : is.element.deleted ≡ false
       alive = sym is.deleted ∙ lives

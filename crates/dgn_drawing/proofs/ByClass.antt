@@ -5,7 +5,7 @@ use Rattle.elem_head.specs.Head.{kind_of, level_of, symbology_of}
 use Rattle.range_code.specs.Ranges.{range_of}
 use Rattle.dgn_layout.specs.declared.types.Class.{Class}
 use Rattle.dgn_layout.specs.Classes.{class_of}
-use Rattle.body_vertex.specs.Points.{points_of, IsPathKind, PointsFit}
+use Rattle.body_vertex.specs.Points.{points_of, IsPathKind}
 use Rattle.dgn_drawing.specs.declared.form.Form.{Form}
 use Rattle.dgn_drawing.specs.declared.types.item_body.ItemBody.{ItemBody}
 use Rattle.dgn_drawing.specs.Forms.{form_in, form_of}
@@ -15,7 +15,7 @@ use Rattle.dgn_drawing.specs.Faults.{is_shown, IsSoundIn}
 use Rattle.dgn_drawing.specs.Items.{in_space, item_body_of, item_of}
 use Rattle.dgn_drawing.proofs.Ends.{sound_end}
 use Rattle.dgn_drawing.proofs.Written.{shown_after}
-use Rattle.dgn_drawing.proofs.Shown.{path_kind, path_fits, path_shown, text_shown, node_shown, cell_shown, header_shown, plain_shown, silent_item, shared_item, item_with, made_item}
+use Rattle.dgn_drawing.proofs.Shown.{path_kind, path_shown, text_shown, node_shown, cell_shown, header_shown, plain_shown, silent_item, shared_item, item_with, made_item}
 
 -- what is shown by the range alone, and what is a header
 abbrev pub IsRanged : ItemBody → Type 0
@@ -67,9 +67,6 @@ module _ (dim number depth : ℕ) (b : List ℕ) where
     pub is_path : c ≡ Class.Vertices → IsPathKind (kind_of b)
     is_path is = path_kind (kind_of b) (form_at b) refl (one_of _ (form_by Class.Vertices is))
 
-    pub points_fit : c ≡ Class.Vertices → IsDimension dim → IsSoundIn dim b → PointsFit dim (kind_of b) b
-    points_fit is axes sound = let ends = path_fits (form_at b) dim b axes refl (one_of _ (form_by Class.Vertices is)) in let long = sound_end dim b sound in omega arith
-
     pub path_item : c ≡ Class.Vertices → (kind_of b ≡ 34 → ⊥) → HasItem (ItemBody.Path (map in_space (points_of dim (kind_of b) b)))
     path_item is other = let form = one_of _ (form_by Class.Vertices is) in with_body (shown_path form) other _ (path_shown (form_at b) dim b form)
 
@@ -90,9 +87,6 @@ module _ (dim number depth : ℕ) (b : List ℕ) where
 
     pub ranged_item : (c ≡ Class.Words) ⊎ ((c ≡ Class.Run) ⊎ ((c ≡ Class.Floating) ⊎ (c ≡ Class.Boxed))) → (kind_of b ≡ 34 → ⊥) → (body : ItemBody) × IsRanged body × HasItem body
     ranged_item is other = by_form (ranged_form is) other
-
-    pub ranged_long : (c ≡ Class.Words) ⊎ ((c ≡ Class.Run) ⊎ ((c ≡ Class.Floating) ⊎ (c ≡ Class.Boxed))) → IsDimension dim → IsSoundIn dim b → 36 ≤ length b
-    ranged_long is axes sound = long_by (ranged_form is) axes sound
 
     -- a header
     by_header : (s t : Bool) → form_at b ≡ cond s Form.Cell (cond t Form.Node Form.Header) → (kind_of b ≡ 34 → ⊥) → (body : ItemBody) × IsHeader body × HasItem body

@@ -5,17 +5,12 @@ use Rattle.std.proofs.lemmas.Bool.Decides.{nat_tests}
 use Rattle.dgn_words.specs.Numbers.{word_bytes}
 use Rattle.patch_bytes.specs.Puts.{write}
 use Rattle.dgn_drawing.specs.Element.{Body, Silent, Shown, Element}
-use Rattle.dgn_drawing.specs.Spelling.{first_byte, second_byte, body_bytes, spell, size_of}
+use Rattle.dgn_drawing.specs.Spelling.{first_byte, second_byte, body_bytes, spell}
 use Rattle.dgn_drawing.specs.WellFormed.{IsWellFormed, HasAttributesInPlace}
 use Rattle.dgn_drawing.specs.Rows.{row_of}
 use Rattle.dgn_drawing.specs.Changes.{mark}
 use Rattle.dgn_drawing.specs.Laws.{MarksAreOneByte}
 use Rattle.dgn_drawing.proofs.Pieces.{lay-over}
-
--- the size stays
-pub size-mark : (e : Element) → size_of (mark e) ≡ size_of e
-unfolding spell
-size-mark e = refl
 
 -- byte 1 of the spelling is put anew
 pub spell-mark : (e : Element) → spell (mark e) ≡ write (spell e) (record { at = 1; bytes = second_byte (mark e) ∷ [] } ∷ [])

@@ -1,7 +1,6 @@
 -- Where elements begin: as many offsets as elements, each the bytes of the elements before it.
 use Rattle.std.proofs.Common.{◌≡◌, ℕ, zero, suc, ◌+◌, ◌<◌, List, [], ◌∷◌, ◌++◌, length, take, drop, map, get_or, refl, sym, ap, ◌∙◌, append_assoc, arith, length-append}
 use Rattle.std.proofs.lemmas.List.{drop_at, drop-drop}
-use Rattle.std.proofs.lemmas.List.Concat.{flat_map-append}
 use Rattle.dgn_drawing.specs.declared.row.Row.{Row}
 use Rattle.dgn_drawing.specs.Element.{Element}
 use Rattle.dgn_drawing.specs.Spelling.{spell, spelling, size_of}
@@ -37,11 +36,6 @@ offsets_from-more p [] e = ap (λ (k : ℕ). k ∷ []) (omega arith)
 offsets_from-more p (x ∷ es) e =
     ap (λ z. p ∷ z) (offsets_from-more (p + size_of x) es e
     ∙ ap (λ (k : ℕ). offsets_from (p + size_of x) (map size_of es) ++ k ∷ []) (omega (arith, length-append (spell x) (spelling es))))
-
--- what is spelled with one more element
-pub length-spelling-more : (es : List Element) (e : Element) → length (spelling (es ++ e ∷ [])) ≡ length (spelling es) + size_of e
-length-spelling-more es e =
-    ap (length {A = ℕ}) (flat_map-append spell es (e ∷ [])) ∙ omega (arith, length-append (spelling es) (spelling (e ∷ [])), length-append (spell e) [])
 
 -- at the offset of element n its spelling stands, and behind it those that follow
 pub drop-offset : (es : List Element) (t : List ℕ) (n : ℕ) (d : Element) → n < length es

@@ -1,6 +1,6 @@
 -- A file opens in exactly one way and has no fault, or has exactly one fault and doesn't open.
 use Rattle.std.proofs.Common.{◌≡◌, ℕ, zero, suc, ◌+◌, ◌-◌, ◌≤◌, List, [], ◌∷◌, ◌++◌, length, take, drop, get_or, refl, sym, ap, ◌∙◌, subst, arith, true, false, ◌⊎◌, inl, inr, append_assoc, length-append, length-drop}
-use Rattle.std.proofs.lemmas.List.{take_at, drop_at, get_or_append_left, take-append-drop, drop-drop, drop_all, length-take-le}
+use Rattle.std.proofs.lemmas.List.{take_at, drop_at, get_or_append_left, take-append-drop, drop-drop, drop_all}
 use Rattle.std.proofs.lemmas.Bool.{cases_Bool}
 use Rattle.std.specs.List.{AllByRecursion}
 use Rattle.std.specs.declared.result.Result.{Result}
@@ -196,28 +196,3 @@ comes_to f bytes =
       | inl tcb ↦ rw tcb (comes_within f bytes tcb (length f) [] 0 (front_none f) (omega arith))
       | inr other ↦ rw other other
     ]
-
--- so it opens or has a fault
-pub decided : (f : List ℕ) → IsBytes f → ((es : List Element) × (t : List ℕ) × Opens f (dimension f) es t) ⊎ ((x : Fault) × HasFault f x)
-decided f bytes = either (ending_of f) (comes_to f bytes)
-  where
-    either : (r : Result ℕ Fault) → ComesTo f r → ((es : List Element) × (t : List ℕ) × Opens f (dimension f) es t) ⊎ ((x : Fault) × HasFault f x)
-    either (Ok p) h = inl (h.0, drop p f, h.2)
-    either (Err x) h = inr (x, h)
-
--- and both are told by it exactly
-pub ending-opens : (f : List ℕ) → IsBytes f → (dim : ℕ) (es : List Element) (t : List ℕ) → Opens f dim es t → ending_of f ≡ Ok (length (spelling es))
-ending-opens f bytes dim es t opens = told (ending_of f) (comes_to f bytes)
-  where
-    told : (r : Result ℕ Fault) → ComesTo f r → r ≡ Ok (length (spelling es))
-    told (Ok p) h =
-        let same : es ≡ h.0 = (opens_once f dim es t (dimension f) h.0 (drop p f) opens h.2).1 in
-        ap Ok (sym (length-take-le p f h.1.within) ∙ ap (length {A = ℕ}) (h.1.spelled ∙ ap spelling (sym same)))
-    told (Err x) h = absurd (opens_no_fault f dim es t opens x h)
-
-pub ending-fault : (f : List ℕ) → IsBytes f → (x : Fault) → HasFault f x → ending_of f ≡ Err x
-ending-fault f bytes x has = told (ending_of f) (comes_to f bytes)
-  where
-    told : (r : Result ℕ Fault) → ComesTo f r → r ≡ Err x
-    told (Ok p) h = absurd (opens_no_fault f (dimension f) h.0 (drop p f) h.2 x has)
-    told (Err y) h = ap Err (fault_once f y x h has)

@@ -151,9 +151,6 @@ module _ (dim : ℕ) (e : Element) (axes : IsDimension dim) (good : IsWellFormed
       let size = size-spell in
       omega arith
 
-  pub rest_within : length (rest_of e.body) ≤ size_of e
-  rest_within = let size = size-spell in omega (arith, rest_behind e.body)
-
   -- the spelling is long enough
   pub not_short : is_short dim (spell e) ≡ false
   not_short = le-ltb (length (spell e)) (end_at dim (spell e)) (rw end_at-spell (omega arith))
@@ -188,9 +185,6 @@ module _ (dim : ℕ) (e : Element) (axes : IsDimension dim) (good : IsWellFormed
   -- so it has no fault
   pub element_fault-spell : element_fault dim (spell e) ≡ no_fault
   element_fault-spell = rw (not_short, rule_kept) refl
-
-  pub spell-length : (x : List ℕ) → length (spell e ++ x) ≡ size_of e + length x
-  spell-length x = length-append (spell e) x
 
 -- records with one spelling are the same, and a spelling that begins another one is that one
 pub one_spelling : (dim : ℕ) (e f : Element) → IsDimension dim → IsWellFormed dim e → IsWellFormed dim f → (x : List ℕ) → spell e ++ x ≡ spell f → (e ≡ f) × (x ≡ [])

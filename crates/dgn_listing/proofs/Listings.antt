@@ -90,12 +90,3 @@ ref_more es n l is =
     in
     ap ref_count (take_found es n here.element here.found)
     ∙ (sum_by-append (λ (e : Element). cond (is_ref e.kind e.level) 1 0) (take n es) (here.element ∷ []) ∙ ap (λ (m : ℕ). ref_count (take n es) + (0 + m)) one)
-
--- what is said of the linkages of an element of a whole design
-pub links_here : (d : Design) → IsWhole d → (n : ℕ) (b : List ℕ) → Some b ≡ option_map spell (slice_get (elements d) n) → (e : Element) → slice_get (elements d) n ≡ Some e → links_text_in b ≡ links_text e
-links_here d whole n b is e found =
-    let axes : IsDimension d.dim = subst IsDimension (sym whole.is_open.opens.axes) (dimension_is (d.body.items ++ d.tail.items)) in
-    let good : IsWellFormed d.dim e = each_at (IsWellFormed d.dim) (elements d) n e whole.is_open.opens.each found in
-    let spelled : Some b ≡ Some (spell e) = is ∙ ap (option_map spell) found in
-    let same : b ≡ spell e = cc in
-    ap links_text_in same ∙ links-spell d.dim e axes good

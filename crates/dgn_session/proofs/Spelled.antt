@@ -28,9 +28,6 @@ pub record Left (dim : ℕ) (es : List Element) (b : List ℕ) (rows : List Row)
 abbrev pub AreLeft : List ℕ → List Row → ℕ → Type 0
 AreLeft b rows at = (dim : ℕ) (es : List Element) → Spells dim es b → Left dim es b rows at
 
-pub left_first : (b : List ℕ) → AreLeft b [] 0
-left_first b dim es spells = record { left = es; each = spells.each; rest = spells.text; read = refl; within = omega arith }
-
 -- each element has four bytes
 pub four : (dim : ℕ) (e : Element) → IsDimension dim → IsWellFormed dim e → 4 ≤ size_of e
 four dim e axes good = omega (arith, size-spell dim e axes good)

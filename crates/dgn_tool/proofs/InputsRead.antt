@@ -78,9 +78,6 @@ module _ (input script : List ℕ) where
           let there : AreThere (names_in cs) c.files = subst (λ r. HasSeconds r c.files) known.1 (has.1 (comes (bytes_of c.files input) d opens.0 opens.1) known.0) in
           rw left.1 there
 
-      pub seconds_there : IfSome old (λ c. HasAll input script c.files) → IfSome here (λ c. AreThere (names_in cs) c.files)
-      seconds_there has = there_of old here left_only opens (reads_here old mid only reads) has
-
   -- IN is there, and SCRIPT
   pub both_there : (old : Option Content) → IfSome old (λ c. HasAll input script c.files) → IfSome old (λ c. HasBoth input script c.files)
   both_there None has = tt

@@ -60,10 +60,6 @@ pub ran_state : (all left : List Given) (refused : ℕ) (from s : State) (old no
 ran_state all left refused from s old now ran none =
     sym (ran.state ∙ ap (λ (cs : List Given). after_all cs s) none)
 
--- where the run stops before a command is said, those before it were said
-pub ran_so_far : (all left : List Given) (refused : ℕ) (from s : State) (old now : Option Content) → Ran all left refused from s old now → SaysFront (texts_of all from) old now
-ran_so_far all left refused from s old now ran = (ran.done, (texts_of left s, ran.texts), ran.said)
-
 -- and where the desk stops in the midst of its text, a front of that too
 pub ran_part : (all left : List Given) (c : Given) (refused count : ℕ) (line : List ℕ) (from s : State) (old now then : Option Content) → Ran all (c ∷ left) refused from s old now → line ≡ step_text s c → then ≡ option_map (spoken (take count line)) now → SaysFront (texts_of all from) old then
 ran_part all left c refused count line from s old now then ran line_is says =

@@ -95,9 +95,6 @@ all_come all left (Some c) seconds turned so none is =
       vs ∙ sym (so.1 ∙ ap (λ (l : List Command). map value_of seconds ++ map second_of (files_named (names_in l) c.files)) none ∙ append-nil (map value_of seconds)),
     )
 
-pub read_all_of : (all left : List Command) (old : Option Content) (seconds turned : List Second) → ReadSo all left old seconds → left ≡ [] → turned ≡ reverse seconds → ComeTo (names_in all) old (waiting turned)
-read_all_of all left old seconds turned so none is = all_come all left old seconds turned so.so none is
-
 -- the run ended at one
 ends_there : (all left : List Command) (c : Command) (old mid : Option Content) (seconds : List Second) (o : Files → Outcome) → OnlyLeftDiffers old mid → IfSome old (IsReadSo all (c ∷ left) seconds)
     → IfSome old (λ k. list_all is_within (files_named (names_in all) k.files) ≡ false → o k.files ≡ ended statuses.TooLong (codes "too long import\n"))

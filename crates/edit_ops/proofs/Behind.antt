@@ -1,5 +1,5 @@
 -- A plan that stands behind another.
-use Rattle.std.proofs.Common.{◌≡◌, ℕ, List, [], ◌++◌, sym, ap, ◌∙◌}
+use Rattle.std.proofs.Common.{◌≡◌, ℕ, List, [], ◌++◌, sym, ◌∙◌}
 use Rattle.std.proofs.lemmas.List.{append-nil}
 use Rattle.patch_bytes.specs.Puts.{Put}
 use Rattle.dgn_drawing.specs.declared.edit.Edit.{Edit}
@@ -8,15 +8,6 @@ use Rattle.edit_ops.specs.declared.types.plan.Plan.{Plan}
 use Rattle.edit_ops.specs.Planned.{IsPlan, IsPlanBehind}
 
 module _ (dim : ℕ) (es : List Element) (rest : ℕ) (e : Edit) (before after : Plan) where
-  -- behind an empty one it is the plan
-  pub first_plan : before.patches ≡ [] → before.append ≡ [] → IsPlanBehind dim es rest e before after → IsPlan dim es rest e after
-  first_plan no_patches no_bytes behind = record {
-    made = behind.is.made;
-    done = behind.is.done;
-    patches = behind.patches ∙ ap (λ (ps : List Put). ps ++ behind.own.patches) no_patches ∙ behind.is.patches;
-    append = behind.append ∙ ap (λ (b : List ℕ). b ++ behind.own.append) no_bytes ∙ behind.is.append;
-  }
-
   -- one that only appends, and one that only writes
   pub appends_behind : (bytes : List ℕ) → IsPlan dim es rest e (record { patches = []; append = bytes }) → after.patches ≡ before.patches → after.append ≡ before.append ++ bytes
       → IsPlanBehind dim es rest e before after

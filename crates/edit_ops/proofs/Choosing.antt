@@ -24,10 +24,6 @@ pub record AreFound (es : List Element) (chosen : ℕ → Bool) (n : ℕ) (found
   pub at : n ≡ count_in front
   pub all : found ++ filter chosen (roots n left) ≡ filter chosen (roots 0 (forest row_of es))
 
--- at first none are
-pub none_found : (es : List Element) (chosen : ℕ → Bool) → AreFound es chosen 0 []
-none_found es chosen = record { front = NoTree; left = forest row_of es; whole = refl; at = refl; all = refl }
-
 -- one more, where it is chosen
 one_found : (b : Bool) (found : List ℕ) (n : ℕ) (ns : List ℕ) → cond b (found ++ n ∷ []) found ++ ns ≡ found ++ cond b (n ∷ ns) ns
 one_found true found n ns = append_assoc found (n ∷ []) ns
@@ -90,14 +86,3 @@ module _ (es : List Element) (chosen : ℕ → Bool) (n : ℕ) (found : List ℕ
   -- behind the last one all are found
   pub all_found : AreFound es chosen n found → length es ≤ n → AreRoots es found
   all_found so past = found_in so.front so.left so.whole so.at so.all past
-
--- what is found behind a root that is chosen, and behind one that isn't
-pub found_more : (es : List Element) (chosen : ℕ → Bool) (n : ℕ) (found : List ℕ) (end : ℕ) → IsPassed es chosen n found end → (b : Bool) → b ≡ chosen n → b ≡ true
-    → (more : List ℕ) → more ≡ found ++ n ∷ [] → AreFound es chosen end more
-found_more es chosen n found end so b is told more are =
-    subst (AreFound es chosen end) (ap (λ (t : Bool). cond t (found ++ n ∷ []) found) (sym is ∙ told) ∙ sym are) so.next
-
-pub found_same : (es : List Element) (chosen : ℕ → Bool) (n : ℕ) (found : List ℕ) (end : ℕ) → IsPassed es chosen n found end → (b : Bool) → b ≡ chosen n → b ≡ false
-    → AreFound es chosen end found
-found_same es chosen n found end so b is told =
-    subst (AreFound es chosen end) (ap (λ (t : Bool). cond t (found ++ n ∷ []) found) (sym is ∙ told)) so.next

@@ -61,13 +61,6 @@ pub later_refused : (dim : ℕ) (es : List Element) (rest : ℕ) (e : Edit) (n :
     → option_or (part_cause dim es n) (first_of (causes_of dim es rest e)) ≡ Some c → apply dim es rest e ≡ Refused c
 later_refused dim es rest e n c named known is = with_cause dim es rest e c (later_first dim es rest e n named known ∙ is)
 
--- an edit that names no element is refused with its own cause
-pub append_first : (dim : ℕ) (es : List Element) (rest : ℕ) (e : Edit) → target_of e ≡ None → cause_of dim es rest e ≡ first_of (causes_of dim es rest e)
-append_first dim es rest e named = ap (λ (t : Option ℕ). option_or (target_cause dim es t) (first_of (causes_of dim es rest e))) named
-
-pub append_refused : (dim : ℕ) (es : List Element) (rest : ℕ) (e : Edit) (c : Cause) → target_of e ≡ None → first_of (causes_of dim es rest e) ≡ Some c → apply dim es rest e ≡ Refused c
-append_refused dim es rest e c named is = with_cause dim es rest e c (append_first dim es rest e named ∙ is)
-
 -- the element that a copy names
 same_some : (n m : ℕ) → Some n ≡ Some m → n ≡ m
 same_some n m is = cc

@@ -100,15 +100,6 @@ pub record AreJoined (dim : ℕ) (es : List Element) (tail : ℕ) (e : FenceEdit
   pub bytes : append ++ all_bytes dim es (edits_at e left) ≡ all_bytes dim es (edits_at e ns)
 
 module _ (dim : ℕ) (es : List Element) (tail : ℕ) (e : FenceEdit) (ns : List ℕ) where
-  -- before the first root none are joined
-  none_joined : length (spelling es) + tail ≤ 67108864 → AreJoined dim es tail e ns ns [] []
-  none_joined few = record {
-    room = omega arith;
-    causes = let same : tail + 0 ≡ tail = omega arith in ap (λ (rest : ℕ). cause_of_all dim es rest (edits_at e ns)) same;
-    puts = refl;
-    bytes = refl;
-  }
-
   -- the plan of the next root is joined to them
   next_joined : (n : ℕ) (left : List ℕ) (patches : List Put) (append : List ℕ) (p : Plan) → AreJoined dim es tail e ns (n ∷ left) patches append
       → IsOwn dim es (tail + length append) (edit_at e n) p → AreJoined dim es tail e ns left (patches ++ p.patches) (append ++ p.append)

@@ -56,10 +56,6 @@ module _ (start : ℕ) (list : List Patch) (i : ℕ) (x : Patch) (below : i < le
   both_lie : AllByRecursion (LiesFrom start (length b)) (put_of x ∷ map put_of (drop (i + 1) list))
   both_lie = subst (AllByRecursion (LiesFrom start (length b))) left_is lies
 
-  -- it lies within the bytes
-  pub next_from : start ≤ x.at
-  next_from = both_lie.0.from
-
   pub next_within : IsWithin (length b) (lowered start (put_of x))
   next_within = within_lowered start (length b) (put_of x) both_lie.0
 

@@ -1,9 +1,8 @@
 -- What stands against an edit of a part that is one live element by itself and stands below no header, and what the edit puts.
-use Rattle.std.proofs.Common.{◌≡◌, ℕ, ◌+◌, ◌≤◌, List, [], ◌∷◌, ◌++◌, length, map, Bool, true, false, cond, Option, Some, None, Result, Ok, Err, refl, sym, ap, ◌∙◌}
-use Rattle.std.specs.Prelude.{◌&&◌, slice_get, option_map, OnOk, IfOk}
+use Rattle.std.proofs.Common.{◌≡◌, ℕ, ◌+◌, ◌≤◌, List, [], ◌∷◌, ◌++◌, length, Bool, true, false, cond, Option, Some, None, Result, Ok, Err, refl, sym, ap, ◌∙◌}
+use Rattle.std.specs.Prelude.{◌&&◌, slice_get, OnOk, IfOk}
 use Rattle.std.specs.List.{list_all}
 use Rattle.std.specs.Option.{option_or, option_to_list}
-use Rattle.std.proofs.lemmas.List.{append-nil}
 use Rattle.range_code.specs.Plane.{is_on_plane}
 use Rattle.dgn_layout.specs.Classes.{class_of, is_silent}
 use Rattle.dgn_layout.specs.Spots.{spots_of, has_spots}
@@ -14,8 +13,6 @@ use Rattle.elem_head.specs.Head.{symbology_of}
 use Rattle.dgn_drawing.specs.Values.{Displacement, LookChange}
 use Rattle.dgn_drawing.specs.Element.{Element}
 use Rattle.dgn_drawing.specs.SpotNumbers.{sum_at}
-use Rattle.dgn_drawing.specs.Spelling.{spell}
-use Rattle.elem_index.specs.Offsets.{offset_of}
 use Rattle.elem_index.specs.declared.design.Design.{Design}
 use Rattle.elem_index.specs.Design.{elements, IsWhole}
 use Rattle.edit_ops.specs.declared.cause.Cause.{Cause}
@@ -25,7 +22,7 @@ use Rattle.edit_ops.specs.declared.asked.Test.TheVariants as tests
 use Rattle.edit_ops.specs.Trees.{Live, found_at, live_tree}
 use Rattle.edit_ops.specs.Causes.{other_axes, silent, unmovable, lookless, unmarkable, off_plane, part_cause, first_cause, first_of, causes_of, target_of}
 use Rattle.edit_ops.specs.Asking.{cause_in, locked_in}
-use Rattle.edit_ops.specs.Written.{sum_put, new_look, above_puts, live_puts, part_puts}
+use Rattle.edit_ops.specs.Written.{new_look, above_puts, live_puts, part_puts}
 use Rattle.edit_ops.specs.Found.{IsFound, IsLone}
 use Rattle.edit_ops.proofs.Accepted.{none_both, movable, looks}
 use Rattle.edit_ops.proofs.Listed.{cause_alone, or_assoc, or_nothing}
@@ -141,17 +138,6 @@ module _ (d : Design) (whole : IsWhole d) (n : ℕ) (f : Found) (found : IsFound
         move_first
         ∙ ap (λ (o : Option Cause). option_or o (cause_in d.dim (tests.Leaves by) n its)) fit
         ∙ plane_cause d.dim (tests.Leaves by) by n its found.element stays refl found.there (sym (stays_found d whole n f found by fit_spots))
-
-  -- what it puts into the part
-  pub puts_lone : part_puts d.dim (elements d) (edit.Move n by) n ≡ map (sum_put by f.place f.bytes.now) (spots_of d.dim f.kind f.bytes.now)
-  puts_lone =
-      let e : Element = found.element in
-      puts_alone d n lone (edit.Move n by)
-      ∙ ap (λ (o : Option Element). live_puts d.dim (edit.Move n by) (option_to_list (option_map (λ (x : Element). record { number = n; place = offset_of (elements d) n; element = x }) o))) found.there
-      ∙ append-nil (map (sum_put by (offset_of (elements d) n) (spell e)) (spots_of d.dim e.kind (spell e)))
-      ∙ ap (λ (k : ℕ). map (sum_put by (offset_of (elements d) n) (spell e)) (spots_of d.dim k (spell e))) (sym found.kind)
-      ∙ ap (λ (p : ℕ). map (sum_put by p (spell e)) (spots_of d.dim f.kind (spell e))) (sym found.place)
-      ∙ ap (λ (b : List ℕ). map (sum_put by f.place b) (spots_of d.dim f.kind b)) (sym found.bytes)
 
 -- what another look puts into it, against which nothing stands
 module _ (d : Design) (whole : IsWhole d) (n : ℕ) (f : Found) (found : IsFound d n f) (lone : IsLone d n) where

@@ -1,5 +1,5 @@
 -- What a crate above knows of a design after it has written to the body: offsets hang on sizes alone, and so on rows.
-use Rattle.std.proofs.Common.{◌≡◌, ℕ, zero, suc, ◌+◌, ◌<◌, ◌≤◌, List, [], ◌∷◌, length, take, map, get_or, refl, sym, ap, ◌∙◌, arith, length-append}
+use Rattle.std.proofs.Common.{◌≡◌, ℕ, zero, suc, ◌+◌, ◌<◌, ◌≤◌, List, [], ◌∷◌, length, take, map, refl, sym, ap, ◌∙◌, arith, length-append}
 use Rattle.std.proofs.lemmas.List.{take-map}
 use Rattle.dgn_drawing.specs.declared.row.Row.{Row}
 use Rattle.dgn_drawing.specs.Element.{Element}
@@ -11,7 +11,7 @@ use Rattle.elem_index.specs.declared.design.Design.{Design}
 use Rattle.elem_index.specs.Offsets.{offset_of, offsets_of}
 use Rattle.elem_index.specs.Design.{kept_of, kinds_of, spare_of, kind_byte, kind_bytes, elements, IsOpen, IsWhole, IsFront, IsBehind}
 use Rattle.elem_index.proofs.KindBytes.{kind_bytes-take, kind_bytes-front}
-use Rattle.elem_index.proofs.Places.{length-offsets, get_or-offsets}
+use Rattle.elem_index.proofs.Places.{length-offsets}
 
 -- elements with the same rows have the same offsets
 pub offsets-rows : (es fs : List Element) → map row_of es ≡ map row_of fs → offsets_of es ≡ offsets_of fs
@@ -35,14 +35,6 @@ offsets-take k es = ap (offsets_from 0) (sym (take-map size_of k es)) ∙ sym (t
 -- where the first elements have the rows of others, their offsets are those of the others
 pub offsets-front : (es more : List Element) → map row_of (take (length es) more) ≡ map row_of es → offsets_of es ≡ take (length es) (offsets_of more)
 offsets-front es more rows = offsets-rows es (take (length es) more) (sym rows) ∙ offsets-take (length es) more
-
--- offset n is the length of the spellings of the elements before it
-pub offset-at : (es : List Element) (n : ℕ) → n < length es → get_or (offsets_of es) n 0 ≡ length (spelling (take n es))
-offset-at es n within = get_or-offsets es n within
-
--- so where the first elements have the rows of others, the next begins where those end
-pub offset-front : (es more : List Element) → map row_of (take (length es) more) ≡ map row_of es → offset_of more (length es) ≡ length (spelling es)
-offset-front es more rows = length-spelling-rows (take (length es) more) es rows
 
 -- each element has bytes
 has_bytes : (e : Element) → 0 < size_of e

@@ -41,10 +41,6 @@ module _ (dim : ℕ) (b : List ℕ) (h : Head) (is : h ≡ head_of b) where
     pub group_gone : h.deleted ≡ true → past end found ≡ with_group dim number depth end (element_at dim b) found
     group_gone gone = sym (cond-true (element_at dim b).deleted _ _ (sym deleted-read ∙ gone))
 
-    pub group_hidden : h.deleted ≡ false → begins_below end found ≡ false → found ≡ with_group dim number depth end (element_at dim b) found
-    group_hidden here none =
-        sym (cond-false (element_at dim b).deleted _ _ (sym deleted-read ∙ here) ∙ cond-false (begins_below end found) _ _ none)
-
     pub group_shown : h.deleted ≡ false → begins_below end found ≡ true → its_item dim number depth (element_at dim b) ++ found ≡ with_group dim number depth end (element_at dim b) found
     group_shown here some =
         sym (cond-false (element_at dim b).deleted _ _ (sym deleted-read ∙ here) ∙ cond-true (begins_below end found) _ _ some)

@@ -1,5 +1,5 @@
 -- The rows of a whole design can be nested.
-use Rattle.std.proofs.Common.{◌≡◌, ◌<◌, List, length, map, arith}
+use Rattle.std.proofs.Common.{◌≡◌, List, map, arith}
 use Rattle.std.specs.List.{AllByRecursion}
 use Rattle.dgn_drawing.specs.declared.row.Row.{Row}
 use Rattle.dgn_drawing.specs.Rows.{row_of}
@@ -12,12 +12,6 @@ use Rattle.nest_tree.proofs.Nestable.{AreNestable, nestable}
 module _ (d : Design) (whole : IsWhole d) (rows : List Row) (are : rows ≡ map row_of (elements d)) where
   able : AreNestable rows
   able = nestable d.dim (axes_of d whole) (elements d) whole.is_open.opens.each whole.is_open.opens.first (omega (arith, few_elements d whole)) rows are
-
-  pub rows_some : 0 < length rows
-  rows_some = able.some
-
-  pub rows_few : length rows < 4294967295
-  rows_few = able.few
 
   pub rows_each : AllByRecursion IsRow rows
   rows_each = able.each

@@ -45,9 +45,6 @@ length-marks (Tree knot h below behind) n depth parent =
     )
 
 module _ (es : List Element) (knot : Knot) (e : Element) (below behind : Forest Element) (n depth : ℕ) (parent : Option ℕ) (stands : Stands es (Tree knot e below behind) n depth parent) where
-  head_mark : Mark
-  head_mark = record { knot = knot; depth = depth; parent = parent; end = end_of n below }
-
   marks_next : (slice_get (marks_of (forest row_of es)) n ≡ Some (record { knot = knot; depth = depth; parent = parent; end = end_of n below }))
       × (drop (n + 1) (marks_of (forest row_of es)) ≡ (marks below (n + 1) (depth + 1) (Some n) ++ marks behind (end_of n below) depth parent) ++ stands.marks_behind)
   marks_next = here_and_behind (marks_of (forest row_of es)) n (record { knot = knot; depth = depth; parent = parent; end = end_of n below })

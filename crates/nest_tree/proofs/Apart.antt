@@ -9,12 +9,6 @@ use Rattle.dgn_drawing.specs.Numbering.{Mark, end_of, marks}
 use Rattle.nest_tree.proofs.Unfolded.{count_within, nest_cons, nest_nil}
 
 module _ {A : Type 0} (row : A → Row) where
-  bit_free : (e : A) (es : List A) → BeginsFree row (e ∷ es) → has_bit (row e) ≡ false
-  bit_free e es free = free
-
-  part_free : (e : A) (es : List A) → BeginsFree row (e ∷ es) → is_spline_part (row e) ≡ false
-  part_free e es free = and_left ((row e).cbit) _ free
-
   front_apart : (test : A → Bool) (l new : List A) → ((e : A) (es : List A) → new ≡ e ∷ es → test e ≡ false) → front_count test (l ++ new) ≡ front_count test l
   front_apart test [] [] fails = refl
   front_apart test [] (e ∷ new) fails = cond-false (test e) _ _ (fails e new refl)

@@ -152,9 +152,6 @@ module _ {A : Type 0} (row : A → Row) (es : List A) (n : ℕ) where
   pub root_known : n < length es → root_of row es n ≡ Some (first_or n (headers_of row es n))
   root_known within = cond-true (nat_lt n (length es)) _ _ (lt-ltb n (length es) within)
 
-  pub root_unknown : length es ≤ n → root_of row es n ≡ None
-  root_unknown past = cond-false (nat_lt n (length es)) _ _ (le-ltb n (length es) past)
-
 -- headers look at the forms of trees alone
 headers-map : {A B : Type 0} (f : A → B) (t : Forest A) (n first : ℕ) → headers_in n first (forest_map f t) ≡ headers_in n first t
 headers-map f NoTree n first = refl

@@ -7,8 +7,8 @@ use Rattle.std.proofs.lemmas.List.{take_at, drop_at, length-append, append-nil}
 use Rattle.std.proofs.lemmas.List.Concat.{flat_map-cons}
 use Rattle.std.proofs.lemmas.Nat.{from_le_bytes-to_le_bytes_4}
 use Rattle.patch_file.specs.Exchanges.{Exchange, KeepsRules, AllKeepRules}
-use Rattle.patch_file.specs.Spelling.{Packed, mark, number, field_spelling, head_spelling, entry_spelling, patch_spelling, IsEntry, AreEntries}
-use Rattle.patch_file.specs.Reading.{bytes_at, number_at, mark_at, head_at, keeps_rules, exchange_at, field_at, fields_at, entry_at, entries_at, patch_of}
+use Rattle.patch_file.specs.Spelling.{Packed, number, field_spelling, head_spelling, entry_spelling, patch_spelling, IsEntry, AreEntries}
+use Rattle.patch_file.specs.Reading.{bytes_at, number_at, head_at, keeps_rules, exchange_at, field_at, fields_at, entry_at, entries_at, patch_of}
 
 part_again : (left n : ℕ) (text rest : List ℕ) → length text ≡ n → bytes_at left n (text ++ rest) ≡ Ok (text, rest)
 part_again left n text rest long =
@@ -97,9 +97,6 @@ entries_again (e ∷ es) rest are =
 pub length-number : (n : ℕ) → length (number n) ≡ 4
 unfolding number
 length-number n = refl
-
-mark_again : (rest : List ℕ) → mark_at (mark ++ rest) ≡ Ok rest
-mark_again rest = refl
 
 pub patch_again : (es : List Packed) → AreEntries es → patch_of (patch_spelling es) ≡ Ok es
 unfolding patch_of

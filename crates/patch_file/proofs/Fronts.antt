@@ -1,10 +1,9 @@
 -- Where a writer of several pieces stops for want of memory: the pieces before are written, and a front of one.
-use Rattle.std.proofs.Common.{ℕ, ◌≡◌, ◌+◌, ◌<◌, ◌++◌, List, length, take, drop, map, get_or, Result, Ok, Err, ap, sym, ◌∙◌, subst, arith, append_assoc, length-append, [], ◌∷◌}
-use Rattle.std.specs.Prelude.{OnOk, OnErr}
+use Rattle.std.proofs.Common.{ℕ, ◌≡◌, ◌+◌, ◌<◌, ◌++◌, List, length, take, drop, map, get_or, Result, Ok, Err, ap, sym, ◌∙◌, subst, arith, append_assoc, [], ◌∷◌}
+use Rattle.std.specs.Prelude.{OnOk}
 use Rattle.std.specs.List.{flat_map}
-use Rattle.std.proofs.lemmas.List.{append-nil, take-append-le, take-append-drop, drop_more, take_more, map-append}
+use Rattle.std.proofs.lemmas.List.{append-nil, take-append-drop, drop_more, take_more, map-append}
 use Rattle.std.proofs.lemmas.List.Concat.{flat_map-append, flat_map-cons}
-use Rattle.std.proofs.Math.Seq.{take-append-add}
 use Rattle.patch_bytes.specs.Fronts.{AppendsFrontOf}
 pub use Rattle.patch_bytes.proofs.Fronts.{first, later, said, last}
 

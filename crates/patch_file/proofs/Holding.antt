@@ -27,10 +27,3 @@ maps_at {X} g P xs i x within is all =
     let parts : map g xs ≡ map g (take i xs) ++ g x ∷ map g (drop (i + 1) xs) =
     ap (map g) (parts_at xs i x within is) ∙ map-append g (take i xs) (x ∷ drop (i + 1) xs) in
     all_at P (map g (take i xs)) (g x) (map g (drop (i + 1) xs)) (subst (AllByRecursion P) parts all)
-
-pub maps_more : {X Y : Type 0} (g : X → Y) (xs : List X) (i : ℕ) (x : X) → i < length xs → x ≡ get_or xs i x → map g (take (i + 1) xs) ≡ map g (take i xs) ++ g x ∷ []
-maps_more g xs i x within is = ap (map g) (more_at xs i x within is) ∙ map-append g (take i xs) (x ∷ [])
-
-pub hold_more : {X Y : Type 0} (g : X → Y) (P : Y → Type 0) (xs : List X) (i : ℕ) (x : X) → i < length xs → x ≡ get_or xs i x → AllByRecursion P (map g (take i xs)) → P (g x) → AllByRecursion P (map g (take (i + 1) xs))
-hold_more g P xs i x within is before one =
-    subst (AllByRecursion P) (sym (maps_more g xs i x within is)) (all_join P (map g (take i xs)) (g x ∷ []) before (one, tt))

@@ -56,6 +56,3 @@ short_appends es n lt le =
 -- what is added to a sum as far as the number goes
 pub capped : (a b x m : ℕ) → a ≡ min x m → min (a + b) m ≡ min (x + b) m
 capped a b x m e = omega arith
-
-pub both_capped : (a b x y m : ℕ) → a ≡ min x m → b ≡ min y m → min (a + b) m ≡ min (x + y) m
-both_capped a b x y m e f = omega arith

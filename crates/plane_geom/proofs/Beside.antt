@@ -120,9 +120,6 @@ beside low high r s e =
     let first = and_parts (on_one_side (turn r s low) (turn r s high)) _ all.0 in
     corners (turn r s low) (turn r s high) (turn r s (low_right low high)) (turn r s (high_left low high)) first.0 first.1 all.1
 
-abbrev Sided : ℤ → Type 0
-Sided t = (pos 0 <ℤ t) ⊎ (t <ℤ pos 0)
-
 above_between : (a b c d t : ℤ) → Above a b c d → (Between a t b ⊎ Between b t a) ⊎ (Between c t d ⊎ Between d t c) → pos 0 <ℤ t
 above_between a b c d t h (inl (inl g)) = omega (arith, ints)
 above_between a b c d t h (inl (inr g)) = omega (arith, ints)
