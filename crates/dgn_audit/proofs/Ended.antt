@@ -1,8 +1,7 @@
 -- After a fit no element of the tree is a finding, and the findings of all other trees are as before.
-use Rattle.std.proofs.Common.{◌≡◌, ℕ, ℤ, zero, suc, ◌+◌, ◌-◌, ◌<◌, ◌≤◌, ◌==◌, List, [], ◌∷◌, ◌++◌, length, take, drop, Option, Some, None, Bool, true, false, cond, refl, sym, ap, ◌∙◌, subst, arith, append_assoc, length-append, inl, inr}
-use Rattle.std.specs.Prelude.{option_map, slice_get, nat_lt, nat_le, not, ◌&&◌, filter}
+use Rattle.std.proofs.Common.{◌≡◌, ℕ, ℤ, zero, suc, ◌+◌, ◌-◌, ◌<◌, ◌≤◌, ◌==◌, List, [], ◌∷◌, ◌++◌, length, take, drop, Option, Some, None, Bool, true, false, cond, refl, sym, ap, ◌∙◌, subst, arith, length-append, inl, inr}
+use Rattle.std.specs.Prelude.{nat_lt, nat_le, not, ◌&&◌, filter}
 use Rattle.std.specs.List.{AllByRecursion}
-use Rattle.std.specs.Ordering.{int_eq}
 use Rattle.std.specs.Cmp.{int_eq_equiv}
 use Rattle.std.proofs.lemmas.List.{append-nil}
 use Rattle.std.proofs.lemmas.Bool.{cond-true, cond-false, cond_both, cases_Bool, ltb-true, ltb-false, lt-ltb, le-ltb, le-leb, lt-leb, and_from, and_left, and_right, both_ways}
@@ -15,21 +14,21 @@ use Rattle.dgn_drawing.specs.Changes.{points_in}
 use Rattle.dgn_drawing.specs.Items.{in_space}
 use Rattle.dgn_drawing.specs.Rows.{row_of}
 use Rattle.dgn_drawing.specs.Nesting.{Knot, Leaf, Group, Run, Loose, Forest, NoTree, Tree, flat, forest}
-use Rattle.dgn_drawing.specs.Numbering.{Mark, end_of, mark_of, root_of, span_of}
+use Rattle.dgn_drawing.specs.Numbering.{Mark, end_of, mark_of, span_of}
 use Rattle.dgn_drawing.proofs.Places.{in_both}
 use Rattle.nest_tree.proofs.Unfolded.{flat-forest}
 use Rattle.level_view.proofs.Places.{mark_told}
 use Rattle.edit_ops.specs.Trees.{count_in, tree_at, exchange}
 use Rattle.dgn_audit.specs.declared.keep.Keep.TheVariants as keeps
 use Rattle.dgn_audit.specs.declared.finding.Finding.{Finding}
-use Rattle.dgn_audit.specs.Hulls.{hull_join, on_axes, box_of, stored_of, is_vertices, points_hull, range_hull, leaf_hull, hull_in, tree_hull, hull_of}
-use Rattle.dgn_audit.specs.Findings.{same_corner, same_box, is_fitted, is_kept, told_of, told_as, told_in, findings}
-use Rattle.dgn_audit.specs.Fitting.{Done, display_fitted, body_fitted, with_range, head_fitted, fitted, fitted_forest, apply_fit}
+use Rattle.dgn_audit.specs.Hulls.{hull_join, on_axes, box_of, stored_of, is_vertices, points_hull, range_hull, hull_in, tree_hull, hull_of}
+use Rattle.dgn_audit.specs.Findings.{same_corner, same_box, is_fitted, is_kept, told_of, told_as, told_in}
+use Rattle.dgn_audit.specs.Fitting.{display_fitted, body_fitted, with_range, head_fitted, fitted, fitted_forest}
 use Rattle.dgn_audit.specs.Laws.{is_outside, FitsEndFindings}
 use Rattle.dgn_audit.proofs.Boxes.{IsOnAxes, set_on_axes, point_on_axes, hulls_on_axes}
 use Rattle.dgn_audit.proofs.Fitted.{hull_shown}
 use Rattle.dgn_audit.proofs.Trees.{told_each}
-use Rattle.dgn_audit.proofs.Rooted.{IsRooted, part_tree, part_mark, part_marked, part_end}
+use Rattle.dgn_audit.proofs.Rooted.{part_tree, part_mark, part_marked, part_end}
 use Rattle.dgn_audit.proofs.Kept.{axes_of, done_at, made_nested}
 
 -- a box is the same as itself

@@ -1,19 +1,18 @@
 -- What a fit keeps: the rows of all elements and so how they nest, that they are well formed, and the first of them.
-use Rattle.std.proofs.Common.{◌≡◌, ℕ, zero, suc, ◌+◌, ◌<◌, ◌≤◌, List, [], ◌∷◌, ◌++◌, length, drop, map, get_or, Option, Some, None, Bool, true, false, cond, refl, sym, ap, ◌∙◌, subst, arith}
-use Rattle.std.specs.Prelude.{All}
+use Rattle.std.proofs.Common.{◌≡◌, ℕ, zero, suc, ◌+◌, ◌<◌, List, [], ◌∷◌, ◌++◌, length, drop, map, get_or, Option, Some, None, cond, refl, sym, ap, ◌∙◌, subst, arith}
 use Rattle.std.specs.List.{AllByRecursion}
 use Rattle.std.proofs.lemmas.Bool.{cond_both}
 use Rattle.std.proofs.lemmas.List.Elements.{recursion_from_All}
-use Rattle.patch_bytes.specs.Puts.{Put, write, Span, AreWithin, Holds}
+use Rattle.patch_bytes.specs.Puts.{Put, write, Span, AreWithin}
 use Rattle.patch_bytes.proofs.Laying.{write_other}
 use Rattle.patch_bytes.proofs.Spans.{span_within}
 use Rattle.range_code.specs.declared.Box3.{Box3}
 use Rattle.dgn_drawing.specs.declared.row.Row.{Row}
 use Rattle.dgn_drawing.specs.Element.{Body, Silent, Shown, Parts, Line, Points, Text, Node, Cell, Header, Plain, Element, form_of_body, form_of_parts}
-use Rattle.dgn_drawing.specs.Spelling.{spell, spelling}
+use Rattle.dgn_drawing.specs.Spelling.{spelling}
 use Rattle.dgn_drawing.specs.WellFormed.{IsDimension, IsWellFormed}
 use Rattle.dgn_drawing.specs.Rows.{row_of}
-use Rattle.dgn_drawing.specs.Nesting.{Knot, Leaf, All as Whole, Forest, NoTree, Tree, flat, nest, forest, forest_map, itself}
+use Rattle.dgn_drawing.specs.Nesting.{Leaf, Forest, NoTree, Tree, flat, forest, forest_map, itself}
 use Rattle.dgn_drawing.specs.Numbering.{root_of}
 use Rattle.dgn_drawing.specs.Opening.{dimension, IsTcb, BeginsWithTcb, Opens}
 use Rattle.dgn_drawing.proofs.Opening.{dimension_is}
@@ -30,9 +29,9 @@ use Rattle.edit_ops.proofs.Putting.{field_of}
 use Rattle.dgn_audit.specs.declared.fit_cause.FitCause.{FitCause}
 use Rattle.dgn_audit.specs.Hulls.{hull_in, tree_hull, hull_of}
 use Rattle.dgn_audit.specs.Findings.{fitted_in}
-use Rattle.dgn_audit.specs.Fitting.{FitApplied, Done, head_fitted, fitted, fitted_forest, fit_puts, root_fields, fit_fields, tree_cause, unless, fit_root, apply_fit}
+use Rattle.dgn_audit.specs.Fitting.{Done, head_fitted, fitted, fitted_forest, fit_puts, root_fields, fit_fields, tree_cause, unless, fit_root, apply_fit}
 use Rattle.dgn_audit.specs.Laws.{FitsItsFields, FittedDrawingsOpen, FitsChangeTheirFields}
-use Rattle.dgn_audit.proofs.Fitted.{IsHeadPut, head_put, tree_good, hulls_good, fitted_each, drawing_turned, puts_filled, puts_fields}
+use Rattle.dgn_audit.proofs.Fitted.{head_put, tree_good, hulls_good, fitted_each, drawing_turned, puts_filled, puts_fields}
 use Rattle.dgn_audit.proofs.Rooted.{root_known}
 
 module _ (dim : ℕ) (axes : IsDimension dim) where

@@ -3,7 +3,6 @@ use Rattle.std.specs.Prelude.{ℕ, ◌≡◌, ◌<◌, ◌&&◌, not, nat_lt, na
 use Rattle.patch_bytes.specs.Puts.{write}
 use Rattle.dgn_drawing.specs.Element.{Element}
 use Rattle.dgn_drawing.specs.Spelling.{spelling}
-use Rattle.dgn_drawing.specs.WellFormed.{IsDimension}
 use Rattle.dgn_drawing.specs.Rows.{row_of}
 use Rattle.dgn_drawing.specs.Nesting.{forest}
 use Rattle.dgn_drawing.specs.Numbering.{root_of, span_of}
