@@ -84,7 +84,8 @@ fn fits(dim: u8, own: u8, by: Option<&Shift>) -> bool
 }
 
 // The trees that are taken, as they stand or displaced; or the first cause of the first of them whose displacement is
-// refused. Beside their bytes it takes no memory.
+// refused. Nothing is kept of a tree but its bytes; what the copy of one of several elements takes is given back before
+// the next.
 fn taken_trees(
     alloc: Global,
     d: &Design,

@@ -1,6 +1,6 @@
 // The nesting follows what an edit appends, block by block: no more rows are kept than those of a block.
 
-ghost use Rattle.std.specs.Prelude.{◌≤◌, length, IfOk, OnErr};
+ghost use Rattle.std.specs.Prelude.{◌≡◌, ◌≤◌, [], ◌∷◌, ◌++◌, length, IfOk, OnOk, OnErr};
 ghost use Rattle.dgn_session.specs.Carried.{IsSpelling, IsBlock, IsBehind, Grows};
 
 use dgn_drawing::{Row, row_of};
@@ -53,8 +53,38 @@ fn read_block(bytes: &[u8], rows: &mut Vec<Row>) -> Result<usize, AllocError>
         if BLOCK <= rows.len() && !row.cbit {
             return Ok(at);
         }
-        rows.push(row)?;
+        push_row(rows, row, rest)?;
         at += size;
     }
     Ok(at)
+}
+
+// Adds a row behind the others. `bytes` begin with its element. Where a block goes on beyond its least length, with the
+// members of a long tree, room is made once, for twice as many rows as these are: the list is then a piece of memory of
+// its own, which the system has back with it, while one that grows step by step leaves each former place behind.
+fn push_row(rows: &mut Vec<Row>, row: Row, bytes: &[u8]) -> Result<(), AllocError>
+    ensures { OnOk result (rows.new.items ≡ rows.old.items ++ row ∷ []) }
+{
+    if rows.len() == BLOCK {
+        rows.reserve(count_members(bytes).saturating_mul(2))?;
+    }
+    rows.push(row)?;
+    Ok(())
+}
+
+// How many elements with bit C the bytes begin with.
+fn count_members(bytes: &[u8]) -> usize {
+    let mut rest = bytes;
+    let mut count = 0usize;
+    'members: while HEAD_END <= rest.len() {
+        let head = head(rest);
+        let size = HEAD_END + 2 * usize::from(head.words);
+        if !head.cbit || rest.len() < size {
+            break;
+        }
+        let (_, behind) = rest.split_at(size);
+        rest = behind;
+        count = count.saturating_add(1);
+    }
+    count
 }

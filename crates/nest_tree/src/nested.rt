@@ -21,12 +21,16 @@ use dgn_drawing::Row;
 use std::alloc::AllocError;
 use std::marker::Model;
 
+// For how many sums room is kept where more rows were read at once, as those of a tree of very many elements are.
+const KEPT_SUMS: usize = 8192;
+
 /// The elements of a drawing as trees.
 #[derive(Drop)]
 pub struct Nest {
     // The rows of all elements, which contracts alone see.
     pub(crate) seen: SeenRows,
-    // Room for the sums of the rows that are being read. It holds nothing between calls.
+    // Room for the sums of the rows that are being read. It holds nothing between calls, and what they took of it is given
+    // back where they were very many.
     pub(crate) sums: Vec<u64>,
     // For each element the number behind the last one below it.
     pub(crate) ends: Vec<u32>,
@@ -137,6 +141,7 @@ impl Nest {
         set_sums(rows, &mut self.sums);
         read_on(&seen, rows, &self.sums, &mut self.ends, &mut self.links);
         self.sums.clear();
+        self.sums.shrink_to(KEPT_SUMS);
         match add_broken(&seen, first, rows, &self.links, &mut self.broken) {
             Ok(()) => {}
             Err(_) => unreachable!(),

@@ -27,8 +27,8 @@ elements-preserved c =
     let words = c.from.ensures ∙ ap (λ (h : Head). h.words) c.head.ensures in
     let said : 4 + 2 * c.from.result ≡ size_of c.split_at.result.1.now = ap (λ (n : ℕ). 4 + 2 * n) words in
     record {
-      left = left_more c.args.bytes.now c.elements.rows.items c.elements.at c.split_at.result.1.now c.elements.invariant.left c.split_at.ensures.back c.elements-test.true (4 + 2 * c.from.result) c.split_at-in-elements.result.0.now c.row_of-row.result c.push.new.self.items said c.split_at-in-elements.ensures.front c.row_of-row.ensures c.in_ok-push.ensures.items;
-      few = omega (arith, ap (length {A = Row}) c.in_ok-push.ensures.items, length-append c.elements.rows.items (c.row_of-row.result ∷ []), c.elements.invariant.few);
+      left = left_more c.args.bytes.now c.elements.rows.items c.elements.at c.split_at.result.1.now c.elements.invariant.left c.split_at.ensures.back c.elements-test.true (4 + 2 * c.from.result) c.split_at-in-elements.result.0.now c.row_of-row.result c.push_row.new.rows.items said c.split_at-in-elements.ensures.front c.row_of-row.ensures c.in_ok-push_row.ensures;
+      few = omega (arith, ap (length {A = Row}) c.in_ok-push_row.ensures, length-append c.elements.rows.items (c.row_of-row.result ∷ []), c.elements.invariant.few);
       within = next_within c.args.bytes.now c.elements.rows.items c.elements.at c.split_at.result.1.now c.elements.invariant.left c.split_at.ensures.back c.elements-test.true c.requires (4 + 2 * c.from.result) said;
     }
 
