@@ -76,9 +76,9 @@ impl Nest {
     {
         let more = n as usize;
         self.sums.reserve(more + 1)?;
-        self.ends.reserve(more)?;
         self.links.reserve(more)?;
-        self.broken.reserve(more)
+        self.broken.reserve(more)?;
+        self.ends.reserve(more)
     }
 
     /// Adds the elements with these rows behind the others, of which they nest apart, since the first of
