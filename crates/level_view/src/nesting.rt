@@ -1,6 +1,6 @@
 // The nesting of a design.
 
-ghost use Rattle.std.specs.Prelude.{◌≡◌, ◌≤◌, ◌<◌, ◌+◌, ◌++◌, length, take, drop, map, slice_index, IfOk};
+ghost use Rattle.std.specs.Prelude.{◌≡◌, ◌≤◌, ◌<◌, ◌+◌, ◌++◌, [], length, take, drop, map, slice_index, IfOk};
 ghost use Rattle.std.specs.List.{AllByRecursion};
 ghost use Rattle.dgn_drawing.specs.Rows.{row_of};
 ghost use Rattle.elem_index.specs.Offsets.{offset_of};
@@ -16,6 +16,9 @@ use std::alloc::{AllocError, Global};
 
 // How many roots with nothing below them, one behind the other, are nested with no row made of them.
 const LONG_RUN: u32 = 4096;
+
+// For how many rows a list keeps its room until it goes.
+const KEPT_ROWS: usize = 8192;
 
 /// The nesting of the elements of the design. Their rows are read block by block, so no more than those of a block are
 /// kept; of many roots with nothing below them, one behind the other, no row is made. There is an error exactly where
@@ -33,7 +36,17 @@ pub fn nest_design(alloc: Global, d: &Design) -> Result<Nest, AllocError>
     'blocks: while at < count {
         at = nest_next(d, &mut nest, at, &mut rows)?;
     }
+    give_back(&mut rows);
     Ok(nest)
+}
+
+// Gives back what very many rows took, before the list itself goes. Where a large piece is freed whole, the C library
+// keeps those that are asked for next in its own heap, where a list that grows leaves its former place behind.
+fn give_back(rows: &mut Vec<Row>)
+    ensures { rows.new.items ≡ [] }
+{
+    rows.clear();
+    rows.shrink_to(KEPT_ROWS);
 }
 
 // Nests some elements, from number n on, behind the others, and gives the number behind them: a long run of roots with
