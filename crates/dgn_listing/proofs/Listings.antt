@@ -10,20 +10,15 @@ use Rattle.elem_head.specs.declared.types.Head.{Head}
 use Rattle.elem_head.specs.Head.{head_of}
 use Rattle.dgn_drawing.specs.Element.{Element}
 use Rattle.dgn_drawing.specs.Spelling.{spell}
-use Rattle.dgn_drawing.specs.WellFormed.{IsDimension, IsWellFormed}
-use Rattle.dgn_drawing.proofs.Opening.{dimension_is}
 use Rattle.elem_index.specs.declared.design.Design.{Design}
 use Rattle.elem_index.specs.Offsets.{offset_of}
 use Rattle.elem_index.specs.Design.{elements, IsWhole}
-use Rattle.elem_index.proofs.Places.{each_at}
 use Rattle.dgn_listing.specs.declared.listed.Listed.{Listed}
 use Rattle.dgn_listing.specs.Counts.{times, counts}
 use Rattle.dgn_listing.specs.RefTexts.{is_ref, ref_count}
 use Rattle.dgn_listing.specs.ElementTexts.{listed_of, listed_at}
 use Rattle.dgn_listing.proofs.Counting.{counts-more, lookup-counts, times-few}
 use Rattle.dgn_listing.proofs.Fronts.{take_found}
-use Rattle.dgn_listing.specs.LinkTexts.{links_text, links_text_in}
-use Rattle.dgn_listing.proofs.Linked.{links-spell}
 use Rattle.dgn_listing.proofs.Told.{HeadIs, taken, head_is}
 
 -- what is read of the bytes
