@@ -41,12 +41,18 @@ fn with_bytes(mut design: Vec<u8>, changes: &[(usize, &[u8])]) -> Vec<u8> {
     design
 }
 
-// How a run of these words over a desk ends. No test rests on more of it, so none has to carry what `run` says.
-fn ends<D: Desk>(alloc: Global, list: &[&str], desk: &mut D) -> Result<Status, AllocError> {
+// These words, as strings.
+fn strings(alloc: Global, list: &[&str]) -> Result<Vec<String>, AllocError> {
     let mut words = Vec::new(alloc);
     for word in list {
         words.push(String::from_str(alloc, word)?)?;
     }
+    Ok(words)
+}
+
+// How a run of these words over a desk ends. No test rests on more of it, so none has to carry what `run` says.
+fn ends<D: Desk>(alloc: Global, list: &[&str], desk: &mut D) -> Result<Status, AllocError> {
+    let words = strings(alloc, list)?;
     Ok(run(alloc, &words, desk))
 }
 

@@ -80,36 +80,43 @@ fn fails_in_turn<R: Abort + Alloc<A = Global>>(
     Ok(())
 }
 
-#[test]
-fn each_call_fails_in_turn(rt: HostRuntime) -> Result<(), Fail> {
+// Runs these words over that desk: no call fails, these calls are made, and this is said. Then runs them once for each
+// call, with that call failing.
+fn each_call_fails<R: Abort + Alloc<A = Global>>(
+    rt: &R,
+    list: &[&str],
+    calls: &[u8],
+    said: &[u8],
+) -> Result<(), AllocError> {
     let alloc = rt.alloc();
+    let (status, whole) = goes(alloc, list)?;
+    assert!(rt; status == Status::Done);
+    assert!(rt; whole.said() == said);
+    assert!(rt; letters(alloc, whole.acts())?.as_slice() == calls);
+    fails_in_turn(rt, list, &whole)
+}
+
+// IN and the second file have 1590 bytes, OUT a body of 1588, with an import one of 1692, and that of `gen` one of 1928,
+// each with a tail of two; PATCH has 128.
+#[test]
+fn each_call_of_an_edit_fails_in_turn(rt: HostRuntime) -> Result<(), Fail> {
     let said =
         b"1 0 3 1 0 0 0 path 0,0 100,50\nshown 1\nok\n1 0 3 1 0 0 0 path 10,-5 110,45\nshown 1\n";
+    each_call_fails(&rt, &EDIT, b"RrrrrrRrrsssWwwwww", said)?;
+    let imports = ["edit", "in", "imports", "out"];
+    let calls = b"RrrrrrRrrRrrrrrRrrrrrssWwwwww";
+    each_call_fails(&rt, &imports, calls, b"ok 1\nok 1\n")?;
+    Ok(())
+}
+
+#[test]
+fn each_call_of_other_runs_fails_in_turn(rt: HostRuntime) -> Result<(), Fail> {
+    each_call_fails(&rt, &CHECK, b"Rrrrrrs", b"elements 2\n")?;
+    each_call_fails(&rt, &PACK, b"RrrrrrRrrWws", b"entries 1\n")?;
+    let apply = ["apply", "in", "p", "out"];
+    each_call_fails(&rt, &apply, b"RrrrrrRrrWwwwwws", b"applied 1\n")?;
+    let generated = ["gen", "7", "3", "out"];
     let made = b"elements 7\nbytes 1930\nshown 6\nmoved 2\nmarked 2\naccepted 8\nrefused 1\n";
-    // The words, the calls of the run in which none fails, and what that says. IN and the second file have 1590 bytes,
-    // OUT a body of 1588, with an import one of 1692, and that of `gen` one of 1928, each with a tail of two; PATCH has 128.
-    let rows: [(&[&str], &[u8], &[u8]); 6] = [
-        (&EDIT, b"RrrrrrRrrsssWwwwww", said),
-        (&CHECK, b"Rrrrrrs", b"elements 2\n"),
-        (&PACK, b"RrrrrrRrrWws", b"entries 1\n"),
-        (
-            &["apply", "in", "p", "out"],
-            b"RrrrrrRrrWwwwwws",
-            b"applied 1\n",
-        ),
-        (&["gen", "7", "3", "out"], b"Wwwwwws", made),
-        (
-            &["edit", "in", "imports", "out"],
-            b"RrrrrrRrrRrrrrrRrrrrrssWwwwww",
-            b"ok 1\nok 1\n",
-        ),
-    ];
-    for (list, calls, said) in rows {
-        let (status, whole) = goes(alloc, list)?;
-        assert!(rt; status == Status::Done);
-        assert!(rt; whole.said() == said);
-        assert!(rt; letters(alloc, whole.acts())?.as_slice() == calls);
-        fails_in_turn(&rt, list, &whole)?;
-    }
+    each_call_fails(&rt, &generated, b"Wwwwwws", made)?;
     Ok(())
 }
