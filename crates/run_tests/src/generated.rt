@@ -29,38 +29,48 @@ fn told(bytes: &[u8]) -> u64 {
 }
 
 #[test]
-fn drawings(rt: HostRuntime) -> Result<(), Fail> {
+fn one_cell(rt: HostRuntime) -> Result<(), Fail> {
     let alloc = rt.alloc();
     let mut one_cell = [0x08, 0x09, 0xFE, 0x02].to_vec(alloc)?;
     one_cell.resize(1536, 0)?;
     one_cell.extend_from_slice(&CELL)?;
     assert!(rt; generate(alloc, 7, 3)? == one_cell);
-    // Where the elements of a drawing begin, with their levels and bit C, and their types.
-    let eight = generate(alloc, 7, 8)?;
-    for (at, first, kind) in [
-        (1536, 0x01, 2),
-        (1628, 0x81, 3),
-        (1680, 0x81, 3),
-        (1732, 0x04, 17),
-        (1796, 0x05, 3),
-        (1848, 0x06, 4),
-        (1910, 0x07, 6),
-        (1980, 0x08, 17),
-    ] {
-        assert!(rt; eight.get(at) == Some(&first));
-        assert!(rt; eight.get(at + 1) == Some(&kind));
+    Ok(())
+}
+
+// Whether an element begins at this byte with that level and bit C and that type.
+fn begins(bytes: &[u8], at: usize, first: u8, kind: u8) -> bool {
+    match bytes.get(at..) {
+        Some([one, two, ..]) => *one == first && *two == kind,
+        _ => false,
     }
-    // A seed, how many elements, how many bytes, and these as one number.
-    for (seed, count, size, number) in [
-        (0, 1, 1590, 0xBBB9_E253_068A_245D),
-        (1, 2, 1652, 0xC5E3_29DE_4ABF_C849),
-        (7, 1000, 64294, 0x3883_BB17_77EC_8626),
-        (4294967295, 33, 3598, 0x861A_1330_1492_11F4),
-    ] {
-        assert!(rt; 1 <= count && count <= 200000);
-        let drawing = generate(alloc, seed, count)?;
-        assert!(rt; drawing.len() == size);
-        assert!(rt; told(&drawing) == number);
-    }
+}
+
+#[test]
+fn eight_elements(rt: HostRuntime) -> Result<(), Fail> {
+    let eight = generate(rt.alloc(), 7, 8)?;
+    assert!(rt; begins(&eight, 1536, 0x01, 2));
+    assert!(rt; begins(&eight, 1628, 0x81, 3));
+    assert!(rt; begins(&eight, 1680, 0x81, 3));
+    assert!(rt; begins(&eight, 1732, 0x04, 17));
+    assert!(rt; begins(&eight, 1796, 0x05, 3));
+    assert!(rt; begins(&eight, 1848, 0x06, 4));
+    assert!(rt; begins(&eight, 1910, 0x07, 6));
+    assert!(rt; begins(&eight, 1980, 0x08, 17));
+    Ok(())
+}
+
+// How many bytes a drawing has, and these as one number.
+#[test]
+fn drawings(rt: HostRuntime) -> Result<(), Fail> {
+    let alloc = rt.alloc();
+    let first = generate(alloc, 0, 1)?;
+    assert!(rt; first.len() == 1590 && told(&first) == 0xBBB9_E253_068A_245D);
+    let second = generate(alloc, 1, 2)?;
+    assert!(rt; second.len() == 1652 && told(&second) == 0xC5E3_29DE_4ABF_C849);
+    let third = generate(alloc, 7, 1000)?;
+    assert!(rt; third.len() == 64294 && told(&third) == 0x3883_BB17_77EC_8626);
+    let last = generate(alloc, 4294967295, 33)?;
+    assert!(rt; last.len() == 3598 && told(&last) == 0x861A_1330_1492_11F4);
     Ok(())
 }

@@ -68,49 +68,44 @@ fn a_packed_import(rt: HostRuntime) -> Result<(), Fail> {
     Ok(())
 }
 
-// How an import of this second file ends, and what it says.
-fn comes_to(alloc: Global, lib: Vec<u8>) -> Result<(Status, Vec<u8>), AllocError> {
+// Shows how an import of this second file ends, and what it says.
+fn comes_to<R: Abort + Alloc<A = Global>>(
+    rt: &R,
+    lib: Vec<u8>,
+    status: Status,
+    said: &[u8],
+) -> Result<(), AllocError> {
+    let alloc = rt.alloc();
     let mut desk = desk_with(alloc, b"import lib\n", lib)?;
-    let status = ends(alloc, &EDIT, &mut desk)?;
-    Ok((status, Vec::from_slice(alloc, desk.said())?))
+    assert!(rt; ends(alloc, &EDIT, &mut desk)? == status);
+    assert!(rt; desk.said() == said);
+    Ok(())
 }
 
 #[test]
 fn imports_that_are_refused(rt: HostRuntime) -> Result<(), Fail> {
     let alloc = rt.alloc();
     let refused = Status::SomeRefused;
+    let space = design(alloc, 0x40, &[&SPACE_LINE, &END])?;
+    comes_to(&rt, space, refused, b"refused import dimension\n")?;
     let three = Vec::from_slice(alloc, &[0x08, 0x09, 0xFE])?;
+    comes_to(&rt, three, refused, b"refused import not-design at 0\n")?;
     let cut = design(alloc, 0, &[&LINE[..50]])?;
-    // The second file, the status, and what is said.
-    let rows = [
-        (
-            design(alloc, 0x40, &[&SPACE_LINE, &END])?,
-            refused,
-            b"refused import dimension\n".as_slice(),
-        ),
-        (three, refused, b"refused import not-design at 0\n"),
-        (cut, refused, b"refused import cut at 1536\n"),
-        (
-            design(alloc, 0, &[&CHAIN_OF_THREE, &END])?,
-            refused,
-            b"refused import short at 1536\n",
-        ),
-        (
-            design(alloc, 0, &[&LINE_WITH_ATTRIBUTES, &END])?,
-            refused,
-            b"refused import attributes at 1536\n",
-        ),
-        (design(alloc, 0, &[&END])?, Status::Done, b"ok 0\n"),
-        (
-            zeros(alloc, 67108865)?,
-            Status::TooLong,
-            b"too long import\n",
-        ),
-    ];
-    for (lib, status, said) in rows {
-        let (ended, told) = comes_to(alloc, lib)?;
-        assert!(rt; ended == status);
-        assert!(rt; told.as_slice() == said);
-    }
+    comes_to(&rt, cut, refused, b"refused import cut at 1536\n")?;
+    let short = design(alloc, 0, &[&CHAIN_OF_THREE, &END])?;
+    comes_to(&rt, short, refused, b"refused import short at 1536\n")?;
+    let data = design(alloc, 0, &[&LINE_WITH_ATTRIBUTES, &END])?;
+    comes_to(&rt, data, refused, b"refused import attributes at 1536\n")?;
+    Ok(())
+}
+
+// A second file without trees, and one of too many bytes.
+#[test]
+fn imports_at_the_limits(rt: HostRuntime) -> Result<(), Fail> {
+    let alloc = rt.alloc();
+    let none = design(alloc, 0, &[&END])?;
+    comes_to(&rt, none, Status::Done, b"ok 0\n")?;
+    let long = zeros(alloc, 67108865)?;
+    comes_to(&rt, long, Status::TooLong, b"too long import\n")?;
     Ok(())
 }
