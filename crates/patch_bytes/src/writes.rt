@@ -1,6 +1,6 @@
 // Writing patches, and writing them back.
 
-ghost use Rattle.std.specs.Prelude.{◌≡◌, length, map};
+ghost use Rattle.std.specs.Prelude.{◌≡◌, ◌-◌, length, map, take, drop, replicate};
 ghost use Rattle.patch_bytes.specs.Puts.{lay, old_of, write_back as written_back, IsWithin, AreWithin};
 ghost use Rattle.patch_bytes.specs.PatchView.{put_of};
 
@@ -8,10 +8,26 @@ use crate::Patch;
 
 /// Writes the bytes of `p` at its place in `buf`, and gives the patch that holds what stood there.
 /// Every other byte stays.
+#[tactic(auto, unfolding(crate::specs::Puts::old_of))]
 pub fn swap_in(buf: &mut [u8], p: Patch) -> Patch
     requires { IsWithin (length buf.old) (put_of p) }
     ensures written { buf.new ≡ lay buf.old (put_of p) }
     ensures restores { put_of result ≡ old_of buf.old (put_of p) }
+{
+    let bytes = exchanged(buf, p);
+    Patch {
+        at: p.at,
+        len: p.len,
+        bytes,
+    }
+}
+
+// Writes the bytes of `p` at its place in `buf`, and gives those that stood there, with zeros behind them.
+fn exchanged(buf: &mut [u8], p: Patch) -> [u8; 4]
+    requires { IsWithin (length buf.old) (put_of p) }
+    ensures written { buf.new ≡ lay buf.old (put_of p) }
+    ensures old { take p.len result ≡ (old_of buf.old (put_of p)).bytes }
+    ensures rest { drop p.len result ≡ replicate (4 - p.len) 0 }
 {
     match p.len {
         1 => exchange::<1>(buf, p),
@@ -23,11 +39,12 @@ pub fn swap_in(buf: &mut [u8], p: Patch) -> Patch
 
 // The same of a patch of LEN bytes. That the number is known makes the copies single moves. The new bytes are named one by
 // one, since a processor waits long for a number that it has just put to the stack in pieces.
-fn exchange<const LEN: usize>(buf: &mut [u8], p: Patch) -> Patch
+fn exchange<const LEN: usize>(buf: &mut [u8], p: Patch) -> [u8; 4]
     requires long { p.len ≡ LEN }
     requires within { IsWithin (length buf.old) (put_of p) }
     ensures written { buf.new ≡ lay buf.old (put_of p) }
-    ensures restores { put_of result ≡ old_of buf.old (put_of p) }
+    ensures old { take p.len result ≡ (old_of buf.old (put_of p)).bytes }
+    ensures rest { drop p.len result ≡ replicate (4 - p.len) 0 }
 {
     let from = p.at as usize;
     let place = &mut buf[from..from + LEN];
@@ -35,11 +52,7 @@ fn exchange<const LEN: usize>(buf: &mut [u8], p: Patch) -> Patch
     bytes[..LEN].copy_from_slice(place);
     let [a, b, c, d] = p.bytes;
     place.copy_from_slice(&[a, b, c, d][..LEN]);
-    Patch {
-        at: p.at,
-        len: p.len,
-        bytes,
-    }
+    bytes
 }
 
 /// Writes the bytes of each patch of `list` at its place in `buf`, the last first.

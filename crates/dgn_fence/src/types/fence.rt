@@ -12,7 +12,7 @@ ghost use Rattle.plane_geom.specs.Boxes.{IsInBox};
 ghost use Rattle.dgn_fence.specs.Segments.{segments_of};
 ghost use Rattle.dgn_fence.specs.Taken.{begins_within, is_inside, overlaps, parts, takes};
 ghost use Rattle.dgn_fence.specs.Limits.{IsFence, bounds_of, extent_of, near_bounds};
-ghost use Rattle.dgn_fence.specs.Outlines.{told_by_bounds, untouched_taken};
+ghost use Rattle.dgn_fence.specs.Outlines.{told_by_bounds, told_by_edges, untouched_taken};
 
 use crate::bounds::{Bounds, bounds_of};
 use crate::edges::{misses_all, touches_fence};
@@ -99,6 +99,17 @@ impl Fence {
         if let Some(begins) = self.told_by_bounds(outline) {
             return Ok(untouched_taken(mode, begins));
         }
+        self.takes_made(alloc, mode, dim, b)
+    }
+
+    // The same, by the item, which is made. It stands apart, so that the elements of which bounds tell don't pay for it.
+    #[inline(never)]
+    fn takes_made(&self, alloc: Global, mode: Mode, dim: u8, b: &[u8]) -> Result<bool, AllocError>
+        requires dimension { IsDimension dim }
+        requires element { IsSoundIn dim b.now }
+        ensures { IfOk result
+            (λ taken. (number depth : ℕ) → taken ≡ takes mode self.now (its_item dim number depth (element_at dim b.now))) }
+    {
         match item(alloc, dim, 0, 0, b)? {
             Some(item) => Ok(self.takes(mode, &[item])),
             None => Ok(false),
@@ -117,6 +128,14 @@ impl Fence {
         if self.upright && outline.around.is_enclosed(self.bounds) {
             return Some(true);
         }
+        self.told_by_edges(outline)
+    }
+
+    // Whether what has that outline begins within the fence, where its bounds miss all edges.
+    #[inline(never)]
+    fn told_by_edges(&self, outline: Outline) -> Option<bool>
+        ensures { result ≡ told_by_edges self.now outline }
+    {
         if misses_all(self.corners.as_slice(), outline.around) {
             return Some(within(outline.first, self.corners.as_slice()));
         }

@@ -1,15 +1,12 @@
-use Rattle.std.proofs.Common.{ℕ, List, [], ◌∷◌, take, drop, sym, ap, ◌∙◌, arith, length-take}
-use Rattle.patch_bytes.specs.Puts.{Put, old_of}
+use Rattle.std.proofs.Common.{ℕ, [], ◌∷◌, take, drop, sym, ap, ◌∙◌, arith, length-take}
+use Rattle.patch_bytes.specs.Puts.{old_of}
 use Rattle.patch_bytes.proofs.Laying.{put_mid-lay, zeros_behind, old_bytes, four_named}
 use Rattle.patch_bytes.proofs.writes.exchange.Goals as goal
 
 -- behind the old bytes stand the zeros that were there first
-pub invariant_of-result : goal.invariant_of-result
-invariant_of-result g c = record {
-  least = c.args.p.least;
-  most = c.args.p.most;
-  rest = zeros_behind c.copy_from_slice.new.self c.args.p.len g.row.LEN (omega (arith, length-take {A = ℕ}, c.copy_from_slice.ensures.len)) (sym c.requires.long);
-}
+pub returns-clause-rest : goal.returns-clause-rest
+returns-clause-rest g c =
+    zeros_behind c.copy_from_slice.new.self c.args.p.len g.row.LEN (omega (arith, length-take {A = ℕ}, c.copy_from_slice.ensures.len)) (sym c.requires.long)
 
 pub returns-clause-written : goal.returns-clause-written
 returns-clause-written g c =
@@ -18,9 +15,8 @@ returns-clause-written g c =
     ∙ ap (λ n. take n c.args.p.bytes) (sym c.requires.long))
     (omega (arith, length-take {A = ℕ}))
 
-pub returns-clause-restores : goal.returns-clause-restores
+pub returns-clause-old : goal.returns-clause-old
 unfolding old_of
-returns-clause-restores g c =
-    let at : List ℕ → Put = λ x. record { at = c.args.p.at; bytes = x } in
-    ap at (old_bytes c.copy_from_slice.new.self (drop g.row.LEN (0 ∷ 0 ∷ 0 ∷ 0 ∷ [])) (drop c.args.p.at c.args.buf.now) _ c.args.p.len _
-    c.copy_from_slice.ensures.after (omega (arith, length-take {A = ℕ}, c.copy_from_slice.ensures.len)) (omega (arith, length-take {A = ℕ})))
+returns-clause-old g c =
+    old_bytes c.copy_from_slice.new.self (drop g.row.LEN (0 ∷ 0 ∷ 0 ∷ 0 ∷ [])) (drop c.args.p.at c.args.buf.now) _ c.args.p.len _
+    c.copy_from_slice.ensures.after (omega (arith, length-take {A = ℕ}, c.copy_from_slice.ensures.len)) (omega (arith, length-take {A = ℕ}))

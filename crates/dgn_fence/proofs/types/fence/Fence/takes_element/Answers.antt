@@ -1,9 +1,6 @@
-use Rattle.std.proofs.Common.{Option, ap, sym, ◌∙◌}
-use Rattle.std.specs.Option.{option_to_list}
-use Rattle.dgn_drawing.specs.declared.types.item.Item.{Item}
+use Rattle.std.proofs.Common.{sym, ◌∙◌}
 use Rattle.dgn_drawing.specs.Items.{item_of}
 use Rattle.dgn_drawing.specs.Reading.{element_at}
-use Rattle.dgn_fence.specs.Taken.{takes}
 use Rattle.dgn_fence.proofs.Outlines.{begun_in, told_taken, anywhere}
 use Rattle.dgn_fence.proofs.types.fence.Fence.takes_element.Goals as goal
 
@@ -15,10 +12,4 @@ pub returns-in-Some-told_by_bounds : goal.returns-in-Some-told_by_bounds
 returns-in-Some-told_by_bounds c = λ number depth.
     c.untouched_taken.ensures
     ∙ sym (told_taken c.args.mode c.args.self.now (item_of c.args.dim 0 0 (element_at c.args.dim c.args.b.now)) c.in-Some.outline c.in-Some-told_by_bounds.begins (sym c.in-Some.ensures) (sym c.in-Some-told_by_bounds.ensures))
-    ∙ anywhere c.args.mode c.args.self.now c.args.dim number depth (element_at c.args.dim c.args.b.now)
-
-pub returns-in-Some-2 : goal.returns-in-Some-2
-returns-in-Some-2 c = λ number depth.
-    c.takes.ensures
-    ∙ ap (λ (o : Option Item). takes c.args.mode c.args.self.now (option_to_list o)) (sym c.in-Some-2.is ∙ c.in_ok-item.ensures)
     ∙ anywhere c.args.mode c.args.self.now c.args.dim number depth (element_at c.args.dim c.args.b.now)
