@@ -1,14 +1,31 @@
-use Rattle.std.proofs.Common.{◌≡◌, ◌≤◌, ◌∙◌, ◌-◌, ◌+◌, ◌<◌, ap, sym, subst, arith, List, length, drop, vec_len, vec_capacity, ℕ}
+use Rattle.std.proofs.Common.{◌≡◌, ◌≤◌, ◌++◌, ◌==◌, Bool, false, ◌∙◌, ◌-◌, ◌+◌, ◌<◌, ap, sym, subst, arith, List, length, drop, vec_len, vec_capacity, ℕ}
+use Rattle.std.proofs.lemmas.List.{length-append}
+use Rattle.std.proofs.lemmas.Bool.Decides.{nat_tests}
 use Rattle.dgn_drawing.specs.declared.row.Row.{Row}
 use Rattle.nest_tree.specs.Nested.{Nested}
 use Rattle.nest_tree.specs.Places.{NestApart}
 use Rattle.nest_tree.proofs.Placed.{length-links}
 use Rattle.nest_tree.proofs.Begun.{all_links}
-use Rattle.nest_tree.proofs.Grown.{least_room, length-grown, length-kept_ends, grown_new, grown_places, grown_apart, grown_broken}
+use Rattle.nest_tree.proofs.Grown.{least_room, length-grown, length-kept_ends, grown_new, grown_words, grown_places, grown_apart, grown_broken}
 use Rattle.nest_tree.proofs.nested.Nest.add_any.Goals as goal
 
 apart_of : (new : List Row) (t : Nested) (rows : List Row) → rows ≡ t.rows → 0 < length rows → (0 < length t.rows → NestApart t.rows new) → NestApart rows new
 apart_of new t rows same some apart = subst (λ (l : List Row). NestApart l new) (sym same) (apart (subst (λ (l : List Row). 0 < length l) same some))
+
+fewer : (a n m : ℕ) → a + n < m → n < m
+fewer a n m few = omega arith
+
+room_for_sums : (n cap : ℕ) (empty : Bool) → empty ≡ (n == 0) → empty ≡ false → n ≤ cap - 1 → n + 1 ≤ cap
+room_for_sums n cap empty is some room = grind (arith, nat_tests)
+
+few_grown : (new rows all : List Row) (t : Nested) (most : ℕ) → rows ≡ t.rows → all ≡ rows ++ new → length t.rows + length new < most → length all < most
+few_grown new rows all t most same is few = omega (arith, length-append rows new, ap (length {A = Row}) is, ap (length {A = Row}) same)
+
+kept_within : (new rows all : List Row) (len first : ℕ) → len ≡ length rows → first ≡ len → all ≡ rows ++ new → first ≤ length all
+kept_within new rows all len first kept told is = omega (arith, length-append rows new, ap (length {A = Row}) is)
+
+some_grown : (new rows all : List Row) → all ≡ rows ++ new → 0 < length rows → 0 < length all
+some_grown new rows all is some = omega (arith, length-append rows new, ap (length {A = Row}) is)
 
 pub read_on-requires-clause-rows : goal.read_on-requires-clause-rows
 read_on-requires-clause-rows c = grown_new c.self.inside.seen.list c.args.rows.now c.then-seen.result.list c.self.inside.ends.items c.self.inside.links.items c.self.inside.broken.items c.self.invariant (apart_of c.args.rows.now c.args.self.now c.self.inside.seen.list (ap (λ (t : Nested). t.rows) c.self.view_is) c.self.invariant.some c.requires.apart) c.then-seen.ensures
@@ -37,7 +54,7 @@ read_on-requires-clause-room_for_links c =
 
 pub add_broken-requires-clause-rows : goal.add_broken-requires-clause-rows
 add_broken-requires-clause-rows c =
-    let first : length c.self.inside.ends.items ≡ c.len-first.result = omega (arith, c.len-first.ensures, c.self.inside.ends.ok.0) in
+    let first : length c.self.inside.ends.items ≡ c.len-first.result = sym c.self.inside.ends.ok.0 ∙ sym c.len-first.ensures in
     grown_new c.self.inside.seen.list c.args.rows.now c.then-seen.result.list c.self.inside.ends.items c.self.inside.links.items c.self.inside.broken.items c.self.invariant (apart_of c.args.rows.now c.args.self.now c.self.inside.seen.list (ap (λ (t : Nested). t.rows) c.self.view_is) c.self.invariant.some c.requires.apart) c.then-seen.ensures ∙ ap (λ (k : ℕ). drop k c.then-seen.result.list) first
 
 pub add_broken-requires-clause-links : goal.add_broken-requires-clause-links
@@ -45,15 +62,46 @@ add_broken-requires-clause-links c = all_links c.then-seen.result.list c.read_on
 
 pub add_broken-requires-clause-begun : goal.add_broken-requires-clause-begun
 add_broken-requires-clause-begun c =
-    let first : length c.self.inside.ends.items ≡ c.len-first.result = omega (arith, c.len-first.ensures, c.self.inside.ends.ok.0) in
+    let first : length c.self.inside.ends.items ≡ c.len-first.result = sym c.self.inside.ends.ok.0 ∙ sym c.len-first.ensures in
     grown_broken c.self.inside.seen.list c.args.rows.now c.then-seen.result.list c.self.inside.ends.items c.self.inside.links.items c.self.inside.broken.items c.self.invariant (apart_of c.args.rows.now c.args.self.now c.self.inside.seen.list (ap (λ (t : Nested). t.rows) c.self.view_is) c.self.invariant.some c.requires.apart) c.then-seen.ensures c.len-first.result (sym first)
 
 pub unreachable-requires : goal.unreachable-requires
 unreachable-requires c =
     let room = least_room (length c.args.rows.now) (vec_capacity c.self.inside.sums - 1) (vec_capacity c.self.inside.ends - vec_len c.self.inside.ends) c.self.inside.links.spare (vec_capacity c.self.inside.broken - vec_len c.self.inside.broken)
     (subst (λ (t : Nested). length c.args.rows.now ≤ t.spare) (sym c.self.view_is) c.requires.room) in
-    let first : length c.self.inside.ends.items ≡ c.len-first.result = omega (arith, c.len-first.ensures, c.self.inside.ends.ok.0) in
+    let first : length c.self.inside.ends.items ≡ c.len-first.result = sym c.self.inside.ends.ok.0 ∙ sym c.len-first.ensures in
     let long = length-grown c.self.inside.seen.list c.args.rows.now c.then-seen.result.list c.self.inside.ends.items c.self.inside.links.items c.self.inside.broken.items c.self.invariant (apart_of c.args.rows.now c.args.self.now c.self.inside.seen.list (ap (λ (t : Nested). t.rows) c.self.view_is) c.self.invariant.some c.requires.apart) c.then-seen.ensures in
     let kept = length-kept_ends c.self.inside.seen.list c.args.rows.now c.then-seen.result.list c.self.inside.ends.items c.self.inside.links.items c.self.inside.broken.items c.self.invariant (apart_of c.args.rows.now c.args.self.now c.self.inside.seen.list (ap (λ (t : Nested). t.rows) c.self.view_is) c.self.invariant.some c.requires.apart) c.then-seen.ensures in
     let full : vec_capacity c.self.inside.broken < vec_len c.self.inside.broken + (length c.then-seen.result.list - c.len-first.result) = c.in-Err.ensures.full in
     omega (arith, room.3, c.self.inside.broken.ok.0, c.self.inside.broken.ok.1)
+
+pub set_sums-requires-clause-few : goal.set_sums-requires-clause-few
+set_sums-requires-clause-few c = fewer (length c.args.self.now.rows) (length c.args.rows.now) 4294967295 c.requires.few
+
+pub set_sums-requires-clause-room : goal.set_sums-requires-clause-room
+set_sums-requires-clause-room c =
+    room_for_sums (length c.args.rows.now) (vec_capacity c.self.inside.sums) c.is_empty.result c.is_empty.ensures c.if-is_empty.false
+    (least_room (length c.args.rows.now) (vec_capacity c.self.inside.sums - 1) (vec_capacity c.self.inside.ends - vec_len c.self.inside.ends) c.self.inside.links.spare (vec_capacity c.self.inside.broken - vec_len c.self.inside.broken)
+    (subst (λ (t : Nested). length c.args.rows.now ≤ t.spare) (sym c.self.view_is) c.requires.room)).0
+
+pub read_on-requires-clause-few : goal.read_on-requires-clause-few
+read_on-requires-clause-few c = few_grown c.args.rows.now c.self.inside.seen.list c.then-seen.result.list c.args.self.now 4294967295 (ap (λ (t : Nested). t.rows) c.self.view_is) c.then-seen.ensures c.requires.few
+
+pub add_broken-requires-clause-few : goal.add_broken-requires-clause-few
+add_broken-requires-clause-few c = few_grown c.args.rows.now c.self.inside.seen.list c.then-seen.result.list c.args.self.now 4294967295 (ap (λ (t : Nested). t.rows) c.self.view_is) c.then-seen.ensures c.requires.few
+
+pub add_broken-requires-clause-within : goal.add_broken-requires-clause-within
+add_broken-requires-clause-within c =
+    kept_within c.args.rows.now c.self.inside.seen.list c.then-seen.result.list c.self.inside.ends.len c.len-first.result (c.self.inside.ends.ok.0 ∙ length-kept_ends c.self.inside.seen.list c.args.rows.now c.then-seen.result.list c.self.inside.ends.items c.self.inside.links.items c.self.inside.broken.items c.self.invariant (apart_of c.args.rows.now c.args.self.now c.self.inside.seen.list (ap (λ (t : Nested). t.rows) c.self.view_is) c.self.invariant.some c.requires.apart) c.then-seen.ensures) c.len-first.ensures c.then-seen.ensures
+
+pub invariant_of-self : goal.invariant_of-self
+invariant_of-self c = record {
+  some = some_grown c.args.rows.now c.self.inside.seen.list c.then-seen.result.list c.then-seen.ensures c.self.invariant.some;
+  few = few_grown c.args.rows.now c.self.inside.seen.list c.then-seen.result.list c.args.self.now 4294967295 (ap (λ (t : Nested). t.rows) c.self.view_is) c.then-seen.ensures c.requires.few;
+  words = grown_words c.self.inside.seen.list c.args.rows.now c.then-seen.result.list c.self.inside.ends.items c.self.inside.links.items c.self.inside.broken.items c.self.invariant (apart_of c.args.rows.now c.args.self.now c.self.inside.seen.list (ap (λ (t : Nested). t.rows) c.self.view_is) c.self.invariant.some c.requires.apart) c.then-seen.ensures c.set_sums.ensures.words;
+  places = c.read_on.ensures;
+  are_broken = c.in-Ok.ensures.list;
+}
+
+pub returns : goal.returns
+returns c = c.then-seen.ensures ∙ ap (λ (l : List Row). l ++ c.args.rows.now) (ap (λ (t : Nested). t.rows) c.self.view_is)
