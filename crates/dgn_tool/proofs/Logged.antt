@@ -9,11 +9,11 @@ use Rattle.dgn_drawing.specs.declared.fence_edit.FenceEdit.{FenceEdit}
 use Rattle.dgn_drawing.specs.declared.mode.Mode.{Mode}
 use Rattle.edit_ops.specs.Applying.{Applied, Done}
 use Rattle.dgn_session.specs.Fits.{fit_applied, fit_entry}
-use Rattle.dgn_session.specs.State.{SessionValue, state_of, applied, entry, fence_entry, value_with, selection, fence_applied}
+use Rattle.dgn_session.specs.State.{State, SessionValue, state_of, applied, entry, fence_entry, value_with, selection, fence_applied}
 use Rattle.edit_script.specs.declared.command.Command.TheVariants as command
-use Rattle.dgn_tool.specs.Given.{Given}
-use Rattle.dgn_tool.specs.Remaining.{Made, Alone, Fenced, Fitted, with_made, with_all_made, without_newest, with_steps}
-use Rattle.dgn_tool.specs.Packing.{entry_made, IsLogOf, LogsAs}
+use Rattle.dgn_tool.specs.Given.{Given, after_step}
+use Rattle.dgn_tool.specs.Remaining.{Made, Alone, Fenced, Fitted, with_made, with_all_made, without_newest, with_step, with_steps}
+use Rattle.dgn_tool.specs.Packing.{entry_made, IsLogOf, LogsAs, StepLogsAs, AllLogAs}
 use Rattle.dgn_tool.proofs.Undone.{not_refused}
 
 -- one more
@@ -67,3 +67,20 @@ undo_logs old new some undone dim left log =
 -- steps, one after the other: what those that ran have left, and what those that are left will
 pub record LogsSo (all rest : List Given) (from v : SessionValue) : Type 0 where
   pub so : (left : List Made) → IsLogOf from left → (now : List Made) × IsLogOf v now × (with_steps all (state_of from) left ≡ with_steps rest (state_of v) now)
+
+-- one more
+pub logs_more : (all rest : List Given) (g : Given) (from v new : SessionValue) → LogsSo all (g ∷ rest) from v → StepLogsAs g v new → state_of new ≡ after_step (state_of v) g → LogsSo all rest from new
+logs_more all rest g from v new done logs is = record {
+  so = λ left log.
+      let here = done.so left log in (
+        with_step (state_of v) g here.0,
+        logs here.0 here.1,
+        here.2 ∙ ap (λ (s : State). with_steps rest s (with_step (state_of v) g here.0)) (sym is),
+      );
+}
+
+-- where no step is left, all have run
+pub logs_all : (all rest : List Given) (from v : SessionValue) → LogsSo all rest from v → rest ≡ [] → AllLogAs all from v
+logs_all all rest from v done none left log =
+    let here = done.so left log in
+    subst (IsLogOf v) (sym (here.2 ∙ ap (λ (gs : List Given). with_steps gs (state_of v) here.0) none)) here.1
