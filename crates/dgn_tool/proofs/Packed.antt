@@ -12,12 +12,10 @@ use Rattle.dgn_drawing.specs.Element.{Element}
 use Rattle.dgn_drawing.specs.Spelling.{spelling}
 use Rattle.dgn_drawing.specs.Opening.{elements_of}
 use Rattle.dgn_drawing.proofs.Fronts.{body_spelled}
-use Rattle.elem_index.specs.Opened.{Opened}
 use Rattle.dgn_session.specs.State.{State, SessionValue, state_of, earlier_of}
 use Rattle.dgn_session.specs.Kept.{AreKept}
 use Rattle.dgn_session.specs.Laws.{IsSound}
 use Rattle.dgn_session.proofs.Steps.{bodies_first}
-use Rattle.dgn_tool.specs.Commands.{begun}
 use Rattle.dgn_tool.specs.Given.{Given, after_all, refused_count}
 use Rattle.dgn_tool.specs.Ended.{ended}
 use Rattle.dgn_tool.specs.Lines.{numbered}
@@ -50,9 +48,9 @@ taken_are dim tail b base (m ∷ left) kept lists =
     ∙ ap (map (packed_made dim)) (sym (reverse-append (m ∷ []) left))
 
 -- what is taken off a session that ran these commands
-pub packs : (cs : List Given) (from v : SessionValue) (d : Opened) → state_of from ≡ begun d → from.entries ≡ [] → AllLogAs cs from v → state_of v ≡ after_all cs (state_of from) → IsSound v
-    → all_taken v.body (reverse v.entries) ≡ packed_after cs (begun d)
-packs cs from v d begins none logs after sound =
+pub packs : (cs : List Given) (from v : SessionValue) → from.entries ≡ [] → AllLogAs cs from v → state_of v ≡ after_all cs (state_of from) → IsSound v
+    → all_taken v.body (reverse v.entries) ≡ packed_after cs (state_of from)
+packs cs from v none logs after sound =
     let base : List Element = (state_of from).top in
     let left : List Made = with_steps cs (state_of from) [] in
     let log : IsLogOf v left = logs [] (ap (λ (es : List Entry). reverse es) none) in
@@ -64,7 +62,6 @@ packs cs from v d begins none logs after sound =
     ∙ taken_are v.dim v.tail v.body base left (subst (AreKept v.dim v.tail v.body) log sound)
     (subst (λ (es : List Entry). map (elements_of v.dim) (bodies v.body es) ≡ lists_made left ++ base ∷ []) log lists)
     ∙ ap (λ (k : ℕ). map (packed_made k) (reverse left)) dim
-    ∙ ap (packed_after cs) begins
 
 -- Entries that are taken off, the newest first: what was taken so far, and what is left to take.
 

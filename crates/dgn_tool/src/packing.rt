@@ -1,12 +1,13 @@
 // Packing what the commands of a script do to a drawing.
 
-ghost use Rattle.std.specs.Prelude.{◌≡◌, ◌≤◌, ◌<◌, ◌++◌, codes, length, reverse, IfOk, OnOk, IsTrue};
+ghost use Rattle.std.specs.Prelude.{◌≡◌, ◌≤◌, ◌<◌, ◌++◌, [], codes, length, reverse, IfOk, OnOk, IsTrue};
 ghost use Rattle.std.specs.List.{AllByRecursion};
 ghost use Rattle.dgn_import.specs.Seconds.{IsSound as IsSoundSecond};
 ghost use Rattle.dgn_desk.specs.Desk.{Rose};
 ghost use Rattle.elem_index.specs.Design.{IsWhole};
 ghost use Rattle.elem_index.specs.Answers.{opened_of};
 ghost use Rattle.dgn_session.specs.Laws.{IsSound};
+ghost use Rattle.dgn_session.specs.State.{state_of};
 ghost use Rattle.patch_file.specs.Spelling.{patch_spelling};
 ghost use Rattle.patch_file.specs.Standing.{all_taken};
 ghost use Rattle.patch_file.specs.PatchView.{packed_of, all_packed};
@@ -87,8 +88,25 @@ fn pack_edits(
         ≡ packed_after (given_all commands.now (waiting seconds.old.items)) (begun (opened_of design))) }
 {
     let mut session = Session::start(alloc, design)?;
-    let tally = run_unsaid(alloc, &mut session, commands, seconds)?;
-    let entries = take_all(alloc, &mut session)?;
+    pack_session(alloc, &mut session, commands, seconds)
+}
+
+// Runs the commands in a session that has begun, and takes off its log what those edits did that are left.
+fn pack_session(
+    alloc: Global,
+    session: &mut Session,
+    commands: &[Command],
+    seconds: &mut Vec<Second>,
+) -> Result<Packed, AllocError>
+    requires begun { session.old.entries ≡ [] }
+    requires sound { AllByRecursion IsSoundSecond seconds.old.items }
+    ensures refused { IfOk result (λ p. p.refused
+        ≡ refused_count (given_all commands.now (waiting seconds.old.items)) (state_of session.old)) }
+    ensures entries { IfOk result (λ p. all_packed p.entries.items
+        ≡ packed_after (given_all commands.now (waiting seconds.old.items)) (state_of session.old)) }
+{
+    let tally = run_unsaid(alloc, session, commands, seconds)?;
+    let entries = take_all(alloc, session)?;
     Ok(Packed {
         refused: tally.refused,
         entries,

@@ -1,12 +1,19 @@
-use Rattle.std.proofs.Common.{ap, ◌∙◌}
-use Rattle.elem_index.specs.Answers.{opened_of}
-use Rattle.dgn_session.specs.State.{SessionValue}
-use Rattle.dgn_tool.specs.Given.{given_all}
+use Rattle.std.proofs.Common.{◌≡◌, ap, subst}
+use Rattle.std.specs.Prelude.{IfOk}
+use Rattle.dgn_session.specs.State.{State, SessionValue}
+use Rattle.patch_file.specs.PatchView.{all_packed}
+use Rattle.dgn_tool.specs.Given.{given_all, refused_count}
+use Rattle.dgn_tool.specs.Packing.{packed_after}
 use Rattle.dgn_tool.specs.SecondFiles.{waiting}
-use Rattle.dgn_tool.proofs.Packed.{packs}
 use Rattle.dgn_tool.proofs.packing.pack_edits.Goals as goal
+
+pub pack_session-requires-clause-begun : goal.pack_session-requires-clause-begun
+pack_session-requires-clause-begun c = ap (λ (v : SessionValue). v.entries) c.in_ok-session.ensures.value
+
+pub returns-clause-refused : goal.returns-clause-refused
+returns-clause-refused c =
+    subst (λ (s : State). IfOk c.pack_session.result (λ p. p.refused ≡ refused_count (given_all c.args.commands.now (waiting c.args.seconds.now.items)) s)) c.in_ok-session.ensures.begun c.pack_session.ensures.refused
 
 pub returns-clause-entries : goal.returns-clause-entries
 returns-clause-entries c =
-    c.in_ok-entries.ensures.taken
-    ∙ packs (given_all c.args.commands.now (waiting c.args.seconds.now.items)) c.in_ok-session.session c.run_unsaid.new.session (opened_of c.args.design) c.in_ok-session.ensures.begun (ap (λ (v : SessionValue). v.entries) c.in_ok-session.ensures.value) c.in_ok-tally.ensures.logged c.in_ok-tally.ensures.state c.in_ok-entries.ensures.sound
+    subst (λ (s : State). IfOk c.pack_session.result (λ p. all_packed p.entries.items ≡ packed_after (given_all c.args.commands.now (waiting c.args.seconds.now.items)) s)) c.in_ok-session.ensures.begun c.pack_session.ensures.entries
