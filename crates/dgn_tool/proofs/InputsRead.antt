@@ -3,7 +3,7 @@ use Rattle.std.proofs.Common.{◌≡◌, ℕ, List, map, true, false, Option, So
 use Rattle.std.specs.Prelude.{IfSome, IsErrOf, codes}
 use Rattle.std.specs.List.{list_all}
 use Rattle.std.proofs.lemmas.Bool.{cond-true, cond-false}
-use Rattle.dgn_desk.specs.Content.{Content, bytes_of, OnlyLeftDiffers}
+use Rattle.dgn_desk.specs.Content.{Content, bytes_of, OnlyLeftDiffers, HasFile}
 use Rattle.dgn_import.specs.Seconds.{SecondValue, second_of}
 use Rattle.elem_index.specs.Opened.{Opened}
 use Rattle.edit_script.specs.declared.command.Command.{Command}
@@ -77,6 +77,14 @@ module _ (input script : List ℕ) where
       there_of (Some c) m left opens known has =
           let there : AreThere (names_in cs) c.files = subst (λ r. HasSeconds r c.files) known.1 (has.1 (comes (bytes_of c.files input) d opens.0 opens.1) known.0) in
           rw left.1 there
+
+      pub seconds_there : IfSome old (λ c. HasAll input script c.files) → IfSome here (λ c. AreThere (names_in cs) c.files)
+      seconds_there has = there_of old here left_only opens (reads_here old mid only reads) has
+
+  -- IN is there
+  pub input_there : (old : Option Content) → IfSome old (λ c. HasAll input script c.files) → HasFile input old
+  input_there None has = tt
+  input_there (Some c) has = has.0.0
 
   -- IN is there, and SCRIPT
   pub both_there : (old : Option Content) → IfSome old (λ c. HasAll input script c.files) → IfSome old (λ c. HasBoth input script c.files)
