@@ -25,3 +25,4 @@ mod Filed
 mod Patching
 mod PatchEndings
 mod SameFile
+mod Stops

@@ -82,6 +82,14 @@ comes_as o q status old now same comes = subst (λ (x : Outcome). ComesTo status
 pub entries_made : (b tail output : List ℕ) (es : List Packed) (made : Patched) → put_from (length tail) 1 b es ≡ made → entries_outcome b tail es output ≡ patched_outcome (length b) tail (length es) made output
 entries_made b tail output es made is = ap (λ (p : Patched). patched_outcome (length b) tail (length es) p output) is
 
+-- and where they made a body
+pub entries_done : (before : ℕ) (b tail output : List ℕ) (entries : List PatchEntry) (made : List ℕ) → before ≡ length b → put_from (length tail) 1 b (all_packed entries) ≡ Made made
+    → patched_outcome before tail (length entries) (Made made) output ≡ entries_outcome b tail (all_packed entries) output
+entries_done before b tail output entries made is put =
+    ap (λ (n : ℕ). patched_outcome n tail (length entries) (Made made) output) is
+    ∙ ap (λ (n : ℕ). patched_outcome (length b) tail n (Made made) output) (sym (length-map entries packed_of))
+    ∙ sym (entries_made b tail output (all_packed entries) (Made made) put)
+
 -- Laws.
 
 -- a run that applies entries to a drawing comes to what these come to on it

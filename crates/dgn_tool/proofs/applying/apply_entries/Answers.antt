@@ -1,12 +1,13 @@
-use Rattle.std.proofs.Common.{◌≡◌, length, Err, subst}
+use Rattle.std.proofs.Common.{◌≡◌, ◌∙◌, length, Err, ap, sym, subst}
 use Rattle.std.specs.Prelude.{codes}
 use Rattle.patch_file.specs.PatchView.{all_packed}
-use Rattle.dgn_tool.specs.Applied.{Differs, Overruns, put_from, entries_outcome, Puts}
-use Rattle.dgn_tool.specs.Ended.{ended}
+use Rattle.dgn_tool.specs.Applied.{Made, Differs, Overruns, put_from, entries_outcome, Puts}
+use Rattle.dgn_tool.specs.Ended.{Outcome, ended}
 use Rattle.dgn_tool.specs.Lines.{numbered}
+use Rattle.dgn_tool.specs.Outcome.{ComesTo}
 use Rattle.dgn_tool.specs.declared.status.Status.TheVariants as statuses
 use Rattle.dgn_tool.proofs.Endings.{wants, nothing_done}
-use Rattle.dgn_tool.proofs.PatchEndings.{comes_as, entries_made}
+use Rattle.dgn_tool.proofs.PatchEndings.{comes_as, entries_made, entries_done}
 use Rattle.dgn_tool.proofs.applying.apply_entries.Goals as goal
 
 pub returns-in-Err-Refused-clause-outcome : goal.returns-in-Err-Refused-clause-outcome
@@ -30,3 +31,9 @@ returns-in-Err-TooLong-clause-outcome g c =
 pub returns-clause-outcome : goal.returns-clause-outcome
 returns-clause-outcome g c =
     wants (λ _. entries_outcome c.args.body.items c.args.tail.now (all_packed c.args.entries.now) c.args.output.now) (g.D.Desk.content c.args.desk.now) (g.D.Desk.content c.args.desk.now) (nothing_done (g.D.Desk.content c.args.desk.now))
+
+pub returns-in-Ok-clause-outcome : goal.returns-in-Ok-clause-outcome
+returns-in-Ok-clause-outcome g c =
+    subst (λ (o : Outcome). ComesTo c.finish.result (λ _. o) (g.D.Desk.content c.args.desk.now) (g.D.Desk.content c.finish.new.desk))
+    (entries_done c.len-before.result c.args.body.items c.args.tail.now c.args.output.now c.args.entries.now c.deref.result.now (c.len-before.ensures ∙ c.args.body.ok.0) (c.in-Ok.ensures.put ∙ ap Made (sym c.deref.ensures.value)))
+    c.finish.ensures.outcome
