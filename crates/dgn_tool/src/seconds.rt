@@ -77,19 +77,17 @@ fn read_for<D: Desk>(
     ensures able { IsTrue (D.willing desk.old)
         → IfSome (D.content desk.old) (λ c. AreThere (names_of command.now) c.files) → IfErr result IsFaultless }
 {
-    match command {
-        Command::Import(name, _) => {
-            let second = match read_named(alloc, desk, text_of(name)) {
-                Ok(second) => second,
-                Err(status) => return Err(status),
-            };
-            match seconds.push(second) {
-                Ok(()) => Ok(()),
-                Err(_) => Err(Status::Memory),
-            }
-        }
-        _ => Ok(()),
-    }
+    let Command::Import(name, _) = command else {
+        return Ok(());
+    };
+    let second = match read_named(alloc, desk, text_of(name)) {
+        Ok(second) => second,
+        Err(status) => return Err(status),
+    };
+    let Ok(()) = seconds.push(second) else {
+        return Err(Status::Memory);
+    };
+    Ok(())
 }
 
 // Reads the named second file whole, and opens it, or ends the run.
