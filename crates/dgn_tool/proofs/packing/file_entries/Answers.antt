@@ -1,7 +1,7 @@
-use Rattle.std.proofs.Common.{◌≡◌, List, ℕ, Err, length, codes, nat_lt, cond, subst}
+use Rattle.std.proofs.Common.{◌≡◌, List, ℕ, Err, length, codes, nat_lt, cond, subst, ◌∙◌}
 use Rattle.std.specs.Prelude.{option_map}
 use Rattle.dgn_desk.specs.Content.{filed, spoken}
-use Rattle.dgn_desk.specs.Desk.{FilesAll, SaysAll}
+use Rattle.dgn_desk.specs.Desk.{FilesAll, SaysAll, Rose}
 use Rattle.patch_file.specs.Spelling.{patch_spelling}
 use Rattle.patch_file.specs.PatchView.{all_packed}
 use Rattle.dgn_tool.specs.Lines.{numbered}
@@ -9,9 +9,10 @@ use Rattle.dgn_tool.specs.Packing.{filed_patch}
 use Rattle.dgn_tool.specs.Outcome.{ComesTo}
 use Rattle.dgn_tool.specs.declared.status.Status.{Status}
 use Rattle.dgn_tool.specs.declared.status.Status.TheVariants as statuses
-use Rattle.dgn_tool.proofs.Endings.{wants, nothing_done}
+use Rattle.dgn_tool.proofs.Endings.{wants, nothing_done, ends_only}
 use Rattle.dgn_tool.proofs.Finished.{refused_some, refused_none}
 use Rattle.dgn_tool.proofs.Filed.{files_then, filed_and_said, stopped_saying, stopped_filing}
+use Rattle.dgn_tool.proofs.Stops.{rises, faultless}
 use Rattle.dgn_tool.proofs.Packed.{text_filed, line_said}
 use Rattle.dgn_tool.proofs.packing.file_entries.Goals as goal
 
@@ -66,3 +67,34 @@ returns-clause-outcome g c =
     stopped_saying (cond (nat_lt 0 c.args.refused) statuses.SomeRefused statuses.Done) (numbered (codes "entries ") (length es)) c.args.patch.now (patch_spelling es) c.in-Err-say_all.stop c.stopped-in-Err-say_all.result old mid now c.stopped-in-Err-say_all.ensures.stops
     (subst (λ (b : List ℕ). mid ≡ option_map (filed c.args.patch.now b) old) filed_is c.in-Ok-write_file.ensures.told)
     (subst (λ (b : List ℕ). SaysAll (Err c.in-Err-say_all.stop) b mid now) said_is c.in-Err-say_all.ensures.told)
+
+pub returns-in-Err-clause-counted : goal.returns-in-Err-clause-counted
+returns-in-Err-clause-counted g c = λ ending. absurd (ends_only c.stopped.result ending c.stopped.ensures.stops)
+
+pub returns-in-Err-clause-write : goal.returns-in-Err-clause-write
+returns-in-Err-clause-write g c =
+    rises c.in-Err.stop c.stopped.result c.stopped.ensures.memory (g.D.Desk.write_faults c.args.desk.now) (g.D.Desk.write_faults c.write_file.new.desk) c.in-Err.ensures.cause
+
+pub returns-in-Err-clause-able : goal.returns-in-Err-clause-able
+returns-in-Err-clause-able g c = λ willing. faultless c.in-Err.stop c.stopped.result c.stopped.ensures.memory (c.in-Err.ensures.able willing)
+
+pub returns-clause-counted : goal.returns-clause-counted
+returns-clause-counted g c =
+    λ ending. absurd (ends_only c.stopped-in-Err-say_all.result ending c.stopped-in-Err-say_all.ensures.stops)
+
+pub returns-clause-write : goal.returns-clause-write
+returns-clause-write g c =
+    λ is. subst (λ (n : ℕ). Rose n (g.D.Desk.write_faults c.say_all.new.desk)) c.in-Ok-write_file.ensures.cause
+    (rises c.in-Err-say_all.stop c.stopped-in-Err-say_all.result c.stopped-in-Err-say_all.ensures.memory (g.D.Desk.write_faults c.write_file.new.desk) (g.D.Desk.write_faults c.say_all.new.desk) c.in-Err-say_all.ensures.cause is)
+
+pub returns-clause-able : goal.returns-clause-able
+returns-clause-able g c =
+    λ willing. faultless c.in-Err-say_all.stop c.stopped-in-Err-say_all.result c.stopped-in-Err-say_all.ensures.memory (c.in-Err-say_all.ensures.able (c.in-Ok-write_file.ensures.stays willing))
+
+pub returns-in-Ok-say_all-clause-counted : goal.returns-in-Ok-say_all-clause-counted
+returns-in-Ok-say_all-clause-counted g c =
+    λ _. (c.in-Ok-say_all.ensures.other ∙ c.in-Ok-write_file.ensures.other, c.in-Ok-say_all.ensures.cause ∙ c.in-Ok-write_file.ensures.cause)
+
+pub returns-in-Ok-2-clause-counted : goal.returns-in-Ok-2-clause-counted
+returns-in-Ok-2-clause-counted g c =
+    λ _. (c.in-Ok-2.ensures.other ∙ c.in-Ok-write_file.ensures.other, c.in-Ok-2.ensures.cause ∙ c.in-Ok-write_file.ensures.cause)
