@@ -3,7 +3,7 @@ use Rattle.std.proofs.lemmas.List.{drop_more, drop_all}
 use Rattle.std.proofs.lemmas.Result.{err_from_is_err_and}
 use Rattle.patch_file.specs.declared.patch_entry.PatchEntry.{PatchEntry}
 use Rattle.patch_file.specs.PatchView.{packed_of, all_packed}
-use Rattle.dgn_tool.specs.Applied.{Patched, Made, Puts, put_from}
+use Rattle.dgn_tool.specs.Applied.{Patched, Puts, put_from}
 use Rattle.dgn_tool.proofs.Patching.{goes_behind, ends_there}
 use Rattle.dgn_tool.proofs.putting.put_entries.Goals as goal
 
