@@ -1,6 +1,9 @@
 // Drawings by the description of the generator.
 
+ghost use Rattle.std.specs.Prelude.{◌≤◌};
+
 use dgn_tool::generate;
+use std::alloc::{AllocError, Global};
 use std::test::Fail;
 
 // What stands behind the TCB in the drawing of seed 7 and three elements: a cell at 626058,313801 whose range reaches
@@ -61,16 +64,20 @@ fn eight_elements(rt: HostRuntime) -> Result<(), Fail> {
 }
 
 // How many bytes a drawing has, and these as one number.
+fn measures(alloc: Global, seed: u32, count: u32) -> Result<(usize, u64), AllocError>
+    requires some { 1 ≤ count }
+    requires few { count ≤ 200000 }
+{
+    let drawing = generate(alloc, seed, count)?;
+    Ok((drawing.len(), told(&drawing)))
+}
+
 #[test]
 fn drawings(rt: HostRuntime) -> Result<(), Fail> {
     let alloc = rt.alloc();
-    let first = generate(alloc, 0, 1)?;
-    assert!(rt; first.len() == 1590 && told(&first) == 0xBBB9_E253_068A_245D);
-    let second = generate(alloc, 1, 2)?;
-    assert!(rt; second.len() == 1652 && told(&second) == 0xC5E3_29DE_4ABF_C849);
-    let third = generate(alloc, 7, 1000)?;
-    assert!(rt; third.len() == 64294 && told(&third) == 0x3883_BB17_77EC_8626);
-    let last = generate(alloc, 4294967295, 33)?;
-    assert!(rt; last.len() == 3598 && told(&last) == 0x861A_1330_1492_11F4);
+    assert!(rt; measures(alloc, 0, 1)? == (1590, 0xBBB9_E253_068A_245D));
+    assert!(rt; measures(alloc, 1, 2)? == (1652, 0xC5E3_29DE_4ABF_C849));
+    assert!(rt; measures(alloc, 7, 1000)? == (64294, 0x3883_BB17_77EC_8626));
+    assert!(rt; measures(alloc, 4294967295, 33)? == (3598, 0x861A_1330_1492_11F4));
     Ok(())
 }

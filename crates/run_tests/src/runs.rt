@@ -41,6 +41,11 @@ fn with_bytes(mut design: Vec<u8>, changes: &[(usize, &[u8])]) -> Vec<u8> {
     design
 }
 
+// Adds a file to a desk. No test rests on more of it, so none has to carry what `add` says.
+fn add_bytes(desk: &mut SureDesk, name: &str, bytes: Vec<u8>) -> Result<(), AllocError> {
+    desk.add(name, bytes)
+}
+
 // These words, as strings.
 fn strings(alloc: Global, list: &[&str]) -> Result<Vec<String>, AllocError> {
     let mut words = Vec::new(alloc);
@@ -56,6 +61,14 @@ fn ends<D: Desk>(alloc: Global, list: &[&str], desk: &mut D) -> Result<Status, A
     Ok(run(alloc, &words, desk))
 }
 
+// A desk with files `in` and `s`, that moves 512 bytes at once.
+fn desk_of(alloc: Global, files: (Vec<u8>, &[u8])) -> Result<SureDesk, AllocError> {
+    let mut desk = SureDesk::new(alloc, 512);
+    add_bytes(&mut desk, "in", files.0)?;
+    add_bytes(&mut desk, "s", Vec::from_slice(alloc, files.1)?)?;
+    Ok(desk)
+}
+
 // Runs these words on files `in` and `s`, in pieces of 512 bytes, and shows the status, what is said and the file `out`,
 // or that there is none.
 fn shows<R: Abort + Alloc<A = Global>>(
@@ -65,9 +78,7 @@ fn shows<R: Abort + Alloc<A = Global>>(
     wanted: (Status, &[u8], Option<&[u8]>),
 ) -> Result<(), AllocError> {
     let alloc = rt.alloc();
-    let mut desk = SureDesk::new(alloc, 512);
-    desk.add("in", files.0)?;
-    desk.add("s", Vec::from_slice(alloc, files.1)?)?;
+    let mut desk = desk_of(alloc, files)?;
     assert!(rt; ends(alloc, list, &mut desk)? == wanted.0);
     assert!(rt; desk.said() == wanted.1);
     assert!(rt; desk.file("out") == wanted.2);
@@ -80,49 +91,64 @@ const CHECK: [&str; 2] = ["check", "in"];
 
 const APPLY: [&str; 4] = ["apply", "in", "s", "out"];
 
+// Damaged designs: byte 1214, what stands behind the TCB, the length that the file is cut to, what is said.
+const DAMAGED: [(u8, &[&[u8]], usize, &[u8]); 7] = [
+    (0, &[], 0, b"bad design not-design at 0\n"),
+    (0, &[], 3, b"bad design not-design at 0\n"),
+    (0, &[], 1000, b"bad design cut at 0\n"),
+    (0, &[&LINE], 1587, b"bad design cut at 1536\n"),
+    (
+        0,
+        &[&CHAIN_OF_THREE, &END],
+        4000,
+        b"bad design short at 1536\n",
+    ),
+    (
+        0,
+        &[&LINE_WITH_ATTRIBUTES, &END],
+        4000,
+        b"bad design attributes at 1536\n",
+    ),
+    (
+        0x40,
+        &[&SPACE_CHAIN_OF_THREE, &END],
+        4000,
+        b"bad design short at 1536\n",
+    ),
+];
+
+// Shows that a run of these words calls a design with this script bad, and says that.
+fn is_bad<R: Abort + Alloc<A = Global>>(
+    rt: &R,
+    list: &[&str],
+    files: (Vec<u8>, &[u8]),
+    said: &[u8],
+) -> Result<(), AllocError> {
+    shows(rt, list, files, (Status::BadDesign, said, None))
+}
+
+// A design, cut to so many bytes.
+fn cut(alloc: Global, mark: u8, behind: &[&[u8]], len: usize) -> Result<Vec<u8>, AllocError> {
+    let mut bytes = design(alloc, mark, behind)?;
+    bytes.truncate(len);
+    Ok(bytes)
+}
+
 #[test]
 fn damaged_designs(rt: HostRuntime) -> Result<(), Fail> {
     let alloc = rt.alloc();
-    // Byte 1214, what stands behind the TCB, the length that the file is cut to, what is said.
-    let rows: [(u8, &[&[u8]], usize, &[u8]); 7] = [
-        (0, &[], 0, b"bad design not-design at 0\n"),
-        (0, &[], 3, b"bad design not-design at 0\n"),
-        (0, &[], 1000, b"bad design cut at 0\n"),
-        (0, &[&LINE], 1587, b"bad design cut at 1536\n"),
-        (
-            0,
-            &[&CHAIN_OF_THREE, &END],
-            4000,
-            b"bad design short at 1536\n",
-        ),
-        (
-            0,
-            &[&LINE_WITH_ATTRIBUTES, &END],
-            4000,
-            b"bad design attributes at 1536\n",
-        ),
-        (
-            0x40,
-            &[&SPACE_CHAIN_OF_THREE, &END],
-            4000,
-            b"bad design short at 1536\n",
-        ),
-    ];
-    for (mark, behind, cut, said) in rows {
-        for list in [EDIT.as_slice(), CHECK.as_slice()] {
-            let mut bytes = design(alloc, mark, behind)?;
-            bytes.truncate(cut);
-            let wanted = (Status::BadDesign, said, None);
-            shows(&rt, list, (bytes, b"color 1 1"), wanted)?;
-        }
+    let script = b"color 1 1".as_slice();
+    for (mark, behind, len, said) in DAMAGED {
+        is_bad(&rt, &EDIT, (cut(alloc, mark, behind, len)?, script), said)?;
+        is_bad(&rt, &CHECK, (cut(alloc, mark, behind, len)?, script), said)?;
     }
-    let other = Vec::from_slice(alloc, &[0x08, 0x05, 0x17, 0x00])?;
-    let wanted = (
-        Status::BadDesign,
-        b"bad design not-design at 0\n".as_slice(),
-        None,
-    );
-    shows(&rt, &EDIT, (other, b""), wanted)?;
+    Ok(())
+}
+
+#[test]
+fn a_file_of_another_kind(rt: HostRuntime) -> Result<(), Fail> {
+    let other = Vec::from_slice(rt.alloc(), &[0x08, 0x05, 0x17, 0x00])?;
+    is_bad(&rt, &EDIT, (other, b""), b"bad design not-design at 0\n")?;
     Ok(())
 }
 

@@ -5,15 +5,27 @@ use super::patches::PATCH;
 use super::*;
 use dgn_desk::{Act, MemDesk};
 
+// Adds a file of these bytes. No test rests on more of it.
+fn add(desk: &mut MemDesk, alloc: Global, name: &str, bytes: &[u8]) -> Result<(), AllocError> {
+    desk.add(name, Vec::from_slice(alloc, bytes)?)
+}
+
 // A desk with a design file of a line, a script, a patch file, a script of two imports, and their second file.
 fn desk_of_all(alloc: Global) -> Result<MemDesk, AllocError> {
-    let imports = b"import lib\nimport lib 1 1\n";
     let mut desk = MemDesk::new(alloc, 512);
-    desk.add("in", design(alloc, 0, &[&LINE, &END])?)?;
-    desk.add("s", Vec::from_slice(alloc, b"show\nmove 1 10 -5\nshow\n")?)?;
-    desk.add("p", Vec::from_slice(alloc, &PATCH)?)?;
-    desk.add("imports", Vec::from_slice(alloc, imports)?)?;
-    desk.add("lib", design(alloc, 0, &[&LINE, &END])?)?;
+    let line = design(alloc, 0, &[&LINE, &END])?;
+    add(&mut desk, alloc, "in", &line)?;
+    add(&mut desk, alloc, "s", b"show\nmove 1 10 -5\nshow\n")?;
+    add(&mut desk, alloc, "p", &PATCH)?;
+    add(&mut desk, alloc, "imports", b"import lib\nimport lib 1 1\n")?;
+    add(&mut desk, alloc, "lib", &line)?;
+    Ok(desk)
+}
+
+// The same desk, of whose calls this one fails.
+fn failing(alloc: Global, call: u64) -> Result<MemDesk, AllocError> {
+    let mut desk = desk_of_all(alloc)?;
+    desk.fail_at(call)?;
     Ok(desk)
 }
 
@@ -41,17 +53,8 @@ fn is_part(file: Option<&[u8]>, whole: Option<&[u8]>) -> bool {
     }
 }
 
-// Runs these words over that desk, with no call failing. Gives how the run ends, and the desk.
-fn goes(alloc: Global, list: &[&str]) -> Result<(Status, MemDesk), AllocError> {
-    let mut desk = desk_of_all(alloc)?;
-    let status = ends(alloc, list, &mut desk)?;
-    Ok((status, desk))
-}
-
-// The same with this call failing.
-fn fails(alloc: Global, list: &[&str], call: u64) -> Result<(Status, MemDesk), AllocError> {
-    let mut desk = desk_of_all(alloc)?;
-    desk.fail_at(call)?;
+// Runs these words over a desk. Gives how the run ends, and the desk.
+fn goes(alloc: Global, list: &[&str], mut desk: MemDesk) -> Result<(Status, MemDesk), AllocError> {
     let status = ends(alloc, list, &mut desk)?;
     Ok((status, desk))
 }
@@ -66,7 +69,7 @@ fn fails_in_turn<R: Abort + Alloc<A = Global>>(
     let alloc = rt.alloc();
     let mut call = 0;
     for act in whole.acts() {
-        let (status, desk) = fails(alloc, list, call)?;
+        let (status, desk) = goes(alloc, list, failing(alloc, call)?)?;
         if matches!(act, Act::BeginRead | Act::Read) {
             assert!(rt; status == Status::ReadFault);
             assert!(rt; desk.said().is_empty() && desk.file("out").is_none());
@@ -89,7 +92,7 @@ fn each_call_fails<R: Abort + Alloc<A = Global>>(
     said: &[u8],
 ) -> Result<(), AllocError> {
     let alloc = rt.alloc();
-    let (status, whole) = goes(alloc, list)?;
+    let (status, whole) = goes(alloc, list, desk_of_all(alloc)?)?;
     assert!(rt; status == Status::Done);
     assert!(rt; whole.said() == said);
     assert!(rt; letters(alloc, whole.acts())?.as_slice() == calls);

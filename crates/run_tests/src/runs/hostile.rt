@@ -90,8 +90,8 @@ fn said_and_written(
     script: &[u8],
 ) -> Result<(Vec<u8>, Vec<u8>), AllocError> {
     let mut desk = SureDesk::new(alloc, 65536);
-    desk.add("in", design)?;
-    desk.add("s", Vec::from_slice(alloc, script)?)?;
+    add_bytes(&mut desk, "in", design)?;
+    add_bytes(&mut desk, "s", Vec::from_slice(alloc, script)?)?;
     ends(alloc, &EDIT, &mut desk)?;
     let said = Vec::from_slice(alloc, desk.said())?;
     let written = Vec::from_slice(alloc, desk.file("out").unwrap_or(&[]))?;

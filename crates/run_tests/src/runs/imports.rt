@@ -6,9 +6,9 @@ use sample_elements::{ARC, SPACE_LINE};
 // A desk with a design file of a line, this script, and a second file `lib`.
 fn desk_with(alloc: Global, script: &[u8], lib: Vec<u8>) -> Result<SureDesk, AllocError> {
     let mut desk = SureDesk::new(alloc, 65536);
-    desk.add("in", design(alloc, 0, &[&LINE, &END])?)?;
-    desk.add("s", Vec::from_slice(alloc, script)?)?;
-    desk.add("lib", lib)?;
+    add_bytes(&mut desk, "in", design(alloc, 0, &[&LINE, &END])?)?;
+    add_bytes(&mut desk, "s", Vec::from_slice(alloc, script)?)?;
+    add_bytes(&mut desk, "lib", lib)?;
     Ok(desk)
 }
 

@@ -24,32 +24,54 @@ fn twice(alloc: Global) -> Result<Vec<u8>, AllocError> {
     Ok(bytes)
 }
 
+// A design of a line of this colour.
+fn line_of(alloc: Global, color: u8) -> Result<Vec<u8>, AllocError> {
+    let line = design(alloc, 0, &[&LINE, &END])?;
+    Ok(with_bytes(line, &[(1571, &[color])]))
+}
+
 #[test]
 fn applied_patches(rt: HostRuntime) -> Result<(), Fail> {
     let alloc = rt.alloc();
-    let longer = longer(alloc)?;
-    let twice = twice(alloc)?;
-    let bad = Status::BadPatch;
+    let out = line_of(alloc, 7)?;
+    let files = (line_of(alloc, 0)?, PATCH.as_slice());
+    let said = b"applied 1\n".as_slice();
+    shows(
+        &rt,
+        &APPLY,
+        files,
+        (Status::Done, said, Some(out.as_slice())),
+    )?;
+    Ok(())
+}
+
+// Shows how it ends where this patch file is applied to a line of that colour, and what is said. No file is written.
+fn isnt_applied<R: Abort + Alloc<A = Global>>(
+    rt: &R,
+    color: u8,
+    patch: &[u8],
+    status: Status,
+    said: &[u8],
+) -> Result<(), AllocError> {
+    let files = (line_of(rt.alloc(), color)?, patch);
+    shows(rt, &APPLY, files, (status, said, None))
+}
+
+#[test]
+fn refused_patches(rt: HostRuntime) -> Result<(), Fail> {
     let refused = Status::PatchRefused;
-    // The colour of the line, PATCH, the status, what is said, and the colour in OUT, if there is one.
-    let rows: [(u8, &[u8], Status, &[u8], Option<u8>); 6] = [
-        (0, &PATCH, Status::Done, b"applied 1\n", Some(7)),
-        (7, &PATCH, refused, b"refused entry 1\n", None),
-        (0, &twice, refused, b"refused entry 2\n", None),
-        (0, &PATCH[..32], bad, b"bad patch at 24\n", None),
-        (0, &longer, bad, b"bad patch at 33\n", None),
-        (0, &[], bad, b"bad patch at 0\n", None),
-    ];
-    for (color, patch, status, said, made) in rows {
-        let line = design(alloc, 0, &[&LINE, &END])?;
-        let files = (with_bytes(line, &[(1571, &[color])]), patch);
-        match made {
-            Some(color) => {
-                let out = with_bytes(design(alloc, 0, &[&LINE, &END])?, &[(1571, &[color])]);
-                shows(&rt, &APPLY, files, (status, said, Some(out.as_slice())))?;
-            }
-            None => shows(&rt, &APPLY, files, (status, said, None))?,
-        }
-    }
+    isnt_applied(&rt, 7, &PATCH, refused, b"refused entry 1\n")?;
+    let twice = twice(rt.alloc())?;
+    isnt_applied(&rt, 0, &twice, refused, b"refused entry 2\n")?;
+    Ok(())
+}
+
+#[test]
+fn bad_patches(rt: HostRuntime) -> Result<(), Fail> {
+    let bad = Status::BadPatch;
+    isnt_applied(&rt, 0, &PATCH[..32], bad, b"bad patch at 24\n")?;
+    let longer = longer(rt.alloc())?;
+    isnt_applied(&rt, 0, &longer, bad, b"bad patch at 33\n")?;
+    isnt_applied(&rt, 0, &[], bad, b"bad patch at 0\n")?;
     Ok(())
 }
