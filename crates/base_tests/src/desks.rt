@@ -6,9 +6,29 @@ use dgn_desk::*;
 use full_output::{FULL, FullOutput};
 use std::alloc::{AllocError, Global};
 use std::fs;
+use std::process::Abort;
 use std::test::Fail;
 
 const NAME: &str = "desk_test.tmp";
+
+// What the calls over a desk answer. No test rests on more of them, so none has to carry what they say of the desk.
+fn read<D: Desk>(alloc: Global, desk: &mut D, name: &str, limit: u8) -> Result<Vec<u8>, ReadEnd> {
+    read_all(alloc, desk, name, usize::from(limit))
+}
+
+fn write<D: Desk>(
+    desk: &mut D,
+    name: &str,
+    body: &[u8],
+    tail: &[u8],
+    filling: &[u8],
+) -> Result<(), Stop> {
+    write_file(desk, name, body, tail, filling)
+}
+
+fn say<D: Desk>(desk: &mut D, bytes: &[u8]) -> Result<(), Stop> {
+    say_all(desk, bytes)
+}
 
 // Whether reading a whole file gives these bytes, or ends so.
 fn reads<D: Desk>(
@@ -18,52 +38,71 @@ fn reads<D: Desk>(
     limit: u8,
     wanted: Result<&[u8], ReadEnd>,
 ) -> bool {
-    match (read_all(alloc, desk, name, usize::from(limit)), wanted) {
-        (Ok(bytes), Ok(text)) => bytes.as_slice() == text,
-        (Err(end), Err(other)) => end == other,
-        _ => false,
+    match read(alloc, desk, name, limit) {
+        Ok(bytes) => wanted == Ok(bytes.as_slice()),
+        Err(end) => wanted == Err(end),
     }
+}
+
+// Shows that nothing is read or written where no file was begun.
+fn moves_nothing<R: Abort, D: Desk>(rt: &R, desk: &mut D) {
+    let mut buf = [0; 4];
+    assert!(rt; desk.read(&mut buf) == Ok(0));
+    assert!(rt; desk.write(b"lost") == Err(Stop::Failed));
+}
+
+// Shows that a file that is written is read again, and so is an empty one in its place.
+fn keeps_files<R: Abort + Alloc<A = Global>, D: Desk>(rt: &R, desk: &mut D) {
+    let alloc = rt.alloc();
+    assert!(rt; write(desk, NAME, b"body ", b"ta", b"il") == Ok(()));
+    assert!(rt; reads(alloc, desk, NAME, 8, Err(ReadEnd::TooLong)));
+    assert!(rt; reads(alloc, desk, NAME, 9, Ok(b"body tail")));
+    assert!(rt; write(desk, NAME, b"", b"", b"") == Ok(()));
+    assert!(rt; reads(alloc, desk, NAME, 9, Ok(b"")));
 }
 
 #[test]
 fn host_desk_writes_reads_and_says(rt: HostRuntime) -> Result<(), Fail> {
     let alloc = rt.alloc();
     let mut desk = HostDesk::new(rt.clone()?);
-    let mut buf = [0; 4];
-    assert!(rt; desk.read(&mut buf) == Ok(0));
-    assert!(rt; desk.write(b"lost") == Err(Stop::Failed));
-    assert!(rt; write_file(&mut desk, NAME, b"body ", b"ta", b"il") == Ok(()));
-    assert!(rt; reads(alloc, &mut desk, NAME, 8, Err(ReadEnd::TooLong)));
-    assert!(rt; reads(alloc, &mut desk, NAME, 9, Ok(b"body tail")));
-    assert!(rt; write_file(&mut desk, NAME, b"", b"", b"") == Ok(()));
-    assert!(rt; reads(alloc, &mut desk, NAME, 9, Ok(b"")));
+    moves_nothing(&rt, &mut desk);
+    keeps_files(&rt, &mut desk);
     fs::remove_file(&rt, NAME)?;
     assert!(rt; reads(alloc, &mut desk, NAME, 9, Err(ReadEnd::Fault)));
-    assert!(rt; say_all(&mut desk, b"said\n") == Ok(()));
+    assert!(rt; say(&mut desk, b"said\n") == Ok(()));
     Ok(())
 }
 
-// A device that takes no byte, as a file and as the output: the disk's error is a fault of writing.
+// Shows that a full disk's error is a fault of writing.
+fn takes_no_byte<R: Abort, D: Desk>(rt: &R, desk: &mut D) {
+    assert!(rt; write(desk, FULL, b"a", b"", b"") == Err(Stop::Failed));
+    assert!(rt; say(desk, b"lost") == Err(Stop::Failed));
+}
+
+// A device that takes no byte, as a file and as the output.
 #[test]
 fn host_desk_on_a_full_disk(rt: HostRuntime) -> Result<(), Fail> {
     let mut desk = HostDesk::new(FullOutput::new(rt.clone()?));
-    assert!(rt; write_file(&mut desk, FULL, b"a", b"", b"") == Err(Stop::Failed));
-    assert!(rt; say_all(&mut desk, b"lost") == Err(Stop::Failed));
+    takes_no_byte(&rt, &mut desk);
     Ok(())
 }
 
-// A desk of memory with one file, "in", of five bytes, that moves a byte at a time and of whose calls this one fails.
-fn failing(alloc: Global, at: u64) -> Result<MemDesk, AllocError> {
-    let mut desk = MemDesk::new(alloc, 1);
+// A desk of memory with one file, "in", of five bytes, that moves so many bytes at once.
+fn with_bytes(alloc: Global, piece: usize) -> Result<MemDesk, AllocError> {
+    let mut desk = MemDesk::new(alloc, piece.max(1));
     desk.add("in", Vec::from_slice(alloc, b"bytes")?)?;
+    Ok(desk)
+}
+
+// That desk, moving a byte at a time, of whose calls this one fails.
+fn failing(alloc: Global, at: u64) -> Result<MemDesk, AllocError> {
+    let mut desk = with_bytes(alloc, 1)?;
     desk.fail_at(at)?;
     Ok(desk)
 }
 
-// Calls are numbered whether they fail or not.
-#[test]
-fn mem_desk_call_by_call(rt: HostRuntime) -> Result<(), Fail> {
-    let mut desk = failing(rt.alloc(), 3)?;
+// The first five calls over that desk: of a file that isn't there, a write to none, and the first byte of the one that is.
+fn reads_a_byte<R: Abort, D: Desk>(rt: &R, desk: &mut D) {
     let mut buf = [0; 4];
     assert!(rt; desk.begin_read("none") == Err(Stop::Failed));
     assert!(rt; desk.write(b"lost") == Err(Stop::Failed));
@@ -71,35 +110,47 @@ fn mem_desk_call_by_call(rt: HostRuntime) -> Result<(), Fail> {
     assert!(rt; desk.read(&mut buf) == Err(Stop::Failed));
     assert!(rt; desk.read(&mut buf) == Ok(1));
     assert!(rt; buf == *b"b\0\0\0");
+}
+
+// The three calls after those.
+fn writes_and_says_a_byte<R: Abort, D: Desk>(rt: &R, desk: &mut D) {
     assert!(rt; desk.begin_write("out") == Ok(()));
     assert!(rt; desk.write(b"abc") == Ok(1));
     assert!(rt; desk.say(b"def") == Ok(1));
+}
+
+const ACTS: [Act; 8] = [
+    Act::BeginRead,
+    Act::Write,
+    Act::BeginRead,
+    Act::Read,
+    Act::Read,
+    Act::BeginWrite,
+    Act::Write,
+    Act::Say,
+];
+
+// Calls are numbered whether they fail or not.
+#[test]
+fn mem_desk_call_by_call(rt: HostRuntime) -> Result<(), Fail> {
+    let mut desk = failing(rt.alloc(), 3)?;
+    reads_a_byte(&rt, &mut desk);
+    writes_and_says_a_byte(&rt, &mut desk);
     assert!(rt; desk.file("out") == Some(b"a".as_slice()));
     assert!(rt; desk.said() == b"d".as_slice());
-    let acts = [
-        Act::BeginRead,
-        Act::Write,
-        Act::BeginRead,
-        Act::Read,
-        Act::Read,
-        Act::BeginWrite,
-        Act::Write,
-        Act::Say,
-    ];
-    assert!(rt; desk.acts() == acts.as_slice());
+    assert!(rt; desk.acts() == ACTS.as_slice());
     Ok(())
 }
 
 // How many calls there were after a file was read, a text said, and a body, a tail and what fills it written, by a desk of
 // memory that moves so many bytes at once.
 fn calls(alloc: Global, piece: usize) -> Result<[usize; 3], AllocError> {
-    let mut desk = MemDesk::new(alloc, piece.max(1));
-    desk.add("in", Vec::from_slice(alloc, b"bytes")?)?;
-    let _ = read_all(alloc, &mut desk, "in", 9);
+    let mut desk = with_bytes(alloc, piece)?;
+    let _ = read(alloc, &mut desk, "in", 9);
     let read = desk.acts().len();
-    let _ = say_all(&mut desk, b"one");
+    let _ = say(&mut desk, b"one");
     let said = desk.acts().len();
-    let _ = write_file(&mut desk, "out", b"abc", b"d", b"e");
+    let _ = write(&mut desk, "out", b"abc", b"d", b"e");
     Ok([read, said, desk.acts().len()])
 }
 

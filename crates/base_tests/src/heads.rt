@@ -40,6 +40,15 @@ fn heads(rt: HostRuntime) -> Result<(), Fail> {
     Ok(())
 }
 
+// The line with this index word, this properties word, and this byte of style and weight.
+fn with_display(index: [u8; 2], properties: [u8; 2], look: u8) -> [u8; 36] {
+    let mut b = LINE;
+    [b[30], b[31]] = index;
+    [b[32], b[33]] = properties;
+    b[34] = look;
+    b
+}
+
 #[test]
 fn display_headers(rt: HostRuntime) -> Result<(), Fail> {
     // index word, properties word, style and weight byte, and what follows from them
@@ -50,14 +59,9 @@ fn display_headers(rt: HostRuntime) -> Result<(), Fail> {
         ([0x12, 0x00], [0xFF, 0xF7], 0x2B, None, 5, 3),
         ([0xFF, 0xFF], [0xFF, 0xFF], 0xF8, Some(131102), 31, 0),
     ];
-    for ([i0, i1], [p0, p1], look, start, weight, style) in rows {
-        let mut b = LINE;
-        b[30] = i0;
-        b[31] = i1;
-        b[32] = p0;
-        b[33] = p1;
-        b[34] = look;
-        assert!(rt; properties(&b) == u16::from(p0) + 256 * u16::from(p1));
+    for (index, word, look, start, weight, style) in rows {
+        let b = with_display(index, word, look);
+        assert!(rt; properties(&b) == u16::from_le_bytes(word));
         assert!(rt; attr_start(&b) == start);
         let wanted = types::Symb {
             color: 3,

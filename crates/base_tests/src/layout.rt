@@ -7,24 +7,34 @@ use dgn_layout::*;
 use std::alloc::{AllocError, Global};
 use std::test::Fail;
 
-// The places of a type's fields in an element of 124 bytes whose word at byte 36 is 2, where all other bytes are 0, and
-// where its body ends, if it has one.
-fn places<const DIM: usize>(
+// The places of fields.
+fn places_of(alloc: Global, fields: types::Spots<'_>) -> Result<Vec<u32>, AllocError> {
+    fields.map(|spot| spot.at).collect(alloc)
+}
+
+// Whether fields have these places.
+fn are_at(alloc: Global, fields: types::Spots<'_>, wanted: &[u32]) -> Result<bool, AllocError> {
+    Ok(places_of(alloc, fields)?.as_slice() == wanted)
+}
+
+// Whether, in an element of 124 bytes whose word at byte 36 is 2, where all other bytes are 0, a type's fields have these
+// places and its body has this end, or none.
+fn is_laid_out<const DIM: usize>(
     alloc: Global,
     kind: u8,
-) -> Result<(Vec<u32>, Option<usize>), AllocError>
+    wanted: (&[u32], Option<usize>),
+) -> Result<bool, AllocError>
     requires dimension { (DIM ≡ 2) ⊎ (DIM ≡ 3) }
     requires kind { kind < 128 }
 {
     let mut b = [0; 124];
     b[36] = 2;
-    let found: Vec<u32> = spots::<DIM>(kind, &b).map(|spot| spot.at).collect(alloc)?;
     let end = if is_silent(kind) {
         None
     } else {
         body_end::<DIM>(kind, &b)
     };
-    Ok((found, end))
+    Ok(are_at(alloc, spots::<DIM>(kind, &b), wanted.0)? && end == wanted.1)
 }
 
 // How many of the types with these numbers are of that class, and have their fields at these places and their bodies' end
@@ -38,15 +48,9 @@ fn agreeing(
 ) -> Result<u8, AllocError> {
     let mut count = 0u8;
     for kind in 0..128 {
-        let (flat, flat_end) = places::<2>(alloc, kind)?;
-        let (deep, deep_end) = places::<3>(alloc, kind)?;
-        if kinds.contains(&kind)
-            && class(kind) == known
-            && flat.as_slice() == in_plane.0
-            && flat_end == in_plane.1
-            && deep.as_slice() == in_space.0
-            && deep_end == in_space.1
-        {
+        let flat = is_laid_out::<2>(alloc, kind, in_plane)?;
+        let deep = is_laid_out::<3>(alloc, kind, in_space)?;
+        if kinds.contains(&kind) && class(kind) == known && flat && deep {
             count = count.saturating_add(1);
         }
     }
@@ -92,27 +96,34 @@ fn types_of_headers(rt: HostRuntime) -> Result<(), Fail> {
     Ok(())
 }
 
-// Of all other types no field is given; of those that no class names the body has no end.
+// Of all other types no field is given.
 #[test]
 fn types_without_places(rt: HostRuntime) -> Result<(), Fail> {
     let alloc = rt.alloc();
     let unread: (&[u32], Option<usize>) = (&[], Some(36));
+    assert!(rt; agreeing(alloc, &[24, 27, 34], Run, unread, unread)? == 3);
+    assert!(rt; agreeing(alloc, &[15, 16, 23], Floating, unread, unread)? == 3);
+    assert!(rt; agreeing(alloc, &[22, 33, 35], Boxed, unread, unread)? == 3);
+    Ok(())
+}
+
+// Of those that no class names the body has no end either.
+#[test]
+fn silent_types(rt: HostRuntime) -> Result<(), Fail> {
+    let alloc = rt.alloc();
     let silent: (&[u32], Option<usize>) = (&[], None);
     let mut all = Vec::new(alloc);
     for kind in 0..128 {
         all.push(kind)?;
     }
-    assert!(rt; agreeing(alloc, &[24, 27, 34], Run, unread, unread)? == 3);
-    assert!(rt; agreeing(alloc, &[15, 16, 23], Floating, unread, unread)? == 3);
-    assert!(rt; agreeing(alloc, &[22, 33, 35], Boxed, unread, unread)? == 3);
     assert!(rt; agreeing(alloc, &all, Silent, silent, silent)? == 108);
     Ok(())
 }
 
-// The fields of a cell header in 2D and in 3D, of a chain of two points and of a text in 3D; and the end of a text
-// that is too short for its count to be read.
+// The fields of a cell header in 2D and in 3D.
 #[test]
-fn places_of_small_elements(rt: HostRuntime) -> Result<(), Fail> {
+fn places_of_small_cells(rt: HostRuntime) -> Result<(), Fail> {
+    let alloc = rt.alloc();
     let mut cell = [0; 92];
     cell[1] = 2;
     cell[2] = 44;
@@ -121,6 +132,17 @@ fn places_of_small_elements(rt: HostRuntime) -> Result<(), Fail> {
     deep_cell[1] = 2;
     deep_cell[2] = 60;
     deep_cell[30] = 46;
+    assert!(rt; are_at(alloc, spots::<2>(2, &cell), &[4, 8, 16, 20, 84, 88])?);
+    let places = &[4, 8, 12, 16, 20, 24, 112, 116, 120];
+    assert!(rt; are_at(alloc, spots::<3>(2, &deep_cell), places)?);
+    Ok(())
+}
+
+// The fields of a chain of two points and of a text in 3D; and the end of a text that is too short for its count to be
+// read.
+#[test]
+fn places_of_small_elements(rt: HostRuntime) -> Result<(), Fail> {
+    let alloc = rt.alloc();
     let mut chain = [0; 54];
     chain[1] = 4;
     chain[2] = 25;
@@ -133,19 +155,10 @@ fn places_of_small_elements(rt: HostRuntime) -> Result<(), Fail> {
     let mut short = [0; 58];
     short[1] = 17;
     short[2] = 27;
-    let rows: [(types::Spots<'_>, &[u32]); 4] = [
-        (spots::<2>(2, &cell), &[4, 8, 16, 20, 84, 88]),
-        (
-            spots::<3>(2, &deep_cell),
-            &[4, 8, 12, 16, 20, 24, 112, 116, 120],
-        ),
-        (spots::<2>(4, &chain), &[4, 8, 16, 20, 38, 42, 46, 50]),
-        (spots::<3>(17, &text), &[4, 8, 12, 16, 20, 24, 62, 66, 70]),
-    ];
-    for (given, wanted) in rows {
-        let places: Vec<u32> = given.map(|spot| spot.at).collect(rt.alloc())?;
-        assert!(rt; places.as_slice() == wanted);
-    }
+    let places = &[4, 8, 16, 20, 38, 42, 46, 50];
+    assert!(rt; are_at(alloc, spots::<2>(4, &chain), places)?);
+    let places = &[4, 8, 12, 16, 20, 24, 62, 66, 70];
+    assert!(rt; are_at(alloc, spots::<3>(17, &text), places)?);
     assert!(rt; body_end::<2>(17, &short) == None);
     Ok(())
 }
