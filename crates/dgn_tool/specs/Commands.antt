@@ -94,11 +94,6 @@ abbrev pub is_import : Command → Bool
 is_import (command.Import name by) = true
 is_import other = false
 
--- whether it is an edit of all that the fence chooses
-abbrev pub is_fenced : Command → Bool
-is_fenced (command.Fenced mode e) = true
-is_fenced other = false
-
 -- what a command says
 abbrev pub text_of : State → Command → List ℕ
 text_of s (command.Import name by) = []

@@ -1,7 +1,7 @@
 ghost use Rattle.std.specs.Prelude.{◌≡◌, ◌+◌, ◌≤◌, ◌++◌, codes, false, length, vec_len, vec_capacity, IfOk, OnOk, OnErr};
 ghost use Rattle.dgn_listing.specs.Lines.{AppendsFrontOf};
 ghost use Rattle.dgn_session.specs.State.{state_of, applied, edited, undone, undo_refused, with_mask, is_refused as is_refusal};
-ghost use Rattle.dgn_tool.specs.Commands.{edit_said, undo_said, is_import, is_fenced, text_of, is_refused, after_command, trees_of};
+ghost use Rattle.dgn_tool.specs.Commands.{edit_said, undo_said, is_import, text_of, is_refused, after_command, trees_of};
 ghost use Rattle.dgn_tool.specs.Packing.{LogsAs};
 ghost use Rattle.edit_script.specs.declared.command.Command.{Command};
 
@@ -34,12 +34,31 @@ pub fn answer(
     ensures text { OnOk result (out.new.items ≡ out.old.items ++ text_of (state_of s.old) c.now) }
     ensures refused { IfOk result (λ refused. refused ≡ is_refused (state_of s.old) c.now) }
     ensures state { OnOk result (state_of s.new ≡ after_command (state_of s.old) c.now) }
+    ensures logged { OnOk result (LogsAs c.now s.old s.new) }
     ensures tail { s.new.tail ≡ s.old.tail }
     ensures kept { OnErr result (s.new ≡ s.old) }
     ensures front { OnErr result (AppendsFrontOf (text_of (state_of s.old) c.now) out.old.items out.new.items) }
 {
-    let answered = respond(alloc, s, c, out)?;
-    Ok(answered.refused)
+    match c {
+        Command::Edit(edit) => answer_edit(alloc, s, edit, out),
+        Command::Undo => answer_undo(s, out),
+        Command::Levels(levels) => answer_levels(s, *levels, out),
+        Command::Fence(corners) => answer_fence(alloc, s, corners.as_slice(), out),
+        Command::NoFence => answer_no_fence(s, out),
+        Command::Show => answer_show(alloc, s, out),
+        Command::Tree(n) => answer_tree(alloc, s.design(), s.nesting(), *n, out),
+        Command::Elements => answer_elements(alloc, s.design(), out),
+        Command::Refs => answer_refs(alloc, s.design(), out),
+        Command::Links(n) => answer_links(alloc, s.design(), *n, out),
+        Command::Select(mode) => answer_select(alloc, s, *mode, out),
+        Command::Fenced(mode, edit) => {
+            let answered = answer_fenced(alloc, s, *mode, edit, out)?;
+            Ok(answered.refused)
+        }
+        Command::Audit => answer_audit(alloc, s, out),
+        Command::Fit(n) => answer_fit(alloc, s, *n, out),
+        Command::Import(_, _) => unreachable!(),
+    }
 }
 
 // The same, with how many trees an edit of all that the fence chooses has changed or copied.
@@ -62,44 +81,9 @@ pub(crate) fn respond(
     match c {
         Command::Fenced(mode, edit) => answer_fenced(alloc, s, *mode, edit, out),
         _ => {
-            let refused = answer_alone(alloc, s, c, out)?;
+            let refused = answer(alloc, s, c, out)?;
             Ok(Answered { refused, trees: 0 })
         }
-    }
-}
-
-// The same for a command that is no edit of all that the fence chooses either.
-fn answer_alone(
-    alloc: Global,
-    s: &mut Session,
-    c: &Command,
-    out: &mut Vec<u8>,
-) -> Result<bool, AllocError>
-    requires import { is_import c.now ≡ false }
-    requires fenced { is_fenced c.now ≡ false }
-    ensures text { OnOk result (out.new.items ≡ out.old.items ++ text_of (state_of s.old) c.now) }
-    ensures refused { IfOk result (λ refused. refused ≡ is_refused (state_of s.old) c.now) }
-    ensures state { OnOk result (state_of s.new ≡ after_command (state_of s.old) c.now) }
-    ensures logged { OnOk result (LogsAs c.now s.old s.new) }
-    ensures tail { s.new.tail ≡ s.old.tail }
-    ensures kept { OnErr result (s.new ≡ s.old) }
-    ensures front { OnErr result (AppendsFrontOf (text_of (state_of s.old) c.now) out.old.items out.new.items) }
-{
-    match c {
-        Command::Edit(edit) => answer_edit(alloc, s, edit, out),
-        Command::Undo => answer_undo(s, out),
-        Command::Levels(levels) => answer_levels(s, *levels, out),
-        Command::Fence(corners) => answer_fence(alloc, s, corners.as_slice(), out),
-        Command::NoFence => answer_no_fence(s, out),
-        Command::Show => answer_show(alloc, s, out),
-        Command::Tree(n) => answer_tree(alloc, s.design(), s.nesting(), *n, out),
-        Command::Elements => answer_elements(alloc, s.design(), out),
-        Command::Refs => answer_refs(alloc, s.design(), out),
-        Command::Links(n) => answer_links(alloc, s.design(), *n, out),
-        Command::Select(mode) => answer_select(alloc, s, *mode, out),
-        Command::Audit => answer_audit(alloc, s, out),
-        Command::Fit(n) => answer_fit(alloc, s, *n, out),
-        Command::Import(_, _) | Command::Fenced(_, _) => unreachable!(),
     }
 }
 

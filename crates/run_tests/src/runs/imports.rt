@@ -1,6 +1,10 @@
 // Imports of second drawings, by the rows of the format's examples.
 
 use super::*;
+use dgn_drawing::Shift;
+use dgn_import::read_second;
+use dgn_session::Session;
+use elem_index::read_design;
 use sample_elements::{ARC, SPACE_LINE};
 
 // A desk with a design file of a line, this script, and a second file `lib`.
@@ -107,5 +111,54 @@ fn imports_at_the_limits(rt: HostRuntime) -> Result<(), Fail> {
     comes_to(&rt, none, Status::Done, b"ok 0\n")?;
     let long = zeros(alloc, 67108865)?;
     comes_to(&rt, long, Status::TooLong, b"too long import\n")?;
+    Ok(())
+}
+
+// A session on the design file of a line.
+fn begun(alloc: Global) -> Option<Session> {
+    match design(alloc, 0, &[&LINE, &END]) {
+        Ok(bytes) if bytes.len() <= 67108864 => match read_design(alloc, bytes) {
+            Ok(drawing) => Session::start(alloc, drawing).ok(),
+            Err(_) => None,
+        },
+        _ => None,
+    }
+}
+
+// What an import of that cell in a session says, and whether it is refused.
+fn answered(
+    alloc: Global,
+    session: &mut Session,
+    by: Option<&Shift>,
+) -> Result<(Vec<u8>, bool), AllocError> {
+    let mut said = Vec::new(alloc);
+    let bytes = library(alloc)?;
+    if bytes.len() > 67108864 {
+        return Ok((said, true));
+    }
+    let second = read_second(alloc, bytes)?;
+    let refused = answer_import(alloc, session, &second, by, &mut said)?;
+    Ok((said, refused))
+}
+
+// The call for a second file that is kept, which the runs don't make.
+#[test]
+fn an_import_in_a_session(rt: HostRuntime) -> Result<(), Fail> {
+    let alloc = rt.alloc();
+    let Some(mut session) = begun(alloc) else {
+        return Err(AllocError.into());
+    };
+    let (said, refused) = answered(alloc, &mut session, None)?;
+    assert!(rt; said.as_slice() == b"ok 1\n".as_slice());
+    assert!(rt; !refused);
+    let by = Shift {
+        axes: 2,
+        by: [1, 1, 0],
+    };
+    let (said, refused) = answered(alloc, &mut session, Some(&by))?;
+    assert!(rt; said.as_slice() == b"refused import floating 3\n".as_slice());
+    assert!(rt; refused);
+    let whole = design(alloc, 0, &[&LINE, &CELL_OF_81, &MEMBER, &ARC])?;
+    assert!(rt; session.body() == whole.as_slice());
     Ok(())
 }

@@ -1,4 +1,4 @@
-use Rattle.dgn_tool.proofs.answers.answer_alone.Goals as goal
+use Rattle.dgn_tool.proofs.answers.answer.Goals as goal
 
 pub returns-in-Edit : goal.returns-in-Edit
 returns-in-Edit c = rw c.in-Edit.is c.answer_edit.ensures
