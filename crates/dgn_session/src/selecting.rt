@@ -52,7 +52,7 @@ pub(crate) fn select(
 }
 
 // Whether the fence takes what the tree of a root shows. The items of a header are put into `items`, in the place of
-// what stands there; none is made of a leaf, nor where an overlap is needed and no element of the tree has one.
+// what stands there, but for where an overlap is needed and no element of the tree has one. A leaf is asked by its bytes.
 fn takes_root(
     alloc: Global,
     design: &Design,
