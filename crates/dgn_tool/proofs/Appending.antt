@@ -94,7 +94,8 @@ unless_so : (cause : Option Cause) (b : List ℕ) (count : ℕ) (b' : List ℕ) 
 unless_so None b count b' count' is = (refl, let x = is in cc)
 unless_so (Some cause) b count b' count' is = absurd (let x = is in cc)
 
-not_long : (n : ℕ) → too_long n ≡ None → n ≤ 67108864
+-- what isn't too long keeps the limit
+pub not_long : (n : ℕ) → too_long n ≡ None → n ≤ 67108864
 not_long n is = by (nat_lt 67108864 n) refl
   where
     by : (over : _) → nat_lt 67108864 n ≡ over → n ≤ 67108864

@@ -31,7 +31,7 @@ fit_ends s t n root end (Refused cause) is opens done at spanned = absurd (let x
 fit_ends s t n root end (Done made) is opens done at spanned = ap findings_text (ends_findings (spelling s.top ++ t) s.dim s.top t n made root end opens is at spanned)
 
 -- what steps make opens
-opens_after : (t : List ℕ) (gs : List Given) (s : State) → s.earlier ≡ [] → All IsStep gs → Opens (spelling s.top ++ t) s.dim s.top t → Opens (spelling (after_all gs s).top ++ t) (after_all gs s).dim (after_all gs s).top t
+pub opens_after : (t : List ℕ) (gs : List Given) (s : State) → s.earlier ≡ [] → All IsStep gs → Opens (spelling s.top ++ t) s.dim s.top t → Opens (spelling (after_all gs s).top ++ t) (after_all gs s).dim (after_all gs s).top t
 opens_after t gs s none fits opens =
     let left : List Made = with_steps gs s [] in
     let end : State = after_all gs s in

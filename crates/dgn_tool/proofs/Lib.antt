@@ -1,5 +1,6 @@
 mod Untouched
 mod Fitted
+mod Joined
 mod Endings
 mod Stepping
 mod Ran

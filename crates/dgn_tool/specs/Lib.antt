@@ -18,3 +18,4 @@ pub mod Told
 pub mod Laws
 pub mod PatchLaws
 pub mod FitLaws
+pub mod ImportLaws

@@ -3,6 +3,7 @@
 ghost use Rattle.dgn_tool.specs.Laws.{UntouchedBytesStay, AppliedGivesTheSame};
 ghost use Rattle.dgn_tool.specs.PatchLaws.{RefusesWhereOneDiffers, RefusesNoneElse, AppliesAll, WritesTheSame};
 ghost use Rattle.dgn_tool.specs.FitLaws.{FitsEndFindings};
+ghost use Rattle.dgn_tool.specs.ImportLaws.{ImportsNestApart, ImportsOfRunsNestApart, RefusedImportsChangeNothing};
 ghost use Rattle.dgn_tool.specs.Generation.{FixedScriptReads};
 
 /// The file that a run writes opens as the elements that the accepted commands make and the tail of the file that was
@@ -26,6 +27,17 @@ pub fn applied_gives_the_same()
 /// the elements of the tree that was fitted: none of them is a finding any more, and those of all other trees are as before.
 pub fn fits_end_findings()
     ensures { FitsEndFindings }
+{}
+
+/// Imports nest apart: behind an import that is accepted, the trees of the drawing are those that it had and then the trees
+/// that are taken of the second file; their bytes stand behind all bytes of the elements that it had; and the line says how
+/// many trees they are. So it is in each state with an element, and behind any commands of a script. An import is refused
+/// exactly where the second file doesn't open or has another dimension, the displacement is given for other axes or refuses
+/// a tree, or the file would exceed its limit; and then nothing changes.
+pub fn imports_nest_apart()
+    ensures accepted { ImportsNestApart }
+    ensures run { ImportsOfRunsNestApart }
+    ensures refused { RefusedImportsChangeNothing }
 {}
 
 /// The fixed script that is run on a generated drawing is read to its commands.
