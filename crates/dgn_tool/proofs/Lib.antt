@@ -27,3 +27,5 @@ mod Patching
 mod PatchEndings
 mod SameFile
 mod Stops
+mod NamedValues
+mod ScriptEdits

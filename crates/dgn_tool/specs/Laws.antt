@@ -1,6 +1,6 @@
 -- What holds of every drawing that opens, every list of commands and every list of second files for their imports, each
 -- the contract of a function in `laws`.
-use Rattle.std.specs.Prelude.{ℕ, ◌≡◌, ◌<◌, ◌≤◌, List, ◌++◌, length, map, slice_index, All, IfSome}
+use Rattle.std.specs.Prelude.{ℕ, ◌≡◌, ◌<◌, ◌≤◌, List, ◌++◌, length, map, slice_index, All, IfSome, Ok}
 use Rattle.patch_file.specs.Spelling.{AreEntries, patch_spelling}
 use Rattle.patch_file.specs.Standing.{AllStand, put_all}
 use Rattle.dgn_drawing.specs.Spelling.{spelling}
@@ -14,6 +14,7 @@ use Rattle.edit_ops.specs.Fields.{IsIn}
 use Rattle.edit_ops.specs.Fenced.{IsFenceEdit}
 use Rattle.edit_script.specs.declared.command.Command.{Command}
 use Rattle.edit_script.specs.declared.command.Command.TheVariants as command
+use Rattle.edit_script.specs.Script.{commands_of}
 use Rattle.elem_index.specs.Opened.{Opened}
 use Rattle.dgn_tool.specs.Commands.{begun}
 use Rattle.dgn_tool.specs.Given.{Given, given_all, after_all}
@@ -33,6 +34,10 @@ IsEditIn (command.Edit e) = IsEdit e
 IsEditIn (command.Fenced mode e) = IsFenceEdit e
 IsEditIn (command.Import name by) = IfSome by IsShift
 IsEditIn other = Unit {0}
+
+-- the commands that a script of bytes reads to hold it
+abbrev pub ScriptsHoldEdits : Type 0
+ScriptsHoldEdits = (text : List ℕ) (cs : List Command) → IsBytes text → commands_of text ≡ Ok cs → All IsEditIn cs
 
 -- the steps of these commands with these second files
 abbrev pub steps_of : List Command → List (List ℕ) → List Given
@@ -55,6 +60,13 @@ abbrev pub UntouchedBytesStay : Type 0
 UntouchedBytesStay =
     (f : List ℕ) (d : Opened) (cs : List Command) (files : List (List ℕ))
     → Opens f d.dim d.elements d.tail → All IsEditIn cs → All IsBytes files → IsEditedFile f (begun d) d.tail (steps_of cs files)
+
+-- so it is with what any script of bytes reads to
+abbrev pub UntouchedByScripts : Type 0
+UntouchedByScripts =
+    (f : List ℕ) (d : Opened) (text : List ℕ) (cs : List Command) (files : List (List ℕ))
+    → Opens f d.dim d.elements d.tail → IsBytes text → commands_of text ≡ Ok cs → All IsBytes files
+    → IsEditedFile f (begun d) d.tail (steps_of cs files)
 
 -- the packed entries of the steps stand, one after the other, on the elements of the file, and make of them those after
 -- the steps; what each makes keeps the limit; and where their patch file does, it is read to them again

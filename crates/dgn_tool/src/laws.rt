@@ -1,10 +1,16 @@
 //! Laws over the definitions that the contracts cite. The function does nothing; its contract is the law.
 
-ghost use Rattle.dgn_tool.specs.Laws.{UntouchedBytesStay, AppliedGivesTheSame};
+ghost use Rattle.dgn_tool.specs.Laws.{ScriptsHoldEdits, UntouchedBytesStay, UntouchedByScripts, AppliedGivesTheSame};
 ghost use Rattle.dgn_tool.specs.PatchLaws.{RefusesWhereOneDiffers, RefusesNoneElse, AppliesAll, WritesTheSame};
 ghost use Rattle.dgn_tool.specs.FitLaws.{FitsEndFindings};
 ghost use Rattle.dgn_tool.specs.ImportLaws.{ImportsNestApart, ImportsOfRunsNestApart, RefusedImportsChangeNothing};
 ghost use Rattle.dgn_tool.specs.Generation.{FixedScriptReads};
+
+/// The commands that a script reads to hold what their types keep: where its text is bytes, each edit, each edit of a fence
+/// and each displacement of an import has values that its fields can hold.
+pub fn scripts_hold_edits()
+    ensures { ScriptsHoldEdits }
+{}
 
 /// The file that a run writes opens as the elements that the accepted commands make and the tail of the file that was
 /// read, with the zero bytes behind it that fill its last block where that file was of whole blocks. It has that file's
@@ -12,6 +18,11 @@ ghost use Rattle.dgn_tool.specs.Generation.{FixedScriptReads};
 /// and that no undo took back.
 pub fn untouched_bytes_stay()
     ensures { UntouchedBytesStay }
+{}
+
+/// So it is with every script, of which nothing is asked but that it is bytes and reads to its commands.
+pub fn untouched_by_scripts()
+    ensures { UntouchedByScripts }
 {}
 
 /// Applied gives the same: the entries of the patch file that a run packs stand, one after the other, on the elements of
