@@ -255,7 +255,8 @@ module _ (dim : ℕ) (axes : IsDimension dim) (es : List Element) (each : AllByR
       ∙ told_puts dim es (Tree part.knot part.head part.below NoTree) n part.depth part.parent part.stands
       ∙ ap (puts_from dim (offset_of es n)) (sym part.tree)
 
-  part_turned : Turns (offset_of es n) (spelling (flat (tree_at n (forest row_of es)))) (fit_puts dim es (fitted_in dim es n)) (spelling (flat (fitted dim (tree_at n (forest row_of es)))))
+  -- it turns the bytes of the part
+  pub part_turned : Turns (offset_of es n) (spelling (flat (tree_at n (forest row_of es)))) (fit_puts dim es (fitted_in dim es n)) (spelling (flat (fitted dim (tree_at n (forest row_of es)))))
   part_turned =
       subst (λ (ps : List Put). Turns (offset_of es n) (spelling (flat (tree_at n (forest row_of es)))) ps (spelling (flat (fitted dim (tree_at n (forest row_of es)))))) (sym part_puts)
       (fitted_turned dim axes (tree_at n (forest row_of es)) (offset_of es n) (tree_each (IsWellFormed dim) n (forest row_of es) good_trees))

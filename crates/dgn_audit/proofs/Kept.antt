@@ -33,6 +33,7 @@ use Rattle.dgn_audit.specs.Fitting.{Done, head_fitted, fitted, fitted_forest, fi
 use Rattle.dgn_audit.specs.Laws.{FitsItsFields, FittedDrawingsOpen, FitsChangeTheirFields}
 use Rattle.dgn_audit.proofs.Fitted.{head_put, tree_good, hulls_good, fitted_each, drawing_turned, puts_filled, puts_fields}
 use Rattle.dgn_audit.proofs.Rooted.{root_known}
+use Rattle.dgn_audit.proofs.Lying.{fitted_lie, fitted_in_tree}
 
 module _ (dim : ℕ) (axes : IsDimension dim) where
   -- fitted trees have the rows of the old ones
@@ -184,4 +185,6 @@ fits_change f dim es t n made opens done =
           let same : at.root ≡ root = (let one = at.at in let two = is in cc) in
           made_nested f dim es t opens at.root at.known ∙ ap (fitted_forest dim es) same;
       rise = subst (λ (fs : List Field). Rise 0 fs (length (spelling es))) fields (span_rise 0 (length (spelling es)) (fit_puts dim es (fitted_in dim es at.root)) span);
+      in_tree = λ root end is spanned. fitted_in_tree dim axes es opens.each n root end is spanned;
+      within = λ root is. fitted_lie dim axes es opens.each n root is;
     })

@@ -8,6 +8,7 @@ pub mod Rooted
 pub mod Asked
 pub mod Ranged
 pub mod Fitted
+pub mod Lying
 pub mod Kept
 pub mod Ended
 pub mod Few

@@ -1,5 +1,5 @@
 -- What holds of every fit that is done.
-use Rattle.std.specs.Prelude.{ℕ, ◌≡◌, ◌<◌, ◌&&◌, not, nat_lt, nat_le, Bool, Some, List, ◌++◌, length, map, filter, slice_index, All}
+use Rattle.std.specs.Prelude.{ℕ, ◌≡◌, ◌+◌, ◌<◌, ◌&&◌, not, nat_lt, nat_le, Bool, Some, List, ◌++◌, length, map, filter, slice_index, All}
 use Rattle.patch_bytes.specs.Puts.{write}
 use Rattle.dgn_drawing.specs.Element.{Element}
 use Rattle.dgn_drawing.specs.Spelling.{spelling}
@@ -7,9 +7,11 @@ use Rattle.dgn_drawing.specs.Rows.{row_of}
 use Rattle.dgn_drawing.specs.Nesting.{forest}
 use Rattle.dgn_drawing.specs.Numbering.{root_of, span_of}
 use Rattle.dgn_drawing.specs.Opening.{Opens}
-use Rattle.edit_ops.specs.Fields.{IsIn, Rise, filled}
+use Rattle.dgn_layout.specs.Spots.{range_spots}
+use Rattle.elem_index.specs.Offsets.{offset_of}
+use Rattle.edit_ops.specs.Fields.{IsIn, Rise, spot_fields, filled}
 use Rattle.dgn_audit.specs.declared.finding.Finding.{Finding}
-use Rattle.dgn_audit.specs.Findings.{findings}
+use Rattle.dgn_audit.specs.Findings.{findings, fitted_in}
 use Rattle.dgn_audit.specs.Fitting.{Done, apply_fit, fitted_forest, fit_fields}
 
 -- what a fit that is done leaves opens in the same dimension, with the same tail
@@ -18,8 +20,14 @@ FittedDrawingsOpen =
     (f : List ℕ) (dim : ℕ) (es : List Element) (t : List ℕ) (n : ℕ) (made : List Element)
     → Opens f dim es t → apply_fit dim es n ≡ Done made → Opens (spelling made ++ t) dim made t
 
+-- the range spots of an element that is told of rise from its first byte to its end
+abbrev pub LiesInElement : ℕ → List Element → Finding → Type 0
+LiesInElement dim es f =
+    Rise (offset_of es f.number) (spot_fields (offset_of es f.number) (range_spots dim)) (offset_of es (f.number + 1))
+
 -- its result has the old bytes in no field, and is the old bytes with these written; it is as long, no row changes, its
--- trees are the fitted ones; and its fields rise within the elements, so no two share a byte
+-- trees are the fitted ones; and its fields rise within the elements, so no two share a byte, and from the first byte of
+-- the fitted tree to that tree's end; those of each fitted element lie in it
 pub record FitsItsFields (dim : ℕ) (es : List Element) (n : ℕ) (made : List Element) : Type 0 where
   pub stays : (k : ℕ) → k < length (spelling es) → All (λ f. ¬ IsIn f k) (fit_fields dim es n)
       → slice_index (spelling made) k ≡ slice_index (spelling es) k
@@ -28,6 +36,9 @@ pub record FitsItsFields (dim : ℕ) (es : List Element) (n : ℕ) (made : List 
   pub rows : map row_of made ≡ map row_of es
   pub nested : (root : ℕ) → root_of row_of es n ≡ Some root → forest row_of made ≡ fitted_forest dim es root
   pub rise : Rise 0 (fit_fields dim es n) (length (spelling es))
+  pub in_tree : (root end : ℕ) → root_of row_of es n ≡ Some root → span_of row_of es root ≡ Some (root, end)
+      → Rise (offset_of es root) (fit_fields dim es n) (offset_of es end)
+  pub within : (root : ℕ) → root_of row_of es n ≡ Some root → All (LiesInElement dim es) (fitted_in dim es root)
 
 abbrev pub FitsChangeTheirFields : Type 0
 FitsChangeTheirFields =

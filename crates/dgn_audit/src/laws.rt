@@ -9,7 +9,8 @@ pub fn a_fitted_drawing_opens()
 {}
 
 /// A fit changes its fields alone: each byte in no field of the fitted elements' ranges stays, the length and the rows
-/// stay, the trees are the fitted ones, and the fields rise within the elements, so no two share a byte.
+/// stay, the trees are the fitted ones, and the fields rise within the elements, so no two share a byte, and in the tree
+/// that is fitted; those of each fitted element lie in it.
 pub fn a_fit_changes_its_fields_alone()
     ensures { FitsChangeTheirFields }
 {}

@@ -54,5 +54,5 @@ fence_becomes f dim es tail e ns made fits roots opens few done =
       long = let long = changed.long in omega arith;
       rows = changed.rows;
       appended = changed.appended;
-      rise = fenced_apart f dim es tail (length tail) e ns made fits roots opens done;
+      rise = (fenced_apart f dim es tail (length tail) e ns made fits roots opens done).rise;
     }

@@ -108,7 +108,7 @@ module _ (dim rest : ℕ) (t : List ℕ) (base : List Element) where
           opens = fenced_opens (spelling on ++ t) dim on t rest e ns made fits roots opens is;
           long = omega (arith, changed.long);
           same = changed.stays;
-          rise = fenced_apart (spelling on ++ t) dim on t rest e ns made fits roots opens is;
+          rise = (fenced_apart (spelling on ++ t) dim on t rest e ns made fits roots opens is).rise;
           written = changed.written;
           fits = fenced_fits (spelling on ++ t) dim on t rest e ns made fits roots opens is;
         },

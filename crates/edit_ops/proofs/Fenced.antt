@@ -5,7 +5,7 @@ use Rattle.std.specs.Prelude.{Option, None}
 use Rattle.std.specs.List.{AllByRecursion}
 use Rattle.std.proofs.lemmas.Grind.{flat_map-append}
 use Rattle.std.proofs.lemmas.List.{append-nil, take_at, drop_at, get_or_append_left, length-map}
-use Rattle.std.proofs.lemmas.List.Elements.{recursion_from_All}
+use Rattle.std.proofs.lemmas.List.Elements.{All-from_recursion, recursion_from_All}
 use Rattle.patch_bytes.specs.Puts.{Put, write, AreWithin}
 use Rattle.patch_bytes.proofs.Laying.{write_other}
 use Rattle.patch_bytes.proofs.Spans.{span_within}
@@ -21,20 +21,21 @@ use Rattle.dgn_drawing.specs.declared.edit.Edit.TheVariants as edit
 use Rattle.edit_ops.specs.declared.cause.Cause.{Cause}
 use Rattle.edit_ops.specs.declared.types.plan.Plan.{Plan}
 use Rattle.edit_ops.specs.Causes.{cause_of, bytes_appended}
-use Rattle.edit_ops.specs.Applying.{Done, unless}
+use Rattle.edit_ops.specs.Applying.{Done, changed_forest, unless}
 use Rattle.edit_ops.specs.Fields.{Field, IsIn, Rise, filled}
 use Rattle.edit_ops.specs.Fenced.{edit_at, edits_at, cause_of_all, fenced_forest, fenced_fields, all_appended, apply_all, AreRoots, IsFenceEdit}
 use Rattle.edit_ops.specs.Planned.{IsFencePlan}
+use Rattle.edit_ops.specs.Laws.{FieldsLieApart}
 use Rattle.edit_ops.specs.FenceLaws.{FencedDrawingsOpen, FencedDrawingsFit, ChangesFencedFields, FenceEditsChangeTheirFields, FencedFieldsAreApart}
 use Rattle.edit_ops.proofs.Turned.{Turns, turns_none, turns_then, turned_reads, whole_turned, whole_span}
 use Rattle.edit_ops.proofs.Putting.{field_of}
 use Rattle.edit_ops.proofs.Edited.{filled_reads}
-use Rattle.edit_ops.proofs.Accepted.{none_both, done_unless}
+use Rattle.edit_ops.proofs.Accepted.{none_both, done_unless, done_without_cause}
 use Rattle.edit_ops.proofs.Appended.{appended_opens, short_left}
 use Rattle.edit_ops.proofs.Copied.{copy_short}
-use Rattle.edit_ops.proofs.Apart.{fields_rise}
+use Rattle.edit_ops.proofs.Apart.{fields_rise, fields_apart}
 use Rattle.edit_ops.proofs.InPlace.{held_by_none}
-use Rattle.edit_ops.proofs.Together.{all_puts, all_bytes, IsFenced, fenced}
+use Rattle.edit_ops.proofs.Together.{all_puts, all_bytes, IsFenced, root_fits, fenced}
 
 -- what an edit of several roots leaves that isn't refused
 module _ (f : List ℕ) (dim : ℕ) (es : List Element) (t : List ℕ) (e : FenceEdit) (ns : List ℕ) (opens : Opens f dim es t) (left : IsFenced dim es e ns) where
@@ -179,7 +180,21 @@ fenced_changes f dim es t rest e ns left fits some opens done =
     subst (ChangesFencedFields dim es e ns) (sym (left_is f dim es t rest e ns left fits some opens done))
     (left_changes f dim es t e ns opens (leaves f dim es t rest e ns left fits some opens done))
 
--- these fields are apart
+-- where nothing refuses all, the fields of each root's edit lie as those of an edit that is done
+roots_apart : (f : List ℕ) (dim : ℕ) (es : List Element) (t : List ℕ) (e : FenceEdit) → IsFenceEdit e → Opens f dim es t → (rest : ℕ) (ns : List ℕ)
+    → cause_of_all dim es rest (edits_at e ns) ≡ None → AllByRecursion (λ n. FieldsLieApart dim es (edit_at e n)) ns
+roots_apart f dim es t e fits opens rest [] none = tt
+roots_apart f dim es t e fits opens rest (n ∷ ns) none =
+    let more : ℕ = bytes_appended es (edit_at e n) in
+    let both = none_both (cause_of dim es rest (edit_at e n)) (cause_of_all dim es (rest + more) (edits_at e ns)) none in (
+      fields_apart f dim es t rest (edit_at e n) (flat (changed_forest dim es (edit_at e n))) (root_fits e n fits) opens (done_without_cause dim es rest (edit_at e n) both.0),
+      roots_apart f dim es t e fits opens (rest + more) ns both.1,
+    )
+
+-- these fields are apart, and those of each root in its tree
 pub fenced_apart : FencedFieldsAreApart
-fenced_apart f dim es t rest e ns left fits some opens done =
-    left_apart f dim es t e ns opens (leaves f dim es t rest e ns left fits some opens done)
+fenced_apart f dim es t rest e ns left fits some opens done = record {
+  rise = left_apart f dim es t e ns opens (leaves f dim es t rest e ns left fits some opens done);
+  each_root = All-from_recursion (λ n. FieldsLieApart dim es (edit_at e n)) ns
+      (roots_apart f dim es t e fits opens rest ns (accepted_all f dim es t rest e ns left fits some opens done).0);
+}

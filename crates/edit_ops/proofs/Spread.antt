@@ -209,7 +209,7 @@ some_value : {x y : ℕ} → Some x ≡ Some y → x ≡ y
 some_value is = cc
 
 -- the end of a tree
-tree_ends : (es : List Element) (root end : ℕ) → root < length es → span_of row_of es root ≡ Some (root, end)
+pub tree_ends : (es : List Element) (root end : ℕ) → root < length es → span_of row_of es root ≡ Some (root, end)
     → offset_of es end ≡ offset_of es root + length (spelling (flat (tree_at root (forest row_of es))))
 tree_ends es root end known span =
     let p : IsPlaced es root = placed es root known in

@@ -9,7 +9,8 @@ use Rattle.dgn_drawing.specs.Nesting.{forest, BeginsFree}
 use Rattle.dgn_drawing.specs.Opening.{Opens}
 use Rattle.edit_ops.specs.Applying.{Done}
 use Rattle.edit_ops.specs.Fields.{IsIn, Rise, filled}
-use Rattle.edit_ops.specs.Fenced.{apply_all, fenced_forest, fenced_fields, edits_at, all_appended, AreRoots, IsFenceEdit}
+use Rattle.edit_ops.specs.Laws.{FieldsLieApart}
+use Rattle.edit_ops.specs.Fenced.{apply_all, fenced_forest, fenced_fields, edit_at, edits_at, all_appended, AreRoots, IsFenceEdit}
 
 -- what it leaves opens in the same dimension, with the same tail
 abbrev pub FencedDrawingsOpen : Type 0
@@ -43,9 +44,14 @@ FenceEditsChangeTheirFields =
     → IsFenceEdit e → AreRoots es ns → Opens f dim es t → apply_all dim es rest e ns ≡ Done made
     → ChangesFencedFields dim es e ns made
 
--- its fields rise within the elements, so no two share a byte
+-- its fields rise within the elements, so no two share a byte; and those of each root lie as those of an edit of that
+-- root alone: in the root's tree, and each in its element
+pub record FencedFieldsLieApart (dim : ℕ) (es : List Element) (e : FenceEdit) (ns : List ℕ) : Type 0 where
+  pub rise : Rise 0 (fenced_fields dim es e ns) (length (spelling es))
+  pub each_root : All (λ n. FieldsLieApart dim es (edit_at e n)) ns
+
 abbrev pub FencedFieldsAreApart : Type 0
 FencedFieldsAreApart =
     (f : List ℕ) (dim : ℕ) (es : List Element) (t : List ℕ) (rest : ℕ) (e : FenceEdit) (ns : List ℕ) (made : List Element)
     → IsFenceEdit e → AreRoots es ns → Opens f dim es t → apply_all dim es rest e ns ≡ Done made
-    → Rise 0 (fenced_fields dim es e ns) (length (spelling es))
+    → FencedFieldsLieApart dim es e ns

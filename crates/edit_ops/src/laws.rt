@@ -45,7 +45,8 @@ pub fn a_fence_edit_changes_its_fields_alone()
     ensures { FenceEditsChangeTheirFields }
 {}
 
-/// The fields of an edit of several roots are apart: they rise within the elements, so no two share a byte.
+/// The fields of an edit of several roots are apart: they rise within the elements, so no two share a byte; and those of
+/// each root lie as those of an edit of that root alone, in the root's tree, and each in its element.
 pub fn fenced_fields_are_apart()
     ensures { FencedFieldsAreApart }
 {}
