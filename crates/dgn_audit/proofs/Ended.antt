@@ -119,7 +119,7 @@ stored_fitted dim r d parts rest axes on =
     ∙ on
 
 -- a hull that isn't fitted is the stored range
-stored_other : (dim : ℕ) (knot : Knot) (kind : ℕ) (b : Body) (members : Option Box3) (r : Box3) → hull_in dim knot kind b members ≡ Some r → is_fitted knot kind ≡ false → stored_of dim b ≡ r
+pub stored_other : (dim : ℕ) (knot : Knot) (kind : ℕ) (b : Body) (members : Option Box3) (r : Box3) → hull_in dim knot kind b members ≡ Some r → is_fitted knot kind ≡ false → stored_of dim b ≡ r
 stored_other dim knot kind (Silent rest) members r is not_fitted = absurd (let x = is in cc)
 stored_other dim Leaf kind (Shown d parts rest) members r is not_fitted =
     of_range (kind == 34) (sym (cond-false (is_vertices (class_of kind)) (points_hull dim (points_in parts)) (range_hull dim kind d) not_fitted) ∙ is)
@@ -135,6 +135,12 @@ stored_other dim Run kind (Shown d parts rest) members r is not_fitted = of_rang
     of_range false some = let x = some in cc
 stored_other dim Loose kind (Shown d parts rest) members r is not_fitted = absurd (let x = is in cc)
 
+-- an element with its hull as its range is no finding
+pub same_none : (dim : ℕ) (knot : Knot) (n : ℕ) (x : Element) (r : Box3) → stored_of dim x.body ≡ r → told_as keeps.Differing dim knot n x (Some r) ≡ []
+same_none dim knot n x r is =
+    let same : same_box (stored_of dim x.body) r ≡ true = ap (λ (s : Box3). same_box s r) is ∙ box_self r in
+    cond-false (not (same_box (stored_of dim x.body) r)) (told_of dim n x r ∷ []) [] (ap not same)
+
 module _ (dim : ℕ) (axes : IsDimension dim) where
   -- a head with its hull as its range is no finding
   fitted_same : (knot : Knot) (e : Element) (members : Option Box3) (r : Box3) → tree_hull dim knot e members ≡ Some r → on_axes dim r ≡ r → stored_of dim (head_fitted dim knot e (Some r)).body ≡ r
@@ -148,14 +154,9 @@ module _ (dim : ℕ) (axes : IsDimension dim) where
       alive true some = absurd (let x = some in cc)
       alive false some = some
 
-  same_none : (knot : Knot) (n : ℕ) (x : Element) (r : Box3) → stored_of dim x.body ≡ r → told_as keeps.Differing dim knot n x (Some r) ≡ []
-  same_none knot n x r is =
-      let same : same_box (stored_of dim x.body) r ≡ true = ap (λ (s : Box3). same_box s r) is ∙ box_self r in
-      cond-false (not (same_box (stored_of dim x.body) r)) (told_of dim n x r ∷ []) [] (ap not same)
-
   head_none : (knot : Knot) (n : ℕ) (e : Element) (members h : Option Box3) → tree_hull dim knot e members ≡ h → IsOnAxes dim h → told_as keeps.Differing dim knot n (head_fitted dim knot e h) h ≡ []
   head_none knot n e members None is on = refl
-  head_none knot n e members (Some r) is on = same_none knot n (head_fitted dim knot e (Some r)) r (fitted_same knot e members r is on)
+  head_none knot n e members (Some r) is on = same_none dim knot n (head_fitted dim knot e (Some r)) r (fitted_same knot e members r is on)
 
   -- the first tree of fitted trees, over g in the place of what stands below it
   abbrev first_told : Knot → ℕ → Element → Option Box3 → Forest Element → List Finding

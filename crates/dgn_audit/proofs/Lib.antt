@@ -11,4 +11,5 @@ pub mod Fitted
 pub mod Lying
 pub mod Kept
 pub mod Ended
+pub mod Belonging
 pub mod Few

@@ -1,5 +1,5 @@
 -- What holds of every fit that is done.
-use Rattle.std.specs.Prelude.{ℕ, ◌≡◌, ◌+◌, ◌<◌, ◌&&◌, not, nat_lt, nat_le, Bool, Some, List, ◌++◌, length, map, filter, slice_index, All}
+use Rattle.std.specs.Prelude.{ℕ, ◌≡◌, ◌+◌, ◌<◌, ◌&&◌, not, nat_lt, nat_le, Bool, Some, List, ◌++◌, length, map, filter, slice_index, All, Contains}
 use Rattle.patch_bytes.specs.Puts.{write}
 use Rattle.dgn_drawing.specs.Element.{Element}
 use Rattle.dgn_drawing.specs.Spelling.{spelling}
@@ -20,7 +20,7 @@ FittedDrawingsOpen =
     (f : List ℕ) (dim : ℕ) (es : List Element) (t : List ℕ) (n : ℕ) (made : List Element)
     → Opens f dim es t → apply_fit dim es n ≡ Done made → Opens (spelling made ++ t) dim made t
 
--- the range spots of an element that is told of rise from its first byte to its end
+-- the range spots of an element that is told of lie in it: they rise from its first byte to its end
 abbrev pub LiesInElement : ℕ → List Element → Finding → Type 0
 LiesInElement dim es f =
     Rise (offset_of es f.number) (spot_fields (offset_of es f.number) (range_spots dim)) (offset_of es (f.number + 1))
@@ -55,3 +55,13 @@ FitsEndFindings =
     (f : List ℕ) (dim : ℕ) (es : List Element) (t : List ℕ) (n : ℕ) (made : List Element) (root end : ℕ)
     → Opens f dim es t → apply_fit dim es n ≡ Done made → root_of row_of es n ≡ Some root → span_of row_of es root ≡ Some (root, end)
     → findings dim made ≡ filter (is_outside root end) (findings dim es)
+
+-- an element that is told of is so among the fitted elements of the tree of its root
+pub record IsFittedInItsTree (dim : ℕ) (es : List Element) (f : Finding) : Type 0 where
+  pub root : ℕ
+  pub at : root_of row_of es f.number ≡ Some root
+  pub among : Contains (fitted_in dim es root) f
+
+-- every finding is fitted in its tree
+abbrev pub FindingsAreFitted : Type 0
+FindingsAreFitted = (dim : ℕ) (es : List Element) → All (IsFittedInItsTree dim es) (findings dim es)

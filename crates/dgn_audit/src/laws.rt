@@ -1,6 +1,6 @@
 //! What holds of every fit. Each call does nothing; its contract is the law.
 
-ghost use Rattle.dgn_audit.specs.Laws.{FittedDrawingsOpen, FitsChangeTheirFields, FitsEndFindings};
+ghost use Rattle.dgn_audit.specs.Laws.{FittedDrawingsOpen, FitsChangeTheirFields, FitsEndFindings, FindingsAreFitted};
 
 /// A fitted drawing opens: what a fit that is done leaves opens in the same dimension, with the elements that it makes and
 /// the same tail.
@@ -19,4 +19,10 @@ pub fn a_fit_changes_its_fields_alone()
 /// as before.
 pub fn a_fit_ends_findings()
     ensures { FitsEndFindings }
+{}
+
+/// Every finding is fitted in its tree: it is told of, with its hull, among the fitted elements of the tree of its root,
+/// whose range spots a fit of that tree writes.
+pub fn every_finding_is_fitted()
+    ensures { FindingsAreFitted }
 {}
