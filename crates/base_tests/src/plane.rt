@@ -2,7 +2,6 @@
 // lists, which grow and are read, with the place at and past their end.
 
 use plane_geom::*;
-use std::test::Fail;
 
 const CORNER: [i32; 3] = [0, 0, 0];
 

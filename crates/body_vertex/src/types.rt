@@ -16,7 +16,7 @@ pub struct Path<'a, const DIM: usize> {
 }
 
 impl<'a, const DIM: usize> Model for Path<'a, DIM> {
-    ghost use Rattle.std.specs.Prelude.{ℕ, ◌+◌, ◌*◌, ◌≤◌, List, ℤ, length};
+    ghost use Rattle.std.specs.Prelude.{◌+◌, ◌*◌, ◌≤◌, List, ℤ, length};
     ghost use Rattle.body_vertex.specs.Points.{points_at};
 
     ghost Value = { List (List ℤ) };

@@ -1,8 +1,6 @@
 // The hull of a tree, by what its head is.
 
 ghost use Rattle.std.specs.Prelude.{◌≡◌, ◌<◌, ◌≤◌, length, IsTrue, IsFalse, Some};
-ghost use Rattle.dgn_words.specs.Numbers.{long_at};
-ghost use Rattle.range_code.specs.Ranges.{range_of};
 ghost use Rattle.body_vertex.specs.Points.{points_of};
 ghost use Rattle.dgn_layout.specs.Classes.{class_of, is_silent};
 ghost use Rattle.dgn_layout.specs.Spots.{HoldsPoints};

@@ -2,14 +2,13 @@
 // the front of the drawing, so what is least stands last.
 
 ghost use Rattle.std.specs.Prelude.{◌≡◌, ◌-◌, ◌<◌, ◌≤◌, ◌∷◌, ◌++◌, length, map, reverse, slice_get, vec_len, vec_capacity, Option, Some, OnOk, IfOk};
-ghost use Rattle.range_code.specs.Ranges.{range_of};
 ghost use Rattle.dgn_drawing.specs.Rows.{row_of};
 ghost use Rattle.dgn_drawing.specs.Numbering.{mark_of};
 ghost use Rattle.dgn_drawing.specs.WellFormed.{IsDimension};
 ghost use Rattle.elem_index.specs.Design.{elements, IsWhole};
 ghost use Rattle.dgn_audit.specs.Hulls.{hull_join};
 ghost use Rattle.dgn_audit.specs.Reading.{kept_told, told_read};
-ghost use Rattle.dgn_audit.specs.Backwards.{Pass, pass_of, box_for, without, with_hull, with_hulls, begins_below, past, read_marked, read_back};
+ghost use Rattle.dgn_audit.specs.Backwards.{pass_of, box_for, without, with_hull, with_hulls, begins_below, past, read_marked, read_back};
 
 use crate::finding::Finding;
 use crate::hulls::{hull_of, is_fitted};

@@ -24,18 +24,10 @@ pub get-with_file-same : (name bytes : List ℕ) (f : Files) → maps.get (with_
 get-with_file-same name bytes f =
     get-with_file name bytes f name ∙ ap (λ b. cond b (Some bytes) (maps.get f name)) ((bytes_eq-Decides name name).1 refl)
 
--- another name has what it had
-pub get-with_file-other : (name bytes : List ℕ) (f : Files) (q : List ℕ) → q ≢ name → maps.get (with_file name bytes f) q ≡ maps.get f q
-get-with_file-other name bytes f q other =
-    get-with_file name bytes f q ∙ ap (λ b. cond b (Some bytes) (maps.get f q)) (false_from_ne_true _ (λ e. other ((bytes_eq-Decides q name).0 e)))
 
 -- the file that was set has its bytes
 pub bytes_of-with_file-same : (name bytes : List ℕ) (f : Files) → bytes_of (with_file name bytes f) name ≡ bytes
 bytes_of-with_file-same name bytes f = ap (λ o. unwrap_or o []) (get-with_file-same name bytes f)
-
--- another file has the bytes that it had
-pub bytes_of-with_file-other : (name bytes : List ℕ) (f : Files) (q : List ℕ) → q ≢ name → bytes_of (with_file name bytes f) q ≡ bytes_of f q
-bytes_of-with_file-other name bytes f q other = ap (λ o. unwrap_or o []) (get-with_file-other name bytes f q other)
 
 -- the first of two choices by one test, whichever way it falls
 chosen_twice : (b : Bool) (x y z : Option (List ℕ)) → cond b x (cond b y z) ≡ cond b x z

@@ -1,4 +1,4 @@
-ghost use Rattle.std.specs.Prelude.{◌≡◌, ℕ, ◌≤◌, List, [], length, take, IfOk, Option, Bool, IsTrue, IsSome};
+ghost use Rattle.std.specs.Prelude.{◌≡◌, ℕ, ◌≤◌, [], length, take, IfOk, Option, Bool, IsTrue, IsSome};
 ghost use Rattle.dgn_desk.specs.Content.{Content, opened, consumed, filed, written, spoken, HasFile, HasTarget};
 ghost use Rattle.dgn_desk.specs.Desk.{Counts, Changes, Reads, TakesSome, StaysWilling, DoesNotFail};
 

@@ -81,10 +81,6 @@ module _ (dim number depth : ℕ) (b : List ℕ) where
     by_form (inl text) other = (_, tt, with_body (ap is_shown text) other _ (text_shown (form_at b) dim b text))
     by_form (inr plain) other = (_, tt, with_body (ap is_shown plain) other _ (plain_shown (form_at b) dim b plain))
 
-    long_by : (form_at b ≡ Form.Text) ⊎ (form_at b ≡ Form.Plain) → IsDimension dim → IsSoundIn dim b → 36 ≤ length b
-    long_by (inl text) axes sound = let after = shown_after dim b axes (ap is_shown text) in let long = sound_end dim b sound in omega arith
-    long_by (inr plain) axes sound = let after = shown_after dim b axes (ap is_shown plain) in let long = sound_end dim b sound in omega arith
-
     pub ranged_item : (c ≡ Class.Words) ⊎ ((c ≡ Class.Run) ⊎ ((c ≡ Class.Floating) ⊎ (c ≡ Class.Boxed))) → (kind_of b ≡ 34 → ⊥) → (body : ItemBody) × IsRanged body × HasItem body
     ranged_item is other = by_form (ranged_form is) other
 

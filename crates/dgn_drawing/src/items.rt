@@ -1,6 +1,6 @@
 // What a display shows of one element.
 
-ghost use Rattle.std.specs.Prelude.{◌≡◌, ◌<◌, ◌≤◌, ◌⊎◌, ℤ, length, map, IfOk};
+ghost use Rattle.std.specs.Prelude.{◌≡◌, ◌<◌, ◌≤◌, ◌⊎◌, length, map, IfOk};
 ghost use Rattle.elem_head.specs.Head.{kind_of};
 ghost use Rattle.body_vertex.specs.Points.{points_of, IsPathKind, PointsFit};
 ghost use Rattle.body_text.specs.Texts.{origin_of, chars_of, TextFits, node_origin_of, node_end};
@@ -8,7 +8,7 @@ ghost use Rattle.group_head.specs.Headers.{name_at, origin_at, cell_end};
 ghost use Rattle.dgn_drawing.specs.declared.types.item_body.ItemBody.{ItemBody};
 ghost use Rattle.dgn_drawing.specs.declared.form.Form.{Form};
 ghost use Rattle.dgn_drawing.specs.Reading.{form_at, end_at, parts_at, element_at};
-ghost use Rattle.dgn_drawing.specs.Faults.{is_shown, IsSoundIn};
+ghost use Rattle.dgn_drawing.specs.Faults.{IsSoundIn};
 ghost use Rattle.dgn_drawing.specs.Items.{in_space, item_body_of, item_of};
 ghost use Rattle.dgn_drawing.specs.WellFormed.{IsDimension};
 

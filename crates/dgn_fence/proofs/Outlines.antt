@@ -47,10 +47,6 @@ all_points (y ∷ ys) x b is grew =
     let same : x ≡ y = cc in
     ap (λ (a : Bounds). Some (outlined (flat x) a)) grew ∙ ap (λ (z : List ℤ). Some (outlined (flat z) (fold grown (at (flat z)) (map flat ys)))) same
 
-pub no_points : (xs : List (List ℤ)) → length xs ≡ 0 → path_outline (map flat xs) ≡ None
-no_points [] none = refl
-no_points (x ∷ xs) none = absurd (omega arith)
-
 -- no point is left behind the last one
 pub none_left : (xs : List (List ℤ)) (i : ℕ) (b : Bounds) → length xs ≤ i → fold grown b (map flat (drop i xs)) ≡ b
 none_left xs i b past = rw (drop_all i xs past) refl

@@ -1,7 +1,6 @@
 // Whether the segments of an item touch the edges of a fence.
 
 ghost use Rattle.std.specs.Prelude.{◌≡◌, Some, map};
-ghost use Rattle.std.specs.List.{list_any};
 ghost use Rattle.plane_geom.specs.Polygons.{edges};
 ghost use Rattle.dgn_fence.specs.Segments.{flat, segments_of, path_segments, corners_of};
 ghost use Rattle.dgn_fence.specs.Taken.{any_touches, touches_fence};

@@ -1,8 +1,6 @@
 // Where the segments of an element begin and lie, read from its bytes. No item is made.
 
-ghost use Rattle.std.specs.Prelude.{◌≡◌, ◌≤◌, ◌⊎◌, length, map};
-ghost use Rattle.elem_head.specs.Head.{kind_of};
-ghost use Rattle.range_code.specs.Ranges.{range_of};
+ghost use Rattle.std.specs.Prelude.{◌≡◌, ◌⊎◌, map};
 ghost use Rattle.body_vertex.specs.Points.{points_of, IsPathKind, PointsFit};
 ghost use Rattle.dgn_drawing.specs.WellFormed.{IsDimension};
 ghost use Rattle.dgn_drawing.specs.Faults.{IsSoundIn};

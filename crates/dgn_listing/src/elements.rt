@@ -1,7 +1,7 @@
 // What `elements` says: a line for each element, one for each level and each type, and how many elements there
 // are.
 
-ghost use Rattle.std.specs.Prelude.{◌≡◌, ◌++◌, length, codes, OnOk, OnErr};
+ghost use Rattle.std.specs.Prelude.{◌≡◌, ◌++◌, length, OnOk, OnErr};
 ghost use Rattle.elem_index.specs.Design.{elements, IsWhole};
 ghost use Rattle.dgn_listing.specs.Lines.{texts_from, AppendsFrontOf};
 ghost use Rattle.dgn_listing.specs.ElementTexts.{sign_text, signs_text, places_text, listed_text, element_line, totals_text, elements_text};

@@ -1,11 +1,11 @@
 // What `show` says: a line for each item that is shown, and how many there are.
 
-ghost use Rattle.std.specs.Prelude.{◌≡◌, ◌+◌, ◌<◌, ◌++◌, ◌⊎◌, length, codes, OnOk, OnErr};
+ghost use Rattle.std.specs.Prelude.{◌≡◌, ◌+◌, ◌<◌, ◌++◌, OnOk, OnErr};
 ghost use Rattle.std.specs.Fmt.{signed_decimal};
 ghost use Rattle.group_head.specs.Names.{text_of_name};
 ghost use Rattle.range_code.specs.Ranges.{on_axis};
 ghost use Rattle.std.specs.Char.{digit_char};
-ghost use Rattle.dgn_listing.specs.Lines.{blank, line_feed, AppendsFrontOf};
+ghost use Rattle.dgn_listing.specs.Lines.{AppendsFrontOf};
 ghost use Rattle.dgn_listing.specs.ItemTexts.{pair_text, third_text, height_text, point_text, next_point_text, points_text, is_plain, char_text, chars_text, path_text, said_text, box_text, cell_text, node_text, body_text, numbers_text, item_text, lines_text, items_text};
 
 use crate::pieces::{put, put_ending, put_fields};

@@ -75,11 +75,6 @@ module _ (d : Design) (l : LogState) (mask : Mask) (fence : Option (List Pt)) (k
       stays = (fits_change (d.body.items ++ d.tail.items) d.dim (elements d) d.tail.items n plan.made opens.opens plan.done).stays;
     }
 
--- what is wrong with the plan of a fit is wrong with the fit
-pub fit_refused : (a : FitApplied) (fault : FitFault) (told : EditFault) → told ≡ fault_told fault → IsFitRefused a fault → IsRefused (applied_told a) told
-fit_refused a (faults.Refused cause) told is refused = subst (IsRefused (applied_told a)) (sym is) (ap applied_told refused)
-fit_refused a faults.Memory told is refused = subst (IsRefused (applied_told a)) (sym is) tt
-
 pub fits_are_undone : FitsAreUndone
 fits_are_undone s n made done = (ap (λ (a : Applied). undone (pushed a s)) done, ap (λ (a : Applied). undo_refused (pushed a s)) done)
 

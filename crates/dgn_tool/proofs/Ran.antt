@@ -17,9 +17,6 @@ pub record Ran (all left : List Given) (refused : ℕ) (from s : State) (old now
   pub count : refused_count all from ≡ refused + refused_count left s
   pub state : after_all all from ≡ after_all left s
 
-sum_front : (a : ℕ) → 0 + a ≡ a
-sum_front a = omega arith
-
 sum_moved : (a b c : ℕ) → a + (b + c) ≡ (a + b) + c
 sum_moved a b c = omega arith
 

@@ -86,15 +86,6 @@ one_read all left c (Some k) mid before now only so come =
 pub read_more : (all left : List Command) (c : Command) (old mid : Option Content) (before now : List Second) → OnlyLeftDiffers old mid → ReadSo all (c ∷ left) old before → ComeBehind (names_of c) mid before now → ReadSo all left old now
 read_more all left c old mid before now only so come = record { so = one_read all left c old mid before now only so.so come }
 
--- all were
-all_come : (all left : List Command) (old : Option Content) (seconds turned : List Second) → IfSome old (IsReadSo all left seconds) → left ≡ [] → turned ≡ reverse seconds → ComeTo (names_in all) old (waiting turned)
-all_come all left None seconds turned so none is = tt
-all_come all left (Some c) seconds turned so none is =
-    let vs : map value_of (reverse turned) ≡ map value_of seconds = ap (λ (l : List Second). map value_of (reverse l)) is ∙ ap (map value_of) (reverse-reverse seconds) in (
-      so.0 ∙ ap (λ (l : List Command). list_all is_within (files_named (names_in l) c.files)) none,
-      vs ∙ sym (so.1 ∙ ap (λ (l : List Command). map value_of seconds ++ map second_of (files_named (names_in l) c.files)) none ∙ append-nil (map value_of seconds)),
-    )
-
 -- the run ended at one
 ends_there : (all left : List Command) (c : Command) (old mid : Option Content) (seconds : List Second) (o : Files → Outcome) → OnlyLeftDiffers old mid → IfSome old (IsReadSo all (c ∷ left) seconds)
     → IfSome old (λ k. list_all is_within (files_named (names_in all) k.files) ≡ false → o k.files ≡ ended statuses.TooLong (codes "too long import\n"))

@@ -14,7 +14,7 @@ ghost use Rattle.patch_file.specs.PatchView.{packed_of, all_packed};
 ghost use Rattle.dgn_tool.specs.Commands.{begun};
 ghost use Rattle.dgn_tool.specs.Given.{given_all, refused_count};
 ghost use Rattle.dgn_tool.specs.Lines.{numbered};
-ghost use Rattle.dgn_tool.specs.Packing.{packed, packed_from, packed_after, filed_patch, TakesLast};
+ghost use Rattle.dgn_tool.specs.Packing.{packed, packed_after, filed_patch, TakesLast};
 ghost use Rattle.dgn_tool.specs.Outcome.{IsEnding, ComesTo, IsFaultless};
 ghost use Rattle.dgn_tool.specs.SecondFiles.{waiting};
 

@@ -1,6 +1,6 @@
 // Putting the entries of a patch file on the elements of a design file, in place.
 
-ghost use Rattle.std.specs.Prelude.{◌≡◌, ◌≤◌, ◌<◌, ◌+◌, ◌^◌, [], ◌∷◌, length, OnOk};
+ghost use Rattle.std.specs.Prelude.{◌≤◌, ◌<◌, ◌+◌, ◌^◌, [], ◌∷◌, length, OnOk};
 ghost use Rattle.patch_file.specs.PatchView.{packed_of, all_packed};
 ghost use Rattle.dgn_tool.specs.Applied.{put_from, Puts};
 

@@ -1,6 +1,6 @@
 // Reading the second files of a script's imports.
 
-ghost use Rattle.std.specs.Prelude.{◌≡◌, ◌≤◌, [], ◌∷◌, map, IfOk, IfErr, IsErrOf, OnOk, IfSome, IsTrue, ◌++◌};
+ghost use Rattle.std.specs.Prelude.{◌≡◌, [], ◌∷◌, IfOk, IfErr, IsErrOf, OnOk, IfSome, IsTrue};
 ghost use Rattle.std.specs.List.{AllByRecursion, list_all};
 ghost use Rattle.dgn_desk.specs.Content.{OnlyLeftDiffers, HasFile};
 ghost use Rattle.dgn_desk.specs.Desk.{Rose, StaysWilling};

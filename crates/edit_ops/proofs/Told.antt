@@ -160,7 +160,3 @@ fine = Ok tt
 
 abbrev pub refused : Cause → Result (Unit {0}) EditFault
 refused cause = Err (faults.Refused cause)
-
-pub no_cause : (cause : Option Cause) → MatchOption cause (fine ≡ fine) (λ c. fine ≡ refused c) → cause ≡ None
-no_cause None is = refl
-no_cause (Some c) is = absurd (let y = is in cc)

@@ -1,9 +1,9 @@
 // A move of a part that is one element by itself and stands below no header. The sums are found once: where one is off the
 // plane, the move is refused.
 
-ghost use Rattle.std.specs.Prelude.{◌≡◌, ◌+◌, ◌<◌, ◌≤◌, ◌++◌, [], length, map, slice_get, Some, None, IfOk, IfErr, OnOk, OnSome, IfSome, IfNone, IsTrue, IsFalse};
+ghost use Rattle.std.specs.Prelude.{◌≡◌, ◌+◌, ◌<◌, ◌≤◌, ◌++◌, length, map, slice_get, Some, None, IfOk, IfErr, OnOk, OnSome, IfSome, IfNone, IsTrue, IsFalse};
 ghost use Rattle.std.specs.List.{list_all};
-ghost use Rattle.std.specs.Option.{option_or, option_to_list};
+ghost use Rattle.std.specs.Option.{option_or};
 ghost use Rattle.range_code.specs.Plane.{is_on_plane};
 ghost use Rattle.dgn_layout.specs.Spots.{HoldsPoints, spots_of};
 ghost use Rattle.dgn_drawing.specs.declared.edit.Edit.{Edit};

@@ -1,8 +1,8 @@
-ghost use Rattle.std.specs.Prelude.{◌≡◌, ◌+◌, ◌<◌, ◌≤◌, ◌+ℤ◌, [], ◌∷◌, ◌++◌, length, map, take, slice_get, Some, IfOk, IfSome, OnOk, IsTrue, IsFalse};
+ghost use Rattle.std.specs.Prelude.{◌≡◌, ◌+◌, ◌<◌, ◌≤◌, ◌+ℤ◌, [], ◌∷◌, ◌++◌, length, map, take, slice_get, Some, IfSome, OnOk, IsTrue};
 ghost use Rattle.std.specs.List.{AllByRecursion, list_all, flat_map};
 ghost use Rattle.std.specs.Option.{option_to_list};
 ghost use Rattle.elem_head.specs.Head.{symbology_of};
-ghost use Rattle.dgn_words.specs.Numbers.{range_long_at, range_long_bytes};
+ghost use Rattle.dgn_words.specs.Numbers.{range_long_at};
 ghost use Rattle.range_code.specs.Ranges.{on_axis, corner_at};
 ghost use Rattle.dgn_layout.specs.Classes.{class_of};
 ghost use Rattle.dgn_layout.specs.Spots.{HoldsPoints, has_spots, spots_of};

@@ -1,4 +1,4 @@
-ghost use Rattle.std.specs.Prelude.{◌≡◌, ◌+◌, ◌<◌, ◌≤◌, ◌⊎◌, length, ℤ, IsTrue, IfSome, IfNone, IsFalse, OnSome};
+ghost use Rattle.std.specs.Prelude.{◌≡◌, ◌+◌, ◌<◌, ◌≤◌, length, IsTrue, IfSome, IfNone, IsFalse, OnSome};
 ghost use Rattle.std.specs.List.{list_all};
 ghost use Rattle.range_code.specs.Plane.{is_on_plane, IsDisplacement};
 ghost use Rattle.range_code.specs.Ranges.{on_axis};

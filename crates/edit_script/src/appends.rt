@@ -8,7 +8,7 @@ ghost use Rattle.edit_script.specs.Appends.{pen_of, pen_named, appending, line_c
 
 use crate::command::Command;
 use crate::numbers::number;
-use crate::points::{Path, PointGiven, point, read_path};
+use crate::points::{PointGiven, point, read_path};
 use crate::words::next_word;
 use dgn_drawing::{Edit, New, NewShape};
 use elem_head::types::Symb;

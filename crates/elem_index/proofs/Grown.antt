@@ -18,16 +18,6 @@ pub offsets-rows : (es fs : List Element) → map row_of es ≡ map row_of fs �
 offsets-rows es fs rows =
     ap (offsets_from 0) (sym (sizes-rows es) ∙ ap (map (λ (r : Row). r.size)) rows ∙ sizes-rows fs)
 
--- and so spellings of the same length
-pub length-spelling-rows : (es fs : List Element) → map row_of es ≡ map row_of fs → length (spelling es) ≡ length (spelling fs)
-length-spelling-rows [] [] rows = refl
-length-spelling-rows [] (f ∷ fs) rows = absurd (let r = rows in cc)
-length-spelling-rows (e ∷ es) [] rows = absurd (let r = rows in cc)
-length-spelling-rows (e ∷ es) (f ∷ fs) rows =
-    let first : row_of e ≡ row_of f = cc in
-    let others : map row_of es ≡ map row_of fs = cc in
-    omega (arith, length-append (spell e) (spelling es), length-append (spell f) (spelling fs), ap (λ (r : Row). r.size) first, length-spelling-rows es fs others)
-
 -- the offsets of the first elements are the first offsets
 pub offsets-take : (k : ℕ) (es : List Element) → offsets_of (take k es) ≡ take k (offsets_of es)
 offsets-take k es = ap (offsets_from 0) (sym (take-map size_of k es)) ∙ sym (take-offsets_from 0 k (map size_of es))
@@ -40,26 +30,6 @@ offsets-front es more rows = offsets-rows es (take (length es) more) (sym rows) 
 has_bytes : (e : Element) → 0 < size_of e
 unfolding spell
 has_bytes e = omega arith
-
--- elements before number n begin before it
-pub offset-below : (es : List Element) (m n : ℕ) → m < n → m < length es → offset_of es m < offset_of es n
-offset-below [] m n below within = absurd (omega arith)
-offset-below (e ∷ es) m zero below within = absurd (omega arith)
-offset-below (e ∷ es) zero (suc n) below within = omega (arith, has_bytes e, length-append (spell e) (spelling (take n es)))
-offset-below (e ∷ es) (suc m) (suc n) below within =
-    omega (arith, offset-below es m n (omega arith) (omega arith), length-append (spell e) (spelling (take m es)), length-append (spell e) (spelling (take n es)))
-
--- and the others don't
-pub offset-from : (es : List Element) (m n : ℕ) → n ≤ m → offset_of es n ≤ offset_of es m
-offset-from [] m n from = let e : offset_of [] n ≡ 0 = none n in omega arith
-  where
-    none : (n : ℕ) → offset_of [] n ≡ 0
-    none zero = refl
-    none (suc n) = refl
-offset-from (e ∷ es) m zero from = omega arith
-offset-from (e ∷ es) zero (suc n) from = absurd (omega arith)
-offset-from (e ∷ es) (suc m) (suc n) from =
-    omega (arith, offset-from es m n (omega arith), length-append (spell e) (spelling (take m es)), length-append (spell e) (spelling (take n es)))
 
 -- what a body that was written to owes to the kept offsets and bytes
 module _ (old new : Design) (whole : IsWhole old) (is_open : IsOpen new) (kept : kept_of new ≡ kept_of old) (kinds : kinds_of new ≡ kinds_of old) where

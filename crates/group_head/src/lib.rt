@@ -3,7 +3,7 @@
 //! A header is the bytes of its element, borrowed. `DIM` is the dimension of the file, 2 or 3.
 #![tactic(auto)]
 
-ghost use Rattle.std.specs.Prelude.{◌≡◌, ◌↔◌, ◌+◌, ◌*◌, ◌<◌, ◌≤◌, ◌==◌, ◌⊎◌, if◌then◌else◌, length, IsNone, IfSome};
+ghost use Rattle.std.specs.Prelude.{◌≡◌, ◌↔◌, ◌+◌, ◌*◌, ◌<◌, ◌==◌, ◌⊎◌, if◌then◌else◌, length, IsNone, IfSome};
 ghost use Rattle.group_head.specs.Headers.{total_at, name_at, origin_at, cell_end};
 
 mod names;

@@ -6,7 +6,7 @@ use Rattle.std.proofs.lemmas.Bool.{cond-true, and_parts, eqb-true}
 use Rattle.dgn_layout.specs.Classes.{is_among}
 use Rattle.dgn_drawing.specs.declared.row.Row.{Row}
 use Rattle.dgn_drawing.specs.Nesting as nesting
-use Rattle.dgn_drawing.specs.Nesting.{Shape, leaf, run_over, group_or_loose, is_all, is_counted, front_count, is_spline_part, has_bit, member_count, shape_of, shape, itself, nest, forest, flat, Forest, Tree, NoTree}
+use Rattle.dgn_drawing.specs.Nesting.{Shape, group_or_loose, is_all, shape_of, shape, itself, nest, Forest, Tree}
 use Rattle.dgn_drawing.specs.Numbering.{Mark, end_of, marks}
 use Rattle.nest_tree.specs.declared.shape.Scope.{Scope}
 use Rattle.nest_tree.specs.declared.open_list.OpenList.{OpenList}

@@ -5,7 +5,7 @@ use Rattle.std.proofs.lemmas.Bool.{cond-true, cond-false}
 use Rattle.dgn_layout.specs.Classes.{class_of, is_among}
 use Rattle.dgn_drawing.specs.declared.row.Row.{Row}
 use Rattle.dgn_drawing.specs.Nesting as nesting
-use Rattle.dgn_drawing.specs.Nesting.{is_all, is_parts, is_counted, front_count, is_spline_part, has_bit, leaf, run_over, group_or_loose, shape_of, shape, itself, member_count}
+use Rattle.dgn_drawing.specs.Nesting.{is_all, is_parts, is_counted, front_count, is_spline_part, has_bit, leaf, run_over, group_or_loose, shape, itself, member_count}
 use Rattle.nest_tree.specs.declared.shape.Scope.{Scope}
 use Rattle.nest_tree.specs.Sums.{members_in}
 use Rattle.nest_tree.specs.Shapes.{IsBetween, rows_between, scope_meant, shape_in}

@@ -92,16 +92,6 @@ weights-split (suc i) j (r ∷ l) =
     let e : suc i + j ≡ suc (i + j) = omega arith in
     ap (λ (k : ℕ). weights (take k (r ∷ l))) e ∙ omega (arith, weights-split i j l)
 
-pub weights_few : (l : List Row) (n : ℕ) → ((k : ℕ) (d : Row) → k < length l → (get_or l k d).size < 4294967296) → length l ≤ n → weights l ≤ 4294967295 * n
-weights_few [] n each short = omega arith
-weights_few (r ∷ l) n each short =
-    let here : r.size < 4294967296 = each 0 r (omega arith) in
-    let rest = weights_few l (n - 1) (λ k d within. each (suc k) d (omega arith)) (omega arith) in
-    elim (cases_Bool r.cbit) [
-      | inl marked ↦ let w = cond-true r.cbit r.size 131109 marked in omega arith
-      | inr free ↦ let w = cond-false r.cbit r.size 131109 free in omega arith
-    ]
-
 -- the first of the rows between two numbers, and those behind it
 pub between_cons : (rows : List Row) (at end : ℕ) (d : Row) → at < end → at < length rows
     → take (end - at) (drop at rows) ≡ get_or rows at d ∷ take (end - at - 1) (drop (at + 1) rows)

@@ -1,6 +1,6 @@
 // The rows of all elements, which contracts alone see.
 
-ghost use Rattle.std.specs.Prelude.{◌≡◌, ◌++◌, List, [], take};
+ghost use Rattle.std.specs.Prelude.{◌≡◌, List, []};
 ghost use Rattle.dgn_drawing.specs.declared.row.Row.{Row};
 ghost use base.Fml.{ftrue};
 

@@ -1,7 +1,7 @@
 // What the first element of a list is, and what stands below it.
 
 ghost use Rattle.std.specs.Prelude.{◌≡◌, ◌<◌, ◌==◌, ◌&&◌, Option, [], ◌∷◌};
-ghost use Rattle.dgn_drawing.specs.Nesting.{front_count, is_all, is_parts, is_spline_part, has_bit, group_or_loose, run_over, leaf};
+ghost use Rattle.dgn_drawing.specs.Nesting.{front_count, is_all, is_parts, is_spline_part, has_bit, group_or_loose, run_over};
 ghost use Rattle.dgn_layout.specs.Classes.{is_among};
 ghost use Rattle.nest_tree.specs.Shapes.{scope_meant, shape_told, shape_in, rows_between, IsBetween};
 

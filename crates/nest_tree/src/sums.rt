@@ -1,6 +1,6 @@
 // Sums of bytes from the front of the rows, which tell at once how many members a header has.
 
-ghost use Rattle.std.specs.Prelude.{◌≡◌, ◌+◌, ◌<◌, ◌≤◌, [], ◌∷◌, ◌++◌, ◌*◌, ◌-◌, length, take, vec_len, vec_capacity, IfSome};
+ghost use Rattle.std.specs.Prelude.{◌≡◌, ◌+◌, ◌<◌, ◌≤◌, ◌*◌, ◌-◌, length, vec_capacity, IfSome};
 ghost use Rattle.std.specs.List.{AllByRecursion};
 ghost use Rattle.nest_tree.specs.Depths.{IsWordTotal};
 ghost use Rattle.nest_tree.specs.Sums.{weight, weights, sums_from, bytes_left, members_in};

@@ -1,8 +1,8 @@
 // Whether an entry stands on a body, and putting it there.
 
-ghost use Rattle.std.specs.Prelude.{◌≡◌, ◌↔◌, ◌≤◌, ◌++◌, length, map, IsTrue, OnOk, OnErr};
+ghost use Rattle.std.specs.Prelude.{◌≡◌, ◌↔◌, length, map, IsTrue, OnOk, OnErr};
 ghost use Rattle.std.specs.List.{AllByRecursion};
-ghost use Rattle.patch_bytes.specs.Puts.{lay, write, IsWithin, AreWithin};
+ghost use Rattle.patch_bytes.specs.Puts.{write, AreWithin};
 ghost use Rattle.patch_file.specs.FieldView.{exchange_of};
 ghost use Rattle.patch_file.specs.PatchView.{packed_of};
 ghost use Rattle.patch_file.specs.Standing.{HoldsOld, Stands, new_of, put_on};

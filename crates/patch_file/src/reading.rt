@@ -1,7 +1,7 @@
 // Reading a patch file, from left to right.
 
 ghost use Rattle.std.specs.Prelude.{◌≡◌, ◌+◌, ◌≤◌, List, length, IfOk};
-ghost use Rattle.patch_file.specs.Spelling.{Packed, AreEntries, patch_spelling};
+ghost use Rattle.patch_file.specs.Spelling.{Packed};
 ghost use Rattle.patch_file.specs.FieldView.{exchange_of};
 ghost use Rattle.patch_file.specs.PatchView.{packed_of, all_packed};
 ghost use Rattle.patch_file.specs.Reading.{fields_at, entry_at, entries_at, patch_of};

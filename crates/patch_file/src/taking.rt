@@ -1,7 +1,7 @@
 // Taking an entry off a body.
 
-ghost use Rattle.std.specs.Prelude.{◌≡◌, ◌≤◌, length, map, take, drop, IfOk};
-ghost use Rattle.patch_bytes.specs.Puts.{Span, IsWithin, AreWithin};
+ghost use Rattle.std.specs.Prelude.{◌≡◌, length, map, IfOk};
+ghost use Rattle.patch_bytes.specs.Puts.{IsWithin, AreWithin};
 ghost use Rattle.patch_bytes.specs.PatchView.{put_of};
 ghost use Rattle.std.specs.List.{AllByRecursion};
 ghost use Rattle.patch_file.specs.Exchanges.{IsSized};

@@ -1,7 +1,7 @@
 use Rattle.std.proofs.Common.{◌∙◌, sym, ap, take, List, ◌-◌}
 use Rattle.dgn_drawing.specs.declared.row.Row.{Row}
 use Rattle.dgn_drawing.specs.Nesting as nesting
-use Rattle.dgn_drawing.specs.Nesting.{Shape, run_over, group_or_loose, front_count, is_spline_part, has_bit}
+use Rattle.dgn_drawing.specs.Nesting.{run_over, group_or_loose, front_count, is_spline_part, has_bit}
 use Rattle.nest_tree.specs.Shapes.{shape_told}
 use Rattle.nest_tree.proofs.Weighed.{no_row}
 use Rattle.nest_tree.proofs.Shaped.{part_shape, counted_shape, spline_shape, shared_shape, leaf_shape}
