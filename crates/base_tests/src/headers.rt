@@ -1,4 +1,4 @@
-// The header of the worked row 'a cell', headers in both dimensions with bytes on each side of the
+// The header of a worked cell, headers in both dimensions with bytes on each side of the
 // fields, each length round the ends, and names with and without signs.
 
 use group_head::types::Cell;
@@ -19,8 +19,8 @@ fn cells_and_totals(rt: HostRuntime) {
     assert!(rt; name_text(read.name) == *b"ABC       ");
 }
 
-// A header in the plane and one in space, each with a byte more, of total 32769, with the words of GEN and 65535 as its name,
-// at 100,-5 and at 100,-5,65536. Every other byte is 0x55.
+// A header in the plane and one in space, each with a byte more, of total 32769, with the words of GEN and 65535 as its
+// name, at 100,-5 and at 100,-5,65536. Every other byte is 0x55.
 const PLANE: [u8; 93] = [
     0x55, 0x55, 0x55, 0x55, 0x55, 0x55, 0x55, 0x55, 0x55, 0x55, 0x55, 0x55, 0x55, 0x55, 0x55, 0x55,
     0x55, 0x55, 0x55, 0x55, 0x55, 0x55, 0x55, 0x55, 0x55, 0x55, 0x55, 0x55, 0x55, 0x55, 0x55, 0x55,

@@ -1,4 +1,4 @@
-// Every type in the plane and in space, and the places of small elements.
+// Every type in the plane and in space, and the end of a text that is cut short.
 
 ghost use Rattle.std.specs.Prelude.{◌≡◌, ◌⊎◌, ◌<◌};
 
@@ -120,45 +120,11 @@ fn silent_types(rt: HostRuntime) -> Result<(), Fail> {
     Ok(())
 }
 
-// The fields of a cell header in 2D and in 3D.
+// The end of a text that is too short for its count to be read.
 #[test]
-fn places_of_small_cells(rt: HostRuntime) -> Result<(), Fail> {
-    let alloc = rt.alloc();
-    let mut cell = [0; 92];
-    cell[1] = 2;
-    cell[2] = 44;
-    cell[30] = 30;
-    let mut deep_cell = [0; 124];
-    deep_cell[1] = 2;
-    deep_cell[2] = 60;
-    deep_cell[30] = 46;
-    assert!(rt; are_at(alloc, spots::<2>(2, &cell), &[4, 8, 16, 20, 84, 88])?);
-    let places = &[4, 8, 12, 16, 20, 24, 112, 116, 120];
-    assert!(rt; are_at(alloc, spots::<3>(2, &deep_cell), places)?);
-    Ok(())
-}
-
-// The fields of a chain of two points and of a text in 3D; and the end of a text that is too short for its count to be
-// read.
-#[test]
-fn places_of_small_elements(rt: HostRuntime) -> Result<(), Fail> {
-    let alloc = rt.alloc();
-    let mut chain = [0; 54];
-    chain[1] = 4;
-    chain[2] = 25;
-    chain[30] = 11;
-    chain[36] = 2;
-    let mut text = [0; 76];
-    text[1] = 17;
-    text[2] = 36;
-    text[30] = 22;
+fn end_of_a_short_text(rt: HostRuntime) {
     let mut short = [0; 58];
     short[1] = 17;
     short[2] = 27;
-    let places = &[4, 8, 16, 20, 38, 42, 46, 50];
-    assert!(rt; are_at(alloc, spots::<2>(4, &chain), places)?);
-    let places = &[4, 8, 12, 16, 20, 24, 62, 66, 70];
-    assert!(rt; are_at(alloc, spots::<3>(17, &text), places)?);
     assert!(rt; body_end::<2>(17, &short) == None);
-    Ok(())
 }

@@ -2,17 +2,8 @@
 
 use body_vertex::types::Path;
 use body_vertex::*;
+use sample_elements::{LINE, SPACE_CHAIN};
 use std::test::Fail;
-
-// LINE(1; 0,0 100,50) in the plane.
-const LINE_2D: [u8; 52] = [
-    0x01, 0x03, 0x18, 0x00, // level 1, type 3, 24 more words
-    0x00, 0x80, 0x00, 0x00, 0x00, 0x80, 0x00, 0x00, 0x00, 0x80, 0x00, 0x00, // low
-    0x00, 0x80, 0x64, 0x00, 0x00, 0x80, 0x32, 0x00, 0x00, 0x80, 0x00, 0x00, // high
-    0x00, 0x00, 0x0A, 0x00, 0x00, 0x00, 0x00, 0x00, // display fields
-    0x00, 0x00, 0x00, 0x00, 0x00, 0x00, 0x00, 0x00, // 0,0
-    0x00, 0x00, 0x64, 0x00, 0x00, 0x00, 0x32, 0x00, // 100,50
-];
 
 // SHAPE(1; 0,0 20,0 20,20 0,0) in the plane.
 const SHAPE_2D: [u8; 70] = [
@@ -25,17 +16,6 @@ const SHAPE_2D: [u8; 70] = [
     0x00, 0x00, 0x14, 0x00, 0x00, 0x00, 0x00, 0x00, // 20,0
     0x00, 0x00, 0x14, 0x00, 0x00, 0x00, 0x14, 0x00, // 20,20
     0x00, 0x00, 0x00, 0x00, 0x00, 0x00, 0x00, 0x00, // 0,0
-];
-
-// CHAIN(1; 1,2,3 4,5,6) in space.
-const CHAIN_3D: [u8; 62] = [
-    0x01, 0x04, 0x1D, 0x00, // level 1, type 4, 29 more words
-    0x00, 0x80, 0x01, 0x00, 0x00, 0x80, 0x02, 0x00, 0x00, 0x80, 0x03, 0x00, // low
-    0x00, 0x80, 0x04, 0x00, 0x00, 0x80, 0x05, 0x00, 0x00, 0x80, 0x06, 0x00, // high
-    0x00, 0x00, 0x0F, 0x00, 0x00, 0x00, 0x00, 0x00, // display fields
-    0x02, 0x00, // two points
-    0x00, 0x00, 0x01, 0x00, 0x00, 0x00, 0x02, 0x00, 0x00, 0x00, 0x03, 0x00, // 1,2,3
-    0x00, 0x00, 0x04, 0x00, 0x00, 0x00, 0x05, 0x00, 0x00, 0x00, 0x06, 0x00, // 4,5,6
 ];
 
 // LINE(1; -5,0,65536 2147483647,-2147483648,7) in space.
@@ -62,8 +42,8 @@ fn has_points<const DIM: usize>(path: Option<Path<'_, DIM>>, want: &[[i32; DIM]]
 
 #[test]
 fn points_in_the_plane(rt: HostRuntime) -> Result<(), Fail> {
-    assert!(rt; has_points::<2>(path(3, &LINE_2D), &[[0, 0], [100, 50]]));
-    assert!(rt; path::<2>(3, &LINE_2D[..51]).is_none());
+    assert!(rt; has_points::<2>(path(3, &LINE), &[[0, 0], [100, 50]]));
+    assert!(rt; path::<2>(3, &LINE[..51]).is_none());
     assert!(rt; has_points::<2>(path(6, &SHAPE_2D), &[[0, 0], [20, 0], [20, 20], [0, 0]]));
     assert!(rt; path::<2>(6, &SHAPE_2D[..69]).is_none());
     // A curve without points, and one whose count can't be read.
@@ -74,8 +54,8 @@ fn points_in_the_plane(rt: HostRuntime) -> Result<(), Fail> {
 
 #[test]
 fn points_in_space(rt: HostRuntime) -> Result<(), Fail> {
-    assert!(rt; has_points::<3>(path(4, &CHAIN_3D), &[[1, 2, 3], [4, 5, 6]]));
-    assert!(rt; path::<3>(4, &CHAIN_3D[..61]).is_none());
+    assert!(rt; has_points::<3>(path(4, &SPACE_CHAIN), &[[1, 2, 3], [4, 5, 6]]));
+    assert!(rt; path::<3>(4, &SPACE_CHAIN[..61]).is_none());
     let ends = [[-5, 0, 65536], [2147483647, -2147483648, 7]];
     assert!(rt; has_points::<3>(path(3, &LINE_3D), &ends));
     assert!(rt; path::<3>(3, &LINE_3D[..59]).is_none());

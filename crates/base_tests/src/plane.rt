@@ -1,11 +1,6 @@
-// Sides, segments and polygons at known places, the ends of the design plane among them, and the two
-// lists, which grow and are read, with the place at and past their end.
+// Sides, segments and polygons at known places, the ends of the design plane among them.
 
 use plane_geom::*;
-
-const CORNER: [i32; 3] = [0, 0, 0];
-
-const FAR: [i32; 3] = [2147483647, -2147483648, -5];
 
 // The ends of the design plane on each axis.
 const LOW: i32 = -2147483648;

@@ -1,20 +1,8 @@
 // The text of a worked drawing, and elements built by hand from the table of bodies.
 
 use body_text::*;
+use sample_elements::TEXT;
 use std::test::Fail;
-
-// TEXT(1; 5,6; Hi there) in the plane, in font 3 at both multipliers 1000.
-const TEXT_2D: [u8; 68] = [
-    0x01, 0x11, 0x20, 0x00, // level 1, type 17, 32 more words
-    0x00, 0x80, 0x05, 0x00, 0x00, 0x80, 0x06, 0x00, 0x00, 0x80, 0x00, 0x00, // low
-    0x00, 0x80, 0x05, 0x00, 0x00, 0x80, 0x06, 0x00, 0x00, 0x80, 0x00, 0x00, // high
-    0x00, 0x00, 0x12, 0x00, 0x00, 0x00, 0x00, 0x00, // display fields
-    0x03, 0x00, 0x00, 0x00, 0xE8, 0x03, 0x00, 0x00, 0xE8, 0x03, // font to height
-    0x00, 0x00, 0x00, 0x00, // rotation
-    0x00, 0x00, 0x05, 0x00, 0x00, 0x00, 0x06, 0x00, // 5,6
-    0x08, 0x00, // eight characters
-    0x48, 0x69, 0x20, 0x74, 0x68, 0x65, 0x72, 0x65, // Hi there
-];
 
 // TEXT(1; 7,-5,65536; DGN) in space. The byte where a text in the plane counts is 1.
 const TEXT_3D: [u8; 80] = [
@@ -43,9 +31,9 @@ fn texts(rt: HostRuntime) -> Result<(), Fail> {
         origin: [5, 6],
         chars: b"Hi there",
     };
-    assert!(rt; text::<2>(&TEXT_2D) == Some(words));
-    assert!(rt; text::<2>(&TEXT_2D[..67]) == None);
-    assert!(rt; text::<2>(&TEXT_2D[..59]) == None);
+    assert!(rt; text::<2>(&TEXT) == Some(words));
+    assert!(rt; text::<2>(&TEXT[..67]) == None);
+    assert!(rt; text::<2>(&TEXT[..59]) == None);
     let empty = Words {
         origin: [0, 0],
         chars: b"",

@@ -1,4 +1,4 @@
-// The stored range of an element, and whether it is another box.
+// The stored range of an element, and whether two boxes are the same.
 
 ghost use Rattle.std.specs.Prelude.{◌≡◌, ◌≤◌, length};
 ghost use Rattle.range_code.specs.Ranges.{range_of};

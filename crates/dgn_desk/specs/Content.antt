@@ -6,9 +6,11 @@ use Rattle.std.specs.Cmp.Lexicographic.{slice_cmp}
 use Rattle.std.specs.Coded.{Coded, code_by, coded×, coded_ℕ, coded_list, coded_option}
 use Rattle.std.specs.FinMap as maps
 
+-- files by name
 abbrev pub Files : Type 0
 Files = maps.FinMap (slice_cmp nat_cmp) (List ℕ)
 
+-- all that a desk holds
 pub record Content : Type 0 where
   pub files : Files
   pub left : List ℕ

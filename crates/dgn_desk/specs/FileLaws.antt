@@ -24,7 +24,6 @@ pub get-with_file-same : (name bytes : List ℕ) (f : Files) → maps.get (with_
 get-with_file-same name bytes f =
     get-with_file name bytes f name ∙ ap (λ b. cond b (Some bytes) (maps.get f name)) ((bytes_eq-Decides name name).1 refl)
 
-
 -- the file that was set has its bytes
 pub bytes_of-with_file-same : (name bytes : List ℕ) (f : Files) → bytes_of (with_file name bytes f) name ≡ bytes
 bytes_of-with_file-same name bytes f = ap (λ o. unwrap_or o []) (get-with_file-same name bytes f)

@@ -13,7 +13,8 @@ use std::rt::Files;
 ///
 /// A name is a path as std takes it. All that is said goes to standard output, and nothing goes to
 /// standard error. Each error of the system is answered as `Failed` and counted, want of memory in the
-/// system too; the desk itself takes no memory, so none of its calls answers `Memory`. It tells nothing of what it holds, and is never willing.
+/// system too; the desk itself takes no memory, so none of its calls answers `Memory`. It tells nothing of what it
+/// holds, and is never willing.
 #[derive(Drop)]
 pub struct HostDesk<R: Files> {
     rt: R,

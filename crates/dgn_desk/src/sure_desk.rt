@@ -62,6 +62,7 @@ impl SureDesk {
     }
 
     /// Sets a file. A reading of it that was begun goes on over its former bytes.
+    /// There is an error exactly where there is no memory.
     pub fn add(&mut self, name: &str, bytes: Vec<u8>) -> Result<(), AllocError>
         ensures ok { OnOk result (self.new ≡ record self.old { files = with_file name.now bytes.items self.old.files }) }
         ensures err { OnErr result (self.new ≡ self.old) }

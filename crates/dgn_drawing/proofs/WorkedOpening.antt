@@ -6,7 +6,7 @@ use Rattle.dgn_drawing.specs.Forms.{form_of}
 use Rattle.dgn_drawing.specs.Opening.{Fault, NotDesign, Cut, Short, Attr, ending_within, ending_of}
 use Rattle.dgn_drawing.proofs.Worked.{line_bytes, line_with_attributes, chain_of_three, space_chain_bytes}
 
--- the TCB of the worked rows, and one whose byte 1214 says 3D
+-- the TCB of worked drawings, and one whose byte 1214 says 3D
 abbrev tcb : List ℕ
 tcb = 0x08 ∷ 0x09 ∷ 0xFE ∷ 0x02 ∷ replicate 1532 0
 

@@ -33,6 +33,7 @@ abbrev pub is_parts : Scope → Bool
 is_parts Parts = true
 is_parts other = false
 
+-- whether headers of a class count their members
 abbrev pub is_counted : Class → Bool
 is_counted Class.Counted = true
 is_counted other = false

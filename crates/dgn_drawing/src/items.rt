@@ -28,7 +28,7 @@ use std::alloc::{AllocError, Global};
 /// or 3 dimensions.
 ///
 /// None exactly for the class silent and for type 34. The call looks at neither the deleted bit nor
-/// the level.
+/// the level. There is an error exactly where there is no memory.
 pub fn item(
     alloc: Global,
     dim: u8,

@@ -53,8 +53,5 @@ fn is_drawn(d: &Design, n: u32) -> bool
 fn is_unbroken(t: &Nest, n: u32) -> bool
     ensures { result ≡ is_unbroken (first_broken_of itself t.now.rows n) }
 {
-    match t.first_broken(n) {
-        Some(None) => true,
-        _ => false,
-    }
+    matches!(t.first_broken(n), Some(None))
 }

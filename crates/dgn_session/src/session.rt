@@ -58,8 +58,8 @@ impl Model for Session {
 }
 
 impl Session {
-    /// Begins a session on the design `d`, with all levels shown, no fence and nothing to undo. There is an error exactly where
-    /// there is no memory.
+    /// Begins a session on the design `d`, with all levels shown, no fence and nothing to undo. There is an error exactly
+    /// where there is no memory.
     pub fn start(alloc: Global, d: Design) -> Result<Session, AllocError>
         requires { IsWhole d }
         ensures value { IfOk result (λ s. s ≡ started d) }

@@ -16,8 +16,8 @@ use edit_script::Command;
 use std::alloc::Global;
 
 /// Runs the commands in order in a session, each import with the next of the second files, says what each of them says
-/// before the next one runs, and answers how many were refused. Where the desk stops, or there is no memory, some first part of what they
-/// say was said.
+/// before the next one runs, and answers how many were refused. Where the desk stops, or there is no memory, some first
+/// part of what they say was said.
 pub fn run_all<D: Desk>(
     alloc: Global,
     desk: &mut D,

@@ -114,6 +114,7 @@ pub(crate) fn answer_come(
         (import_said (importing (state_of s.old) (gathering_of come))) out.old.items out.new.items) }
 {
     out.reserve(ROOM)?;
+    // What a session holds is such as its type keeps, which is known where a value of it is read.
     let _dim = s.design().dim;
     match come {
         Come::Trees(found) => append_gathered(alloc, s, &found, out),

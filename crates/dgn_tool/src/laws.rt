@@ -1,4 +1,4 @@
-//! Laws over the definitions that the contracts cite. The function does nothing; its contract is the law.
+//! Laws over the definitions that the contracts cite. Each function does nothing; its contract is the law.
 
 ghost use Rattle.dgn_tool.specs.Laws.{ScriptsHoldEdits, UntouchedBytesStay, UntouchedByScripts, AppliedGivesTheSame};
 ghost use Rattle.dgn_tool.specs.PatchLaws.{RefusesWhereOneDiffers, RefusesNoneElse, AppliesAll, WritesTheSame};

@@ -11,7 +11,7 @@ pub enum Status {
     SomeRefused,
     /// The words are of no form.
     Usage,
-    /// A line of the script is bad: it is no command of the language.
+    /// A line of the script is bad: it is no command of the language, or the fifth that asks for an import.
     BadScript,
     /// IN is no design file: an element or its beginning is at fault.
     BadDesign,

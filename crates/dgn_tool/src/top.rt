@@ -37,8 +37,9 @@ const MOST_SCRIPT: usize = 1048576;
 /// desk, and answers how it ended.
 ///
 /// `edit IN SCRIPT OUT` reads the design file IN and the script SCRIPT whole, and then the second files of the script's
-/// imports in their order, runs the commands of the script and writes OUT. `check IN` reads IN and says how many elements it has. `gen SEED COUNT OUT`
-/// generates a drawing, runs a fixed script on it, writes OUT and says a summary; it reads nothing.
+/// imports in their order, runs the commands of the script and writes OUT. `check IN` reads IN and says how many elements
+/// it has. `gen SEED COUNT OUT` generates a drawing, runs a fixed script on it, writes OUT and says a summary; it reads
+/// nothing.
 /// `pack IN SCRIPT PATCH` reads and runs as `edit`, and writes what the edits that are left did as a patch file.
 /// `apply IN PATCH OUT` reads IN and the patch file PATCH whole, puts the entries of the patch file on the elements one
 /// after the other, writes OUT and says how many entries there are; it writes nothing where an entry doesn't stand. The

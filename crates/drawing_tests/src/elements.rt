@@ -1,4 +1,4 @@
-// Elements of the worked rows, whole, cut, and with their attribute data in and out of place, their rows
+// Elements of worked drawings, whole, cut, and with their attribute data in and out of place, their rows
 // and what is shown of them.
 
 ghost use Rattle.std.specs.Prelude.{◌≡◌, ◌+◌, ◌≤◌, ◌↔◌, IsTrue, length};

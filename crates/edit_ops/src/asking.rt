@@ -12,6 +12,7 @@ ghost use Rattle.edit_ops.specs.Written.{found};
 use crate::asked::Test;
 use crate::cause::Cause;
 use crate::causes::{other_axes, silent, too_long};
+use crate::fencing::same_shift;
 use crate::finding::find;
 use crate::making::size_made;
 use crate::sums::stays_on_plane;
@@ -94,10 +95,7 @@ pub fn growth_cause(d: &Design, appended: usize, pending: usize) -> Option<Cause
 fn leaves(by: &Shift) -> Test
     ensures { result ≡ Test.Leaves by.now }
 {
-    Test::Leaves(Shift {
-        axes: by.axes,
-        by: by.by,
-    })
+    Test::Leaves(same_shift(by))
 }
 
 // What a test has against the first of these elements against which it has something.

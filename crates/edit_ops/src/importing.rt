@@ -97,6 +97,7 @@ fn push_listed_copy(
     if let Some(cause) = move_cause(d, &live, by) {
         return Err(EditFault::Refused(cause));
     }
+    // What a displacement holds is such as its type keeps, which is known where a value of it is read.
     let _axes = by.axes;
     let edit = Edit::Copy {
         n,

@@ -53,6 +53,7 @@ pub fn push_lone_copy(
     if let Some(cause) = unmovable(n, class(found.kind)) {
         return Err(EditFault::Refused(cause));
     }
+    // What a displacement holds is such as its type keeps, which is known where a value of it is read.
     let _axes = by.axes;
     let start = out.len();
     out.extend_from_slice(found.bytes)?;

@@ -33,10 +33,7 @@ impl Reading {
     fn is_import(&self) -> bool
         ensures { result ≡ is_import self.now }
     {
-        match self {
-            Reading::Asks(Command::Import(_, _)) => true,
-            _ => false,
-        }
+        matches!(self, Reading::Asks(Command::Import(_, _)))
     }
 
     /// What the line says behind so many lines that ask for an import: with a fifth it is bad.

@@ -10,8 +10,8 @@ use std::alloc::Global;
 
 /// The commands of a script of at most 1048576 bytes, in the order of its lines.
 ///
-/// `Line` comes exactly where a line is bad, or a fifth asks for an import, and tells the number of the first. `Memory` comes where there is no
-/// memory for the list of commands, or for the points or the characters of one of them.
+/// `Line` comes exactly where a line is bad, or a fifth asks for an import, and tells the number of the first. `Memory`
+/// comes where there is no memory for the list of commands, or for the points or the characters of one of them.
 pub fn read_script(alloc: Global, bytes: &[u8]) -> Result<Vec<Command>, ScriptFault>
     requires { length bytes.now ≤ 1048576 }
     ensures commands { IfOk result (λ v. commands_of bytes.now ≡ Ok v.items) }

@@ -147,61 +147,29 @@ fn is_refused(alloc: Global, top: &[u8], member: &[u8], edit: Edit, cause: Cause
     refusal(alloc, top, member, edit, 0) == Some(EditFault::Refused(cause))
 }
 
-// A header whose total no members have, a locked member, and a shared cell definition.
+// Deletions that are refused: the top, the member, the element, and the cause.
+const REFUSED: [(&[u8], &[u8], u32, Cause); 5] = [
+    (&CELL, &MEMBER, 9, Cause::Unknown(9)),
+    (&CELL, &MEMBER, 0, Cause::Opaque(0)),
+    (&CELL_OF_52, &MEMBER, 1, Cause::Broken(1)),
+    (&CELL_OF_52, &MEMBER, 2, Cause::Broken(2)),
+    (&CELL, &LOCKED_MEMBER, 1, Cause::Locked(2)),
+];
+
+// No such element, the TCB, a header whose total no members have, and a locked member; a copy by three axes of a drawing
+// of two; and a member of a shared cell definition that is moved.
 #[test]
 fn refused_edits(rt: HostRuntime) {
     let alloc = rt.alloc();
+    for (top, member, n, cause) in &REFUSED {
+        assert!(rt; is_refused(alloc, top, member, Edit::Delete { n: *n }, *cause));
+    }
     let by = Shift {
         axes: 3,
         by: [1, 1, 1],
     };
     let copy = Edit::Copy { n: 1, by };
-    assert!(rt;
-        is_refused(
-            alloc,
-            &CELL,
-            &MEMBER,
-            Edit::Delete { n: 9 },
-            Cause::Unknown(9)
-        )
-    );
-    assert!(rt;
-        is_refused(
-            alloc,
-            &CELL,
-            &MEMBER,
-            Edit::Delete { n: 0 },
-            Cause::Opaque(0)
-        )
-    );
     assert!(rt; is_refused(alloc, &CELL, &MEMBER, copy, Cause::Dimension));
-    assert!(rt;
-        is_refused(
-            alloc,
-            &CELL_OF_52,
-            &MEMBER,
-            Edit::Delete { n: 1 },
-            Cause::Broken(1)
-        )
-    );
-    assert!(rt;
-        is_refused(
-            alloc,
-            &CELL_OF_52,
-            &MEMBER,
-            Edit::Delete { n: 2 },
-            Cause::Broken(2)
-        )
-    );
-    assert!(rt;
-        is_refused(
-            alloc,
-            &CELL,
-            &LOCKED_MEMBER,
-            Edit::Delete { n: 1 },
-            Cause::Locked(2)
-        )
-    );
     let by = along(1, 1);
     let shared = Edit::Move { n: 2, by };
     assert!(rt; is_refused(alloc, &SHARED_CELL, &MEMBER, shared, Cause::Opaque(1)));

@@ -67,6 +67,7 @@ fn if_below(number: Option<u32>, end: u32) -> Option<u32>
 
 impl Nest {
     /// Makes room for at least `n` more elements. All else stays as it is, with every answer.
+    /// There is an error exactly where there is no memory.
     pub fn reserve(&mut self, n: u32) -> Result<(), AllocError>
         ensures rows { self.new.rows ≡ self.old.rows }
         ensures room { OnOk result (n ≤ self.new.spare) }

@@ -7,6 +7,7 @@ use Rattle.std.specs.List.{starts_with}
 use Rattle.patch_file.specs.Exchanges.{Exchange}
 use Rattle.patch_file.specs.Spelling.{Packed, mark}
 
+-- what is read next, where nothing bad was met before
 infixl 10 ◌>>=◌
 abbrev pub ◌>>=◌ : {A B : Type 0} → Result A ℕ → (A → Result B ℕ) → Result B ℕ
 (Ok x) >>= f = f x
@@ -27,6 +28,7 @@ byte_at left (b ∷ rest) = Ok (b, rest)
 
 -- Pieces.
 
+-- the mark
 abbrev pub mark_at : List ℕ → Result (List ℕ) ℕ
 mark_at bytes = if starts_with nat_eq bytes mark then Ok (drop 8 bytes) else Err (length bytes)
 

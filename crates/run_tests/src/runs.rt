@@ -1,4 +1,4 @@
-// Runs over a desk of memory, by the rows of the format's examples.
+// Runs over a desk of memory, on worked drawings.
 
 mod faults;
 mod fences;

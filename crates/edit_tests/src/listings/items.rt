@@ -1,4 +1,4 @@
-// What is said of the items of the worked rows, in the plane and in space, and of characters round the
+// What is said of the items of worked drawings, in the plane and in space, and of characters round the
 // ends of those that stand for themselves.
 
 use dgn_drawing::types::{Item, ItemBody};

@@ -1,4 +1,4 @@
-// Trees chosen by a fence, by the rows of the format's examples.
+// Trees chosen by a fence.
 
 use super::*;
 

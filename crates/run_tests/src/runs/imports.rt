@@ -1,4 +1,4 @@
-// Imports of second drawings, by the rows of the format's examples.
+// Imports of second drawings.
 
 use super::*;
 use dgn_drawing::Shift;

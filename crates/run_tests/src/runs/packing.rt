@@ -1,14 +1,8 @@
-// Packing what a script does, by the rows of the format's examples.
+// Packing what a script does.
 
 use super::*;
 
 pub(super) const PACK: [&str; 4] = ["pack", "in", "s", "out"];
-
-// The patch file of one edit that is left: of the colour of a line behind the TCB.
-pub(super) const COLOUR: [u8; 33] = [
-    0x44, 0x47, 0x4E, 0x50, 0x41, 0x54, 0x30, 0x31, 1, 0, 0, 0, 0x34, 6, 0, 0, 1, 0, 0, 0, 0, 0, 0,
-    0, 0x22, 6, 0, 0, 2, 0, 0, 0, 7,
-];
 
 // A patch file of no edit.
 pub(super) const NO_ENTRIES: &[u8] = b"DGNPAT01\x00\x00\x00\x00";

@@ -1,7 +1,8 @@
-// Runs of one command line each, by the rows of the format's examples.
+// Runs of one command line each, on worked drawings.
 
 use super::fences::{ALL_OR_NOTHING, ALL_OR_NOTHING_SAID, MODES, MODES_SAID};
-use super::packing::{COLOUR, NO_ENTRIES, PACK};
+use super::packing::{NO_ENTRIES, PACK};
+use super::patches::PATCH;
 use super::*;
 use sample_elements::{
     ARC, ATTRIBUTED_LINE, CELL, CELL_OF_52, CELL_OF_81, CHAIN_HEADER, DASHED_LINE, DATA,
@@ -558,7 +559,7 @@ const PACKED: [Row; 4] = [
         script: b"move 1 10 -5\nundo\ncolor 1 7\n",
         status: Status::Done,
         said: b"entries 1\n",
-        wanted: Wanted::File(&COLOUR),
+        wanted: Wanted::File(&PATCH),
     },
     Row {
         words: &PACK,
@@ -585,7 +586,7 @@ const PACKED: [Row; 4] = [
         script: b"move 9 1 1\ncolor 1 7\nelements\n",
         status: Status::SomeRefused,
         said: b"entries 1\n",
-        wanted: Wanted::File(&COLOUR),
+        wanted: Wanted::File(&PATCH),
     },
 ];
 
