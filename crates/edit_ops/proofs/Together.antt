@@ -84,6 +84,12 @@ root_named (fence.Copy by) n = refl
 root_named (fence.Sym change) n = refl
 root_named fence.Delete n = refl
 
+pub root_fits : (e : FenceEdit) (n : ℕ) → IsFenceEdit e → IsEdit (edit_at e n)
+root_fits (fence.Move by) n fits = fits
+root_fits (fence.Copy by) n fits = fits
+root_fits (fence.Sym change) n fits = fits
+root_fits fence.Delete n fits = fits
+
 -- where nothing refuses all, nothing refuses each
 pub each_accepted : (dim : ℕ) (es : List Element) (e : FenceEdit) → AllByRecursion (IsWellFormed dim) es → BeginsWithTcb es → (rest : ℕ) (ns : List ℕ)
     → cause_of_all dim es rest (edits_at e ns) ≡ None → AllByRecursion (λ n. IsAccepted dim es (edit_at e n) n) ns
