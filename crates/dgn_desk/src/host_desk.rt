@@ -20,20 +20,28 @@ pub struct HostDesk<R: Files> {
     rt: R,
     reading: Option<R::File>,
     writing: Option<R::File>,
+    // What stands in the lower and the upper of the places of standard input and output that are closed.
+    lower: Option<R::File>,
+    upper: Option<R::File>,
     read_faults: u64,
     write_faults: u64,
 }
 
 impl<R: Files + Print + Drop> HostDesk<R> {
-    /// A desk over this runtime, with no faults, that has begun no file.
+    /// A desk over this runtime, with no faults, that has begun no file. Where standard input or output is closed, a file
+    /// that can't be written to takes its place, so that none that is begun does, and nothing can be said.
     pub fn new(rt: R) -> HostDesk<R>
         ensures read_faults { ⟦<HostDesk<R> as Desk>⟧.read_faults result ≡ 0 }
         ensures write_faults { ⟦<HostDesk<R> as Desk>⟧.write_faults result ≡ 0 }
     {
+        let lower = nothing(&rt);
+        let upper = nothing(&rt);
         HostDesk {
             rt,
             reading: None,
             writing: None,
+            lower,
+            upper,
             read_faults: 0,
             write_faults: 0,
         }
@@ -118,4 +126,9 @@ impl<R: Files + Print + Drop> Desk for HostDesk<R> {
             _ => failed(&mut self.write_faults),
         }
     }
+}
+
+// The file of no bytes, opened for reading, where there is one.
+fn nothing<R: Files>(rt: &R) -> Option<R::File> {
+    fs::open(rt, "/dev/null").ok()
 }
