@@ -16,14 +16,10 @@ use Rattle.elem_index.specs.declared.design.Design.{Design}
 use Rattle.elem_index.specs.Design.{elements}
 use Rattle.edit_ops.specs.Applying as edits
 use Rattle.edit_ops.specs.Applying.{Applied, Refused}
-use Rattle.edit_ops.specs.Planned.{IsRefused}
 use Rattle.edit_ops.specs.Fields.{filled}
-use Rattle.edit_ops.specs.declared.edit_fault.EditFault.{EditFault}
-use Rattle.dgn_audit.specs.declared.fit_fault.FitFault.{FitFault}
-use Rattle.dgn_audit.specs.declared.fit_fault.FitFault.TheVariants as faults
-use Rattle.dgn_audit.specs.Fitting.{FitApplied, Done, apply_fit, fit_fields}
-use Rattle.dgn_audit.specs.Planned.{IsFitPlan, IsFitRefused}
-use Rattle.dgn_audit.specs.Told.{fault_told, applied_told}
+use Rattle.dgn_audit.specs.Fitting.{Done, apply_fit, fit_fields}
+use Rattle.dgn_audit.specs.Planned.{IsFitPlan}
+use Rattle.dgn_audit.specs.Told.{applied_told}
 use Rattle.dgn_audit.proofs.Kept.{fitted_opens, fits_change}
 use Rattle.dgn_audit.proofs.Ended.{ends_findings}
 use Rattle.dgn_session.specs.State.{pushed, undone, undo_refused}

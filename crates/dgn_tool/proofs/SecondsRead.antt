@@ -4,13 +4,13 @@ use Rattle.std.specs.Prelude.{IfSome, ◌&&◌, codes}
 use Rattle.std.specs.List.{list_all, AllByRecursion}
 use Rattle.std.proofs.lemmas.Bool.{and_parts}
 use Rattle.std.proofs.lemmas.Bool.Decides.{nat_tests}
-use Rattle.std.proofs.lemmas.List.{append-nil, map-append, reverse-append, reverse-reverse}
+use Rattle.std.proofs.lemmas.List.{append-nil, map-append, reverse-append}
 use Rattle.dgn_desk.specs.Content.{Content, Files, bytes_of, OnlyLeftDiffers}
 use Rattle.dgn_import.specs.declared.second.Second.{Second}
 use Rattle.dgn_import.specs.Seconds.{SecondValue, second_of, value_of, IsSound}
 use Rattle.edit_script.specs.declared.command.Command.{Command}
 use Rattle.dgn_tool.specs.Ended.{Outcome, ended}
-use Rattle.dgn_tool.specs.SecondFiles.{names_of, names_in, files_named, is_within, waiting, AreThere, ComeTo, ComeBehind}
+use Rattle.dgn_tool.specs.SecondFiles.{names_of, names_in, files_named, is_within, AreThere, ComeTo, ComeBehind}
 use Rattle.dgn_tool.specs.Outcome.{ComesTo, EndsNamed}
 use Rattle.dgn_tool.specs.declared.status.Status.{Status}
 use Rattle.dgn_tool.specs.declared.status.Status.TheVariants as statuses
