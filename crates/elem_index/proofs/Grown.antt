@@ -1,14 +1,14 @@
 -- What a crate above knows of a design after it has written to the body: offsets hang on sizes alone, and so on rows.
-use Rattle.std.proofs.Common.{◌≡◌, ℕ, zero, suc, ◌+◌, ◌<◌, ◌≤◌, List, [], ◌∷◌, length, take, map, refl, sym, ap, ◌∙◌, arith, length-append}
+use Rattle.std.proofs.Common.{◌≡◌, ℕ, ◌+◌, ◌<◌, ◌≤◌, List, length, take, map, sym, ap, ◌∙◌, arith}
 use Rattle.std.proofs.lemmas.List.{take-map}
 use Rattle.dgn_drawing.specs.declared.row.Row.{Row}
 use Rattle.dgn_drawing.specs.Element.{Element}
-use Rattle.dgn_drawing.specs.Spelling.{spell, spelling, size_of}
+use Rattle.dgn_drawing.specs.Spelling.{spell, size_of}
 use Rattle.dgn_drawing.specs.Rows.{row_of}
 use Rattle.dgn_drawing.specs.Opening.{offsets_from}
 use Rattle.dgn_drawing.proofs.Offsets.{take-offsets_from, sizes-rows}
 use Rattle.elem_index.specs.declared.design.Design.{Design}
-use Rattle.elem_index.specs.Offsets.{offset_of, offsets_of}
+use Rattle.elem_index.specs.Offsets.{offsets_of}
 use Rattle.elem_index.specs.Design.{kept_of, kinds_of, spare_of, kind_byte, kind_bytes, elements, IsOpen, IsWhole, IsFront, IsBehind}
 use Rattle.elem_index.proofs.KindBytes.{kind_bytes-take, kind_bytes-front}
 use Rattle.elem_index.proofs.Places.{length-offsets}

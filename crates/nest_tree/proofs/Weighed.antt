@@ -1,6 +1,6 @@
 -- A number of rows are the members of a header exactly where they count together as many bytes as its total
 -- leaves to members; and the sums from the front tell where that is.
-use Rattle.std.proofs.Common.{◌≡◌, ℕ, zero, suc, ◌+◌, ◌-◌, ◌*◌, ◌≤◌, ◌<◌, List, [], ◌∷◌, length, take, drop, get_or, refl, sym, ap, ◌∙◌, arith, true, false, cond, inl, inr}
+use Rattle.std.proofs.Common.{◌≡◌, ℕ, zero, suc, ◌+◌, ◌-◌, ◌≤◌, ◌<◌, List, [], ◌∷◌, length, take, drop, get_or, refl, sym, ap, ◌∙◌, arith, true, false, cond, inl, inr}
 use Rattle.std.specs.Prelude.{Option, Some, None, option_map, ◌==◌, ◌&&◌, nat_le, ◌⊎◌, Result, Ok, Err}
 use Rattle.std.specs.Result.{MatchResult, result_ok}
 use Rattle.std.specs.List.{AllByRecursion}
