@@ -29,7 +29,8 @@ pub struct HostDesk<R: Files> {
 
 impl<R: Files + Print + Drop> HostDesk<R> {
     /// A desk over this runtime, with no faults, that has begun no file. Where standard input or output is closed, a file
-    /// that can't be written to takes its place, so that none that is begun does, and nothing can be said.
+    /// of no bytes that is opened for reading takes its place, so that none that is begun does: to a closed standard
+    /// output nothing can be said.
     pub fn new(rt: R) -> HostDesk<R>
         ensures read_faults { ⟦<HostDesk<R> as Desk>⟧.read_faults result ≡ 0 }
         ensures write_faults { ⟦<HostDesk<R> as Desk>⟧.write_faults result ≡ 0 }
