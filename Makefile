@@ -1,18 +1,41 @@
-# Builds the program, and installs it where no kit is needed to run it.
-#
-#     make install PREFIX=$HOME/.local
+# Builds, checks, installs and packs dgnedit. `make help` lists what there is.
 
-PREFIX = /usr/local
+PREFIX  = /usr/local
+VERSION = $(shell cat VERSION)
+PROGRAM = crates/dgnedit/out/dgnedit
+ARCHIVE = dgnedit-$(VERSION)-x86_64
 
-.PHONY: build install examples
+BIN = $(DESTDIR)$(PREFIX)/bin
+MAN = $(DESTDIR)$(PREFIX)/share/man/man1
+DOC = $(DESTDIR)$(PREFIX)/share/doc/dgnedit
 
-build:
+.PHONY: build check examples install uninstall dist clean help
+
+build:          ## proves and builds the program, where it isn't built or a source is newer
 	@./dgnedit --build
 
-install: build
-	install -d "$(DESTDIR)$(PREFIX)/bin"
-	install -m 755 crates/dgnedit/out/dgnedit "$(DESTDIR)$(PREFIX)/bin/dgnedit"
+check:          ## proves everything, tries the planted bugs, runs the tests and the examples of the documents
+	.ci/run
 
-# Runs every example of the documents.
-examples: build
+examples: build ## runs every example of the documents on the program
 	tools/run_examples
+
+install: build  ## installs the program, its man page and documents below PREFIX (/usr/local)
+	install -d "$(BIN)" "$(MAN)" "$(DOC)/examples"
+	install -m 755 $(PROGRAM) "$(BIN)/dgnedit"
+	install -m 644 docs/man/dgnedit.1 "$(MAN)/dgnedit.1"
+	install -m 644 README.md CHANGELOG.md LICENSE docs/*.md docs/*.svg "$(DOC)"
+	install -m 644 examples/*.dgn examples/*.txt "$(DOC)/examples"
+
+uninstall:      ## removes what install has installed
+	rm -f "$(BIN)/dgnedit" "$(MAN)/dgnedit.1"
+	rm -rf "$(DOC)"
+
+dist: build     ## makes dist/: an archive of the built program, and a Debian package where dpkg-deb is
+	tools/make_dist $(PROGRAM) dist
+
+clean:          ## removes what was built here
+	rm -rf dist crates/*/out
+
+help:           ## lists this
+	@sed -n 's/^\([a-z]*\):[^#]*## /\1	/p' Makefile | expand -t 12
