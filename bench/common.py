@@ -33,6 +33,33 @@ def line(x, data=b''):
     return head + low + high + words + bytes(2) + points + data
 
 
+def element(kind, corners, body, member=False):
+    """An element on level 1 with a display header: its type, the low and the high corner of its range, what stands
+    behind the header, and whether it is a member."""
+    (left, below), (right, above) = corners
+    low = offset_long(left) + offset_long(below) + offset_long(0)
+    high = offset_long(right) + offset_long(above) + offset_long(0)
+    rest = low + high + struct.pack('<HHH', 0, (4 + len(body)) // 2, 0) + bytes(2) + body
+    return bytes([0x81 if member else 1, kind]) + struct.pack('<H', len(rest) // 2) + rest
+
+
+def points(*pairs):
+    return b''.join(long(x) + long(y) for x, y in pairs)
+
+
+def trees(x):
+    """A cell of two lines, a line, a line string, a shape and a text at x,0: 444 bytes, seven elements, five roots."""
+    box = (x, 0), (x + 100, 50)
+    member = element(3, box, points(*box), True)
+    counted = struct.pack('<H', (92 + 2 * len(member) - 38) // 2)
+    cell = element(2, box, counted + bytes(46) + points((x, 0)))
+    string = struct.pack('<H', 3) + points((x, 0), (x + 50, 50), (x + 100, 0))
+    shape = struct.pack('<H', 4) + points((x, 0), (x + 100, 0), (x + 100, 50), (x, 0))
+    text = bytes(14) + points((x, 0)) + bytes([4, 0]) + b'SITE'
+    return (cell + member + member + element(3, box, points(*box)) + element(4, box, string)
+            + element(6, box, shape) + element(17, box, text))
+
+
 def write_drawing(path, pieces, count, tail, before=b''):
     """A TCB, what stands before the others, so many elements, which are these pieces again and again, and a tail."""
     chunk = b''.join(pieces)

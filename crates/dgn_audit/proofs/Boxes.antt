@@ -34,8 +34,10 @@ box_same a b c d low high = ap (λ (l : List ℤ). boxed l c) low ∙ ap (boxed 
 pub join_assoc : (a b c : Box3) → join_of a (join_of b c) ≡ join_of (join_of a b) c
 join_assoc a b c =
     box_same _ _ _ _
-    (three_same _ _ _ _ _ _ (min_assoc (on_axis a.lo 0) (on_axis b.lo 0) (on_axis c.lo 0)) (min_assoc (on_axis a.lo 1) (on_axis b.lo 1) (on_axis c.lo 1)) (min_assoc (on_axis a.lo 2) (on_axis b.lo 2) (on_axis c.lo 2)))
-    (three_same _ _ _ _ _ _ (max_assoc (on_axis a.hi 0) (on_axis b.hi 0) (on_axis c.hi 0)) (max_assoc (on_axis a.hi 1) (on_axis b.hi 1) (on_axis c.hi 1)) (max_assoc (on_axis a.hi 2) (on_axis b.hi 2) (on_axis c.hi 2)))
+    (three_same _ _ _ _ _ _ (min_assoc (on_axis a.lo 0) (on_axis b.lo 0) (on_axis c.lo 0)) (min_assoc (on_axis a.lo 1) (on_axis b.lo 1) (on_axis c.lo 1))
+    (min_assoc (on_axis a.lo 2) (on_axis b.lo 2) (on_axis c.lo 2)))
+    (three_same _ _ _ _ _ _ (max_assoc (on_axis a.hi 0) (on_axis b.hi 0) (on_axis c.hi 0)) (max_assoc (on_axis a.hi 1) (on_axis b.hi 1) (on_axis c.hi 1))
+    (max_assoc (on_axis a.hi 2) (on_axis b.hi 2) (on_axis c.hi 2)))
 
 pub hull_assoc : (a b c : Option Box3) → hull_join a (hull_join b c) ≡ hull_join (hull_join a b) c
 hull_assoc None b c = refl

@@ -1,5 +1,6 @@
 -- Hulls found from the last element back to the first: when a header is read, the box of its members is known. Of the
--- headers above the element that is being read, those have a box of which members with hulls have been read.
+-- headers above the element that is being read, those have a box of which members with hulls have been read. Contracts of
+-- private functions alone cite this.
 use Rattle.std.specs.Prelude.{ℕ, zero, suc, ◌+◌, ◌==◌, nat_lt, Bool, false, if◌then◌else◌, Option, Some, None, List, [], ◌∷◌, ◌++◌, reverse, slice_get}
 use Rattle.range_code.specs.declared.Box3.{Box3}
 use Rattle.range_code.specs.Ranges.{join_of}
@@ -10,17 +11,17 @@ use Rattle.dgn_audit.specs.declared.keep.Keep.{Keep}
 use Rattle.dgn_audit.specs.declared.finding.Finding.{Finding}
 use Rattle.dgn_audit.specs.declared.open_box.OpenBox.{OpenBox}
 use Rattle.dgn_audit.specs.Hulls.{tree_hull}
-use Rattle.dgn_audit.specs.Findings.{told_as}
+use Rattle.dgn_audit.specs.Findings.{finding_as}
 
 -- what is kept while elements are read: the boxes of headers, the nearest header's first, and what is told, the least
 -- number first
 pub record Pass : Type 0 where
   pub open_boxes : List OpenBox
-  pub told : List Finding
+  pub noted : List Finding
 
 -- the same, of the lists of the code, in which the last is first
 abbrev pub pass_of : List OpenBox → List Finding → Pass
-pass_of open_boxes told = record { open_boxes = reverse open_boxes; told = reverse told }
+pass_of open_boxes noted = record { open_boxes = reverse open_boxes; noted = reverse noted }
 
 -- the box of header n, if it is the first one
 abbrev pub box_for : ℕ → List OpenBox → Option Box3
@@ -57,14 +58,14 @@ past end (f ∷ fs) = if nat_lt f.number end then past end fs else f ∷ fs
 
 -- element n, of that mark and with that box of its members, before what was read behind it: what is told of elements
 -- below one that is marked deleted is taken away
-abbrev pub told_before : Keep → ℕ → ℕ → Mark → Element → Option Box3 → List Finding → List Finding
-told_before keep dim n m e members told =
-    if e.deleted then past m.end told else told_as keep dim m.knot n e (tree_hull dim m.knot e members) ++ told
+abbrev pub findings_before : Keep → ℕ → ℕ → Mark → Element → Option Box3 → List Finding → List Finding
+findings_before keep dim n m e members noted =
+    if e.deleted then past m.end noted else finding_as keep dim m.knot n e (tree_hull dim m.knot e members) ++ noted
 
 abbrev pub read_one : Keep → ℕ → ℕ → Mark → Element → Pass → Pass
 read_one keep dim n m e pass = record {
   open_boxes = with_hulls m.parent (tree_hull dim m.knot e (box_for n pass.open_boxes)) (without n pass.open_boxes);
-  told = told_before keep dim n m e (box_for n pass.open_boxes) pass.told;
+  noted = findings_before keep dim n m e (box_for n pass.open_boxes) pass.noted;
 }
 
 -- the same of the element that has that number, if there is one
@@ -74,5 +75,5 @@ read_marked keep dim n marked element pass = pass
 
 -- so many elements, of which the first has number n
 abbrev pub read_back : Keep → ℕ → List Element → ℕ → ℕ → Pass
-read_back keep dim es n zero = record { open_boxes = []; told = [] }
+read_back keep dim es n zero = record { open_boxes = []; noted = [] }
 read_back keep dim es n (suc count) = read_marked keep dim n (mark_of row_of es n) (slice_get es n) (read_back keep dim es (n + 1) count)

@@ -35,25 +35,25 @@ is_kept keeps.Fitted dim knot e hull = is_fitted knot e.kind
 is_kept keeps.Differing dim knot e hull = not (same_box (stored_of dim e.body) hull)
 
 -- what is told of an element that is kept
-abbrev pub told_of : ℕ → ℕ → Element → Box3 → Finding
-told_of dim n e hull = record { number = n; axes = dim; stored = stored_of dim e.body; hull = hull }
+abbrev pub finding_of : ℕ → ℕ → Element → Box3 → Finding
+finding_of dim n e hull = record { number = n; axes = dim; stored = stored_of dim e.body; hull = hull }
 
 -- what is told of a live element, by its hull
-abbrev pub told_as : Keep → ℕ → Knot → ℕ → Element → Option Box3 → List Finding
-told_as keep dim knot n e None = []
-told_as keep dim knot n e (Some hull) = if is_kept keep dim knot e hull then told_of dim n e hull ∷ [] else []
+abbrev pub finding_as : Keep → ℕ → Knot → ℕ → Element → Option Box3 → List Finding
+finding_as keep dim knot n e None = []
+finding_as keep dim knot n e (Some hull) = if is_kept keep dim knot e hull then finding_of dim n e hull ∷ [] else []
 
 -- what is told of the live elements of trees that are numbered from n on
-abbrev pub told_in : Keep → ℕ → ℕ → Forest Element → List Finding
-told_in keep dim n NoTree = []
-told_in keep dim n (Tree knot e below behind) =
-    (if e.deleted then [] else told_as keep dim knot n e (tree_hull dim knot e (hull_of dim below)) ++ told_in keep dim (n + 1) below)
-    ++ told_in keep dim (end_of n below) behind
+abbrev pub findings_in : Keep → ℕ → ℕ → Forest Element → List Finding
+findings_in keep dim n NoTree = []
+findings_in keep dim n (Tree knot e below behind) =
+    (if e.deleted then [] else finding_as keep dim knot n e (tree_hull dim knot e (hull_of dim below)) ++ findings_in keep dim (n + 1) below)
+    ++ findings_in keep dim (end_of n below) behind
 
 -- the findings: of all live elements with a hull those whose stored range isn't the hull
 abbrev pub findings : ℕ → List Element → List Finding
-findings dim es = told_in keeps.Differing dim 0 (forest row_of es)
+findings dim es = findings_in keeps.Differing dim 0 (forest row_of es)
 
 -- the fitted elements of the part of element n, with their hulls
 abbrev pub fitted_in : ℕ → List Element → ℕ → List Finding
-fitted_in dim es n = told_in keeps.Fitted dim n (tree_at n (forest row_of es))
+fitted_in dim es n = findings_in keeps.Fitted dim n (tree_at n (forest row_of es))

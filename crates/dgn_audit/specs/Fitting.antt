@@ -15,11 +15,12 @@ use Rattle.dgn_drawing.specs.Nesting.{Knot, Forest, NoTree, Tree, flat, forest}
 use Rattle.dgn_drawing.specs.Numbering.{root_of, first_broken_of}
 use Rattle.elem_index.specs.Offsets.{offset_of}
 use Rattle.edit_ops.specs.Trees.{exchange}
-use Rattle.edit_ops.specs.Causes.{is_locked}
+use Rattle.edit_ops.specs.declared.cause.Cause.{Cause}
+use Rattle.edit_ops.specs.declared.cause.Cause.TheVariants as causes
+use Rattle.edit_ops.specs.Causes.{broken, deleted, locked}
+use Rattle.edit_ops.specs.Applying.{Applied, Refused, unless}
 use Rattle.edit_ops.specs.Fields.{Field, spot_fields}
 use Rattle.dgn_audit.specs.declared.finding.Finding.{Finding}
-use Rattle.dgn_audit.specs.declared.fit_cause.FitCause.{FitCause}
-use Rattle.dgn_audit.specs.declared.fit_cause.FitCause.TheVariants as causes
 use Rattle.dgn_audit.specs.Hulls.{tree_hull, hull_of}
 use Rattle.dgn_audit.specs.Findings.{is_fitted, fitted_in}
 
@@ -67,48 +68,34 @@ fitted dim (Tree knot e below behind) =
 abbrev pub fitted_forest : ℕ → List Element → ℕ → Forest Element
 fitted_forest dim es n = exchange (λ header. header) (fitted dim) n (forest row_of es)
 
--- the tree holds a broken number, of which this is the least
-abbrev pub broken : Option (Option ℕ) → Option FitCause
-broken (Some (Some least)) = Some (causes.Broken least)
-broken other = None
+-- what stands against an element, where there is one
+abbrev pub against : (ℕ → Element → Option Cause) → ℕ → Option Element → Option Cause
+against cause m (Some e) = cause m e
+against cause m None = None
 
--- the root is marked deleted
-abbrev pub deleted : ℕ → Option Element → Option FitCause
-deleted root (Some e) = if e.deleted then Some (causes.Deleted root) else None
-deleted root None = None
-
--- an element is locked
-abbrev pub locked : ℕ → Option Element → Option FitCause
-locked m (Some e) = if is_locked e.body then Some (causes.Locked m) else None
-locked m None = None
+-- it is locked
+abbrev pub lock_cause : ℕ → Element → Option Cause
+lock_cause m e = locked m e.body
 
 -- the first of these elements that is
-abbrev pub first_locked : List Element → List Finding → Option FitCause
+abbrev pub first_locked : List Element → List Finding → Option Cause
 first_locked es [] = None
-first_locked es (f ∷ fs) = option_or (locked f.number (slice_get es f.number)) (first_locked es fs)
+first_locked es (f ∷ fs) = option_or (against lock_cause f.number (slice_get es f.number)) (first_locked es fs)
 
--- the first cause against a fit of the tree of a root
-abbrev pub tree_cause : ℕ → List Element → ℕ → Option FitCause
+-- the first cause against a fit of the tree of a root: it holds a broken number, its root is marked deleted, or a fitted
+-- element is locked
+abbrev pub tree_cause : ℕ → List Element → ℕ → Option Cause
 tree_cause dim es root =
     option_or (broken (first_broken_of row_of es root))
-    (option_or (deleted root (slice_get es root)) (first_locked es (fitted_in dim es root)))
+    (option_or (against deleted root (slice_get es root)) (first_locked es (fitted_in dim es root)))
 
--- what a fit comes to
-pub data FitApplied : Type 0 where
-  Done : List Element → FitApplied
-  Refused : FitCause → FitApplied
-
-abbrev pub unless : Option FitCause → List Element → FitApplied
-unless None made = Done made
-unless (Some cause) made = Refused cause
-
--- that of the tree of a root, if there is one
-abbrev pub fit_root : ℕ → List Element → ℕ → Option ℕ → FitApplied
+-- what a fit of the tree of a root comes to, if there is one
+abbrev pub fit_root : ℕ → List Element → ℕ → Option ℕ → Applied
 fit_root dim es n None = Refused (causes.Unknown n)
 fit_root dim es n (Some root) = unless (tree_cause dim es root) (flat (fitted_forest dim es root))
 
 -- a fit of the tree that holds element n
-abbrev pub apply_fit : ℕ → List Element → ℕ → FitApplied
+abbrev pub apply_fit : ℕ → List Element → ℕ → Applied
 apply_fit dim es n = fit_root dim es n (root_of row_of es n)
 
 -- the fields of a fit of the tree of a root, if there is one: the range spots of each fitted element

@@ -9,6 +9,7 @@ use Rattle.dgn_drawing.specs.Element.{Display, Parts, Body, Silent, Shown, Eleme
 use Rattle.dgn_drawing.specs.Changes.{points_in, range_in}
 use Rattle.dgn_drawing.specs.Items.{in_space}
 use Rattle.dgn_drawing.specs.Nesting.{Knot, Leaf, Group, Run, Loose, Forest, NoTree, Tree}
+use Rattle.dgn_layout.specs.declared.TheConstants.{SHARED_CELL}
 
 -- the box of one point, on the file's axes: in 2D its z numbers are 0
 abbrev pub box_of : ℕ → List ℤ → Box3
@@ -39,9 +40,9 @@ abbrev pub is_vertices : Class → Bool
 is_vertices Class.Vertices = true
 is_vertices other = false
 
--- the stored range, but of a shared cell definition, type 34, none
+-- the stored range, but of a shared cell definition none
 abbrev pub range_hull : ℕ → ℕ → Display → Option Box3
-range_hull dim kind d = if kind == 34 then None else Some (on_axes dim (range_in d))
+range_hull dim kind d = if kind == SHARED_CELL then None else Some (on_axes dim (range_in d))
 
 -- the hull of a leaf: that of its points, where it has them in a row, and else its stored range
 abbrev pub leaf_hull : ℕ → ℕ → Display → Parts → Option Box3

@@ -12,7 +12,8 @@ use Rattle.elem_index.specs.Offsets.{offset_of}
 use Rattle.edit_ops.specs.Fields.{IsIn, Rise, spot_fields, filled}
 use Rattle.dgn_audit.specs.declared.finding.Finding.{Finding}
 use Rattle.dgn_audit.specs.Findings.{findings, fitted_in}
-use Rattle.dgn_audit.specs.Fitting.{Done, apply_fit, fitted_forest, fit_fields}
+use Rattle.edit_ops.specs.Applying.{Done}
+use Rattle.dgn_audit.specs.Fitting.{apply_fit, fitted_forest, fit_fields}
 
 -- what a fit that is done leaves opens in the same dimension, with the same tail
 abbrev pub FittedDrawingsOpen : Type 0

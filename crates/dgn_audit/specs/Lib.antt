@@ -6,4 +6,4 @@ pub mod Reading
 pub mod Backwards
 pub mod Planned
 pub mod Laws
-pub mod Told
+pub mod FitCauses

@@ -5,13 +5,15 @@ use Rattle.dgn_layout.specs.Spots.{has_spots}
 use Rattle.patch_bytes.specs.Puts.{Put}
 use Rattle.dgn_drawing.specs.Element.{Element}
 use Rattle.dgn_drawing.specs.Spelling.{spelling}
+use Rattle.edit_ops.specs.declared.cause.Cause.{Cause}
+use Rattle.edit_ops.specs.Applying.{Applied, Done, Refused}
 use Rattle.edit_ops.specs.Fields.{filled}
 use Rattle.dgn_audit.specs.declared.fit_fault.FitFault.{FitFault}
 use Rattle.dgn_audit.specs.declared.fit_fault.FitFault.TheVariants as faults
-use Rattle.dgn_audit.specs.declared.fit_cause.FitCause.{FitCause}
+use Rattle.dgn_audit.specs.FitCauses.{edit_cause}
 use Rattle.dgn_audit.specs.declared.finding.Finding.{Finding}
 use Rattle.dgn_audit.specs.Findings.{fitted_in}
-use Rattle.dgn_audit.specs.Fitting.{FitApplied, Done, Refused, apply_fit, fit_fields, first_locked, tree_cause, fit_puts}
+use Rattle.dgn_audit.specs.Fitting.{apply_fit, fit_fields, first_locked, tree_cause, fit_puts}
 
 -- the fit is done, and the patches are its fields with the bytes that the result has there
 pub record IsFitPlan (dim : ℕ) (es : List Element) (n : ℕ) (patches : List Put) : Type 0 where
@@ -20,13 +22,13 @@ pub record IsFitPlan (dim : ℕ) (es : List Element) (n : ℕ) (patches : List P
   pub are : patches ≡ filled (spelling made) (fit_fields dim es n)
 
 -- the fit is refused with the cause that is told; want of memory says nothing of it
-abbrev pub IsFitRefused : FitApplied → FitFault → Type 0
-IsFitRefused applied (faults.Refused cause) = applied ≡ Refused cause
+abbrev pub IsFitRefused : Applied → FitFault → Type 0
+IsFitRefused applied (faults.Refused cause) = applied ≡ Refused (edit_cause cause)
 IsFitRefused applied faults.Memory = Unit {0}
 
 -- it is the cause that is told; want of memory says nothing of it
-abbrev pub IsCause : Option FitCause → FitFault → Type 0
-IsCause found (faults.Refused cause) = found ≡ Some cause
+abbrev pub IsCause : Option Cause → FitFault → Type 0
+IsCause found (faults.Refused cause) = found ≡ Some (edit_cause cause)
 IsCause found faults.Memory = Unit {0}
 
 -- there is an element of that number, with coordinates that are read

@@ -1,4 +1,4 @@
--- What is read of one element of a design, and what the list of kept elements begins with.
+-- What is read of one element of a design. Contracts of private functions alone cite this.
 use Rattle.std.specs.Prelude.{ℕ, ◌≡◌, Some, slice_get}
 use Rattle.dgn_drawing.specs.Element.{Element}
 use Rattle.dgn_drawing.specs.Spelling.{spell}
@@ -7,7 +7,7 @@ use Rattle.dgn_drawing.specs.Rows.{row_of}
 use Rattle.dgn_drawing.specs.Numbering.{Mark, mark_of}
 use Rattle.elem_index.specs.declared.design.Design.{Design}
 use Rattle.elem_index.specs.Design.{elements}
-use Rattle.nest_tree.specs.Shapes.{knot_told}
+use Rattle.nest_tree.specs.Shapes.{code_knot}
 use Rattle.dgn_audit.specs.declared.seat.Seat.{Seat}
 
 -- this is element n of the design, among its trees
@@ -17,7 +17,7 @@ pub record IsSeat (d : Design) (n : ℕ) (s : Seat) : Type 0 where
   pub element : Element
   pub there : slice_get (elements d) n ≡ Some element
   pub good : IsWellFormed d.dim element
-  pub knot : s.knot ≡ knot_told mark.knot
+  pub knot : s.knot ≡ code_knot mark.knot
   pub parent : s.parent ≡ mark.parent
   pub end : s.end ≡ mark.end
   pub kind : s.kind ≡ element.kind

@@ -11,7 +11,7 @@ use nest_tree::types::Nest;
 use std::alloc::{AllocError, Global};
 
 /// The elements of the drawing `d` whose stored range, on the file's axes, isn't the hull of their tree, in file order. `t`
-/// is the nesting of `d`. There is an error exactly where there is no memory.
+/// is the nesting of `d`. An error says that there was no memory.
 ///
 /// The hull of a row of points is the least box that holds them, and it has none without points. That of any other leaf of
 /// which more than its head is read, and of a B-spline, is its stored range. That of a group is the least box that holds

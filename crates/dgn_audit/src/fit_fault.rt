@@ -1,5 +1,5 @@
 ghost use Rattle.std.specs.Prelude.{◌≡◌};
-ghost use Rattle.dgn_audit.specs.Told.{fault_told};
+ghost use Rattle.dgn_audit.specs.FitCauses.{edit_fault};
 ghost use Rattle.dgn_audit.specs.declared.fit_fault.FitFault.TheVariants as faults;
 
 use crate::fit_cause::FitCause;
@@ -24,7 +24,7 @@ impl From<AllocError> for FitFault {
 }
 
 impl From<FitFault> for EditFault {
-    ghost from_gives = { λ fit fault. fault ≡ fault_told fit };
+    ghost from_gives = { λ fit fault. fault ≡ edit_fault fit };
 
     /// The same fault of an edit, with the cause of the same name.
     fn from(fault: FitFault) -> Self {

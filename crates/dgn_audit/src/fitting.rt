@@ -1,11 +1,11 @@
-ghost use Rattle.std.specs.Prelude.{◌≡◌, ◌+◌, ◌<◌, ◌≤◌, ◌++◌, length, map, reverse, slice_get, IfOk, IfErr, IfSome, OnOk, IsTrue};
+ghost use Rattle.std.specs.Prelude.{◌≡◌, ◌+◌, ◌<◌, ◌≤◌, ◌++◌, length, map, reverse, slice_get, option_map, IfOk, IfErr, IfSome, OnOk, IsTrue};
 ghost use Rattle.std.specs.List.{AllByRecursion};
 ghost use Rattle.patch_bytes.specs.PatchView.{put_of};
 ghost use Rattle.dgn_layout.specs.Classes.{class_of};
 ghost use Rattle.dgn_layout.specs.Spots.{has_spots, HoldsPoints};
 ghost use Rattle.range_code.specs.Ranges.{on_axis};
 ghost use Rattle.elem_head.specs.Head.{properties_of};
-ghost use Rattle.edit_ops.specs.Causes.{says_locked};
+ghost use Rattle.edit_ops.specs.Causes.{says_locked, broken, deleted};
 ghost use Rattle.dgn_drawing.specs.Rows.{row_of};
 ghost use Rattle.dgn_drawing.specs.Nesting.{itself};
 ghost use Rattle.dgn_drawing.specs.Numbering.{first_broken_of};
@@ -13,7 +13,8 @@ ghost use Rattle.dgn_drawing.specs.WellFormed.{IsDimension};
 ghost use Rattle.elem_index.specs.Offsets.{offset_of};
 ghost use Rattle.elem_index.specs.Design.{elements, IsWhole};
 ghost use Rattle.dgn_audit.specs.Findings.{fitted_in};
-ghost use Rattle.dgn_audit.specs.Fitting.{broken, deleted, locked, first_locked, tree_cause, apply_fit, number_in, range_put, range_puts};
+ghost use Rattle.dgn_audit.specs.FitCauses.{edit_cause};
+ghost use Rattle.dgn_audit.specs.Fitting.{against, lock_cause, first_locked, tree_cause, apply_fit, number_in, range_put, range_puts};
 ghost use Rattle.dgn_audit.specs.Planned.{IsFitPlan, IsFitRefused, IsPlanOfRoot, ArePatchesOf, IsCause, IsSpotted};
 
 use crate::finding::Finding;
@@ -21,6 +22,7 @@ use crate::fit_cause::FitCause;
 use crate::fit_fault::FitFault;
 use crate::keep::Keep;
 use crate::reading::read_between;
+use dgn_drawing::MOST_DESIGN;
 use dgn_layout::Spot;
 use dgn_words::put_range_long;
 use edit_ops::spots_in;
@@ -44,8 +46,8 @@ const HIGH: u32 = 16;
 /// bytes each and in rising order, with their new bytes, also where these are the old ones.
 ///
 /// Refused comes exactly with the first cause that stands: Unknown; Broken, with the least broken number of the tree;
-/// Deleted, where its root is marked deleted; Locked, with the least fitted element that is locked. Memory comes where
-/// there is no memory for it.
+/// Deleted, where its root is marked deleted; Locked, with the least fitted element that is locked. Memory says that
+/// there was none for it.
 ///
 /// It takes the time of that tree, not of the drawing.
 pub fn plan_fit(alloc: Global, d: &Design, t: &Nest, n: u32) -> Result<PatchList, FitFault>
@@ -60,7 +62,7 @@ pub fn plan_fit(alloc: Global, d: &Design, t: &Nest, n: u32) -> Result<PatchList
     plan_root(alloc, d, t, root)
 }
 
-// The same of the tree of a root.
+// What a fit of the tree of a root writes, or the first cause against it.
 fn plan_root(alloc: Global, d: &Design, t: &Nest, root: u32) -> Result<PatchList, FitFault>
     requires whole { IsWhole d.now }
     requires nesting { t.now.rows ≡ map row_of (elements d.now) }
@@ -80,7 +82,7 @@ fn plan_root(alloc: Global, d: &Design, t: &Nest, root: u32) -> Result<PatchList
 
 // The tree of a root holds a broken number.
 fn broken(t: &Nest, root: u32) -> Option<FitCause>
-    ensures { result ≡ broken (first_broken_of itself t.now.rows root) }
+    ensures { option_map edit_cause result ≡ broken (first_broken_of itself t.now.rows root) }
 {
     match t.first_broken(root) {
         Some(Some(least)) => Some(FitCause::Broken(least)),
@@ -91,7 +93,7 @@ fn broken(t: &Nest, root: u32) -> Option<FitCause>
 // A root is marked deleted.
 fn deleted(d: &Design, root: u32) -> Option<FitCause>
     requires { IsWhole d.now }
-    ensures { result ≡ deleted root (slice_get (elements d.now) root) }
+    ensures { option_map edit_cause result ≡ against deleted root (slice_get (elements d.now) root) }
 {
     let bytes = d.element(root)?;
     if head(bytes).deleted {
@@ -106,8 +108,8 @@ fn fitted_in(alloc: Global, d: &Design, t: &Nest, n: u32) -> Result<Vec<Finding>
     requires whole { IsWhole d.now }
     requires nesting { t.now.rows ≡ map row_of (elements d.now) }
     requires known { n < length (elements d.now) }
-    ensures fitted { IfOk result (λ told. reverse told.items ≡ fitted_in d.now.dim (elements d.now) n) }
-    ensures spotted { IfOk result (λ told. AllByRecursion (IsSpotted (elements d.now)) (reverse told.items)) }
+    ensures fitted { IfOk result (λ noted. reverse noted.items ≡ fitted_in d.now.dim (elements d.now) n) }
+    ensures spotted { IfOk result (λ noted. AllByRecursion (IsSpotted (elements d.now)) (reverse noted.items)) }
 {
     let Some((first, end)) = t.span(n) else {
         unreachable!()
@@ -136,7 +138,7 @@ fn patches_of(alloc: Global, d: &Design, mut fitted: Vec<Finding>) -> Result<Pat
 fn locked(d: &Design, m: u32) -> Option<FitCause>
     requires whole { IsWhole d.now }
     requires read { IfSome (slice_get (elements d.now) m) (λ e. IsTrue (has_spots (class_of e.kind))) }
-    ensures { result ≡ locked m (slice_get (elements d.now) m) }
+    ensures { option_map edit_cause result ≡ against lock_cause m (slice_get (elements d.now) m) }
 {
     let bytes = d.element(m)?;
     if says_locked(bytes) {
@@ -183,7 +185,7 @@ fn push_spots(
     requires kind { kind < 128 }
     requires spotted { IsTrue (has_spots (class_of kind)) }
     requires holds { HoldsPoints dim kind b.now (length b.now) }
-    requires few { place + length b.now ≤ 67108864 }
+    requires few { place + length b.now ≤ MOST_DESIGN }
     ensures { OnOk result (patches.new ≡ patches.old ++ range_puts dim hull place) }
 {
     'spots: for spot in spots_in(dim, kind, b) {
@@ -197,7 +199,7 @@ fn push_spots(
 // The number of a box at a range spot.
 fn range_patch(place: usize, spot: Spot, hull: Box3) -> Patch
     requires offset { IsTrue spot.offset }
-    requires few { place + spot.at ≤ 67108864 }
+    requires few { place + spot.at ≤ MOST_DESIGN }
     ensures { put_of result ≡ range_put hull place spot }
 {
     let mut bytes = [0; 4];

@@ -6,7 +6,7 @@ ghost use Rattle.dgn_layout.specs.Classes.{class_of, is_silent};
 ghost use Rattle.dgn_layout.specs.Spots.{HoldsPoints};
 ghost use Rattle.dgn_drawing.specs.WellFormed.{IsDimension};
 ghost use Rattle.dgn_audit.specs.Hulls.{hull_join, is_vertices, points_hull};
-ghost use Rattle.dgn_audit.specs.Reading.{with_number, range_read, leaf_read, hull_read, fitted_told};
+ghost use Rattle.dgn_audit.specs.Reading.{with_number, range_read, leaf_read, hull_read, is_fitted_knot};
 
 use crate::stored::stored_range;
 use dgn_layout::types::Class;
@@ -136,7 +136,7 @@ pub(crate) fn hull_of(
 // Whether a range can be fitted: that of a leaf with its points in a row, and that of a group.
 pub(crate) fn is_fitted(knot: Knot, kind: u8) -> bool
     requires { kind < 128 }
-    ensures { result ≡ fitted_told knot kind }
+    ensures { result ≡ is_fitted_knot knot kind }
 {
     match knot {
         Knot::Leaf => is_vertices(kind),

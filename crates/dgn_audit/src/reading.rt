@@ -7,7 +7,7 @@ ghost use Rattle.dgn_drawing.specs.Numbering.{mark_of};
 ghost use Rattle.dgn_drawing.specs.WellFormed.{IsDimension};
 ghost use Rattle.elem_index.specs.Design.{elements, IsWhole};
 ghost use Rattle.dgn_audit.specs.Hulls.{hull_join};
-ghost use Rattle.dgn_audit.specs.Reading.{kept_told, told_read};
+ghost use Rattle.dgn_audit.specs.Reading.{is_kept_read, finding_read};
 ghost use Rattle.dgn_audit.specs.Backwards.{pass_of, box_for, without, with_hull, with_hulls, begins_below, past, read_marked, read_back};
 
 use crate::finding::Finding;
@@ -71,7 +71,7 @@ fn add_to(boxes: &mut Vec<OpenBox>, p: u32, hull: Box3)
     push_box(boxes, OpenBox { header: p, hull });
 }
 
-// The same where there is a header.
+// Makes the box of the header that an element stands below, if it does, hold a box too.
 fn add_hull(boxes: &mut Vec<OpenBox>, parent: Option<u32>, hull: Box3)
     requires { length (with_hulls parent (Some hull) (reverse boxes.old.items)) ≤ vec_capacity boxes.old }
     ensures held { reverse boxes.new.items ≡ with_hulls parent (Some hull) (reverse boxes.old.items) }
@@ -83,28 +83,28 @@ fn add_hull(boxes: &mut Vec<OpenBox>, parent: Option<u32>, hull: Box3)
 }
 
 // Whether the least of what is told has a number below `end`.
-fn begins_below(told: &[Finding], end: u32) -> bool
-    ensures { result ≡ begins_below end (reverse told.now) }
+fn begins_below(noted: &[Finding], end: u32) -> bool
+    ensures { result ≡ begins_below end (reverse noted.now) }
 {
-    match told.last() {
+    match noted.last() {
         Some(least) => least.number < end,
         None => false,
     }
 }
 
 // Takes away what is told of numbers below `end`.
-fn cut_below(told: &mut Vec<Finding>, end: u32)
-    ensures { reverse told.new.items ≡ past end (reverse told.old.items) }
+fn cut_below(noted: &mut Vec<Finding>, end: u32)
+    ensures { reverse noted.new.items ≡ past end (reverse noted.old.items) }
 {
-    while begins_below(told, end) {
-        told.pop();
+    while begins_below(noted, end) {
+        noted.pop();
     }
 }
 
 // Whether an element with that hull is kept.
 fn is_kept(keep: Keep, knot: Knot, kind: u8, stored: Box3, hull: Box3) -> bool
     requires { kind < 128 }
-    ensures { result ≡ kept_told keep knot kind stored hull }
+    ensures { result ≡ is_kept_read keep knot kind stored hull }
 {
     match keep {
         Keep::Fitted => is_fitted(knot, kind),
@@ -119,17 +119,17 @@ fn tell(
     n: u32,
     seat: Seat<'_>,
     hull: Box3,
-    told: &mut Vec<Finding>,
+    noted: &mut Vec<Finding>,
 ) -> Result<(), AllocError>
     requires dimension { IsDimension dim }
     requires kind { seat.kind < 128 }
     requires long { 36 ≤ length seat.bytes.now }
-    ensures { OnOk result (reverse told.new.items
-        ≡ told_read keep dim seat.entry.knot n seat.entry.kind seat.entry.bytes.now hull ++ reverse told.old.items) }
+    ensures { OnOk result (reverse noted.new.items
+        ≡ finding_read keep dim seat.entry.knot n seat.entry.kind seat.entry.bytes.now hull ++ reverse noted.old.items) }
 {
     let stored = stored_range(dim, seat.bytes);
     if is_kept(keep, seat.knot, seat.kind, stored, hull) {
-        told.push(Finding {
+        noted.push(Finding {
             number: n,
             axes: dim,
             stored,
@@ -146,27 +146,28 @@ fn read(
     n: u32,
     keep: Keep,
     boxes: &mut Vec<OpenBox>,
-    told: &mut Vec<Finding>,
+    noted: &mut Vec<Finding>,
 ) -> Result<(), AllocError>
     requires whole { IsWhole d.now }
     requires nesting { t.now.rows ≡ map row_of (elements d.now) }
     requires known { n < length (elements d.now) }
-    requires room { length (read_marked keep d.now.dim n (mark_of row_of (elements d.now) n) (slice_get (elements d.now) n) (pass_of boxes.old.items told.old.items)).open_boxes ≤ vec_capacity boxes.old }
-    ensures pass { OnOk result (pass_of boxes.new.items told.new.items
-        ≡ read_marked keep d.now.dim n (mark_of row_of (elements d.now) n) (slice_get (elements d.now) n) (pass_of boxes.old.items told.old.items)) }
+    requires room { length (read_marked keep d.now.dim n (mark_of row_of (elements d.now) n) (slice_get (elements d.now) n)
+        (pass_of boxes.old.items noted.old.items)).open_boxes ≤ vec_capacity boxes.old }
+    ensures pass { OnOk result (pass_of boxes.new.items noted.new.items
+        ≡ read_marked keep d.now.dim n (mark_of row_of (elements d.now) n) (slice_get (elements d.now) n) (pass_of boxes.old.items noted.old.items)) }
     ensures capacity { vec_capacity boxes.new ≡ vec_capacity boxes.old }
 {
     let seat = seat_of(d, t, n);
     let members = take_box(boxes, n);
     if seat.deleted {
-        cut_below(told, seat.end);
+        cut_below(noted, seat.end);
         return Ok(());
     }
     let Some(hull) = hull_of(d.dim, seat.knot, seat.kind, seat.bytes, members) else {
         return Ok(());
     };
     add_hull(boxes, seat.parent, hull);
-    tell(d.dim, keep, n, seat, hull, told)
+    tell(d.dim, keep, n, seat, hull, noted)
 }
 
 // What is told of the elements from number `first` on and before number `end`, the last one first. A box is held for each
@@ -184,12 +185,12 @@ pub(crate) fn read_between(
     requires nesting { t.now.rows ≡ map row_of (elements d.now) }
     requires ordered { first ≤ end }
     requires within { end ≤ length (elements d.now) }
-    ensures { IfOk result (λ told. reverse told.items ≡ (read_back keep d.now.dim (elements d.now) first (end - first)).told) }
+    ensures { IfOk result (λ noted. reverse noted.items ≡ (read_back keep d.now.dim (elements d.now) first (end - first)).noted) }
 {
     let mut boxes = Vec::with_capacity(alloc, MOST_OPEN)?;
-    let mut told = Vec::new(alloc);
+    let mut noted = Vec::new(alloc);
     for n in (first..end).rev() {
-        read(d, t, n, keep, &mut boxes, &mut told)?;
+        read(d, t, n, keep, &mut boxes, &mut noted)?;
     }
-    Ok(told)
+    Ok(noted)
 }

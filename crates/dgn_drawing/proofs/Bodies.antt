@@ -1,5 +1,6 @@
 -- The parts of each form, from bytes to the record and back.
-use Rattle.std.proofs.Common.{◌≡◌, ℕ, ◌+◌, ◌-◌, ◌*◌, ◌<◌, ◌≤◌, List, [], ◌∷◌, ◌++◌, length, take, drop, get_or, refl, sym, ap, ◌∙◌, subst, arith, true, false, length-append, length-drop}
+use Rattle.std.proofs.Common.{◌≡◌, ℕ, ◌+◌, ◌-◌, ◌*◌, ◌<◌, ◌≤◌, List, [], ◌∷◌, ◌++◌, length, take, drop, get_or, refl, sym, ap, ◌∙◌, subst, arith, true}
+use Rattle.std.proofs.Common.{false, length-append, length-drop}
 use Rattle.std.specs.Prelude.{ℤ, ◌==◌}
 use Rattle.std.specs.List.{AllByRecursion, flat_map}
 use Rattle.std.proofs.lemmas.List.{length-take-le}
@@ -7,7 +8,8 @@ use Rattle.std.proofs.lemmas.List.Elements.{All-take, All-drop}
 use Rattle.dgn_words.specs.Numbers.{word_at, word_bytes}
 use Rattle.elem_head.specs.Head.{kind_of}
 use Rattle.body_vertex.specs.Points.{points_at, points_of, points_end}
-use Rattle.body_text.specs.Texts.{origin_start, origin_of, chars_count_place, chars_count, chars_start, chars_of, text_end, node_origin_start, node_origin_of, node_end}
+use Rattle.body_text.specs.Texts.{origin_start, origin_of, chars_count_place, chars_count, chars_start, chars_of, text_end, node_origin_start}
+use Rattle.body_text.specs.Texts.{node_origin_of, node_end}
 use Rattle.group_head.specs.Headers.{total_at, origin_at, cell_end}
 use Rattle.body_vertex.proofs.Points.{length-points_at}
 use Rattle.dgn_drawing.specs.declared.form.Form.{Form}
@@ -16,10 +18,12 @@ use Rattle.dgn_drawing.specs.Element.{Parts, Line, Points, Text, Node, Cell, Hea
 use Rattle.dgn_drawing.specs.Spelling.{parts_bytes, point_bytes}
 use Rattle.dgn_drawing.specs.WellFormed.{IsDimension, IsBytes, IsRun, IsPoint, IsText, IsNode, IsCell, HasParts, text_run, node_run, cell_run}
 use Rattle.dgn_drawing.specs.Reading.{parts_at, number_at}
-use Rattle.dgn_drawing.proofs.Has.{Has, has_then, has_first, has_none, has_same, has_run, has_byte, run_is, index_is}
-use Rattle.dgn_drawing.proofs.Fields.{byte_at, has_word, word_is, word_below, has_longs, longs_are, longs_on_plane, length-point_bytes, has_points, points_are, points_on_plane, length-points_bytes}
+use Rattle.dgn_drawing.proofs.BytesAt.{Has, has_then, has_first, has_none, has_same, has_run, has_byte, run_is, index_is}
+use Rattle.dgn_drawing.proofs.Fields.{byte_at, has_word, word_is, word_below, has_longs, longs_are, longs_on_plane, length-point_bytes, has_points}
+use Rattle.dgn_drawing.proofs.Fields.{points_are, points_on_plane, length-points_bytes}
 use Rattle.dgn_drawing.proofs.FormEnds.{end_in}
-use Rattle.dgn_drawing.proofs.Places.{text_origin, text_count, text_chars, node_origin, node_end_is, cell_origin, cell_end_is, line_points, line_end, row_points, row_end, is_line, is_points}
+use Rattle.dgn_drawing.proofs.Places.{text_origin, text_count, text_chars, node_origin, node_end_is, cell_origin, cell_end_is, line_points, line_end}
+use Rattle.dgn_drawing.proofs.Places.{row_points, row_end, is_line, is_points}
 
 -- a run that stands within bytes
 run_good : (b : List ℕ) (p n : ℕ) → IsBytes b → p + n ≤ length b → IsRun n (take n (drop p b))
@@ -100,7 +104,8 @@ module _ (dim : ℕ) (b : List ℕ) (axes : IsDimension dim) (bytes : IsBytes b)
             (has_longs dim b (node_origin_start dim) (node_end dim) bytes e2 within));
         good = record {
           word = word_below b 36 bytes;
-          before = subst (λ (n : ℕ). IsRun n (take (node_origin_start dim - 38) (drop 38 b))) run (run_good b 38 (node_origin_start dim - 38) bytes (omega arith));
+          before = subst (λ (n : ℕ). IsRun n (take (node_origin_start dim - 38) (drop 38 b))) run
+              (run_good b 38 (node_origin_start dim - 38) bytes (omega arith));
           point = longs_on_plane dim b (node_origin_start dim) bytes;
         };
         form = refl;
@@ -144,7 +149,8 @@ pub record AreRead (dim : ℕ) (b : List ℕ) (parts : Parts) (q : ℕ) : Type 0
   pub ends : end_in (form_of_parts parts) dim b ≡ q
 
 module _ (dim : ℕ) (b : List ℕ) (q : ℕ) (axes : IsDimension dim) where
-  line_read : (points : List (List ℤ)) → HasParts dim (Line points) → form_of (kind_of b) ≡ Form.Line → q ≡ 36 + length (parts_bytes (Line points)) → Has b 36 (parts_bytes (Line points)) q → AreRead dim b (Line points) q
+  line_read : (points : List (List ℤ)) → HasParts dim (Line points) → form_of (kind_of b) ≡ Form.Line → q ≡ 36 + length (parts_bytes (Line points))
+      → Has b 36 (parts_bytes (Line points)) q → AreRead dim b (Line points) q
   unfolding parts_bytes parts_at end_in
   line_read points good f at h =
       let three : (kind_of b == 3) ≡ true = is_line (kind_of b) f in
@@ -156,7 +162,8 @@ module _ (dim : ℕ) (b : List ℕ) (q : ℕ) (axes : IsDimension dim) where
         ends = line_end (kind_of b) dim b three ∙ sym (rw two at (at ∙ ap (λ (n : ℕ). 36 + n) long));
       }
 
-  points_read : (points : List (List ℤ)) → HasParts dim (Points points) → form_of (kind_of b) ≡ Form.Points → q ≡ 36 + length (parts_bytes (Points points)) → Has b 36 (parts_bytes (Points points)) q → AreRead dim b (Points points) q
+  points_read : (points : List (List ℤ)) → HasParts dim (Points points) → form_of (kind_of b) ≡ Form.Points → q ≡ 36 + length (parts_bytes (Points points))
+      → Has b 36 (parts_bytes (Points points)) q → AreRead dim b (Points points) q
   unfolding parts_bytes parts_at end_in
   points_read points good f at h =
       let other : (kind_of b == 3) ≡ false = is_points (kind_of b) f in
@@ -170,7 +177,9 @@ module _ (dim : ℕ) (b : List ℕ) (q : ℕ) (axes : IsDimension dim) where
         ends = row_end (kind_of b) dim b other ∙ ap (λ (n : ℕ). 38 + 4 * dim * n) count ∙ ap (λ (n : ℕ). 38 + n) (sym long) ∙ sym place;
       }
 
-  text_read : (run : List ℕ) (origin : List ℤ) (spare : ℕ) (chars : List ℕ) → IsText dim run origin spare chars → q ≡ 36 + length (parts_bytes (Text run origin spare chars)) → Has b 36 (parts_bytes (Text run origin spare chars)) q → AreRead dim b (Text run origin spare chars) q
+  text_read : (run : List ℕ) (origin : List ℤ) (spare : ℕ) (chars : List ℕ) → IsText dim run origin spare chars
+      → q ≡ 36 + length (parts_bytes (Text run origin spare chars)) → Has b 36 (parts_bytes (Text run origin spare chars)) q
+      → AreRead dim b (Text run origin spare chars) q
   unfolding parts_bytes parts_at end_in
   text_read run origin spare chars good at h =
       let e1 = text_origin axes in
@@ -191,7 +200,8 @@ module _ (dim : ℕ) (b : List ℕ) (q : ℕ) (axes : IsDimension dim) where
       let size2 = length-append (point_bytes origin) (length chars ∷ spare ∷ chars) in
       record { same = cc; ends = omega arith }
 
-  node_read : (total : ℕ) (run : List ℕ) (origin : List ℤ) → IsNode dim total run origin → q ≡ 36 + length (parts_bytes (Node total run origin)) → Has b 36 (parts_bytes (Node total run origin)) q → AreRead dim b (Node total run origin) q
+  node_read : (total : ℕ) (run : List ℕ) (origin : List ℤ) → IsNode dim total run origin → q ≡ 36 + length (parts_bytes (Node total run origin))
+      → Has b 36 (parts_bytes (Node total run origin)) q → AreRead dim b (Node total run origin) q
   unfolding parts_bytes parts_at end_in
   node_read total run origin good at h =
       let e1 = node_origin axes in
@@ -207,7 +217,8 @@ module _ (dim : ℕ) (b : List ℕ) (q : ℕ) (axes : IsDimension dim) where
       let size = length-append run (point_bytes origin) in
       record { same = cc; ends = omega arith }
 
-  header_read : (total number : ℕ) → HasParts dim (Header total number) → q ≡ 36 + length (parts_bytes (Header total number)) → Has b 36 (parts_bytes (Header total number)) q → AreRead dim b (Header total number) q
+  header_read : (total number : ℕ) → HasParts dim (Header total number) → q ≡ 36 + length (parts_bytes (Header total number))
+      → Has b 36 (parts_bytes (Header total number)) q → AreRead dim b (Header total number) q
   unfolding parts_bytes parts_at end_in
   header_read total number good at h =
       let one = has_first {b = b} {x = word_bytes total} 38 refl h in
@@ -215,7 +226,9 @@ module _ (dim : ℕ) (b : List ℕ) (q : ℕ) (axes : IsDimension dim) where
       let f2 : number_at b ≡ number = word_is one.1 good.1 in
       record { same = cc; ends = omega arith }
 
-  cell_read : (total : ℕ) (name : List ℕ) (run : List ℕ) (origin : List ℤ) → IsCell dim total name run origin → q ≡ 36 + length (parts_bytes (Cell total name run origin)) → Has b 36 (parts_bytes (Cell total name run origin)) q → AreRead dim b (Cell total name run origin) q
+  cell_read : (total : ℕ) (name : List ℕ) (run : List ℕ) (origin : List ℤ) → IsCell dim total name run origin
+      → q ≡ 36 + length (parts_bytes (Cell total name run origin)) → Has b 36 (parts_bytes (Cell total name run origin)) q
+      → AreRead dim b (Cell total name run origin) q
   unfolding parts_bytes parts_at end_in
   cell_read total [] run origin good at h = absurd (omega (arith, good.name_long))
   cell_read total (v ∷ []) run origin good at h = absurd (omega (arith, good.name_long))
@@ -237,7 +250,8 @@ module _ (dim : ℕ) (b : List ℕ) (q : ℕ) (axes : IsDimension dim) where
       let size = length-append run (point_bytes origin) in
       record { same = cc; ends = omega arith }
 
-  pub parts_read : (parts : Parts) → HasParts dim parts → form_of (kind_of b) ≡ form_of_parts parts → q ≡ 36 + length (parts_bytes parts) → Has b 36 (parts_bytes parts) q → AreRead dim b parts q
+  pub parts_read : (parts : Parts) → HasParts dim parts → form_of (kind_of b) ≡ form_of_parts parts → q ≡ 36 + length (parts_bytes parts)
+      → Has b 36 (parts_bytes parts) q → AreRead dim b parts q
   unfolding parts_bytes parts_at end_in
   parts_read (Line points) good f at h = line_read points good f at h
   parts_read (Points points) good f at h = points_read points good f at h

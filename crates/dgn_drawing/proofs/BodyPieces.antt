@@ -1,5 +1,6 @@
 -- A body in pieces: its bytes and its numbers are theirs, and the spots of the bytes are where they stand.
-use Rattle.std.proofs.Common.{◌≡◌, ℕ, zero, suc, ◌+◌, ◌*◌, ◌≤◌, List, [], ◌∷◌, ◌++◌, length, take, drop, refl, sym, ap, ◌∙◌, subst, append_assoc, Bool, true, false, cond, arith, length-append}
+use Rattle.std.proofs.Common.{◌≡◌, ℕ, zero, suc, ◌+◌, ◌*◌, ◌≤◌, List, [], ◌∷◌, ◌++◌, length, take, drop, refl, sym, ap, ◌∙◌, subst, append_assoc, Bool}
+use Rattle.std.proofs.Common.{true, false, cond, arith, length-append}
 use Rattle.std.specs.Prelude.{ℤ, ◌==◌}
 use Rattle.std.specs.List.{AllByRecursion, flat_map}
 use Rattle.std.proofs.lemmas.Grind.{flat_map-append}
@@ -7,18 +8,20 @@ use Rattle.std.proofs.lemmas.List.{append-nil, take-append-drop, length-take-le}
 use Rattle.dgn_words.specs.Numbers.{word_at, word_bytes, range_long_bytes}
 use Rattle.dgn_layout.specs.declared.types.Class.{Class}
 use Rattle.dgn_layout.specs.Classes.{class_of}
-use Rattle.dgn_layout.specs.Spots.{fields_from, point_spots, points_spots, Points as Table, points_in as table_of, points_end, has_spots, spots_with, spots_of, text_origin, cell_origin, node_origin, HoldsPoints}
+use Rattle.dgn_layout.specs.Spots.{fields_from, point_spots, points_spots, Points as Table, points_in as table_of, layout_end, has_spots, spots_with}
+use Rattle.dgn_layout.specs.Spots.{spots_of, text_origin, cell_origin, node_origin, HoldsPoints}
 use Rattle.dgn_drawing.specs.declared.form.Form.{Form}
 use Rattle.dgn_drawing.specs.Forms.{form_in, form_of}
 use Rattle.dgn_drawing.specs.Element.{Display, Parts, Line, Points, Text, Node, Cell, Header, Plain, Body, Silent, Shown, form_of_parts, form_of_body}
 use Rattle.dgn_drawing.specs.Spelling.{point_bytes, display_bytes, parts_bytes, body_bytes}
 use Rattle.dgn_drawing.specs.WellFormed.{IsDimension, IsPoint, HasParts, HasBody, text_run, node_run, cell_run}
 use Rattle.dgn_drawing.specs.Changes.{points_in, numbers_in}
-use Rattle.dgn_drawing.proofs.Has.{Has, has_first}
+use Rattle.dgn_drawing.proofs.BytesAt.{Has, has_first}
 use Rattle.dgn_drawing.proofs.Places.{in_both}
 use Rattle.dgn_drawing.proofs.Fields.{word_is, length-point_bytes, length-points_bytes}
 use Rattle.dgn_drawing.proofs.Displays.{length-corner, length-display}
-use Rattle.dgn_drawing.proofs.Pieces.{Piece, Kept, spot, bytes_of, bytes_in, spots_in, values_in, side_by_side, bytes_in-append, spots_in-append, values_in-append}
+use Rattle.dgn_drawing.proofs.Pieces.{Piece, Kept, spot, bytes_of, bytes_in, spots_in, values_in, side_by_side, bytes_in-append, spots_in-append}
+use Rattle.dgn_drawing.proofs.Pieces.{values_in-append}
 
 -- a corner: its numbers on the file's axes, and the bytes of those that stay
 abbrev pub corner_pieces : ℕ → List ℤ → List Piece
@@ -91,7 +94,8 @@ bytes_parts (Line points) = bytes_points points
 bytes_parts (Points points) = ap (λ l. word_bytes (length points) ++ l) (bytes_points points)
 bytes_parts (Text run origin spare chars) =
     let behind : List ℕ = length chars ∷ spare ∷ chars in
-    ap (λ l. run ++ l) (bytes_in-append (point_pieces origin) (Kept behind ∷ []) ∙ ap (λ l. l ++ (behind ++ [])) (bytes_point origin) ∙ ap (λ l. point_bytes origin ++ l) (append-nil behind))
+    ap (λ l. run ++ l) (bytes_in-append (point_pieces origin) (Kept behind ∷ []) ∙ ap (λ l. l ++ (behind ++ [])) (bytes_point origin)
+    ∙ ap (λ l. point_bytes origin ++ l) (append-nil behind))
 bytes_parts (Node total run origin) = ap (λ l. word_bytes total ++ (run ++ l)) (bytes_point origin)
 bytes_parts (Cell total name run origin) = ap (λ l. word_bytes total ++ (flat_map word_bytes name ++ (run ++ l))) (bytes_point origin)
 bytes_parts (Header total number) = refl
@@ -108,7 +112,9 @@ bytes_shown dim d parts rest =
     bytes_in-append (corner_pieces dim d.low) (corner_pieces dim d.high ++ behind)
     ∙ ap (λ l. l ++ bytes_in (corner_pieces dim d.high ++ behind)) (bytes_corner dim d.low)
     ∙ ap (λ l. low ++ l) (bytes_in-append (corner_pieces dim d.high) behind ∙ ap (λ l. l ++ bytes_in behind) (bytes_corner dim d.high))
-    ∙ ap (λ l. low ++ (high ++ (words ++ l))) (bytes_in-append (parts_pieces parts) (Kept rest ∷ []) ∙ ap (λ l. l ++ (rest ++ [])) (bytes_parts parts) ∙ ap (λ l. parts_bytes parts ++ l) (append-nil rest))
+    ∙ ap (λ l. low ++ (high ++ (words ++ l)))
+    (bytes_in-append (parts_pieces parts) (Kept rest ∷ []) ∙ ap (λ l. l ++ (rest ++ [])) (bytes_parts parts)
+    ∙ ap (λ l. parts_bytes parts ++ l) (append-nil rest))
     ∙ ap (λ l. low ++ l) (sym (append_assoc high words (parts_bytes parts ++ rest)))
     ∙ sym (append_assoc low (high ++ words) (parts_bytes parts ++ rest))
 
@@ -148,7 +154,8 @@ values_shown dim d parts rest =
     values_in-append (corner_pieces dim d.low) (corner_pieces dim d.high ++ behind)
     ∙ ap (λ l. l ++ values_in (corner_pieces dim d.high ++ behind)) (values_corner dim d.low)
     ∙ ap (λ l. take dim d.low ++ l) (values_in-append (corner_pieces dim d.high) behind ∙ ap (λ l. l ++ values_in behind) (values_corner dim d.high))
-    ∙ ap (λ l. take dim d.low ++ (take dim d.high ++ l)) (values_in-append (parts_pieces parts) (Kept rest ∷ []) ∙ append-nil (values_in (parts_pieces parts)) ∙ values_parts parts)
+    ∙ ap (λ l. take dim d.low ++ (take dim d.high ++ l))
+    (values_in-append (parts_pieces parts) (Kept rest ∷ []) ∙ append-nil (values_in (parts_pieces parts)) ∙ values_parts parts)
 
 -- the spots of numbers side by side
 spots_side : (n : ℕ) (v : List ℤ) (offset : Bool) (axis p : ℕ) → length v ≡ n → spots_in p (side_by_side offset axis v) ≡ fields_from offset n axis p
@@ -161,7 +168,8 @@ spots_side (suc n) (x ∷ xs) offset axis p long = ap (λ l. spot offset axis p 
 spots_corner : (dim p : ℕ) (v : List ℤ) → IsDimension dim → length v ≡ 3 → spots_in p (corner_pieces dim v) ≡ fields_from true dim 0 p
 spots_corner dim p v axes long =
     let few : dim ≤ length v = rw long (in_both (λ (d : ℕ). d ≤ 3) (omega arith) (omega arith) axes) in
-    spots_in-append p (p + length (bytes_in (side_by_side true 0 (take dim v)))) (side_by_side true 0 (take dim v)) (Kept (flat_map range_long_bytes (drop dim v)) ∷ []) refl
+    spots_in-append p (p + length (bytes_in (side_by_side true 0 (take dim v)))) (side_by_side true 0 (take dim v))
+    (Kept (flat_map range_long_bytes (drop dim v)) ∷ []) refl
     ∙ append-nil (spots_in p (side_by_side true 0 (take dim v)))
     ∙ spots_side dim (take dim v) true 0 p (length-take-le dim v few)
 
@@ -205,7 +213,9 @@ table_in Class.Vertices dim kind b = go (kind == 3)
 table_in Class.Words dim kind b = refl
 table_in Class.Counted dim kind b = go (kind == 2) (kind == 7)
   where
-    go : (s t : Bool) → cond s (record { count = 1; start = cell_origin dim }) (cond t (record { count = 1; start = node_origin dim }) (record { count = 0; start = 40 })) ≡ table_as (cond s Form.Cell (cond t Form.Node Form.Header)) dim b
+    go : (s t : Bool) → cond s (record { count = 1; start = cell_origin dim })
+        (cond t (record { count = 1; start = node_origin dim }) (record { count = 0; start = 40 }))
+        ≡ table_as (cond s Form.Cell (cond t Form.Node Form.Header)) dim b
     go true t = refl
     go false true = refl
     go false false = refl
@@ -269,19 +279,26 @@ spots_parts dim b (Header total number) axes good count = refl
 spots_parts dim b Plain axes good count = refl
 
 -- the parts hold their points
-holds_parts : (dim : ℕ) (b : List ℕ) (parts : Parts) → IsDimension dim → HasParts dim parts → CountSits b parts → points_end dim (table_as (form_of_parts parts) dim b) ≤ 36 + length (parts_bytes parts)
+holds_parts : (dim : ℕ) (b : List ℕ) (parts : Parts) → IsDimension dim → HasParts dim parts → CountSits b parts
+    → layout_end dim (table_as (form_of_parts parts) dim b) ≤ 36 + length (parts_bytes parts)
 unfolding parts_bytes
 holds_parts dim b (Line points) axes good count =
     let size : length (flat_map point_bytes points) ≡ 4 * dim * 2 = length-points_bytes dim points good.1 ∙ ap (λ (n : ℕ). 4 * dim * n) good.0 in
     omega arith
 holds_parts dim b (Points points) axes good count =
-    let size : length (flat_map point_bytes points) ≡ 4 * dim * word_at b 36 = length-points_bytes dim points good.1 ∙ ap (λ (n : ℕ). 4 * dim * n) (sym count) in
+    let size : length (flat_map point_bytes points) ≡ 4 * dim * word_at b 36 =
+    length-points_bytes dim points good.1 ∙ ap (λ (n : ℕ). 4 * dim * n) (sym count) in
     omega arith
 holds_parts dim b (Text run origin spare chars) axes good count =
     let place = text_place axes in
     let long = good.before.long in
     let axes_are = good.point.long in
-    omega (arith, length-point_bytes origin, length-append run (point_bytes origin ++ (length chars ∷ spare ∷ chars)), length-append (point_bytes origin) (length chars ∷ spare ∷ chars))
+    omega (
+      arith,
+      length-point_bytes origin,
+      length-append run (point_bytes origin ++ (length chars ∷ spare ∷ chars)),
+      length-append (point_bytes origin) (length chars ∷ spare ∷ chars),
+    )
 holds_parts dim b (Node total run origin) axes good count =
     let place = node_place axes in
     let long = good.before.long in
@@ -292,7 +309,13 @@ holds_parts dim b (Cell total name run origin) axes good count =
     let long = good.before.long in
     let axes_are = good.point.long in
     let words = good.name_long in
-    omega (arith, length-name name, length-point_bytes origin, length-append (flat_map word_bytes name) (run ++ point_bytes origin), length-append run (point_bytes origin))
+    omega (
+      arith,
+      length-name name,
+      length-point_bytes origin,
+      length-append (flat_map word_bytes name) (run ++ point_bytes origin),
+      length-append run (point_bytes origin),
+    )
 holds_parts dim b (Header total number) axes good count = omega arith
 holds_parts dim b Plain axes good count = omega arith
 
@@ -327,20 +350,27 @@ spots_shown dim b d parts rest axes good count =
     let words : List ℕ = words_and_look d in
     let behind : List Piece = Kept words ∷ (parts_pieces parts ++ Kept rest ∷ []) in
     let table : Table = table_as (form_of_parts parts) dim b in
-    let first : length (bytes_in (corner_pieces dim d.low)) ≡ 12 = ap (length {A = ℕ}) (bytes_corner dim d.low) ∙ length-corner d.low ∙ ap (λ (n : ℕ). 4 * n) good.0.low.long in
-    let second : length (bytes_in (corner_pieces dim d.high)) ≡ 12 = ap (length {A = ℕ}) (bytes_corner dim d.high) ∙ length-corner d.high ∙ ap (λ (n : ℕ). 4 * n) good.0.high.long in
+    let first : length (bytes_in (corner_pieces dim d.low)) ≡ 12 =
+    ap (length {A = ℕ}) (bytes_corner dim d.low) ∙ length-corner d.low ∙ ap (λ (n : ℕ). 4 * n) good.0.low.long in
+    let second : length (bytes_in (corner_pieces dim d.high)) ≡ 12 =
+    ap (length {A = ℕ}) (bytes_corner dim d.high) ∙ length-corner d.high ∙ ap (λ (n : ℕ). 4 * n) good.0.high.long in
     let low = spots_corner dim 4 d.low axes good.0.low.long in
     let high = spots_corner dim 16 d.high axes good.0.high.long in
     let points : spots_in 28 behind ≡ points_spots table.count dim table.start =
-    spots_in-append 36 _ (parts_pieces parts) (Kept rest ∷ []) refl ∙ append-nil (spots_in 36 (parts_pieces parts)) ∙ spots_parts dim b parts axes good.1 count in
-    let whole : spots_in 4 (shown_pieces dim d parts rest) ≡ fields_from true dim 0 4 ++ (fields_from true dim 0 16 ++ points_spots table.count dim table.start) =
+    spots_in-append 36 _ (parts_pieces parts) (Kept rest ∷ []) refl ∙ append-nil (spots_in 36 (parts_pieces parts))
+    ∙ spots_parts dim b parts axes good.1 count in
+    let whole : spots_in 4 (shown_pieces dim d parts rest) ≡ fields_from true dim 0 4
+    ++ (fields_from true dim 0 16 ++ points_spots table.count dim table.start) =
     spots_in-append 4 16 (corner_pieces dim d.low) (corner_pieces dim d.high ++ behind) (omega arith)
     ∙ ap (λ l. l ++ spots_in 16 (corner_pieces dim d.high ++ behind)) low
-    ∙ ap (λ l. fields_from true dim 0 4 ++ l) (spots_in-append 16 28 (corner_pieces dim d.high) behind (omega arith) ∙ ap (λ l. l ++ spots_in 28 behind) high ∙ ap (λ l. fields_from true dim 0 16 ++ l) points) in
+    ∙ ap (λ l. fields_from true dim 0 4 ++ l)
+    (spots_in-append 16 28 (corner_pieces dim d.high) behind (omega arith) ∙ ap (λ l. l ++ spots_in 28 behind) high
+    ∙ ap (λ l. fields_from true dim 0 16 ++ l) points) in
     append_assoc (fields_from true dim 0 4) (fields_from true dim 0 16) (points_spots table.count dim table.start) ∙ sym whole
 
 -- the number of points is read where it is spelled
-count_sits : (b : List ℕ) (dim : ℕ) (d : Display) (parts : Parts) (rest : List ℕ) → HasBody dim (Shown d parts rest) → Has b 4 (body_bytes (Shown d parts rest)) (length b) → CountSits b parts
+count_sits : (b : List ℕ) (dim : ℕ) (d : Display) (parts : Parts) (rest : List ℕ) → HasBody dim (Shown d parts rest)
+    → Has b 4 (body_bytes (Shown d parts rest)) (length b) → CountSits b parts
 unfolding body_bytes parts_bytes
 count_sits b dim d (Points points) rest good h =
     let behind = has_first {b = b} {x = display_bytes d} 36 (omega (arith, length-display d good.0)) h in
@@ -371,7 +401,8 @@ values_body dim (Shown d parts rest) = values_shown dim d parts rest
 
 module _ (dim kind : ℕ) (b : List ℕ) (axes : IsDimension dim) (some : has_spots (class_of kind) ≡ true) where
   -- the table's spots of bytes that spell a body are the spots of its pieces
-  pub spots_body : (body : Body) → HasBody dim body → form_of kind ≡ form_of_body body → Has b 4 (body_bytes body) (length b) → spots_of dim kind b ≡ spots_in 4 (body_pieces dim body)
+  pub spots_body : (body : Body) → HasBody dim body → form_of kind ≡ form_of_body body → Has b 4 (body_bytes body) (length b)
+      → spots_of dim kind b ≡ spots_in 4 (body_pieces dim body)
   spots_body (Silent rest) good form h = absurd (not_silent_of kind some form)
   spots_body (Shown d parts rest) good form h =
       ap (λ (t : Bool). spots_with t dim (table_of (class_of kind) dim kind b)) some
@@ -379,10 +410,12 @@ module _ (dim kind : ℕ) (b : List ℕ) (axes : IsDimension dim) (some : has_sp
       ∙ spots_shown dim b d parts rest axes good (count_sits b dim d parts rest good h)
 
   -- and the bytes hold the points
-  pub holds_body : (body : Body) → HasBody dim body → form_of kind ≡ form_of_body body → Has b 4 (body_bytes body) (length b) → length b ≡ 4 + length (body_bytes body) → HoldsPoints dim kind b (length b)
+  pub holds_body : (body : Body) → HasBody dim body → form_of kind ≡ form_of_body body → Has b 4 (body_bytes body) (length b)
+      → length b ≡ 4 + length (body_bytes body) → HoldsPoints dim kind b (length b)
   unfolding body_bytes
   holds_body (Silent rest) good form h size = absurd (not_silent_of kind some form)
   holds_body (Shown d parts rest) good form h size =
       let held = holds_parts dim b parts axes good.1 (count_sits b dim d parts rest good h) in
-      let long : 36 + length (parts_bytes parts) ≤ length b = omega (arith, length-display d good.0, length-append (display_bytes d) (parts_bytes parts ++ rest), length-append (parts_bytes parts) rest) in
-      subst (λ (t : Table). points_end dim t ≤ length b) (sym (table_is (form_of_parts parts) dim kind b form)) (omega (arith, held))
+      let long : 36 + length (parts_bytes parts) ≤ length b =
+      omega (arith, length-display d good.0, length-append (display_bytes d) (parts_bytes parts ++ rest), length-append (parts_bytes parts) rest) in
+      subst (λ (t : Table). layout_end dim t ≤ length b) (sym (table_is (form_of_parts parts) dim kind b form)) (omega (arith, held))

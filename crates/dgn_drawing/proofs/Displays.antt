@@ -9,7 +9,7 @@ use Rattle.dgn_drawing.specs.Element.{Display}
 use Rattle.dgn_drawing.specs.Spelling.{display_bytes}
 use Rattle.dgn_drawing.specs.WellFormed.{IsBytes, IsCoordinate, IsPoint, IsDisplay}
 use Rattle.dgn_drawing.specs.Reading.{display_at, group_of, index_of}
-use Rattle.dgn_drawing.proofs.Has.{Has, has_then, has_first, has_none, has_byte, has_same, index_is}
+use Rattle.dgn_drawing.proofs.BytesAt.{Has, has_then, has_first, has_none, has_byte, has_same, index_is}
 use Rattle.dgn_drawing.proofs.Fields.{byte_at, has_word, word_is, word_below, has_range_long, range_long_is, range_long_on_plane}
 
 -- a corner
@@ -82,9 +82,11 @@ display_with low high group index properties style weight color =
     record { low = low; high = high; group = group; index = index; properties = properties; style = style; weight = weight; color = color }
 
 -- display parts with the same fields are the same
-same_displays : (x y : Display) → x.low ≡ y.low → x.high ≡ y.high → x.group ≡ y.group → x.index ≡ y.index → x.properties ≡ y.properties → x.style ≡ y.style → x.weight ≡ y.weight → x.color ≡ y.color → x ≡ y
+same_displays : (x y : Display) → x.low ≡ y.low → x.high ≡ y.high → x.group ≡ y.group → x.index ≡ y.index → x.properties ≡ y.properties → x.style ≡ y.style
+    → x.weight ≡ y.weight → x.color ≡ y.color → x ≡ y
 same_displays x y low high group index properties style weight color =
-    let e : display_with x.low x.high x.group x.index x.properties x.style x.weight x.color ≡ display_with y.low y.high y.group y.index y.properties y.style y.weight y.color = cc in e
+    let e : display_with x.low x.high x.group x.index x.properties x.style x.weight x.color
+    ≡ display_with y.low y.high y.group y.index y.properties y.style y.weight y.color = cc in e
 
 -- where a record is spelled, it is read
 pub display_is : {b : List ℕ} (d : Display) → IsDisplay d → Has b 4 (display_bytes d) 36 → display_at b ≡ d

@@ -1,6 +1,7 @@
 -- Words, longs and range numbers at their places, alone, in points and in lists of points: what stands
 -- there spells the number that is read there, and where a number is spelled it is read.
-use Rattle.std.proofs.Common.{◌≡◌, ℕ, zero, suc, ◌+◌, ◌*◌, ◌/◌, ◌%◌, ◌<◌, ◌≤◌, ◌^◌, List, [], ◌∷◌, length, get_or, refl, sym, ap, ◌∙◌, inl, inr, arith, length-append}
+use Rattle.std.proofs.Common.{◌≡◌, ℕ, zero, suc, ◌+◌, ◌*◌, ◌/◌, ◌%◌, ◌<◌, ◌≤◌, ◌^◌, List, [], ◌∷◌, length, get_or, refl, sym, ap, ◌∙◌, inl, inr, arith}
+use Rattle.std.proofs.Common.{length-append}
 use Rattle.std.specs.Prelude.{ℤ, pos, ◌+ℤ◌, ◌-ℤ◌, unsigned_abs, FitsSigned}
 use Rattle.std.specs.Int.{w32, cast_unsigned}
 use Rattle.std.specs.List.{AllByRecursion, flat_map}
@@ -13,7 +14,7 @@ use Rattle.body_vertex.specs.Points.{points_at}
 use Rattle.dgn_words.proofs.Rows.{length-longs_at}
 use Rattle.dgn_drawing.specs.WellFormed.{IsBytes, IsCoordinate, IsPoint}
 use Rattle.dgn_drawing.specs.Spelling.{point_bytes}
-use Rattle.dgn_drawing.proofs.Has.{Has, has_then, has_first, has_none, has_byte, has_same, has_at, index_is}
+use Rattle.dgn_drawing.proofs.BytesAt.{Has, has_then, has_first, has_none, has_byte, has_same, has_at, index_is}
 
 -- what stands at a place is a byte, also past the end
 pub byte_at : (b : List ℕ) (p : ℕ) → IsBytes b → get_or b p 0 < 256
@@ -28,7 +29,8 @@ pub has_word : (b : List ℕ) (p q : ℕ) → IsBytes b → q ≡ p + 2 → q �
 has_word b p q bytes at within =
     let one = byte_at b p bytes in
     let two = byte_at b (p + 1) bytes in
-    has_same (ap (λ (x : ℕ). x ∷ get_or b (p + 1) 0 ∷ []) (omega arith) ∙ ap (λ (y : ℕ). (get_or b p 0 + 256 * get_or b (p + 1) 0) % 256 ∷ y ∷ []) (omega arith))
+    has_same (ap (λ (x : ℕ). x ∷ get_or b (p + 1) 0 ∷ []) (omega arith)
+    ∙ ap (λ (y : ℕ). (get_or b p 0 + 256 * get_or b (p + 1) 0) % 256 ∷ y ∷ []) (omega arith))
     (has_then (has_byte b p (p + 1) refl (omega arith)) (has_byte b (p + 1) q (omega arith) within))
 
 pub word_is : {b : List ℕ} {p q : ℕ} {v : ℕ} → Has b p (word_bytes v) q → v < 65536 → word_at b p ≡ v
@@ -145,7 +147,8 @@ longs_on_plane n b p bytes = record { long = length-longs_at n b p; on_plane = e
 -- points side by side
 pub length-points_bytes : (dim : ℕ) (vs : List (List ℤ)) → AllByRecursion (IsPoint dim) vs → length (flat_map point_bytes vs) ≡ 4 * dim * length vs
 length-points_bytes dim [] good = omega arith
-length-points_bytes dim (v ∷ vs) good = grind (arith, length-point_bytes v, good.0.long, length-points_bytes dim vs good.1, length-append (point_bytes v) (flat_map point_bytes vs))
+length-points_bytes dim (v ∷ vs) good =
+    grind (arith, length-point_bytes v, good.0.long, length-points_bytes dim vs good.1, length-append (point_bytes v) (flat_map point_bytes vs))
 
 pub has_points : (n dim : ℕ) (b : List ℕ) (p q : ℕ) → IsBytes b → q ≡ p + 4 * dim * n → q ≤ length b → Has b p (flat_map point_bytes (points_at n dim b p)) q
 has_points zero dim b p q bytes at within = let e : p ≡ q = omega arith in has_at e has_none
@@ -153,7 +156,8 @@ has_points (suc n) dim b p q bytes at within =
     let rest : q ≡ p + 4 * dim + 4 * dim * n = omega arith in
     has_then (has_longs dim b p (p + 4 * dim) bytes refl (omega arith)) (has_points n dim b (p + 4 * dim) q bytes rest within)
 
-pub points_are : (n dim : ℕ) {b : List ℕ} {p q : ℕ} (vs : List (List ℤ)) → length vs ≡ n → AllByRecursion (IsPoint dim) vs → Has b p (flat_map point_bytes vs) q → points_at n dim b p ≡ vs
+pub points_are : (n dim : ℕ) {b : List ℕ} {p q : ℕ} (vs : List (List ℤ)) → length vs ≡ n → AllByRecursion (IsPoint dim) vs
+    → Has b p (flat_map point_bytes vs) q → points_at n dim b p ≡ vs
 points_are zero dim [] long good h = refl
 points_are zero dim (v ∷ vs) long good h = absurd (omega arith)
 points_are (suc n) dim [] long good h = absurd (omega arith)

@@ -7,7 +7,7 @@ use Rattle.elem_head.specs.Head.{kind_of}
 use Rattle.dgn_layout.specs.declared.types.Class.{Class}
 use Rattle.dgn_layout.specs.Classes.{class_of}
 use Rattle.dgn_layout.specs.Ends.{end_in as class_end}
-use Rattle.dgn_layout.specs.Spots.{Points, points_end as layout_end, cell_origin, node_origin}
+use Rattle.dgn_layout.specs.Spots.{Points, layout_end, cell_origin, node_origin}
 use Rattle.body_vertex.specs.Points.{points_end}
 use Rattle.body_text.specs.Texts.{text_end, node_end}
 use Rattle.group_head.specs.Headers.{cell_end}
@@ -33,7 +33,8 @@ abbrev header_place : Bool → Bool → ℕ → Points
 header_place s t dim =
     if s then record { count = 1; start = cell_origin dim } else if t then record { count = 1; start = node_origin dim } else record { count = 0; start = 40 }
 
-headers_same : (s t : Bool) {dim : ℕ} (b : List ℕ) → IsDimension dim → layout_end dim (header_place s t dim) ≡ end_in (if s then Form.Cell else if t then Form.Node else Form.Header) dim b
+headers_same : (s t : Bool) {dim : ℕ} (b : List ℕ) → IsDimension dim
+    → layout_end dim (header_place s t dim) ≡ end_in (if s then Form.Cell else if t then Form.Node else Form.Header) dim b
 unfolding end_in
 headers_same true t b axes = in_both (λ (d : ℕ). layout_end d (header_place true t d) ≡ cell_end d) refl refl axes
 headers_same false true b axes = in_both (λ (d : ℕ). layout_end d (header_place false true d) ≡ node_end d) refl refl axes

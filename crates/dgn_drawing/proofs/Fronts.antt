@@ -1,6 +1,7 @@
 -- How a file is read, element by element: a front of elements grows by one, and at the end of the
 -- elements the file opens.
-use Rattle.std.proofs.Common.{◌≡◌, ℕ, ◌+◌, ◌*◌, ◌<◌, ◌≤◌, List, [], ◌∷◌, ◌++◌, length, take, drop, get_or, refl, sym, ap, ◌∙◌, subst, arith, Bool, true, false, ◌⊎◌, inl, inr, length-append, length-drop}
+use Rattle.std.proofs.Common.{◌≡◌, ℕ, ◌+◌, ◌*◌, ◌<◌, ◌≤◌, List, [], ◌∷◌, ◌++◌, length, take, drop, get_or, refl, sym, ap, ◌∙◌, subst, arith, Bool, true}
+use Rattle.std.proofs.Common.{false, ◌⊎◌, inl, inr, length-append, length-drop}
 use Rattle.std.proofs.lemmas.List.{take-take, drop-take, get_or_past, append-nil, append_cancel_right, take-append-drop, get_or-take, length-take-le}
 use Rattle.std.proofs.lemmas.List.Elements.{All-take, All-drop}
 use Rattle.std.proofs.lemmas.List.Concat.{flat_map-append}
@@ -19,9 +20,9 @@ use Rattle.dgn_drawing.specs.WellFormed.{IsDimension, IsBytes, IsWellFormed, beg
 use Rattle.dgn_drawing.specs.Reading.{element_at}
 use Rattle.dgn_drawing.specs.Faults.{IsWhole, is_short, breaks_attribute_rule, element_fault}
 use Rattle.dgn_drawing.specs.Opening.{is_tcb, is_tail, dimension, IsTcb, BeginsWithTcb, Opens, MayBeginWithTcb, Front, is_cut, first_element, elements_of}
-use Rattle.dgn_drawing.proofs.Read.{no_fault, form-spell}
-use Rattle.dgn_drawing.proofs.Written.{spell-element_at, element_at_good}
-use Rattle.dgn_drawing.proofs.Opening.{dimension_is, not_empty, within_are}
+use Rattle.dgn_drawing.proofs.RecordsRead.{no_fault, form-spell}
+use Rattle.dgn_drawing.proofs.BytesSpelled.{spell-element_at, element_at_good}
+use Rattle.dgn_drawing.proofs.FirstElements.{dimension_is, not_empty, within_are}
 
 abbrev tested : Bool → Bool → Result (Unit {0}) BodyFault
 tested s r = cond s (Err BodyFault.Short) (cond r (Err BodyFault.Attr) (Ok tt))
@@ -80,7 +81,8 @@ module _ (b : List ℕ) (uncut : is_cut b ≡ false) where
   size-first = length-first ∙ sym first_said
 
 -- the element that begins bytes, which is neither cut nor a tail and has no fault
-module _ (dim : ℕ) (axes : IsDimension dim) (b : List ℕ) (bytes : IsBytes b) (more : is_tail b ≡ false) (uncut : is_cut b ≡ false) (sound : element_fault dim (first_element b) ≡ no_fault) where
+module _ (dim : ℕ) (axes : IsDimension dim) (b : List ℕ) (bytes : IsBytes b) (more : is_tail b ≡ false) (uncut : is_cut b ≡ false)
+    (sound : element_fault dim (first_element b) ≡ no_fault) where
   first_whole : IsWhole (first_element b)
   first_whole = record {
     size = size-first b uncut;
@@ -115,7 +117,8 @@ module _ (dim : ℕ) (axes : IsDimension dim) (b : List ℕ) (bytes : IsBytes b)
       }
 
 -- a list of well formed elements and one more
-each_more : (dim : ℕ) (es : List Element) (e : Element) → AllByRecursion (IsWellFormed dim) es → IsWellFormed dim e → AllByRecursion (IsWellFormed dim) (es ++ e ∷ [])
+each_more : (dim : ℕ) (es : List Element) (e : Element) → AllByRecursion (IsWellFormed dim) es → IsWellFormed dim e
+    → AllByRecursion (IsWellFormed dim) (es ++ e ∷ [])
 each_more dim [] e good one = (one, tt)
 each_more dim (x ∷ es) e good one = (good.0, each_more dim es e good.1 one)
 
@@ -129,7 +132,8 @@ spelling-none es f p spelled within none = omega (arith, length-take-le p f with
 
 take_more_bytes : (f : List ℕ) (p n : ℕ) → take (p + n) f ≡ take p f ++ take n (drop p f)
 take_more_bytes f p n =
-    sym (take-append-drop p (take (p + n) f)) ∙ ap (λ z. z ++ drop p (take (p + n) f)) (take-take p (p + n) f (omega arith)) ∙ ap (λ z. take p f ++ z) (drop-take p n f)
+    sym (take-append-drop p (take (p + n) f)) ∙ ap (λ z. z ++ drop p (take (p + n) f)) (take-take p (p + n) f (omega arith))
+    ∙ ap (λ z. take p f ++ z) (drop-take p n f)
 
 module _ (f : List ℕ) (bytes : IsBytes f) (tcb : is_tcb f ≡ true) (es : List Element) (p : ℕ) (front : Front f es p) where
   -- one more element
@@ -145,9 +149,11 @@ module _ (f : List ℕ) (bytes : IsBytes f) (tcb : is_tcb f ≡ true) (es : List
       let size = length-drop p f in
       let before = front.within in
       record {
-        spelled = take_more_bytes f p (size_said (drop p f)) ∙ ap (λ z. z ++ first_element (drop p f)) front.spelled ∙ ap (λ z. spelling es ++ z) (sym spelled ∙ sym (append-nil (spell e))) ∙ sym (flat_map-append spell es (e ∷ []));
+        spelled = take_more_bytes f p (size_said (drop p f)) ∙ ap (λ z. z ++ first_element (drop p f)) front.spelled
+            ∙ ap (λ z. spelling es ++ z) (sym spelled ∙ sym (append-nil (spell e))) ∙ sym (flat_map-append spell es (e ∷ []));
         each = each_more (dimension f) es e front.each good;
-        first = tcb_more es e front.first (λ none. first_tcb (dimension f) axes (drop p f) rest more uncut sound (rw (spelling-none es f p front.spelled front.within none) tcb));
+        first = tcb_more es e front.first
+            (λ none. first_tcb (dimension f) axes (drop p f) rest more uncut sound (rw (spelling-none es f p front.spelled front.within none) tcb));
         within = omega (arith, long.1);
       }
 
@@ -162,7 +168,8 @@ module _ (f : List ℕ) (bytes : IsBytes f) (tcb : is_tcb f ≡ true) (es : List
   front_ends tail = record {
     whole = sym (take-append-drop p f) ∙ ap (λ z. z ++ drop p f) front.spelled;
     each = front.each;
-    first = begins es front.first (λ none. tcb_no_tail (let e = spelling-none es f p front.spelled front.within none in subst (λ (k : ℕ). is_tail (drop k f) ≡ true) e tail));
+    first = begins es front.first
+        (λ none. tcb_no_tail (let e = spelling-none es f p front.spelled front.within none in subst (λ (k : ℕ). is_tail (drop k f) ≡ true) e tail));
     tail = tail;
     axes = refl;
   }

@@ -1,5 +1,6 @@
 -- A change of the look is two bytes of the element, and leaves it well formed.
-use Rattle.std.proofs.Common.{◌≡◌, ℕ, ◌+◌, ◌-◌, ◌*◌, ◌/◌, ◌<◌, ◌≤◌, List, ◌∷◌, ◌++◌, length, take, drop, Option, Some, None, refl, sym, ap, subst, ◌∙◌, append_assoc, arith, length-append}
+use Rattle.std.proofs.Common.{◌≡◌, ℕ, ◌+◌, ◌-◌, ◌*◌, ◌/◌, ◌<◌, ◌≤◌, List, ◌∷◌, ◌++◌, length, take, drop, Option, Some, None, refl, sym, ap, subst, ◌∙◌}
+use Rattle.std.proofs.Common.{append_assoc, arith, length-append}
 use Rattle.std.specs.Prelude.{unwrap_or, IfSome}
 use Rattle.std.specs.List.{flat_map}
 use Rattle.std.proofs.lemmas.List.{take_at, drop_at}
@@ -63,7 +64,8 @@ with_body e b = record { level = e.level; bit6 = e.bit6; cbit = e.cbit; kind = e
 front : Element → ℕ → Display → List ℕ
 front e words d = first_byte e ∷ second_byte e ∷ (word_bytes words ++ before_look d)
 
-spell-shown : (e : Element) (d : Display) (parts : Parts) (rest : List ℕ) (words : ℕ) → length (body_bytes (Shown d parts rest)) / 2 ≡ words → spell (with_body e (Shown d parts rest)) ≡ front e words d ++ (look_bytes d ++ (parts_bytes parts ++ rest))
+spell-shown : (e : Element) (d : Display) (parts : Parts) (rest : List ℕ) (words : ℕ) → length (body_bytes (Shown d parts rest)) / 2 ≡ words
+    → spell (with_body e (Shown d parts rest)) ≡ front e words d ++ (look_bytes d ++ (parts_bytes parts ++ rest))
 unfolding spell body_bytes front
 spell-shown e d parts rest words is = rw (is, display_bytes-split d) (simp append_assoc)
 
@@ -72,28 +74,33 @@ unfolding front
 length-front e words d good = omega (arith, length-append (word_bytes words) (before_look d), length-before_look d good)
 
 -- the body keeps its length
-same_body_length : (change : LookChange) (d : Display) (parts : Parts) (rest : List ℕ) → IsLook change → IsDisplay d → length (body_bytes (Shown (look_changed change d) parts rest)) ≡ length (body_bytes (Shown d parts rest))
+same_body_length : (change : LookChange) (d : Display) (parts : Parts) (rest : List ℕ) → IsLook change → IsDisplay d
+    → length (body_bytes (Shown (look_changed change d) parts rest)) ≡ length (body_bytes (Shown d parts rest))
 unfolding body_bytes
 same_body_length change d parts rest fits good =
     omega (arith, length-append {A = ℕ}, length-display d good, length-display (look_changed change d) (look_good change d fits good))
 
 -- another look is two bytes at 34
-pub spell-look : (change : LookChange) (e : Element) (d : Display) (parts : Parts) (rest : List ℕ) → IsLook change → IsDisplay d → spell (recolour change (with_body e (Shown d parts rest))) ≡ put (spell (with_body e (Shown d parts rest))) 34 (look_bytes (look_changed change d))
+pub spell-look : (change : LookChange) (e : Element) (d : Display) (parts : Parts) (rest : List ℕ) → IsLook change → IsDisplay d
+    → spell (recolour change (with_body e (Shown d parts rest))) ≡ put (spell (with_body e (Shown d parts rest))) 34 (look_bytes (look_changed change d))
 unfolding front spell before_look
 spell-look change e d parts rest fits good =
     let words : ℕ = length (body_bytes (Shown d parts rest)) / 2 in
     let same : length (body_bytes (Shown (look_changed change d) parts rest)) / 2 ≡ words = ap (λ n. n / 2) (same_body_length change d parts rest fits good) in
     let old = spell-shown e d parts rest words refl in
     let new = spell-shown e (look_changed change d) parts rest words same in
-    let over = put-over (front e words d) (look_bytes d) (parts_bytes parts ++ rest) (look_bytes (look_changed change d)) 34 (length-front e words d good) refl in
+    let over = put-over (front e words d) (look_bytes d) (parts_bytes parts ++ rest) (look_bytes (look_changed change d)) 34 (length-front e words d good)
+    refl in
     new ∙ sym over ∙ ap (λ b. put b 34 (look_bytes (look_changed change d))) (sym old)
 
 -- the size stays
-size-shown : (change : LookChange) (e : Element) (d : Display) (parts : Parts) (rest : List ℕ) → IsLook change → IsDisplay d → size_of (recolour change (with_body e (Shown d parts rest))) ≡ size_of (with_body e (Shown d parts rest))
+size-shown : (change : LookChange) (e : Element) (d : Display) (parts : Parts) (rest : List ℕ) → IsLook change → IsDisplay d
+    → size_of (recolour change (with_body e (Shown d parts rest))) ≡ size_of (with_body e (Shown d parts rest))
 unfolding spell
 size-shown change e d parts rest fits good = omega (arith, same_body_length change d parts rest fits good)
 
-good_shown : (dim : ℕ) (change : LookChange) (e : Element) (d : Display) (parts : Parts) (rest : List ℕ) → IsLook change → IsWellFormed dim (with_body e (Shown d parts rest)) → IsWellFormed dim (recolour change (with_body e (Shown d parts rest)))
+good_shown : (dim : ℕ) (change : LookChange) (e : Element) (d : Display) (parts : Parts) (rest : List ℕ) → IsLook change
+    → IsWellFormed dim (with_body e (Shown d parts rest)) → IsWellFormed dim (recolour change (with_body e (Shown d parts rest)))
 unfolding spell
 good_shown dim change e d parts rest fits good =
     let size = size-shown change e d parts rest fits good.parts.0 in
@@ -110,7 +117,8 @@ good_shown dim change e d parts rest fits good =
           (subst (λ n. n - length rest ≤ 32 + 2 * d.index) (sym size) held.0, subst (λ n. 32 + 2 * d.index ≤ n) (sym size) held.1);
     }
 
-by_body : (dim : ℕ) (change : LookChange) (e : Element) (b : Body) → IsLook change → IsWellFormed dim (with_body e b) → IsWellFormed dim (recolour change (with_body e b)) × (size_of (recolour change (with_body e b)) ≡ size_of (with_body e b))
+by_body : (dim : ℕ) (change : LookChange) (e : Element) (b : Body) → IsLook change → IsWellFormed dim (with_body e b)
+    → IsWellFormed dim (recolour change (with_body e b)) × (size_of (recolour change (with_body e b)) ≡ size_of (with_body e b))
 by_body dim change e (Silent rest) fits good = (good, refl)
 by_body dim change e (Shown d parts rest) fits good = (good_shown dim change e d parts rest fits good, size-shown change e d parts rest fits good.parts.0)
 
@@ -136,11 +144,13 @@ row-recolour dim change e fits good =
     ∙ ap (λ (n : ℕ). row_with (size_of e) e n) (total_same change e.body)
 
 -- a record with a body of which so much is known
-look_of : (dim : ℕ) (change : LookChange) (e : Element) (d : Display) (parts : Parts) (rest : List ℕ) (b : Body) → IsLook change → IsWellFormed dim (with_body e b) → b ≡ Shown d parts rest → IsLookPut dim change (with_body e b) d
+look_of : (dim : ℕ) (change : LookChange) (e : Element) (d : Display) (parts : Parts) (rest : List ℕ) (b : Body) → IsLook change
+    → IsWellFormed dim (with_body e b) → b ≡ Shown d parts rest → IsLookPut dim change (with_body e b) d
 look_of dim change e d parts rest b fits good is =
     let held : HasBody dim (Shown d parts rest) = subst (HasBody dim) is good.parts in
     record {
-      spelled = subst (λ (x : Body). spell (recolour change (with_body e x)) ≡ put (spell (with_body e x)) 34 (look_bytes (look_changed change d))) (sym is) (spell-look change e d parts rest fits held.0);
+      spelled = subst (λ (x : Body). spell (recolour change (with_body e x)) ≡ put (spell (with_body e x)) 34 (look_bytes (look_changed change d))) (sym is)
+          (spell-look change e d parts rest fits held.0);
       good = recolour_good dim change (with_body e b) fits good;
       size = size-recolour dim change (with_body e b) fits good;
       row = row-recolour dim change (with_body e b) fits good;

@@ -1,5 +1,6 @@
 -- Where elements begin: as many offsets as elements, each the bytes of the elements before it.
-use Rattle.std.proofs.Common.{◌≡◌, ℕ, zero, suc, ◌+◌, ◌<◌, List, [], ◌∷◌, ◌++◌, length, take, drop, map, get_or, refl, sym, ap, ◌∙◌, append_assoc, arith, length-append}
+use Rattle.std.proofs.Common.{◌≡◌, ℕ, zero, suc, ◌+◌, ◌<◌, List, [], ◌∷◌, ◌++◌, length, take, drop, map, get_or, refl, sym, ap, ◌∙◌, append_assoc, arith}
+use Rattle.std.proofs.Common.{length-append}
 use Rattle.std.proofs.lemmas.List.{drop_at, drop-drop}
 use Rattle.dgn_drawing.specs.declared.row.Row.{Row}
 use Rattle.dgn_drawing.specs.Element.{Element}
@@ -31,7 +32,8 @@ sizes-rows [] = refl
 sizes-rows (e ∷ es) = ap (λ z. size_of e ∷ z) (sizes-rows es)
 
 -- one more element begins behind those before it
-pub offsets_from-more : (p : ℕ) (es : List Element) (e : Element) → offsets_from p (map size_of (es ++ e ∷ [])) ≡ offsets_from p (map size_of es) ++ (p + length (spelling es)) ∷ []
+pub offsets_from-more : (p : ℕ) (es : List Element) (e : Element) → offsets_from p (map size_of (es ++ e ∷ [])) ≡ offsets_from p (map size_of es)
+    ++ (p + length (spelling es)) ∷ []
 offsets_from-more p [] e = ap (λ (k : ℕ). k ∷ []) (omega arith)
 offsets_from-more p (x ∷ es) e =
     ap (λ z. p ∷ z) (offsets_from-more (p + size_of x) es e
@@ -46,5 +48,6 @@ drop-offset (e ∷ es) t (suc n) d within =
     let size = length-append (spell e) (spelling (take n es)) in
     ap (λ (k : ℕ). drop k ((spell e ++ spelling es) ++ t)) size
     ∙ sym (drop-drop (length (spelling (take n es))) (size_of e) ((spell e ++ spelling es) ++ t))
-    ∙ ap (drop (length (spelling (take n es)))) (ap (drop (size_of e)) (append_assoc (spell e) (spelling es) t) ∙ drop_at (spell e) (spelling es ++ t) (size_of e) refl)
+    ∙ ap (drop (length (spelling (take n es))))
+    (ap (drop (size_of e)) (append_assoc (spell e) (spelling es) t) ∙ drop_at (spell e) (spelling es ++ t) (size_of e) refl)
     ∙ drop-offset es t n d (omega arith)

@@ -1,5 +1,6 @@
 -- A file opens in exactly one way and has no fault, or has exactly one fault and doesn't open.
-use Rattle.std.proofs.Common.{◌≡◌, ℕ, zero, suc, ◌+◌, ◌-◌, ◌≤◌, List, [], ◌∷◌, ◌++◌, length, take, drop, get_or, refl, sym, ap, ◌∙◌, subst, arith, true, false, ◌⊎◌, inl, inr, append_assoc, length-append, length-drop}
+use Rattle.std.proofs.Common.{◌≡◌, ℕ, zero, suc, ◌+◌, ◌-◌, ◌≤◌, List, [], ◌∷◌, ◌++◌, length, take, drop, get_or, refl, sym, ap, ◌∙◌, subst, arith, true}
+use Rattle.std.proofs.Common.{false, ◌⊎◌, inl, inr, append_assoc, length-append, length-drop}
 use Rattle.std.proofs.lemmas.List.{take_at, drop_at, get_or_append_left, take-append-drop, drop-drop, drop_all}
 use Rattle.std.proofs.lemmas.Bool.{cases_Bool}
 use Rattle.std.specs.List.{AllByRecursion}
@@ -12,9 +13,10 @@ use Rattle.dgn_drawing.specs.Spelling.{spell, spelling}
 use Rattle.dgn_drawing.specs.WellFormed.{IsDimension, IsBytes, IsWellFormed}
 use Rattle.dgn_drawing.specs.Reading.{element_at}
 use Rattle.dgn_drawing.specs.Faults.{element_fault}
-use Rattle.dgn_drawing.specs.Opening.{is_tcb, is_tail, dimension, BeginsWithTcb, Opens, MayBeginWithTcb, Front, is_cut, first_element, StandsAt, HasBodyFault, Fault, NotDesign, Cut, Short, Attr, HasFault, fault_at, ending_within, ending_of}
-use Rattle.dgn_drawing.proofs.Read.{no_fault}
-use Rattle.dgn_drawing.proofs.Opening.{dimension_is, not_empty, Stops, tail_stops, cut_stops, fault_stops, runs_same}
+use Rattle.dgn_drawing.specs.Opening.{is_tcb, is_tail, dimension, BeginsWithTcb, Opens, MayBeginWithTcb, Front, is_cut, first_element, StandsAt}
+use Rattle.dgn_drawing.specs.Opening.{HasBodyFault, Fault, NotDesign, Cut, Short, Attr, HasFault, fault_at, ending_within, ending_of}
+use Rattle.dgn_drawing.proofs.RecordsRead.{no_fault}
+use Rattle.dgn_drawing.proofs.FirstElements.{dimension_is, not_empty, Stops, tail_stops, cut_stops, fault_stops, runs_same}
 use Rattle.dgn_drawing.proofs.Fronts.{front_none, front_more, front_ends}
 
 -- what stands where elements have ended: a tail, a cut element, or one with a fault
@@ -29,7 +31,8 @@ ends_stop dim axes x (AtCut more cut) = cut_stops dim axes x cut
 ends_stop dim axes x (AtFault more fault has) = fault_stops dim axes x fault has.fault_is
 
 -- two fronts of one file with ends behind them are the same
-pub fronts_same : (f : List ℕ) (es fs : List Element) (p q : ℕ) → Front f es p → Front f fs q → Ends (dimension f) (drop p f) → Ends (dimension f) (drop q f) → (es ≡ fs) × (p ≡ q)
+pub fronts_same : (f : List ℕ) (es fs : List Element) (p q : ℕ) → Front f es p → Front f fs q → Ends (dimension f) (drop p f)
+    → Ends (dimension f) (drop q f) → (es ≡ fs) × (p ≡ q)
 fronts_same f es fs p q one two end_one end_two =
     let axes = dimension_is f in
     let whole : spelling es ++ drop p f ≡ spelling fs ++ drop q f =
@@ -41,7 +44,8 @@ fronts_same f es fs p q one two end_one end_two =
     (same.0, omega (arith, length-drop p f, length-drop q f))
 
 -- a file that opens has its elements in front
-spelled_front : (f : List ℕ) (es : List Element) (t : List ℕ) → f ≡ spelling es ++ t → (take (length (spelling es)) f ≡ spelling es) × (drop (length (spelling es)) f ≡ t) × (length (spelling es) ≤ length f)
+spelled_front : (f : List ℕ) (es : List Element) (t : List ℕ) → f ≡ spelling es ++ t → (take (length (spelling es)) f ≡ spelling es)
+    × (drop (length (spelling es)) f ≡ t) × (length (spelling es) ≤ length f)
 spelled_front f es t whole = (
   ap (take (length (spelling es))) whole ∙ take_at (spelling es) t (length (spelling es)) refl,
   ap (drop (length (spelling es))) whole ∙ drop_at (spelling es) t (length (spelling es)) refl,
@@ -74,7 +78,8 @@ tcb_same x y long tcb =
     let b3 : get_or (x ++ y) 3 0 ≡ get_or x 3 0 = get_or_append_left x y 0 3 (omega arith) in
     rw (b0, b1, b2, b3) tcb
 
-tcb_first : (dim : ℕ) → IsDimension dim → (es : List Element) (t : List ℕ) → AllByRecursion (IsWellFormed dim) es → BeginsWithTcb es → is_tcb (spelling es ++ t) ≡ true
+tcb_first : (dim : ℕ) → IsDimension dim → (es : List Element) (t : List ℕ) → AllByRecursion (IsWellFormed dim) es → BeginsWithTcb es
+    → is_tcb (spelling es ++ t) ≡ true
 tcb_first dim axes [] t good first = absurd first
 tcb_first dim axes (e ∷ es) t good first =
     rw (append_assoc (spell e) (spelling es) t) (tcb_same (spell e) (spelling es ++ t) (not_empty dim e axes good.0 []) first.begins)
@@ -90,14 +95,16 @@ opens_ends f dim es t opens = AtTail (ap is_tail (opens_rest f dim es t opens) �
 pub opens_once : (f : List ℕ) (dim : ℕ) (es : List Element) (t : List ℕ) (dim' : ℕ) (es' : List Element) (t' : List ℕ) → Opens f dim es t → Opens f dim' es' t'
     → (dim ≡ dim') × (es ≡ es') × (t ≡ t')
 opens_once f dim es t dim' es' t' one two =
-    let same = fronts_same f es es' _ _ (opens_front f dim es t one) (opens_front f dim' es' t' two) (opens_ends f dim es t one) (opens_ends f dim' es' t' two) in (
+    let same = fronts_same f es es' _ _ (opens_front f dim es t one) (opens_front f dim' es' t' two) (opens_ends f dim es t one)
+    (opens_ends f dim' es' t' two) in (
       one.axes ∙ sym two.axes,
       same.0,
       sym (opens_rest f dim es t one) ∙ ap (λ (k : ℕ). drop k f) same.1 ∙ opens_rest f dim' es' t' two,
     )
 
 -- two places of a file at which no element stands and no tail begins are one
-places_same : (f : List ℕ) (p q : ℕ) (P Q : List ℕ → Type 0) → StandsAt f p P → StandsAt f q Q → Ends (dimension f) (drop p f) → Ends (dimension f) (drop q f) → p ≡ q
+places_same : (f : List ℕ) (p q : ℕ) (P Q : List ℕ → Type 0) → StandsAt f p P → StandsAt f q Q → Ends (dimension f) (drop p f)
+    → Ends (dimension f) (drop q f) → p ≡ q
 places_same f p q P Q one two end_one end_two = (fronts_same f one.front.0 two.front.0 p q one.front.1 two.front.1 end_one end_two).1
 
 cut_ends : (f : List ℕ) (p : ℕ) → HasFault f (Cut p) → Ends (dimension f) (drop p f)
@@ -140,7 +147,8 @@ fault_once f (Short p) (Attr q) h k = absurd (short_attr f p q (places_same f p 
 fault_once f (Attr p) (Short q) h k = absurd (short_attr f q p (places_same f q p _ _ k h (short_ends f q k) (attr_ends f p h)) k.here h.here)
 
 -- what stands behind the elements of a file that opens is a tail, and no fault
-no_place : (f : List ℕ) (dim : ℕ) (es : List Element) (t : List ℕ) → Opens f dim es t → (p : ℕ) (P : List ℕ → Type 0) → StandsAt f p P → Ends (dimension f) (drop p f) → ⊥
+no_place : (f : List ℕ) (dim : ℕ) (es : List Element) (t : List ℕ) → Opens f dim es t → (p : ℕ) (P : List ℕ → Type 0) → StandsAt f p P
+    → Ends (dimension f) (drop p f) → ⊥
 no_place f dim es t opens p P stands ends =
     let same = (fronts_same f es stands.front.0 _ p (opens_front f dim es t opens) stands.front.1 (opens_ends f dim es t opens) ends).1 in
     let tail : is_tail (drop p f) ≡ true = ap (λ (k : ℕ). is_tail (drop k f)) (sym same) ∙ ap is_tail (opens_rest f dim es t opens) ∙ opens.tail in
@@ -182,9 +190,11 @@ module _ (f : List ℕ) (bytes : IsBytes f) (tcb : is_tcb f ≡ true) where
           | inl cut ↦ rw (more, cut) (record { tcb = tcb; front = (es, front); more = more; here = cut })
           | inr uncut ↦ elim (cases_fault (dimension f) (first_element (drop p f))) [
             | inl sound ↦
-                let on = comes_within n (es ++ element_at (dimension f) (first_element (drop p f)) ∷ []) (p + size_said (drop p f)) (front_more f bytes tcb es p front more uncut sound) (omega arith) in
+                let on = comes_within n (es ++ element_at (dimension f) (first_element (drop p f)) ∷ []) (p + size_said (drop p f))
+                (front_more f bytes tcb es p front more uncut sound) (omega arith) in
                 rw (more, uncut, sound, drop-drop (size_said (drop p f)) p f) on
-            | inr fault ↦ rw (more, uncut, fault.1) (fault_comes f p fault.0 (record { tcb = tcb; front = (es, front); more = more; here = record { whole = uncut; fault_is = fault.1 } }))
+            | inr fault ↦ rw (more, uncut, fault.1)
+                (fault_comes f p fault.0 (record { tcb = tcb; front = (es, front); more = more; here = record { whole = uncut; fault_is = fault.1 } }))
           ]
         ]
       ]

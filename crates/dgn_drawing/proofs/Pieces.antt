@@ -1,6 +1,7 @@
 -- A spelling in pieces: bytes that stay, and numbers of four bytes each. Where the pieces stand, the numbers
 -- are read at their spots; and sums that are put there are the pieces with the sums in them.
-use Rattle.std.proofs.Common.{◌≡◌, ℕ, ◌+◌, ◌≤◌, List, [], ◌∷◌, ◌++◌, length, take, drop, map, refl, sym, ap, ◌∙◌, append_assoc, Bool, true, false, arith, length-append}
+use Rattle.std.proofs.Common.{◌≡◌, ℕ, ◌+◌, ◌≤◌, List, [], ◌∷◌, ◌++◌, length, take, drop, map, refl, sym, ap, ◌∙◌, append_assoc, Bool, true, false, arith}
+use Rattle.std.proofs.Common.{length-append}
 use Rattle.std.specs.Prelude.{ℤ, ◌+ℤ◌, if◌then◌else◌}
 use Rattle.std.specs.List.{AllByRecursion}
 use Rattle.std.proofs.lemmas.List.{take_at, drop_at}
@@ -10,7 +11,7 @@ use Rattle.dgn_layout.specs.Spots.{Rise}
 use Rattle.patch_bytes.specs.Puts.{Put, lay, write}
 use Rattle.dgn_drawing.specs.WellFormed.{IsCoordinate}
 use Rattle.dgn_drawing.specs.SpotNumbers.{value_at}
-use Rattle.dgn_drawing.proofs.Has.{Has, has_first}
+use Rattle.dgn_drawing.proofs.BytesAt.{Has, has_first}
 use Rattle.dgn_drawing.proofs.Fields.{long_is, range_long_is}
 
 -- bytes that stay, or a number: whether it is a range number, its axis, and itself
@@ -71,7 +72,8 @@ value_is true axis p v h on = range_long_is h on
 value_is false axis p v h on = long_is h on
 
 -- each number is read at its spot
-pub read_are : {X : Type 0} (f : Spot → ℤ → X) {b : List ℕ} {q : ℕ} (ps : List Piece) (p : ℕ) → Has b p (bytes_in ps) q → AllByRecursion IsCoordinate (values_in ps) → map (λ s. f s (value_at b s)) (spots_in p ps) ≡ read_in f p ps
+pub read_are : {X : Type 0} (f : Spot → ℤ → X) {b : List ℕ} {q : ℕ} (ps : List Piece) (p : ℕ) → Has b p (bytes_in ps) q
+    → AllByRecursion IsCoordinate (values_in ps) → map (λ s. f s (value_at b s)) (spots_in p ps) ≡ read_in f p ps
 read_are f [] p h on = refl
 read_are f {b} {q} (Kept x ∷ ps) p h on = read_are f ps (p + length x) (has_first {b = b} {x = x} (p + length x) refl h).1 on
 read_are f {b} {q} (Number offset axis v ∷ ps) p h on =
@@ -93,7 +95,8 @@ sums_read step p (Kept x ∷ ps) = sums_read step (p + length x) ps
 sums_read step p (Number offset axis v ∷ ps) = ap (λ l. (v +ℤ step axis) ∷ l) (sums_read step (p + 4) ps)
 
 -- bytes laid over as many
-pub lay-over : (front x behind y : List ℕ) (p : ℕ) → length front ≡ p → length x ≡ length y → lay (front ++ (x ++ behind)) (record { at = p; bytes = y }) ≡ front ++ (y ++ behind)
+pub lay-over : (front x behind y : List ℕ) (p : ℕ) → length front ≡ p → length x ≡ length y
+    → lay (front ++ (x ++ behind)) (record { at = p; bytes = y }) ≡ front ++ (y ++ behind)
 unfolding lay
 lay-over front x behind y p at same =
     let before : take p (front ++ (x ++ behind)) ≡ front = take_at front (x ++ behind) p at in
@@ -103,7 +106,8 @@ lay-over front x behind y p at same =
     rw (before, after, append_assoc) refl
 
 -- sums put at the spots are the pieces with the sums in them
-pub write_pieces : (step : ℕ → ℤ) (ps : List Piece) (front : List ℕ) (p : ℕ) → length front ≡ p → write (front ++ bytes_in ps) (read_in (put_by step) p ps) ≡ front ++ bytes_in (moved step ps)
+pub write_pieces : (step : ℕ → ℤ) (ps : List Piece) (front : List ℕ) (p : ℕ) → length front ≡ p
+    → write (front ++ bytes_in ps) (read_in (put_by step) p ps) ≡ front ++ bytes_in (moved step ps)
 write_pieces step [] front p at = refl
 write_pieces step (Kept x ∷ ps) front p at =
     ap (λ b. write b (read_in (put_by step) (p + length x) ps)) (sym (append_assoc front x (bytes_in ps)))
@@ -122,7 +126,14 @@ pub length-moved : (step : ℕ → ℤ) (ps : List Piece) → length (bytes_in (
 length-moved step [] = refl
 length-moved step (Kept x ∷ ps) = omega (arith, length-moved step ps, length-append x (bytes_in ps), length-append x (bytes_in (moved step ps)))
 length-moved step (Number offset axis v ∷ ps) =
-    omega (arith, length-moved step ps, length-bytes_of offset v, length-bytes_of offset (v +ℤ step axis), length-append (bytes_of offset v) (bytes_in ps), length-append (bytes_of offset (v +ℤ step axis)) (bytes_in (moved step ps)))
+    omega (
+      arith,
+      length-moved step ps,
+      length-bytes_of offset v,
+      length-bytes_of offset (v +ℤ step axis),
+      length-append (bytes_of offset v) (bytes_in ps),
+      length-append (bytes_of offset (v +ℤ step axis)) (bytes_in (moved step ps)),
+    )
 
 -- spots that rise from a place rise from each before it
 rise_before : (p r q : ℕ) (ss : List Spot) → p ≤ r → Rise r ss q → Rise p ss q
@@ -149,7 +160,8 @@ pub spots_in-append : (p r : ℕ) (ps qs : List Piece) → r ≡ p + length (byt
 spots_in-append p r [] qs at = ap (λ (k : ℕ). spots_in k qs) (omega arith)
 spots_in-append p r (Kept x ∷ ps) qs at = spots_in-append (p + length x) r ps qs (omega (arith, length-append x (bytes_in ps)))
 spots_in-append p r (Number offset axis v ∷ ps) qs at =
-    ap (λ l. spot offset axis p ∷ l) (spots_in-append (p + 4) r ps qs (omega (arith, length-bytes_of offset v, length-append (bytes_of offset v) (bytes_in ps))))
+    ap (λ l. spot offset axis p ∷ l)
+    (spots_in-append (p + 4) r ps qs (omega (arith, length-bytes_of offset v, length-append (bytes_of offset v) (bytes_in ps))))
 
 -- the numbers of pieces one behind the other
 pub values_in-append : (ps qs : List Piece) → values_in (ps ++ qs) ≡ values_in ps ++ values_in qs

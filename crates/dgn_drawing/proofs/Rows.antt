@@ -14,9 +14,9 @@ use Rattle.dgn_drawing.specs.WellFormed.{IsDimension, IsWellFormed}
 use Rattle.dgn_drawing.specs.Reading.{form_at, element_at}
 use Rattle.dgn_drawing.specs.Laws.{BodySits, IsRecordRead}
 use Rattle.dgn_drawing.specs.Rows.{total_in, row_at, total_of, row_of}
-use Rattle.dgn_drawing.proofs.Ends.{counted_form, counted_in}
-use Rattle.dgn_drawing.proofs.Read.{kind-spell, form-spell, element_at-spell, end_at-spell, not_short, rule_kept}
-use Rattle.dgn_drawing.proofs.Sits.{whole-spell, all-sits}
+use Rattle.dgn_drawing.proofs.BodyEnds.{counted_form, counted_in}
+use Rattle.dgn_drawing.proofs.RecordsRead.{kind-spell, form-spell, element_at-spell, end_at-spell, not_short, rule_kept}
+use Rattle.dgn_drawing.proofs.FieldPlaces.{whole-spell, all-sits}
 
 abbrev row_with : ℕ → ℕ → Bool → ℕ → Row
 row_with size kind cbit total = record { size = size; kind = kind; cbit = cbit; total = total }

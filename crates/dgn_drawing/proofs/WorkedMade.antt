@@ -48,7 +48,8 @@ made-text = refl
 
 -- its fields from byte 36 on
 text-fields : drop 36 text_bytes ≡
-    (3 ∷ 0 ∷ 0 ∷ 0 ∷ 0xE8 ∷ 3 ∷ 0 ∷ 0 ∷ 0xE8 ∷ 3 ∷ 0 ∷ 0 ∷ 0 ∷ 0 ∷ 0 ∷ 0 ∷ 5 ∷ 0 ∷ 0 ∷ 0 ∷ 6 ∷ 0 ∷ 8 ∷ 0 ∷ 0x48 ∷ 0x69 ∷ 0x20 ∷ 0x74 ∷ 0x68 ∷ 0x65 ∷ 0x72 ∷ 0x65 ∷ [])
+    (3 ∷ 0 ∷ 0 ∷ 0 ∷ 0xE8 ∷ 3 ∷ 0 ∷ 0 ∷ 0xE8 ∷ 3 ∷ 0 ∷ 0 ∷ 0 ∷ 0 ∷ 0 ∷ 0 ∷ 5 ∷ 0 ∷ 0 ∷ 0 ∷ 6 ∷ 0 ∷ 8 ∷ 0 ∷ 0x48 ∷ 0x69 ∷ 0x20 ∷ 0x74 ∷ 0x68 ∷ 0x65 ∷ 0x72 ∷
+    0x65 ∷ [])
 text-fields = refl
 
 -- a chain in space from 0,0,0 to 5,5,5 on level 1 with colour 2, weight 3 and style 4: weight and style are 1C

@@ -4,7 +4,7 @@ use Rattle.std.specs.declared.result.Result.{Result}
 use Rattle.std.specs.declared.result.Result.TheVariants.{Ok, Err}
 use Rattle.dgn_drawing.specs.Forms.{form_of}
 use Rattle.dgn_drawing.specs.Opening.{Fault, NotDesign, Cut, Short, Attr, ending_within, ending_of}
-use Rattle.dgn_drawing.proofs.Worked.{line_bytes, line_with_attributes, chain_of_three, space_chain_bytes}
+use Rattle.dgn_drawing.proofs.WorkedElements.{line_bytes, line_with_attributes, chain_of_three, space_chain_bytes}
 
 -- the TCB of worked drawings, and one whose byte 1214 says 3D
 abbrev tcb : List ℕ

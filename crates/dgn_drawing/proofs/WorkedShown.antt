@@ -64,13 +64,15 @@ sizes = refl
 cell_of_two : List Element
 cell_of_two = tcb ∷ cell false false 53 ∷ line 2 true false ∷ []
 
-shown-cell : (places (shown 2 two cell_of_two) ∷ places (shown 2 one cell_of_two) ∷ places (shown 2 others cell_of_two) ∷ places (tree_shown 2 two cell_of_two 1) ∷ [])
+shown-cell : (places (shown 2 two cell_of_two) ∷ places (shown 2 one cell_of_two) ∷ places (shown 2 others cell_of_two) ∷ places
+    (tree_shown 2 two cell_of_two 1) ∷ [])
     ≡ (((1, 0) ∷ (2, 1) ∷ []) ∷ [] ∷ [] ∷ ((1, 0) ∷ (2, 1) ∷ []) ∷ [])
 unfolding spell body_bytes parts_bytes display_bytes nest_within cell_of_two
 shown-cell = refl
 
 -- the same where the cell, or its member, is marked deleted
-shown-deleted : (places (shown 2 both (tcb ∷ cell false true 53 ∷ line 2 true false ∷ [])) ∷ places (shown 2 both (tcb ∷ cell false false 53 ∷ line 2 true true ∷ [])) ∷ [])
+shown-deleted : (places (shown 2 both (tcb ∷ cell false true 53 ∷ line 2 true false ∷ [])) ∷ places
+    (shown 2 both (tcb ∷ cell false false 53 ∷ line 2 true true ∷ [])) ∷ [])
     ≡ ([] ∷ [] ∷ [])
 unfolding spell body_bytes parts_bytes display_bytes nest_within
 shown-deleted = refl

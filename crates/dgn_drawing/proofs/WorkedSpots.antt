@@ -7,7 +7,7 @@ use Rattle.dgn_drawing.specs.Values.{Displacement}
 use Rattle.dgn_drawing.specs.Spelling.{display_bytes, parts_bytes, body_bytes, spell}
 use Rattle.dgn_drawing.specs.SpotNumbers.{value_at, displaced_put}
 use Rattle.dgn_drawing.specs.Changes.{mark, shift, stays_on_plane}
-use Rattle.dgn_drawing.proofs.Worked.{line, line_bytes}
+use Rattle.dgn_drawing.proofs.WorkedElements.{line, line_bytes}
 
 -- ten to the right and five down
 abbrev by : Displacement

@@ -6,6 +6,7 @@ use Rattle.range_code.specs.Ranges.{on_axis}
 use Rattle.dgn_drawing.specs.declared.types.item.Item.{Item}
 use Rattle.dgn_drawing.specs.declared.types.item_body.ItemBody.{ItemBody}
 use Rattle.dgn_drawing.specs.Element.{Display, Parts, Line, Points, Text, Node, Cell, Header, Plain, Body, Silent, Shown, Element}
+use Rattle.dgn_layout.specs.declared.TheConstants.{SHARED_CELL}
 
 -- a point with three numbers, the third of which is 0 where there is none
 abbrev pub in_space : List ℤ → List ℤ
@@ -39,7 +40,7 @@ shown_item dim number depth e display parts = record {
 abbrev pub item_in : ℕ → ℕ → ℕ → Element → Body → Option Item
 item_in dim number depth e (Silent rest) = None
 item_in dim number depth e (Shown display parts rest) =
-    if e.kind == 34 then None else Some (shown_item dim number depth e display parts)
+    if e.kind == SHARED_CELL then None else Some (shown_item dim number depth e display parts)
 
 abbrev pub item_of : ℕ → ℕ → ℕ → Element → Option Item
 item_of dim number depth e = item_in dim number depth e e.body

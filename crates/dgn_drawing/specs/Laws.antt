@@ -2,15 +2,16 @@
 use Rattle.std.specs.Prelude.{ℤ, ℕ, ◌≡◌, ◌-◌, ◌/◌, IsTrue, IsFalse, false, List, [], ◌∷◌, ◌++◌, drop, length, map}
 use Rattle.elem_head.specs.Head.{head_of, symbology_of, properties_of}
 use Rattle.range_code.specs.Ranges.{range_of}
-use Rattle.body_vertex.specs.Points.{points_of}
-use Rattle.body_text.specs.Texts.{origin_of, chars_count, chars_of, node_origin_of}
-use Rattle.group_head.specs.Headers.{total_at, name_at, origin_at}
+use Rattle.body_vertex.specs.Points.{points_of, points_end, IsPathKind}
+use Rattle.body_text.specs.Texts.{origin_of, chars_count, chars_of, text_end, node_origin_of, node_end}
+use Rattle.group_head.specs.Headers.{total_at, name_at, origin_at, cell_end}
 use Rattle.dgn_drawing.specs.Element.{Display, Parts, Line, Points, Text, Node, Cell, Header, Plain, Body, Silent, Shown, Element}
 use Rattle.patch_bytes.specs.Puts.{write}
 use Rattle.dgn_layout.specs.Classes.{class_of}
+use Rattle.dgn_layout.specs.Ends.{body_end}
 use Rattle.dgn_layout.specs.Spots.{spots_of, range_spots, has_spots, HoldsPoints, Rise}
 use Rattle.range_code.specs.declared.Box3.{Box3}
-use Rattle.dgn_drawing.specs.Spelling.{first_byte, second_byte, spell, size_of, body_end}
+use Rattle.dgn_drawing.specs.Spelling.{first_byte, second_byte, spell, size_of, rest_start}
 use Rattle.dgn_drawing.specs.SpotNumbers.{value_at, sum_at, displaced_put, widened_put}
 use Rattle.dgn_drawing.specs.WellFormed.{IsDimension, IsPoint, IsWellFormed, begins_with_mark}
 use Rattle.dgn_drawing.specs.Reading.{has_bit_6, group_of, index_of, number_at, end_at, element_at}
@@ -20,6 +21,7 @@ use Rattle.dgn_drawing.specs.Values.{Displacement, LookChange, IsLook}
 use Rattle.dgn_drawing.specs.Changes.{look_changed, recolour, look_bytes, mark, shift, numbers_in, stays_on_plane, widen, freed}
 use Rattle.dgn_drawing.specs.NewElements.{NewElement, IsNew, size_made, made}
 use Rattle.dgn_drawing.specs.Faults.{IsWhole, is_short, breaks_attribute_rule}
+use Rattle.dgn_layout.specs.declared.TheConstants.{END_MARK}
 
 -- well formed records of one dimension with one spelling are the same record
 abbrev pub OneSpellingOneRecord : Type 0
@@ -82,7 +84,7 @@ PartsSit dim kind b Plain = Unit {0}
 abbrev pub BodySits : ℕ → Element → Body → Type 0
 BodySits dim e (Silent rest) = drop 4 (spell e) ≡ rest
 BodySits dim e (Shown display parts rest) =
-    DisplaySits (spell e) display × PartsSit dim e.kind (spell e) parts × (drop (body_end e) (spell e) ≡ rest)
+    DisplaySits (spell e) display × PartsSit dim e.kind (spell e) parts × (drop (rest_start e) (spell e) ≡ rest)
 
 -- every field of a well formed record is what stands at its place in the record's spelling
 abbrev pub RecordsSitAtTheirPlaces : Type 0
@@ -103,12 +105,22 @@ pub record IsRecordRead (dim : ℕ) (e : Element) : Type 0 where
   pub whole : IsWhole (spell e)
   pub long : IsFalse (is_short dim (spell e))
   pub rule : IsFalse (breaks_attribute_rule dim (spell e))
-  pub ends : end_at dim (spell e) ≡ body_end e
+  pub ends : end_at dim (spell e) ≡ rest_start e
   pub element : element_at dim (spell e) ≡ e
   pub row : row_at (spell e) ≡ row_of e
 
 abbrev pub RecordsAreRead : Type 0
 RecordsAreRead = (dim : ℕ) (e : Element) → IsDimension dim → IsWellFormed dim e → IsRecordRead dim e
+
+-- where the body of an element ends, by its type, is where the crates that read the pieces of a body say
+pub record EndsAgree (dim : ℕ) (b : List ℕ) : Type 0 where
+  pub paths : (kind : ℕ) → IsPathKind kind → body_end dim kind b ≡ points_end dim kind b
+  pub texts : body_end dim 17 b ≡ text_end dim b
+  pub nodes : body_end dim 7 b ≡ node_end dim
+  pub cells : body_end dim 2 b ≡ cell_end dim
+
+abbrev pub BodyEndsAgree : Type 0
+BodyEndsAgree = (dim : ℕ) (b : List ℕ) → IsDimension dim → EndsAgree dim b
 
 -- a shown record with another look: its spelling is the record's with the two bytes of the look put at byte
 -- 34, and it is well formed, as large, and nests as it did
@@ -159,7 +171,7 @@ pub record IsMarkPut (dim : ℕ) (e : Element) : Type 0 where
   pub row : row_of (mark e) ≡ row_of e
 
 abbrev pub MarksAreOneByte : Type 0
-MarksAreOneByte = (dim : ℕ) (e : Element) → IsWellFormed dim e → ¬ (e.kind ≡ 127) → IsMarkPut dim e
+MarksAreOneByte = (dim : ℕ) (e : Element) → IsWellFormed dim e → ¬ (e.kind ≡ END_MARK) → IsMarkPut dim e
 
 -- a shown record with a wider range: its spelling is the record's with the wider numbers put at the range spots,
 -- and it is well formed, as large, and nests as it did

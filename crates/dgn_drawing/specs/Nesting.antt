@@ -1,10 +1,12 @@
 -- How the elements of a drawing nest: as trees, read from the front of a list. Nesting looks at the row of
 -- each element alone, so it is said of anything that has a row.
-use Rattle.std.specs.Prelude.{ℕ, zero, suc, ◌≡◌, ◌+◌, ◌-◌, ◌*◌, ◌≤◌, ◌==◌, ◌&&◌, nat_le, IsTrue, IsFalse, Bool, true, false, if◌then◌else◌, Option, Some, None, option_map, List, [], ◌∷◌, ◌++◌, length, take, drop}
+use Rattle.std.specs.Prelude.{ℕ, zero, suc, ◌≡◌, ◌+◌, ◌-◌, ◌*◌, ◌≤◌, ◌==◌, ◌&&◌, nat_le, IsTrue, IsFalse, Bool, true, false, if◌then◌else◌, Option, Some}
+use Rattle.std.specs.Prelude.{None, option_map, List, [], ◌∷◌, ◌++◌, length, take, drop}
 use Rattle.std.specs.List.{AllByRecursion}
 use Rattle.dgn_layout.specs.declared.types.Class.{Class}
 use Rattle.dgn_layout.specs.Classes.{class_of, is_among}
 use Rattle.dgn_drawing.specs.declared.row.Row.{Row}
+use Rattle.dgn_layout.specs.declared.TheConstants.{SHARED_CELL}
 
 -- what an element is in its tree: one that has nothing below it; a counted header over the members that its
 -- total asks for; the header of a run, over its parts; a counted header that no such members follow
@@ -21,12 +23,12 @@ pub data Forest (A : Type 0) : Type 0 where
 
 -- the list that is read: that of all elements, members of a header, or the parts of a B-spline
 pub data Scope : Type 0 where
-  All : Scope
+  Whole : Scope
   Members : Scope
   Parts : Scope
 
 abbrev pub is_all : Scope → Bool
-is_all All = true
+is_all Whole = true
 is_all other = false
 
 abbrev pub is_parts : Scope → Bool
@@ -101,7 +103,7 @@ shape_of scope h members spline_parts parts =
     if is_parts scope then leaf
     else if is_counted (class_of h.kind) then group_or_loose members
     else if is_among h.kind (24 ∷ 27 ∷ []) then run_over Parts spline_parts
-    else if h.kind == 34 && is_all scope then run_over Members parts
+    else if h.kind == SHARED_CELL && is_all scope then run_over Members parts
     else leaf
 
 abbrev pub shape : {A : Type 0} → (A → Row) → Scope → A → List A → Shape
@@ -125,7 +127,7 @@ nest row scope l = nest_within row (length l) scope l
 -- the trees of all elements, of which the first is a leaf, whatever it is
 abbrev pub forest : {A : Type 0} → (A → Row) → List A → Forest A
 forest row [] = NoTree
-forest row (e ∷ es) = Tree Leaf e NoTree (nest row All es)
+forest row (e ∷ es) = Tree Leaf e NoTree (nest row Whole es)
 
 -- trees behind trees
 abbrev pub joined : {A : Type 0} → Forest A → Forest A → Forest A

@@ -6,6 +6,7 @@ use Rattle.std.specs.List.{AllByRecursion, flat_map}
 use Rattle.elem_head.specs.declared.types.Symb.{Symb}
 use Rattle.dgn_words.specs.Numbers.{long_bytes}
 use Rattle.range_code.specs.Ranges.{on_axis, least_corner, greatest_corner}
+use Rattle.dgn_layout.specs.Ends.{chars_start}
 use Rattle.dgn_drawing.specs.declared.new_shape.NewShape.{NewShape}
 use Rattle.dgn_drawing.specs.declared.new_shape.NewShape.TheVariants as shapes
 use Rattle.dgn_drawing.specs.WellFormed.{IsDimension, IsBytes, IsCoordinate, IsPoint}
@@ -93,10 +94,6 @@ highest (p ∷ ps) = highest_from p ps
 -- a number rounded up to an even one
 abbrev pub even_up : ℕ → ℕ
 even_up n = n + n % 2
-
--- the byte at which a text's characters begin
-abbrev pub chars_start : ℕ → ℕ
-chars_start axes = if axes == 2 then 60 else 76
 
 -- its size in bytes
 abbrev pub size_made : ℕ → NewShape → ℕ

@@ -9,6 +9,7 @@ use Rattle.dgn_drawing.specs.Rows.{row_of}
 use Rattle.dgn_drawing.specs.Items.{item_of}
 use Rattle.dgn_drawing.specs.Nesting.{Knot, Leaf, Group, Run, Loose, Forest, NoTree, Tree, forest}
 use Rattle.dgn_drawing.specs.Numbering.{end_of, parent_of}
+use Rattle.dgn_layout.specs.declared.TheConstants.{SHARED_CELL}
 
 -- whether a mask shows a level: bit L of it shows level L
 abbrev pub shows : Mask → ℕ → Bool
@@ -32,7 +33,7 @@ headed head (item ∷ items) = head ++ item ∷ items
 abbrev pub shown_tree : ℕ → Mask → Knot → ℕ → ℕ → Element → List Item → List Item
 shown_tree dim mask Leaf number depth e members = shown_alone dim mask number depth e
 shown_tree dim mask Group number depth e members = if e.deleted then [] else headed (its_item dim number depth e) members
-shown_tree dim mask Run number depth e members = if e.kind == 34 then [] else shown_alone dim mask number depth e
+shown_tree dim mask Run number depth e members = if e.kind == SHARED_CELL then [] else shown_alone dim mask number depth e
 shown_tree dim mask Loose number depth e members = []
 
 -- the items of trees whose elements are numbered from n on and whose roots have that depth

@@ -55,6 +55,6 @@ spelling es = flat_map spell es
 abbrev pub size_of : Element → ℕ
 size_of e = length (spell e)
 
--- where the body ends: the size without the rest
-abbrev pub body_end : Element → ℕ
-body_end e = size_of e - length (rest_of e.body)
+-- where the rest begins, behind the body: the size without it
+abbrev pub rest_start : Element → ℕ
+rest_start e = size_of e - length (rest_of e.body)

@@ -5,7 +5,7 @@ use Rattle.std.specs.List.{All, AllByRecursion}
 use Rattle.range_code.specs.Plane.{is_on_plane}
 use Rattle.dgn_drawing.specs.Element.{Display, Parts, Line, Points, Text, Node, Cell, Header, Plain, Body, Silent, Shown, Element, form_of_body}
 use Rattle.dgn_drawing.specs.Forms.{form_of}
-use Rattle.dgn_drawing.specs.Spelling.{spell, size_of, body_end}
+use Rattle.dgn_drawing.specs.Spelling.{spell, size_of, rest_start}
 
 -- the dimensions that a design file can have
 abbrev pub IsDimension : ℕ → Type 0
@@ -97,7 +97,7 @@ says_attributes properties = properties / 2048 % 2 == 1
 abbrev pub HasAttributesInPlace : Element → Body → Type 0
 HasAttributesInPlace e (Silent rest) = Unit {0}
 HasAttributesInPlace e (Shown display parts rest) =
-    IsTrue (says_attributes display.properties) → (body_end e ≤ 32 + 2 * display.index) × (32 + 2 * display.index ≤ size_of e)
+    IsTrue (says_attributes display.properties) → (rest_start e ≤ 32 + 2 * display.index) × (32 + 2 * display.index ≤ size_of e)
 
 -- whether bytes begin with the two bytes FF FF, which end the run of elements
 abbrev pub begins_with_mark : List ℕ → Bool

@@ -27,8 +27,8 @@ use std::alloc::{AllocError, Global};
 /// What a display shows of the sound element `b` with the number `number` at the depth `depth`, in 2
 /// or 3 dimensions.
 ///
-/// None exactly for the class silent and for type 34. The call looks at neither the deleted bit nor
-/// the level. There is an error exactly where there is no memory.
+/// None exactly for the class silent and for a shared cell definition, type 34. The call looks at neither the deleted
+/// bit nor the level. An error says that there was no memory.
 pub fn item(
     alloc: Global,
     dim: u8,
@@ -82,7 +82,7 @@ fn shown_body(
     }
 }
 
-// The same in DIM dimensions.
+// What is shown of the body of an element that has a display part, in DIM dimensions.
 fn item_body<const DIM: usize>(
     alloc: Global,
     form: Form,

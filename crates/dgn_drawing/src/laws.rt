@@ -1,6 +1,8 @@
 //! What holds of all elements. Each call does nothing; its contract is the law.
 
-ghost use Rattle.dgn_drawing.specs.Laws.{OneSpellingOneRecord, NoSpellingBeginsAnother, RecordsSitAtTheirPlaces, BytesAreRecords, RecordsAreRead, LooksAreTwoBytes, SilentRecordsStay, SpotsSitAtTheNumbers, DisplacementsAreSums, MarksAreOneByte, WideningsAreWider, FreedIsOneByte, MadeElementsAreWellFormed};
+ghost use Rattle.dgn_drawing.specs.Laws.{OneSpellingOneRecord, NoSpellingBeginsAnother, RecordsSitAtTheirPlaces, BytesAreRecords, RecordsAreRead};
+ghost use Rattle.dgn_drawing.specs.Laws.{BodyEndsAgree, LooksAreTwoBytes, SilentRecordsStay, SpotsSitAtTheNumbers, DisplacementsAreSums, MarksAreOneByte};
+ghost use Rattle.dgn_drawing.specs.Laws.{WideningsAreWider, FreedIsOneByte, MadeElementsAreWellFormed};
 
 /// One spelling, one record: in one dimension two well formed records with one spelling are equal,
 /// and no spelling is a proper prefix of another.
@@ -23,6 +25,12 @@ pub fn records_sit_at_their_places()
 pub fn bytes_are_records()
     ensures spelled { BytesAreRecords }
     ensures read { RecordsAreRead }
+{}
+
+/// Where the body of an element ends, by its type (`dgn_layout::body_end`), is where the crates that read the pieces of a
+/// body say: behind its points, its characters or its origin.
+pub fn body_ends_agree()
+    ensures { BodyEndsAgree }
 {}
 
 /// A look is two bytes: another colour, weight or style is written at byte 34 and leaves every other

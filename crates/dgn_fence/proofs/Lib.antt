@@ -1,6 +1,6 @@
 pub mod Segments
-pub mod Held
-pub mod Misses
+pub mod BoundsHold
+pub mod FenceMisses
 pub mod Outlines
-pub mod Drawn
+pub mod ElementOutlines
 pub mod Rectangles

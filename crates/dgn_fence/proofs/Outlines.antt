@@ -1,5 +1,6 @@
 -- The outline of an item, and what is taken where bounds alone tell it.
-use Rattle.std.proofs.Common.{◌≡◌, inl, inr, ℕ, zero, suc, ◌+◌, ◌≤◌, ◌==◌, ℤ, Bool, true, false, Option, Some, None, option_map, List, [], ◌∷◌, length, map, drop, refl, sym, subst, ap, ◌∙◌, cond, arith}
+use Rattle.std.proofs.Common.{◌≡◌, inl, inr, ℕ, zero, suc, ◌+◌, ◌≤◌, ◌==◌, ℤ, Bool, true, false, Option, Some, None, option_map, List, [], ◌∷◌, length, map}
+use Rattle.std.proofs.Common.{drop, refl, sym, subst, ap, ◌∙◌, cond, arith}
 use Rattle.std.specs.Prelude.{slice_get}
 use Rattle.std.specs.List.{fold, list_any, list_all}
 use Rattle.std.specs.Option.{option_to_list}
@@ -20,9 +21,9 @@ use Rattle.dgn_fence.specs.Segments.{flat, path_segments, body_segments, segment
 use Rattle.dgn_fence.specs.Taken.{any_touches, touches_fence, first_point_of, begins_within, is_inside, overlaps, has_some, takes}
 use Rattle.dgn_fence.specs.Limits.{at, grown, bounds_of, body_bounds, extent_of, is_apart, misses}
 use Rattle.dgn_fence.specs.Outlines.{path_outline, body_outline, outline_of, misses_all, told_by_bounds, untouched_taken}
-use Rattle.dgn_fence.proofs.Held.{IsIn, itself, kept, all_kept, same_some, item_bare}
+use Rattle.dgn_fence.proofs.BoundsHold.{IsIn, itself, kept, all_kept, same_some, item_bare}
 use Rattle.dgn_fence.proofs.Segments.{path_begins}
-use Rattle.dgn_fence.proofs.Misses.{neither, edge_missed, far_outside, far_untouched}
+use Rattle.dgn_fence.proofs.FenceMisses.{neither, edge_missed, far_outside, far_untouched}
 
 -- ---- the points of a path, one after the other
 
@@ -56,8 +57,8 @@ none_left xs i b past = rw (drop_all i xs past) refl
 around_of : Option Outline → Option Bounds
 around_of o = option_map (λ (x : Outline). x.around) o
 
-first_of : Option Outline → Option Pt
-first_of o = option_map (λ (x : Outline). x.first) o
+first_in : Option Outline → Option Pt
+first_in o = option_map (λ (x : Outline). x.first) o
 
 path_extent : (ps : List Pt) → bounds_of ps ≡ around_of (path_outline ps)
 unfolding around_of
@@ -73,13 +74,13 @@ body_extent range (ItemBody.Cell name origin) = refl
 body_extent range (ItemBody.Node origin) = refl
 body_extent range ItemBody.Group = refl
 
-path_first : (closed : Bool) (points : List (List ℤ)) → first_point_of (path_segments closed (map flat points)) ≡ first_of (path_outline (map flat points))
-unfolding first_of
+path_first : (closed : Bool) (points : List (List ℤ)) → first_point_of (path_segments closed (map flat points)) ≡ first_in (path_outline (map flat points))
+unfolding first_in
 path_first closed [] = refl
 path_first closed (p ∷ points) = sym (path_begins closed (p ∷ points))
 
-body_first : (kind : ℕ) (range : Box3) (body : ItemBody) → first_point_of (body_segments kind range body) ≡ first_of (body_outline range body)
-unfolding first_of
+body_first : (kind : ℕ) (range : Box3) (body : ItemBody) → first_point_of (body_segments kind range body) ≡ first_in (body_outline range body)
+unfolding first_in
 body_first kind range (ItemBody.Path points) = path_first (kind == 6) points
 body_first kind range (ItemBody.Text origin chars) = refl
 body_first kind range ItemBody.Boxed = refl
@@ -110,7 +111,8 @@ begun_in (Some item) o is = body_begun item.range item.body o is
 
 -- ---- edges that bounds miss
 
-any_missed : (item : Item) (b : Bounds) (es : List (Pt × Pt)) → extent_of item ≡ Some b → list_all (λ e. misses b e.0 e.1) es ≡ true → list_any (any_touches (segments_of item)) es ≡ false
+any_missed : (item : Item) (b : Bounds) (es : List (Pt × Pt)) → extent_of item ≡ Some b → list_all (λ e. misses b e.0 e.1) es ≡ true
+    → list_any (any_touches (segments_of item)) es ≡ false
 any_missed item b [] is all = refl
 any_missed item b (e ∷ es) is all =
     let both = and_parts (misses b e.0 e.1) (list_all (λ e. misses b e.0 e.1) es) all in
@@ -132,13 +134,14 @@ unfolding begins_within
 begun_at fence [] p is = absurd cc
 begun_at fence (s ∷ segments) p is = let same : s.0 ≡ p = cc in ap (λ (q : Pt). is_within q fence) same
 
-told : (item : Item) (fence : List Pt) (o : Outline) (begins : Bool) (bounds : Option Bounds) → bounds_of fence ≡ bounds → outline_of (Some item) ≡ Some o → told_by_bounds bounds fence o ≡ Some begins
+told : (item : Item) (fence : List Pt) (o : Outline) (begins : Bool) (bounds : Option Bounds) → bounds_of fence ≡ bounds → outline_of (Some item) ≡ Some o
+    → told_by_bounds bounds fence o ≡ Some begins
     → IsTold fence (segments_of item) begins
-unfolding around_of first_of touches_fence
+unfolding around_of first_in touches_fence
 told item fence o begins None is has says = absurd cc
 told item fence o begins (Some b) is has says =
     let extent : extent_of item ≡ Some o.around = body_extent item.range item.body ∙ ap around_of has in
-    let start : first_point_of (segments_of item) ≡ Some o.first = body_first item.kind item.range item.body ∙ ap first_of has in
+    let start : first_point_of (segments_of item) ≡ Some o.first = body_first item.kind item.range item.body ∙ ap first_in has in
     elim (cases_Bool (is_apart o.around b)) [
       | inl t ↦ record {
         first = has_first (segments_of item) o.first start;
@@ -146,18 +149,21 @@ told item fence o begins (Some b) is has says =
         untouched = far_untouched item fence o.around b extent is t;
       }
       | inr n ↦
-          let near : (cond (misses_all o.around fence) (Some (is_within o.first fence)) None) ≡ Some begins = sym (cond-false (is_apart o.around b) _ _ n) ∙ says in
+          let near : (cond (misses_all o.around fence) (Some (is_within o.first fence)) None) ≡ Some begins =
+          sym (cond-false (is_apart o.around b) _ _ n) ∙ says in
           elim (cases_Bool (misses_all o.around fence)) [
             | inl m ↦ record {
               first = has_first (segments_of item) o.first start;
-              begun = begun_at fence (segments_of item) o.first start ∙ same_some (is_within o.first fence) begins (sym (cond-true (misses_all o.around fence) _ _ m) ∙ near);
+              begun = begun_at fence (segments_of item) o.first start
+                  ∙ same_some (is_within o.first fence) begins (sym (cond-true (misses_all o.around fence) _ _ m) ∙ near);
               untouched = any_missed item o.around (edges fence) extent m;
             }
             | inr k ↦ absurd (let none = sym (cond-false (misses_all o.around fence) _ _ k) ∙ near in cc)
           ]
     ]
 
-alone : (mode : Mode) (fence : List Pt) (item : Item) (begins : Bool) → IsTold fence (segments_of item) begins → takes mode fence (item ∷ []) ≡ untouched_taken mode begins
+alone : (mode : Mode) (fence : List Pt) (item : Item) (begins : Bool) → IsTold fence (segments_of item) begins
+    → takes mode fence (item ∷ []) ≡ untouched_taken mode begins
 unfolding is_inside overlaps
 alone Mode.Inside fence item true t = rw (t.first, t.begun, t.untouched) refl
 alone Mode.Inside fence item false t = rw (t.first, t.begun) refl
@@ -166,7 +172,8 @@ alone Mode.Overlap fence item false t = rw (t.first, t.begun, t.untouched) refl
 alone Mode.Void fence item true t = rw (t.first, t.begun) refl
 alone Mode.Void fence item false t = rw (t.first, t.begun, t.untouched) refl
 
-pub told_taken : (mode : Mode) (fence : List Pt) (item : Option Item) (o : Outline) (begins : Bool) → outline_of item ≡ Some o → told_by_bounds (bounds_of fence) fence o ≡ Some begins
+pub told_taken : (mode : Mode) (fence : List Pt) (item : Option Item) (o : Outline) (begins : Bool) → outline_of item ≡ Some o
+    → told_by_bounds (bounds_of fence) fence o ≡ Some begins
     → takes mode fence (option_to_list item) ≡ untouched_taken mode begins
 told_taken mode fence None o begins has says = absurd cc
 told_taken mode fence (Some item) o begins has says = alone mode fence item begins (told item fence o begins (bounds_of fence) refl has says)
@@ -187,7 +194,8 @@ none_taken mode fence (Some item) is = bare mode fence item (item_bare item (bod
 -- ---- neither number nor depth counts
 
 by_shape : (mode : Mode) (fence : List Pt) (dim number depth : ℕ) (e : Element) (display : Display) (parts : Parts) (shared : Bool)
-    → takes mode fence (option_to_list (cond shared None (Some (shown_item dim 0 0 e display parts)))) ≡ takes mode fence (option_to_list (cond shared None (Some (shown_item dim number depth e display parts))))
+    → takes mode fence (option_to_list (cond shared None (Some (shown_item dim 0 0 e display parts))))
+    ≡ takes mode fence (option_to_list (cond shared None (Some (shown_item dim number depth e display parts))))
 by_shape mode fence dim number depth e display parts true = refl
 by_shape Mode.Inside fence dim number depth e display parts false = refl
 by_shape Mode.Overlap fence dim number depth e display parts false = refl
@@ -198,5 +206,6 @@ by_body : (mode : Mode) (fence : List Pt) (dim number depth : ℕ) (e : Element)
 by_body mode fence dim number depth e (Silent rest) = refl
 by_body mode fence dim number depth e (Shown display parts rest) = by_shape mode fence dim number depth e display parts (e.kind == 34)
 
-pub anywhere : (mode : Mode) (fence : List Pt) (dim number depth : ℕ) (e : Element) → takes mode fence (its_item dim 0 0 e) ≡ takes mode fence (its_item dim number depth e)
+pub anywhere : (mode : Mode) (fence : List Pt) (dim number depth : ℕ) (e : Element)
+    → takes mode fence (its_item dim 0 0 e) ≡ takes mode fence (its_item dim number depth e)
 anywhere mode fence dim number depth e = by_body mode fence dim number depth e e.body

@@ -1,5 +1,6 @@
 -- A fence that is an upright rectangle: what has bounds strictly inside of its own misses all its edges and begins within it.
-use Rattle.std.proofs.Common.{◌≡◌, ◌⊎◌, inl, inr, ℕ, ◌+◌, ◌-◌, ◌*◌, ◌%◌, ◌==◌, ◌<◌, ◌≤◌, Bool, true, false, ◌&&◌, ◌||◌, Option, Some, cond, List, [], ◌∷◌, refl, sym, subst, ◌∙◌, ap, arith, ℤ, ◌-ℤ◌, ◌*ℤ◌, ◌<ℤ◌, ◌≤ℤ◌, int_lt, int_le}
+use Rattle.std.proofs.Common.{◌≡◌, ◌⊎◌, inl, inr, ℕ, ◌+◌, ◌-◌, ◌*◌, ◌%◌, ◌==◌, ◌<◌, ◌≤◌, Bool, true, false, ◌&&◌, ◌||◌, Option, Some, cond, List, [], ◌∷◌}
+use Rattle.std.proofs.Common.{refl, sym, subst, ◌∙◌, ap, arith, ℤ, ◌-ℤ◌, ◌*ℤ◌, ◌<ℤ◌, ◌≤ℤ◌, int_lt, int_le}
 use Rattle.std.specs.Int.{int_min, int_max}
 use Rattle.std.specs.List.{count_by}
 use Rattle.std.specs.Ordering.{int_eq}
@@ -13,12 +14,12 @@ use Rattle.plane_geom.specs.Polygons.{leans, passes, is_within}
 use Rattle.plane_geom.specs.Boxes.{lies_apart}
 use Rattle.plane_geom.proofs.Readings.{Reads, itself, times}
 use Rattle.plane_geom.proofs.Axes.{compared}
-use Rattle.plane_geom.proofs.Told.{below}
+use Rattle.plane_geom.proofs.TestOfTouch.{below}
 use Rattle.dgn_fence.specs.declared.bounds.Bounds.{Bounds}
 use Rattle.dgn_fence.specs.declared.outline.Outline.{Outline}
 use Rattle.dgn_fence.specs.Limits.{at, grown, bounds_of, is_apart, is_enclosed, misses, stands, is_upright}
 use Rattle.dgn_fence.specs.Outlines.{misses_all, told_by_bounds}
-use Rattle.dgn_fence.proofs.Held.{IsIn, same_some}
+use Rattle.dgn_fence.proofs.BoundsHold.{IsIn, same_some}
 
 -- ---- the sides of a rectangle
 
@@ -287,7 +288,8 @@ inside_second o p q r s t i begun =
       ];
     }
 
-inside : (o : Outline) (fence : List Pt) (b : Bounds) → bounds_of fence ≡ Some b → is_upright fence ≡ true → is_enclosed o.around b ≡ true → IsIn o.around o.first → Inside o fence
+inside : (o : Outline) (fence : List Pt) (b : Bounds) → bounds_of fence ≡ Some b → is_upright fence ≡ true → is_enclosed o.around b ≡ true
+    → IsIn o.around o.first → Inside o fence
 inside o (p ∷ q ∷ r ∷ s ∷ []) b is up' e begun =
     elim (or_cases (stands p q r s) (stands q r s p) up') [
       | inl f ↦ inside_first o p q r s (it_stands p q r s f) (clear_first o.around b p q r s is (it_stands p q r s f) (it_is_enclosed o.around b e)) begun
@@ -296,7 +298,8 @@ inside o (p ∷ q ∷ r ∷ s ∷ []) b is up' e begun =
 inside o other b is up' e begun = absurd cc
 
 -- so it is told, where it doesn't lie apart, that it begins within
-pub told_inside : (o : Outline) (fence : List Pt) (b : Bounds) → bounds_of fence ≡ Some b → is_upright fence ≡ true → is_enclosed o.around b ≡ true → IsIn o.around o.first → is_apart o.around b ≡ false
+pub told_inside : (o : Outline) (fence : List Pt) (b : Bounds) → bounds_of fence ≡ Some b → is_upright fence ≡ true → is_enclosed o.around b ≡ true
+    → IsIn o.around o.first → is_apart o.around b ≡ false
     → told_by_bounds (bounds_of fence) fence o ≡ Some true
 told_inside o fence b is up' e begun near =
     let i = inside o fence b is up' e begun in

@@ -56,7 +56,7 @@ fn points_outline(dim: u8, kind: u8, b: &[u8]) -> Option<Outline>
     }
 }
 
-// The same in DIM dimensions.
+// The outline of the points of an element, in DIM dimensions.
 fn path_outline<const DIM: usize>(kind: u8, b: &[u8]) -> Option<Outline>
     requires dimension { (DIM ≡ 2) ⊎ (DIM ≡ 3) }
     requires kind { IsPathKind kind }

@@ -1,5 +1,6 @@
 -- A generated drawing opens as its elements.
-use Rattle.std.proofs.Common.{◌≡◌, ℕ, zero, suc, ◌+◌, ◌-◌, ◌*◌, ◌/◌, ◌%◌, ◌^◌, ◌<◌, ◌≤◌, Bool, true, false, cond, List, [], ◌∷◌, ◌++◌, length, replicate, get_or, refl, sym, ap, ◌∙◌, subst, inl, append_assoc, arith, length-append}
+use Rattle.std.proofs.Common.{◌≡◌, ℕ, zero, suc, ◌+◌, ◌-◌, ◌*◌, ◌/◌, ◌%◌, ◌^◌, ◌<◌, ◌≤◌, Bool, true, false, cond, List, [], ◌∷◌, ◌++◌, length, replicate}
+use Rattle.std.proofs.Common.{get_or, refl, sym, ap, ◌∙◌, subst, inl, append_assoc, arith, length-append}
 use Rattle.std.specs.Prelude.{pos, ◌==◌, ◌&&◌, nat_le, codes}
 use Rattle.std.specs.List.{AllByRecursion}
 use Rattle.std.proofs.lemmas.Int.{ints}
@@ -15,9 +16,10 @@ use Rattle.dgn_drawing.specs.Spelling.{first_byte, second_byte, display_bytes, p
 use Rattle.dgn_drawing.specs.WellFormed.{IsBytes, IsCoordinate, IsWellFormed}
 use Rattle.dgn_drawing.specs.NewElements.{NewElement, IsPointFor, IsShapeFor, IsNew, size_made, made}
 use Rattle.dgn_drawing.specs.Opening.{dimension, IsTcb}
-use Rattle.dgn_drawing.proofs.Making.{made_good}
-use Rattle.dgn_generator.specs.Generator.{next_state, number_of, point, new_at, member_of, shape_at, cell_header, cell, tree, tree_drawn, trees_within, blank_tcb, generated_elements, generated, GeneratedDrawingsOpen}
-use Rattle.dgn_generator.proofs.Growing.{none_left, one_more}
+use Rattle.dgn_drawing.proofs.MadeElements.{made_good}
+use Rattle.dgn_generator.specs.Generator.{next_state, number_of, point, new_at, member_of, shape_at, cell_header, cell, tree, tree_drawn, trees_within}
+use Rattle.dgn_generator.specs.Generator.{blank_tcb, generated_elements, generated, GeneratedDrawingsOpen}
+use Rattle.dgn_generator.proofs.DrawingGrows.{none_left, one_more}
 
 -- a number that is drawn is below 2 ^ 20, and so is far within the plane
 drawn_small : (s : ℕ) → number_of (next_state s) < 2 ^ 20
@@ -88,7 +90,8 @@ module _ (i x y : ℕ) (right : x < 2 ^ 20) (up : y < 2 ^ 20) where
           point = a;
           some = omega arith;
           few = omega arith;
-          bytes = All-cons (λ z. z < 256) 68 (71 ∷ 78 ∷ []) (omega arith) (All-cons (λ z. z < 256) 71 (78 ∷ []) (omega arith) (All-cons (λ z. z < 256) 78 [] (omega arith) (All-nil (λ z. z < 256))));
+          bytes = All-cons (λ z. z < 256) 68 (71 ∷ 78 ∷ []) (omega arith)
+              (All-cons (λ z. z < 256) 71 (78 ∷ []) (omega arith) (All-cons (λ z. z < 256) 78 [] (omega arith) (All-nil (λ z. z < 256))));
         },
         omega arith,
       ) in
@@ -160,8 +163,10 @@ module _ (left i x y : ℕ) (right : x < 2 ^ 20) (up : y < 2 ^ 20) where
   cell_tree three =
       let zero_x : x + 0 ≡ x = omega arith in
       let zero_y : y + 0 ≡ y = omega arith in
-      let one = subst (λ (v : ℕ). IsWellFormed 2 (member_of (new_at i (shapes.Line (point x y ∷ point (x + 30) v ∷ []))))) zero_y (member_good i x y right up 30 0 (omega arith) (omega arith)) in
-      let two = subst (λ (v : ℕ). IsWellFormed 2 (member_of (new_at i (shapes.Line (point x y ∷ point v (y + 30) ∷ []))))) zero_x (member_good i x y right up 0 30 (omega arith) (omega arith)) in
+      let one = subst (λ (v : ℕ). IsWellFormed 2 (member_of (new_at i (shapes.Line (point x y ∷ point (x + 30) v ∷ []))))) zero_y
+      (member_good i x y right up 30 0 (omega arith) (omega arith)) in
+      let two = subst (λ (v : ℕ). IsWellFormed 2 (member_of (new_at i (shapes.Line (point x y ∷ point v (y + 30) ∷ []))))) zero_x
+      (member_good i x y right up 0 30 (omega arith) (omega arith)) in
       record { some = omega arith; few = three; good = (header_good i x y right up, (one, (two, tt))); small = omega arith }
 
   -- and one element where one is
@@ -171,12 +176,14 @@ module _ (left i x y : ℕ) (right : x < 2 ^ 20) (up : y < 2 ^ 20) where
       let shape : NewShape = shape_at i x y in
       let chosen = chosen_small i x y right up in
       let fine = made_good (new_at i shape) (shape_new i x y right up shape chosen.0) in
-      let long : length (spelling (made (new_at i shape) ∷ [])) ≡ size_made 2 shape = ap (length {A = ℕ}) (append-nil (spell (made (new_at i shape)))) ∙ fine.size in
+      let long : length (spelling (made (new_at i shape) ∷ [])) ≡ size_made 2 shape =
+      ap (length {A = ℕ}) (append-nil (spell (made (new_at i shape)))) ∙ fine.size in
       let small = chosen.1 in
       record { some = omega arith; few = one; good = (fine.good, tt); small = omega arith }
 
   -- so each tree is one
-  chosen_tree : (first large : Bool) → 1 ≤ left → (large ≡ true → 3 ≤ left) → IsTree left (cond (first && large) (cell i x y) (made (new_at i (shape_at i x y)) ∷ []))
+  chosen_tree : (first large : Bool) → 1 ≤ left → (large ≡ true → 3 ≤ left)
+      → IsTree left (cond (first && large) (cell i x y) (made (new_at i (shape_at i x y)) ∷ []))
   chosen_tree true true one three = cell_tree (three refl)
   chosen_tree true false one three = one_tree one
   chosen_tree false large one three = one_tree one
@@ -201,7 +208,8 @@ before_trees left es more tree trees =
     let small = tree.small in
     let number = trees.number in
     let behind = trees.small in
-    let both : length (spelling (es ++ more)) ≡ length (spelling es) + length (spelling more) = ap (length {A = ℕ}) (flat_map-append spell es more) ∙ length-append (spelling es) (spelling more) in
+    let both : length (spelling (es ++ more)) ≡ length (spelling es) + length (spelling more) =
+    ap (length {A = ℕ}) (flat_map-append spell es more) ∙ length-append (spelling es) (spelling more) in
     record {
       number = length-append es more ∙ omega arith;
       good = each_both es more tree.good trees.good;
@@ -214,7 +222,9 @@ trees_good n zero i s enough = subst (AreTrees 0) (sym (none_left n i s)) (recor
 trees_good zero (suc left) i s enough = absurd (omega arith)
 trees_good (suc n) (suc left) i s enough =
     let es : List Element = tree_drawn (suc left) i s in
-    let good : IsTree (suc left) es = tree_good (suc left) i (number_of (next_state s)) (number_of (next_state (next_state s))) (drawn_small s) (drawn_small (next_state s)) (omega arith) in
+    let good : IsTree (suc left) es =
+    tree_good (suc left) i (number_of (next_state s)) (number_of (next_state (next_state s))) (drawn_small s) (drawn_small (next_state s))
+    (omega arith) in
     let some = good.some in
     subst (AreTrees (suc left)) (sym (one_more n (suc left) i s (omega arith)))
     (before_trees (suc left) es (trees_within n (suc left - length es) (i + length es) (next_state (next_state s))) good

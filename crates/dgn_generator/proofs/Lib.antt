@@ -1,3 +1,3 @@
 pub mod TreeBytes
-pub mod Growing
+pub mod DrawingGrows
 pub mod GeneratedFile

@@ -54,10 +54,12 @@ display_of : ℕ → ℕ → List ℤ → List ℤ → Display
 display_of i index low high = record { low = low; high = high; group = 0; index = index; properties = 0; style = 0; weight = 0; color = i % 16 }
 
 -- the bytes of an element whose corners are known
-module _ (i x y width height : ℕ) (shape : NewShape) (low : lowest (points_given shape) ≡ point x y) (high : highest (points_given shape) ≡ point (x + width) (y + height)) where
+module _ (i x y width height : ℕ) (shape : NewShape) (low : lowest (points_given shape) ≡ point x y)
+    (high : highest (points_given shape) ≡ point (x + width) (y + height)) where
   -- its display part
   shown : (rest : Display → List ℕ) (index : ℕ)
-      → rest (display_of i index (lowest (points_given shape)) (highest (points_given shape))) ≡ rest (display_of i index (point x y) (point (x + width) (y + height)))
+      → rest (display_of i index (lowest (points_given shape)) (highest (points_given shape)))
+      ≡ rest (display_of i index (point x y) (point (x + width) (y + height)))
   shown rest index =
       ap (λ (p : List ℤ). rest (display_of i index p (highest (points_given shape)))) low
       ∙ ap (λ (p : List ℤ). rest (display_of i index (point x y) p)) high
@@ -71,12 +73,14 @@ line_spelled i x y width height c =
     shown i x y width height (shapes.Line (point x y ∷ point (x + width) (y + height) ∷ []))
     (least_left x y (x + width) (y + height) (omega arith) (omega arith))
     (greatest_right x y (x + width) (y + height) (omega arith) (omega arith))
-    (λ (d : Display). (1 + i % 8 + bit 64 false + bit 128 c) ∷ 3 ∷ (word_bytes 24 ++ (display_bytes d ++ (point_bytes (pos x ∷ pos y ∷ []) ++ point_bytes (pos (x + width) ∷ pos (y + height) ∷ [])))))
+    (λ (d : Display). (1 + i % 8 + bit 64 false + bit 128 c) ∷ 3 ∷
+    (word_bytes 24 ++ (display_bytes d ++ (point_bytes (pos x ∷ pos y ∷ []) ++ point_bytes (pos (x + width) ∷ pos (y + height) ∷ [])))))
     10
 
 -- a chain
 pub chain_spelled : (i x y : ℕ) → spell (made (new_at i (shapes.Chain (point x y ∷ point (x + 10) y ∷ point (x + 10) (y + 10) ∷ []))))
-    ≡ front_at i x y false 4 62 10 10 ++ (word_bytes 3 ++ (point_bytes (pos x ∷ pos y ∷ []) ++ (point_bytes (pos (x + 10) ∷ pos y ∷ []) ++ point_bytes (pos (x + 10) ∷ pos (y + 10) ∷ []))))
+    ≡ front_at i x y false 4 62 10 10
+    ++ (word_bytes 3 ++ (point_bytes (pos x ∷ pos y ∷ []) ++ (point_bytes (pos (x + 10) ∷ pos y ∷ []) ++ point_bytes (pos (x + 10) ∷ pos (y + 10) ∷ []))))
 unfolding spell body_bytes parts_bytes display_bytes display_of
 chain_spelled i x y =
     shown i x y 10 10 (shapes.Chain (point x y ∷ point (x + 10) y ∷ point (x + 10) (y + 10) ∷ []))
@@ -102,18 +106,22 @@ shape_spelled i x y =
     ∙ ap (upper_of (point x y)) (greatest_right (x + 20) y (x + 20) (y + 20) (omega arith) (omega arith))
     ∙ greatest_right x y (x + 20) (y + 20) (omega arith) (omega arith))
     (λ (d : Display). (1 + i % 8 + bit 64 false + bit 128 false) ∷ 6 ∷ (word_bytes 33 ++ (display_bytes d
-    ++ (word_bytes 4 ++ (point_bytes (pos x ∷ pos y ∷ []) ++ (point_bytes (pos (x + 20) ∷ pos y ∷ []) ++ (point_bytes (pos (x + 20) ∷ pos (y + 20) ∷ []) ++ point_bytes (pos x ∷ pos y ∷ []))))))))
+    ++ (word_bytes 4 ++ (point_bytes (pos x ∷ pos y ∷ [])
+    ++ (point_bytes (pos (x + 20) ∷ pos y ∷ []) ++ (point_bytes (pos (x + 20) ∷ pos (y + 20) ∷ []) ++ point_bytes (pos x ∷ pos y ∷ []))))))))
     19
 
 -- a text
 pub text_spelled : (i x y : ℕ) → spell (made (new_at i (shapes.Text 1 0 (pos 1000) (pos 1000) (point x y) (codes "DGN"))))
-    ≡ front_at i x y false 17 64 0 0 ++ ((1 ∷ 0 ∷ []) ++ (long_bytes (pos 1000) ++ (long_bytes (pos 1000) ++ (long_bytes (pos 0) ++ (point_bytes (pos x ∷ pos y ∷ []) ++ (3 ∷ 0 ∷ 68 ∷ 71 ∷ 78 ∷ 0 ∷ []))))))
+    ≡ front_at i x y false 17 64 0 0
+    ++ ((1 ∷ 0 ∷ []) ++ (long_bytes (pos 1000)
+    ++ (long_bytes (pos 1000) ++ (long_bytes (pos 0) ++ (point_bytes (pos x ∷ pos y ∷ []) ++ (3 ∷ 0 ∷ 68 ∷ 71 ∷ 78 ∷ 0 ∷ []))))))
 unfolding spell body_bytes parts_bytes display_bytes display_of
 text_spelled i x y =
     shown i x y 0 0 (shapes.Text 1 0 (pos 1000) (pos 1000) (point x y) (codes "DGN"))
     refl (corners (pos x) (pos y) (pos (x + 0)) (pos (y + 0)) (ap pos (omega arith)) (ap pos (omega arith)))
     (λ (d : Display). (1 + i % 8 + bit 64 false + bit 128 false) ∷ 17 ∷ (word_bytes 30 ++ (display_bytes d
-    ++ ((1 ∷ 0 ∷ []) ++ (long_bytes (pos 1000) ++ (long_bytes (pos 1000) ++ (long_bytes (pos 0) ++ (point_bytes (pos x ∷ pos y ∷ []) ++ (3 ∷ 0 ∷ 68 ∷ 71 ∷ 78 ∷ 0 ∷ [])))))))))
+    ++ ((1 ∷ 0 ∷ []) ++ (long_bytes (pos 1000)
+    ++ (long_bytes (pos 1000) ++ (long_bytes (pos 0) ++ (point_bytes (pos x ∷ pos y ∷ []) ++ (3 ∷ 0 ∷ 68 ∷ 71 ∷ 78 ∷ 0 ∷ [])))))))))
     16
 
 -- the header of a cell
@@ -134,7 +142,8 @@ tcb_pushed old mid all front zeros =
     ∙ ap (λ (b : List ℕ). old ++ b) (sym tcb_spelled)
 
 -- two pieces that are put behind others
-pub two_pushed : (old mid all front rest first behind whole : List ℕ) → mid ≡ old ++ front → all ≡ mid ++ rest → front ≡ first → rest ≡ behind → whole ≡ first ++ behind → all ≡ old ++ whole
+pub two_pushed : (old mid all front rest first behind whole : List ℕ) → mid ≡ old ++ front → all ≡ mid ++ rest → front ≡ first → rest ≡ behind
+    → whole ≡ first ++ behind → all ≡ old ++ whole
 two_pushed old mid all front rest first behind whole is_mid is_all is_first is_behind is_whole =
     is_all ∙ ap (λ (b : List ℕ). b ++ rest) is_mid ∙ append_assoc old front rest
     ∙ ap (λ (b : List ℕ). old ++ (b ++ rest)) is_first ∙ ap (λ (b : List ℕ). old ++ (first ++ b)) is_behind

@@ -1,12 +1,14 @@
 -- The drawing that is generated from a seed: a TCB, and trees of one element or three until as many elements stand
 -- behind it as were asked for. Each tree stands at x, y, two numbers that are drawn for it, x first.
-use Rattle.std.specs.Prelude.{ℕ, zero, suc, ◌+◌, ◌-◌, ◌*◌, ◌/◌, ◌%◌, ◌≤◌, ◌≡◌, ◌==◌, ◌&&◌, nat_le, true, false, if◌then◌else◌, ℤ, pos, List, [], ◌∷◌, ◌++◌, length, replicate, codes}
+use Rattle.std.specs.Prelude.{ℕ, zero, suc, ◌+◌, ◌-◌, ◌*◌, ◌/◌, ◌%◌, ◌≤◌, ◌≡◌, ◌==◌, ◌&&◌, nat_le, true, false, if◌then◌else◌, ℤ, pos, List, [], ◌∷◌, ◌++◌}
+use Rattle.std.specs.Prelude.{length, replicate, codes}
 use Rattle.dgn_drawing.specs.declared.new_shape.NewShape.{NewShape}
 use Rattle.dgn_drawing.specs.declared.new_shape.NewShape.TheVariants as shapes
 use Rattle.dgn_drawing.specs.Element.{Display, Cell, Silent, Shown, Element}
 use Rattle.dgn_drawing.specs.Spelling.{spelling}
 use Rattle.dgn_drawing.specs.NewElements.{NewElement, made}
 use Rattle.dgn_drawing.specs.Opening.{Opens}
+use Rattle.dgn_drawing.specs.declared.limits.TheConstants.{MOST_DESIGN}
 
 -- the state that a draw makes of a state
 abbrev pub next_state : ℕ → ℕ
@@ -104,7 +106,7 @@ generated seed count = spelling (generated_elements seed count) ++ (255 ∷ 255 
 pub record IsGenerated (seed count : ℕ) : Type 0 where
   pub opens : Opens (generated seed count) 2 (generated_elements seed count) (255 ∷ 255 ∷ [])
   pub number : length (generated_elements seed count) ≡ count + 1
-  pub few : length (generated seed count) ≤ 67108864
+  pub few : length (generated seed count) ≤ MOST_DESIGN
 
 abbrev pub GeneratedDrawingsOpen : Type 0
 GeneratedDrawingsOpen = (seed count : ℕ) → count ≤ 200000 → IsGenerated seed count

@@ -24,7 +24,7 @@ const TCB_SIZE: usize = 1536;
 /// The bytes of a drawing of the plane with `count` elements behind its TCB.
 ///
 /// The elements are cells, lines, chains, shapes and texts in turn, each at a point that is drawn, so the drawing hangs
-/// on `seed` and `count` alone. There is an error exactly where there is no memory.
+/// on `seed` and `count` alone. An error says that there was no memory.
 pub fn generate(alloc: Global, seed: u32, count: u32) -> Result<Vec<u8>, AllocError>
     requires some { 1 ≤ count }
     requires few { count ≤ 200000 }

@@ -1,8 +1,8 @@
-pub mod Choosing
-pub mod Rooted
-pub mod Taken
-pub mod Collected
-pub mod Spelled
-pub mod Meant
-pub mod Drawn
-pub mod Refusing
+pub mod TakenRoots
+pub mod RootTreesAlone
+pub mod TakenTrees
+pub mod TreesGathered
+pub mod GatheredBytes
+pub mod GatheredTrees
+pub mod DrawnElements
+pub mod ImportRefusals

@@ -27,8 +27,8 @@ use std::mem;
 ///
 /// Bad comes exactly where the second file doesn't open; else Dimension exactly where it has another dimension than
 /// `dim`, or `by` is given for other axes; else Refused exactly where the displacement of a tree is refused, with the
-/// first cause of the first such tree, whose number counts in the second file. Memory comes where there is no memory
-/// for the trees.
+/// first cause of the first such tree, whose number counts in the second file. Memory says that there was none for
+/// the trees.
 ///
 /// It takes the time of the second drawing.
 pub fn gather(
@@ -50,7 +50,7 @@ pub fn gather(
     }
 }
 
-// The same of a drawing that opens.
+// What is gathered of a second drawing that opens, or the first cause against it.
 fn gather_from(
     alloc: Global,
     dim: u8,

@@ -2,6 +2,7 @@ ghost use Rattle.std.specs.Prelude.{◌≡◌, ◌≤◌, vec_len, IfOk};
 ghost use Rattle.dgn_import.specs.Seconds.{second_of, value_of, IsSound, IsTextOf, HasToldFault};
 
 use crate::second_fault::SecondFault;
+use dgn_drawing::MOST_DESIGN;
 use elem_index::{Design, OpenFault, read_design};
 use level_view::nest_design;
 use nest_tree::types::Nest;
@@ -22,9 +23,9 @@ pub enum Second {
 /// Opens the bytes of a second file, and nests its elements.
 ///
 /// Bad comes exactly where they don't open (`elem_index::read_design`), with their fault. Otherwise body and tail are
-/// together the bytes. There is an error exactly where there is no memory.
+/// together the bytes. An error says that there was no memory.
 pub fn read_second(alloc: Global, bytes: Vec<u8>) -> Result<Second, AllocError>
-    requires { vec_len bytes ≤ 67108864 }
+    requires { vec_len bytes ≤ MOST_DESIGN }
     ensures value { IfOk result (λ s. value_of s ≡ second_of bytes.items) }
     ensures sound { IfOk result IsSound }
     ensures text { IfOk result (λ s. IsTextOf bytes.items (value_of s)) }

@@ -1,3 +1,3 @@
-pub mod Left
-pub mod Rising
-pub mod Holding
+pub mod PointsLeft
+pub mod SpotsRise
+pub mod PointsHeld

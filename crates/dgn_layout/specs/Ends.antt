@@ -2,7 +2,7 @@
 use Rattle.std.specs.Prelude.{ℕ, ◌+◌, ◌-◌, ◌==◌, List, slice_index, if◌then◌else◌}
 use Rattle.dgn_layout.specs.declared.types.Class.{Class}
 use Rattle.dgn_layout.specs.Classes.{class_of}
-use Rattle.dgn_layout.specs.Spots.{points_in, points_end}
+use Rattle.dgn_layout.specs.Spots.{points_in, layout_end}
 
 -- where the characters of a text begin
 abbrev pub chars_start : ℕ → ℕ
@@ -15,7 +15,7 @@ chars_count dim b = slice_index b (chars_start dim - 2)
 -- where the body of a class and type ends: that of a text behind its characters, any other behind its points
 abbrev pub end_in : Class → ℕ → ℕ → List ℕ → ℕ
 end_in Class.Words dim kind b = chars_start dim + chars_count dim b
-end_in other dim kind b = points_end dim (points_in other dim kind b)
+end_in other dim kind b = layout_end dim (points_in other dim kind b)
 
 -- where the body of a type ends
 abbrev pub body_end : ℕ → ℕ → List ℕ → ℕ

@@ -27,13 +27,13 @@ abbrev pub has_byte : ℕ → Spot → Bool
 has_byte k s = nat_le s.at k && nat_lt k (s.at + 4)
 
 -- the spots lie between these places, and no byte is in two of them
-pub record AreApart (p end : ℕ) (ss : List Spot) : Type 0 where
+pub record SpotsAreApart (p end : ℕ) (ss : List Spot) : Type 0 where
   pub within : All (LiesIn p end) ss
   pub single : (k : ℕ) → count_by (has_byte k) ss ≤ 1
 
 -- spots that rise are apart
-abbrev pub RisingAreApart : Type 0
-RisingAreApart = (p end : ℕ) (ss : List Spot) → Rise p ss end → AreApart p end ss
+abbrev pub RisingSpotsAreApart : Type 0
+RisingSpotsAreApart = (p end : ℕ) (ss : List Spot) → Rise p ss end → SpotsAreApart p end ss
 
 -- the types of the classes without spots
 abbrev pub IsSpotless : ℕ → Type 0

@@ -58,8 +58,8 @@ has_spots Class.Counted = true
 has_spots other = false
 
 -- the place behind the last point. An element that holds its body reaches to it
-abbrev pub points_end : ℕ → Points → ℕ
-points_end dim points = points.start + 4 * dim * points.count
+abbrev pub layout_end : ℕ → Points → ℕ
+layout_end dim points = points.start + 4 * dim * points.count
 
 -- the spots of an element of a class, with these points
 abbrev pub spots_with : Bool → ℕ → Points → List Spot
@@ -72,7 +72,7 @@ spots_of dim kind b = spots_with (has_spots (class_of kind)) dim (points_in (cla
 
 -- an element of the type holds its points
 abbrev pub HoldsPoints : ℕ → ℕ → List ℕ → ℕ → Type 0
-HoldsPoints dim kind b size = points_end dim (points_in (class_of kind) dim kind b) ≤ size
+HoldsPoints dim kind b size = layout_end dim (points_in (class_of kind) dim kind b) ≤ size
 
 -- the spots rise from place p on, each begins where the one before it ends or behind, and the last one ends
 -- by `end`: so they lie there, and no two share a byte

@@ -1,7 +1,7 @@
 //! Laws over the definitions that the contracts cite. Each function does nothing; it states one law and
 //! is proved.
 
-ghost use Rattle.dgn_layout.specs.Laws.{BodiesHoldPoints, SpotsRise, RisingAreApart, NoSpotsElsewhere};
+ghost use Rattle.dgn_layout.specs.Laws.{BodiesHoldPoints, SpotsRise, RisingSpotsAreApart, NoSpotsElsewhere};
 
 /// An element that doesn't end before its body does holds its points.
 pub fn bodies_hold_points()
@@ -16,7 +16,7 @@ pub fn spots_rise()
 
 /// Fields that rise lie between the two places, and no byte is in two of them.
 pub fn rising_spots_are_apart()
-    ensures { RisingAreApart }
+    ensures { RisingSpotsAreApart }
 {}
 
 /// An element of a class other than vertices, words and counted has no coordinate fields.

@@ -25,6 +25,10 @@ pub use table::Table;
 /// The type of a shared cell definition. Nothing shows one, and its parts are the elements with bit C behind it.
 pub const SHARED_CELL: u8 = 34;
 
+/// The type that the mark FF FF, which ends a file's elements, would have as an element: one of this type that is marked
+/// deleted could begin with that mark.
+pub const END_MARK: u8 = 127;
+
 /// The class of the element type `kind`. A type that no class names is silent.
 pub fn class(kind: u8) -> types::Class
     requires { kind < 128 }

@@ -166,7 +166,7 @@ pub fn range_2d() -> &'static [Spot]
     rows
 }
 
-// The same in 3D.
+// The range of an element in 3D.
 pub fn range_3d() -> &'static [Spot]
     ensures table { IsTable result.now 36 }
     ensures rows { result.now ≡ range_spots 3 }

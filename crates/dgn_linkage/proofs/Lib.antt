@@ -1,2 +1,2 @@
-pub mod Fitting
-pub mod Enough
+pub mod FirstLinkage
+pub mod LinkageSteps

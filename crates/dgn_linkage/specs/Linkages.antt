@@ -1,5 +1,6 @@
 -- Linkages: the pieces that the attribute data of an element is made of, by the first two bytes of each.
-use Rattle.std.specs.Prelude.{ℕ, zero, suc, ◌+◌, ◌*◌, ◌/◌, ◌%◌, ◌==◌, ◌&&◌, ◌||◌, nat_lt, nat_le, if◌then◌else◌, List, [], ◌∷◌, length, drop, slice_index, Option, Some, None}
+use Rattle.std.specs.Prelude.{ℕ, zero, suc, ◌+◌, ◌*◌, ◌/◌, ◌%◌, ◌==◌, ◌&&◌, ◌||◌, nat_lt, nat_le, if◌then◌else◌, List, [], ◌∷◌, length, drop, slice_index}
+use Rattle.std.specs.Prelude.{Option, Some, None}
 use Rattle.dgn_linkage.specs.declared.types.form.Form.{Form}
 use Rattle.dgn_linkage.specs.declared.types.form.Form.TheVariants.{Dmrs, User, Rest}
 use Rattle.dgn_linkage.specs.declared.types.link.Link.{Link}

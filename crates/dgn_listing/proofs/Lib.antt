@@ -1,9 +1,9 @@
-pub mod Counted
-pub mod Counting
+pub mod NumberTexts
+pub mod CountsGrow
 pub mod Fronts
-pub mod Linked
+pub mod AttributeData
 pub mod Listings
-pub mod Marked
-pub mod Told
-pub mod Worked
-pub mod Found
+pub mod SpanEnds
+pub mod LineFields
+pub mod WorkedLines
+pub mod FindingLines

@@ -17,15 +17,16 @@ use Rattle.dgn_listing.specs.declared.listed.Listed.{Listed}
 use Rattle.dgn_listing.specs.Counts.{times, counts}
 use Rattle.dgn_listing.specs.RefTexts.{is_ref, ref_count}
 use Rattle.dgn_listing.specs.ElementTexts.{listed_of, listed_at}
-use Rattle.dgn_listing.proofs.Counting.{counts-more, lookup-counts, times-few}
+use Rattle.dgn_listing.proofs.CountsGrow.{counts-more, lookup-counts, times-few}
 use Rattle.dgn_listing.proofs.Fronts.{take_found}
-use Rattle.dgn_listing.proofs.Told.{HeadIs, taken, head_is}
+use Rattle.dgn_listing.proofs.LineFields.{HeadIs, taken, head_is}
 
 -- what is read of the bytes
 abbrev pub read_of : ℕ → ℕ → ℕ → ℕ → ℕ → Bool → Bool → Listed
 read_of n at size kind level cbit deleted = record { number = n; offset = at; size = size; kind = kind; level = level; cbit = cbit; deleted = deleted }
 
-listed_from : (n at : ℕ) (e : Element) (b : List ℕ) (head : Head) → HeadIs e head → b ≡ spell e → read_of n at (length b) head.kind head.level head.cbit head.deleted ≡ listed_of n at e
+listed_from : (n at : ℕ) (e : Element) (b : List ℕ) (head : Head) → HeadIs e head → b ≡ spell e
+    → read_of n at (length b) head.kind head.level head.cbit head.deleted ≡ listed_of n at e
 listed_from n at e b head is spelled =
     let kind_is = is.kind in
     let level_is = is.level in
@@ -34,7 +35,8 @@ listed_from n at e b head is spelled =
     let size_is : length b ≡ length (spell e) = ap (length {A = ℕ}) spelled in
     cc
 
-pub listed_is : (d : Design) → IsWhole d → (n at : ℕ) (b : List ℕ) (head : Head) → Some b ≡ option_map spell (slice_get (elements d) n) → at ≡ offset_of (elements d) n → head ≡ head_of b
+pub listed_is : (d : Design) → IsWhole d → (n at : ℕ) (b : List ℕ) (head : Head) → Some b ≡ option_map spell (slice_get (elements d) n)
+    → at ≡ offset_of (elements d) n → head ≡ head_of b
     → Some (read_of n at (length b) head.kind head.level head.cbit head.deleted) ≡ listed_at (elements d) n
 listed_is d whole n at b head is place read =
     let this = taken (slice_get (elements d) n) b is in
@@ -59,7 +61,8 @@ pub listed_found : (es : List Element) (n : ℕ) (l : Listed) → Some l ≡ lis
 listed_found es n l is = listed_in es n (offset_of es n) l (slice_get es n) refl is
 
 -- one element more is counted
-pub counted_more : (f : Element → ℕ) (es : List Element) (n : ℕ) (e : Element) (k : ℕ) (entries : List (ℕ × ℕ)) → slice_get es n ≡ Some e → k ≡ f e → entries ≡ counts (map f (take n es))
+pub counted_more : (f : Element → ℕ) (es : List Element) (n : ℕ) (e : Element) (k : ℕ) (entries : List (ℕ × ℕ)) → slice_get es n ≡ Some e → k ≡ f e
+    → entries ≡ counts (map f (take n es))
     → insert_entry nat_eq entries k (unwrap_or (lookup (nat_eq k) entries) 0 + 1) ≡ counts (map f (take (n + 1) es))
 counted_more f es n e k entries found is before =
     let all : map f (take (n + 1) es) ≡ map f (take n es) ++ k ∷ [] =
@@ -69,7 +72,8 @@ counted_more f es n e k entries found is before =
     ∙ (ap (λ (m : ℕ). insert_entry nat_eq (counts (map f (take n es))) k (m + 1)) (lookup-counts k (map f (take n es)))
     ∙ (sym (counts-more (map f (take n es)) k) ∙ ap counts (sym all)))
 
-pub counted_few : (f : Element → ℕ) (es : List Element) (n k : ℕ) (entries : List (ℕ × ℕ)) → entries ≡ counts (map f (take n es)) → unwrap_or (lookup (nat_eq k) entries) 0 ≤ n
+pub counted_few : (f : Element → ℕ) (es : List Element) (n k : ℕ) (entries : List (ℕ × ℕ)) → entries ≡ counts (map f (take n es))
+    → unwrap_or (lookup (nat_eq k) entries) 0 ≤ n
 counted_few f es n k entries before =
     let times_is : unwrap_or (lookup (nat_eq k) entries) 0 ≡ times k (map f (take n es)) =
     ap (λ (es : List (ℕ × ℕ)). unwrap_or (lookup (nat_eq k) es) 0) before ∙ lookup-counts k (map f (take n es))
@@ -77,7 +81,8 @@ counted_few f es n k entries before =
     omega (arith, times-few k (map f (take n es)), length-map (take n es) f, length-take n es)
 
 -- one element more is counted among those that may attach a reference file, where it is such a one
-pub ref_more : (es : List Element) (n : ℕ) (l : Listed) → Some l ≡ listed_at es n → ref_count (take (n + 1) es) ≡ ref_count (take n es) + (0 + cond (is_ref l.kind l.level) 1 0)
+pub ref_more : (es : List Element) (n : ℕ) (l : Listed) → Some l ≡ listed_at es n
+    → ref_count (take (n + 1) es) ≡ ref_count (take n es) + (0 + cond (is_ref l.kind l.level) 1 0)
 ref_more es n l is =
     let here = listed_found es n l is in
     let one : cond (is_ref here.element.kind here.element.level) 1 0 ≡ cond (is_ref l.kind l.level) 1 0 =

@@ -1,7 +1,7 @@
 -- What `tree N` says: a line for each element from N to the last one below it, and how many there are.
 use Rattle.std.specs.Prelude.{ℕ, ◌-◌, Bool, if◌then◌else◌, List, [], ◌∷◌, ◌++◌, codes, slice_get, Option, Some, None}
 use Rattle.nest_tree.specs.declared.knot.Knot.{Knot}
-use Rattle.nest_tree.specs.Shapes.{knot_told}
+use Rattle.nest_tree.specs.Shapes.{code_knot}
 use Rattle.dgn_drawing.specs.Element.{Element}
 use Rattle.dgn_drawing.specs.Rows.{row_of}
 use Rattle.dgn_drawing.specs.Numbering.{Mark, mark_of, is_orphan}
@@ -15,7 +15,7 @@ line_of n e m = record {
   depth = m.depth;
   kind = e.kind;
   level = e.level;
-  knot = knot_told m.knot;
+  knot = code_knot m.knot;
   deleted = e.deleted;
   orphan = is_orphan n m (row_of e);
 }

@@ -6,7 +6,9 @@ ghost use Rattle.group_head.specs.Names.{text_of_name};
 ghost use Rattle.range_code.specs.Ranges.{on_axis};
 ghost use Rattle.std.specs.Char.{digit_char};
 ghost use Rattle.dgn_listing.specs.Lines.{AppendsFrontOf};
-ghost use Rattle.dgn_listing.specs.ItemTexts.{pair_text, third_text, height_text, point_text, next_point_text, points_text, is_plain, char_text, chars_text, path_text, said_text, box_text, cell_text, node_text, body_text, numbers_text, item_text, lines_text, items_text};
+ghost use Rattle.dgn_listing.specs.ItemTexts.{pair_text, third_text, height_text, point_text, next_point_text, points_text, is_plain, char_text};
+ghost use Rattle.dgn_listing.specs.ItemTexts.{chars_text, path_text, said_text, box_text, cell_text, node_text, body_text, numbers_text, item_text};
+ghost use Rattle.dgn_listing.specs.ItemTexts.{lines_text, items_text};
 
 use crate::pieces::{put, put_ending, put_fields};
 use dgn_drawing::types::{Item, ItemBody};

@@ -1,2 +1,2 @@
-pub mod Table
-pub mod Packing
+pub mod SignTable
+pub mod SignsAndWords

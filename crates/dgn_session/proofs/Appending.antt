@@ -16,7 +16,7 @@ use Rattle.dgn_drawing.proofs.Fronts.{body_spelled, elements-spelling}
 use Rattle.elem_index.specs.declared.design.Design.{Design}
 use Rattle.elem_index.specs.Design.{elements}
 use Rattle.edit_ops.specs.Causes.{too_long}
-use Rattle.edit_ops.proofs.Appended.{appended_opens, short_left}
+use Rattle.edit_ops.proofs.AppendedElements.{appended_opens, short_left}
 use Rattle.dgn_import.specs.Gathering.{AreTrees}
 use Rattle.dgn_session.specs.State.{state_of, value_with}
 use Rattle.dgn_session.specs.Imported.{imported, import_entry}
@@ -25,6 +25,7 @@ use Rattle.dgn_session.specs.Carried.{IsSoundPlan, plan_of}
 use Rattle.dgn_session.proofs.Becoming.{Become}
 use Rattle.dgn_session.proofs.Carried.{sound, done_state, value_after, made_here}
 use Rattle.dgn_session.proofs.Cutting.{opens_kept}
+use Rattle.dgn_drawing.specs.declared.limits.TheConstants.{MOST_DESIGN}
 
 module _ (d : Design) (l : LogState) (mask : Mask) (fence : Option (List Pt)) (kept : AreKept d.dim d.tail.items d.body.items (reverse l.entries))
     (b : List ℕ) (trees : AreTrees d.dim b) (short : too_long (length d.body.items + length d.tail.items + length b) ≡ None) where
@@ -44,7 +45,7 @@ module _ (d : Design) (l : LogState) (mask : Mask) (fence : Option (List Pt)) (k
   behind : drop (length (spelling (elements d))) (spelling made) ≡ spelling trees.elements
   behind = ap (drop (length (spelling (elements d)))) whole ∙ drop_at (spelling (elements d)) (spelling trees.elements) (length (spelling (elements d))) refl
 
-  few : length d.body.items + (length d.tail.items + length b) ≤ 67108864
+  few : length d.body.items + (length d.tail.items + length b) ≤ MOST_DESIGN
   few = short_left (length d.body.items) (length d.tail.items) (length b) short
 
   long : length (spelling made) ≡ length d.body.items + length b

@@ -11,15 +11,16 @@ use Rattle.dgn_drawing.specs.Opening.{Opens}
 use Rattle.edit_ops.specs.Applying.{Done, apply, IsEdit}
 use Rattle.edit_ops.specs.Fields.{Field, Rise, edited_fields, filled}
 use Rattle.edit_ops.specs.Fenced.{apply_all, fenced_fields, AreRoots, IsFenceEdit}
-use Rattle.edit_ops.proofs.Apart.{fields_apart}
-use Rattle.edit_ops.proofs.Fenced.{fenced_opens, fenced_fits, fenced_changes, fenced_apart}
-use Rattle.edit_ops.proofs.Reopened.{edited_opens, edited_fits, changes_fields}
+use Rattle.edit_ops.proofs.FieldsRise.{fields_apart}
+use Rattle.edit_ops.proofs.FenceLaws.{fenced_opens, fenced_fits, fenced_changes, fenced_apart}
+use Rattle.edit_ops.proofs.EditLaws.{edited_opens, edited_fits, changes_fields}
+use Rattle.dgn_drawing.specs.declared.limits.TheConstants.{MOST_DESIGN}
 
 -- elements of a drawing that opens with this tail become others: these open with it too and keep the limit of a design
 -- file, are the old ones with the fields written and others behind them, and no row changes; the fields rise
 pub record Become (dim : ℕ) (tail : List ℕ) (es : List Element) (fields : List Field) (made : List Element) : Type 0 where
   pub opens : Opens (spelling made ++ tail) dim made tail
-  pub few : length (spelling made) + length tail ≤ 67108864
+  pub few : length (spelling made) + length tail ≤ MOST_DESIGN
   pub written : spelling made ≡ write (spelling es) (filled (spelling made) fields) ++ drop (length (spelling es)) (spelling made)
   pub long : length (spelling es) ≤ length (spelling made)
   pub rows : map row_of (take (length es) made) ≡ map row_of es
@@ -28,7 +29,7 @@ pub record Become (dim : ℕ) (tail : List ℕ) (es : List Element) (fields : Li
 
 -- so they do by an edit that is done
 pub edit_becomes : (f : List ℕ) (dim : ℕ) (es : List Element) (tail : List ℕ) (e : Edit) (made : List Element) → IsEdit e → Opens f dim es tail
-    → length (spelling es) + length tail ≤ 67108864 → apply dim es (length tail) e ≡ Done made → Become dim tail es (edited_fields dim es e) made
+    → length (spelling es) + length tail ≤ MOST_DESIGN → apply dim es (length tail) e ≡ Done made → Become dim tail es (edited_fields dim es e) made
 edit_becomes f dim es tail e made fits opens few done =
     let changed = changes_fields f dim es tail (length tail) e made fits opens done in
     let apart = fields_apart f dim es tail (length tail) e made fits opens done in
@@ -44,7 +45,7 @@ edit_becomes f dim es tail e made fits opens few done =
 
 -- and by an edit of some roots that is done
 pub fence_becomes : (f : List ℕ) (dim : ℕ) (es : List Element) (tail : List ℕ) (e : FenceEdit) (ns : List ℕ) (made : List Element) → IsFenceEdit e → AreRoots es ns → Opens f dim es tail
-    → length (spelling es) + length tail ≤ 67108864 → apply_all dim es (length tail) e ns ≡ Done made → Become dim tail es (fenced_fields dim es e ns) made
+    → length (spelling es) + length tail ≤ MOST_DESIGN → apply_all dim es (length tail) e ns ≡ Done made → Become dim tail es (fenced_fields dim es e ns) made
 fence_becomes f dim es tail e ns made fits roots opens few done =
     let changed = fenced_changes f dim es tail (length tail) e ns made fits roots opens done in
     record {

@@ -3,12 +3,12 @@ use Rattle.std.proofs.Common.{◌≡◌, ◌↔◌, ℕ, zero, suc, ◌-◌, ◌
 use Rattle.std.specs.Prelude.{IsFalse}
 use Rattle.std.proofs.lemmas.List.{take-map, length-map, length-take, reverse-append, same_from_push}
 use Rattle.std.proofs.lemmas.Bool.{cases_lt}
-use Rattle.patch_bytes.proofs.Spans.{span_within}
+use Rattle.patch_bytes.proofs.RisingPuts.{span_within}
 use Rattle.undo_log.specs.declared.entry.Entry.{Entry}
 use Rattle.undo_log.specs.LogState.{LogState}
 use Rattle.undo_log.specs.Entries.{back, Fits, NewestFits, IsUndone}
-use Rattle.undo_log.proofs.WritingBack.{length-back}
-use Rattle.undo_log.proofs.Undoings.{undone_where_kept}
+use Rattle.undo_log.proofs.EntriesBack.{length-back}
+use Rattle.undo_log.proofs.UndoAnswers.{undone_where_kept}
 use Rattle.dgn_drawing.specs.declared.row.Row.{Row}
 use Rattle.dgn_drawing.specs.Element.{Element}
 use Rattle.dgn_drawing.specs.Spelling.{spell, spelling}
@@ -21,7 +21,7 @@ use Rattle.elem_index.specs.Offsets.{offset_of, offsets_of}
 use Rattle.elem_index.specs.Design.{kept_of, kinds_of, kind_bytes, elements, IsWhole, IsBehind, SameText}
 use Rattle.elem_index.proofs.KindBytes.{kind_bytes-front}
 use Rattle.elem_index.proofs.Places.{length-offsets, get_or-offsets}
-use Rattle.edit_ops.proofs.Seen.{four_bytes}
+use Rattle.edit_ops.proofs.DesignElements.{four_bytes}
 use Rattle.nest_tree.specs.Nested.{Nested}
 use Rattle.dgn_session.specs.Kept.{rows_of, OpensAt, Leads, AreKept, IsKept}
 use Rattle.dgn_session.specs.Carried.{HasLast, IsCutAt}

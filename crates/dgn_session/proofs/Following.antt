@@ -9,7 +9,7 @@ use Rattle.dgn_drawing.specs.Spelling.{spell, spelling}
 use Rattle.dgn_drawing.specs.Rows.{row_of}
 use Rattle.dgn_drawing.specs.Nesting.{BeginsFree, itself}
 use Rattle.nest_tree.specs.Shapes.{IsRow}
-use Rattle.nest_tree.proofs.Nestable.{each_row}
+use Rattle.nest_tree.proofs.NestableRows.{each_row}
 use Rattle.dgn_session.specs.Carried.{Spells, IsSpelling, IsBlock, IsBehind, Grows}
 use Rattle.dgn_session.proofs.Spelled.{four}
 

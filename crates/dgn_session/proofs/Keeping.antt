@@ -6,7 +6,7 @@ use Rattle.patch_bytes.specs.Puts.{Put, write}
 use Rattle.undo_log.specs.declared.entry.Entry.{Entry}
 use Rattle.undo_log.specs.LogState.{LogState}
 use Rattle.undo_log.specs.Entries.{entry_of}
-use Rattle.undo_log.proofs.WritingBack.{entry_fits}
+use Rattle.undo_log.proofs.EntriesBack.{entry_fits}
 use Rattle.dgn_drawing.specs.declared.row.Row.{Row}
 use Rattle.dgn_drawing.specs.Element.{Element}
 use Rattle.dgn_drawing.specs.Spelling.{size_of}

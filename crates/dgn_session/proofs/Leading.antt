@@ -1,10 +1,10 @@
 -- Patches that rise in a body: they may be committed with what is put behind it, and their entry leads back.
 use Rattle.std.proofs.Common.{◌≡◌, ℕ, List, ◌++◌, length}
 use Rattle.patch_bytes.specs.Puts.{Put, write, AreWithin, AreApart, Span}
-use Rattle.patch_bytes.proofs.Spans.{span_within, span_apart}
+use Rattle.patch_bytes.proofs.RisingPuts.{span_within, span_apart}
 use Rattle.undo_log.specs.Entries.{entry_of, back}
 use Rattle.undo_log.specs.Commits.{MayCommit}
-use Rattle.undo_log.proofs.WritingBack.{entry_restores}
+use Rattle.undo_log.proofs.EntriesBack.{entry_restores}
 
 module _ (b : List ℕ) (ps : List Put) (append : List ℕ) (rise : Span 0 ps (length b)) where
   pub patches_within : AreWithin (length b) ps

@@ -18,11 +18,11 @@ use Rattle.dgn_drawing.specs.Numbering.{Mark, mark_of}
 use Rattle.dgn_drawing.specs.Shown.{its_item, tree_shown, IsRoot}
 use Rattle.dgn_fence.specs.Segments.{segments_of}
 use Rattle.dgn_fence.specs.Taken.{takes, parts, has_some, overlaps, is_inside, begins_within, touches_fence}
-use Rattle.nest_tree.proofs.Unfolded.{flat-forest}
+use Rattle.nest_tree.proofs.NestingSteps.{flat-forest}
 use Rattle.level_view.proofs.Numbers.{back_all}
 use Rattle.level_view.proofs.Places.{mark-rows, mark_told}
-use Rattle.level_view.proofs.Onward.{GoesOn, root_goes_on}
-use Rattle.level_view.proofs.Roots.{IsTree, parent_at, root_known, root_found}
+use Rattle.level_view.proofs.RootsOnward.{GoesOn, root_goes_on}
+use Rattle.level_view.proofs.TreeItems.{IsTree, parent_at, root_known, root_found}
 use Rattle.dgn_session.specs.Selecting.{HasNone}
 
 some_same : {A : Type 0} {x y : A} → Some x ≡ Some y → x ≡ y

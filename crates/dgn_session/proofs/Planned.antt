@@ -15,7 +15,7 @@ use Rattle.dgn_drawing.specs.WellFormed.{IsDimension, IsWellFormed}
 use Rattle.dgn_drawing.specs.Rows.{row_of}
 use Rattle.dgn_drawing.specs.Nesting.{BeginsFree, itself}
 use Rattle.dgn_drawing.specs.Opening.{Opens, elements_of}
-use Rattle.dgn_drawing.proofs.Opening.{dimension_is}
+use Rattle.dgn_drawing.proofs.FirstElements.{dimension_is}
 use Rattle.dgn_drawing.proofs.Fronts.{opens_elements, opens_of, body_spelled}
 use Rattle.edit_ops.specs.declared.types.plan.Plan.{Plan}
 use Rattle.edit_ops.specs.Fields.{Field, filled}

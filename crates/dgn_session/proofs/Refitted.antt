@@ -14,24 +14,23 @@ use Rattle.dgn_drawing.specs.Opening.{Opens}
 use Rattle.dgn_drawing.proofs.Fronts.{body_spelled}
 use Rattle.elem_index.specs.declared.design.Design.{Design}
 use Rattle.elem_index.specs.Design.{elements}
-use Rattle.edit_ops.specs.Applying as edits
-use Rattle.edit_ops.specs.Applying.{Applied, Refused}
+use Rattle.edit_ops.specs.Applying.{Applied, Done}
 use Rattle.edit_ops.specs.Fields.{filled}
-use Rattle.dgn_audit.specs.Fitting.{Done, apply_fit, fit_fields}
+use Rattle.dgn_audit.specs.Fitting.{apply_fit, fit_fields}
 use Rattle.dgn_audit.specs.Planned.{IsFitPlan}
-use Rattle.dgn_audit.specs.Told.{applied_told}
-use Rattle.dgn_audit.proofs.Kept.{fitted_opens, fits_change}
-use Rattle.dgn_audit.proofs.Ended.{ends_findings}
+use Rattle.dgn_audit.proofs.FitKeepsRows.{fitted_opens, fits_change}
+use Rattle.dgn_audit.proofs.FindingsEnd.{ends_findings}
 use Rattle.dgn_session.specs.State.{pushed, undone, undo_refused}
 use Rattle.dgn_session.specs.Kept.{OpensAt, AreKept}
 use Rattle.dgn_session.specs.Fits.{fit_applied, IsFit, FitsAreUndone, OpenedStayFitted}
 use Rattle.dgn_session.proofs.Becoming.{Become}
 use Rattle.dgn_session.proofs.Cutting.{opens_kept}
 use Rattle.dgn_session.proofs.Restored.{pushed_stays}
+use Rattle.dgn_drawing.specs.declared.limits.TheConstants.{MOST_DESIGN}
 
 -- the elements become the fitted ones
 fit_becomes : (f : List ℕ) (dim : ℕ) (es : List Element) (tail : List ℕ) (n : ℕ) (made : List Element) → Opens f dim es tail
-    → length (spelling es) + length tail ≤ 67108864 → apply_fit dim es n ≡ Done made → Become dim tail es (fit_fields dim es n) made
+    → length (spelling es) + length tail ≤ MOST_DESIGN → apply_fit dim es n ≡ Done made → Become dim tail es (fit_fields dim es n) made
 fit_becomes f dim es tail n made opens few done =
     let changed = fits_change f dim es tail n made opens done in
     let long : length (spelling made) ≡ length (spelling es) = changed.long in
@@ -61,8 +60,8 @@ module _ (d : Design) (l : LogState) (mask : Mask) (fence : Option (List Pt)) (k
     none_behind = sym (drop_all (length (spelling (elements d))) (spelling plan.made) (omega (arith, (fits_change (d.body.items ++ d.tail.items) d.dim (elements d) d.tail.items n plan.made opens.opens plan.done).long)))
 
     -- it is done
-    pub fit_done : applied_told (apply_fit d.dim (elements d) n) ≡ edits.Done plan.made
-    fit_done = ap applied_told plan.done
+    pub fit_done : apply_fit d.dim (elements d) n ≡ Done plan.made
+    fit_done = plan.done
 
     -- and ends the findings of its tree
     pub fit_is : IsFit d.dim (elements d) n plan.made

@@ -4,10 +4,10 @@ use Rattle.std.specs.Prelude.{slice_get}
 use Rattle.std.specs.List.{AllByRecursion}
 use Rattle.std.proofs.lemmas.List.{take-take, take_all, take-map, length-map, length-take, length-take-le, length-reverse, get_or-take}
 use Rattle.patch_bytes.specs.Puts.{Put, write_back, Holds, IsWithin, AreWithin}
-use Rattle.patch_bytes.proofs.Laying.{lay_other, length-write_back}
+use Rattle.patch_bytes.proofs.PutsLaid.{lay_other, length-write_back}
 use Rattle.undo_log.specs.declared.entry.Entry.{Entry}
 use Rattle.undo_log.specs.Entries.{back, back_by, bodies}
-use Rattle.undo_log.proofs.WritingBack.{length-back}
+use Rattle.undo_log.proofs.EntriesBack.{length-back}
 use Rattle.dgn_drawing.specs.declared.row.Row.{Row}
 use Rattle.dgn_drawing.specs.Element.{Element}
 use Rattle.dgn_drawing.specs.Spelling.{spelling}

@@ -2,7 +2,7 @@
 use Rattle.std.proofs.Common.{◌≡◌, ℕ, ◌+◌, ◌≤◌, List, [], ◌∷◌, length, take, drop, map, refl, sym, ap, ◌∙◌, subst, arith}
 use Rattle.std.proofs.lemmas.List.{length-take-le, length-drop}
 use Rattle.patch_bytes.specs.Puts.{Put, old_of, Span}
-use Rattle.patch_bytes.proofs.Spans.{span_long}
+use Rattle.patch_bytes.proofs.RisingPuts.{span_long}
 use Rattle.edit_ops.specs.Fields.{Field, Rise, filled}
 
 -- fields that rise begin before they end

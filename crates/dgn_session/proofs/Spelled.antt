@@ -11,7 +11,7 @@ use Rattle.dgn_drawing.specs.WellFormed.{IsDimension, IsWellFormed}
 use Rattle.dgn_drawing.specs.Rows.{row_of, row_at}
 use Rattle.dgn_drawing.specs.Nesting.{BeginsFree}
 use Rattle.dgn_drawing.specs.Faults.{IsSound}
-use Rattle.dgn_drawing.proofs.Read.{size_said-spell, size-spell}
+use Rattle.dgn_drawing.proofs.RecordsRead.{size_said-spell, size-spell}
 use Rattle.dgn_drawing.proofs.Rows.{row_at-spell}
 use Rattle.elem_index.proofs.Places.{sound_spell}
 use Rattle.dgn_session.specs.Carried.{Spells, IsSpelling, Begins}

@@ -1,4 +1,4 @@
--- What an edit needs to be carried out, and what an undo looks for.
+-- What an edit needs to be carried out, and what an undo looks for. Contracts of private functions alone cite this.
 use Rattle.std.specs.Prelude.{ℕ, ◌≡◌, ◌+◌, ◌<◌, ◌≤◌, List, [], ◌∷◌, ◌++◌, length, drop, map, slice_index, vec_len, vec_capacity}
 use Rattle.std.specs.List.{AllByRecursion}
 use Rattle.patch_bytes.specs.Puts.{Put, write, Span}
@@ -14,6 +14,7 @@ use Rattle.elem_index.specs.declared.design.Design.{Design}
 use Rattle.elem_index.specs.Design.{spare_of}
 use Rattle.edit_ops.specs.declared.types.plan.Plan.{Plan}
 use Rattle.dgn_session.specs.Kept.{rows_of, OpensAt}
+use Rattle.dgn_drawing.specs.declared.limits.TheConstants.{MOST_DESIGN}
 
 -- bytes are the spellings of these elements, which are well formed
 pub record Spells (dim : ℕ) (es : List Element) (b : List ℕ) : Type 0 where
@@ -80,7 +81,7 @@ plan_of ps append = record { patches = ps; append = append }
 pub record IsSoundPlan (dim : ℕ) (tail b : List ℕ) (p : Plan) : Type 0 where
   pub new : List Element
   pub spells : Spells dim new p.append
-  pub short : length p.append ≤ 67108864
+  pub short : length p.append ≤ MOST_DESIGN
   pub change : IsChange dim tail b p.patches p.append (map row_of new)
 
 -- the last of some entries has this length

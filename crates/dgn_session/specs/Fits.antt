@@ -10,13 +10,12 @@ use Rattle.edit_ops.specs.Fields.{IsIn}
 use Rattle.dgn_audit.specs.Findings.{findings}
 use Rattle.dgn_audit.specs.Fitting.{apply_fit, fit_fields}
 use Rattle.dgn_audit.specs.Laws.{is_outside}
-use Rattle.dgn_audit.specs.Told.{applied_told}
 use Rattle.dgn_session.specs.State.{State, pushed, undone, undo_refused, entry_with}
 use Rattle.dgn_session.specs.Laws.{opened_in}
 
 -- what a fit of the tree that holds element n comes to in a state
 abbrev pub fit_applied : ℕ → State → Applied
-fit_applied n s = applied_told (apply_fit s.dim s.top n)
+fit_applied n s = apply_fit s.dim s.top n
 
 -- one that is done pushes what it makes, and one that is refused leaves the state
 abbrev pub fit_made : ℕ → State → State

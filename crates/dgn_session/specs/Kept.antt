@@ -14,6 +14,7 @@ use Rattle.elem_index.specs.declared.design.Design.{Design}
 use Rattle.elem_index.specs.Design.{elements, IsWhole}
 use Rattle.nest_tree.specs.Nested.{Nested}
 use Rattle.dgn_session.specs.State.{SessionValue, all_levels}
+use Rattle.dgn_drawing.specs.declared.limits.TheConstants.{MOST_DESIGN}
 
 -- the rows of the elements of a body: their sizes, types, bits C and totals
 abbrev pub rows_of : ℕ → List ℕ → List Row
@@ -21,7 +22,7 @@ rows_of dim b = map row_of (elements_of dim b)
 
 -- a body and the tail are a file that opens, in this dimension
 pub record OpensAt (dim : ℕ) (tail b : List ℕ) : Type 0 where
-  pub few : length b + length tail ≤ 67108864
+  pub few : length b + length tail ≤ MOST_DESIGN
   pub opens : Opens (b ++ tail) dim (elements_of dim b) tail
 
 -- a body and an earlier one: the elements of the earlier one have the same rows in both, and the element behind them,

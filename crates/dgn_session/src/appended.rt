@@ -3,7 +3,7 @@
 ghost use Rattle.std.specs.Prelude.{◌≡◌, ◌≤◌, [], ◌∷◌, ◌++◌, length, IfOk, OnOk, OnErr};
 ghost use Rattle.dgn_session.specs.Carried.{IsSpelling, IsBlock, IsBehind, Grows};
 
-use dgn_drawing::{Row, row_of};
+use dgn_drawing::{MOST_DESIGN, Row, row_of};
 use elem_head::head;
 use nest_tree::types::Nest;
 use std::alloc::{AllocError, Global};
@@ -18,8 +18,8 @@ const BLOCK: usize = 4096;
 // have grown by some of them.
 pub(crate) fn nest_appended(alloc: Global, nest: &mut Nest, bytes: &[u8]) -> Result<u32, AllocError>
     requires spelled { IsSpelling bytes.now }
-    requires short { length bytes.now ≤ 67108864 }
-    requires few { length nest.old.rows ≤ 67108864 }
+    requires short { length bytes.now ≤ MOST_DESIGN }
+    requires few { length nest.old.rows ≤ MOST_DESIGN }
     ensures grown { IfOk result (Grows bytes.now nest.old.rows nest.new.rows) }
     ensures begun { OnErr result (IsBehind nest.old.rows nest.new.rows) }
 {
@@ -38,7 +38,8 @@ pub(crate) fn nest_appended(alloc: Global, nest: &mut Nest, bytes: &[u8]) -> Res
 }
 
 // Puts the rows of the first elements that the bytes spell in place of what the list holds: of 4096 and of those with
-// bit C that follow, or of as many as there are. So what is behind them nests apart. The answer is how many bytes they have.
+// bit C that follow, or of as many as there are. So what is behind them nests apart. The answer is how many bytes they
+// have.
 fn read_block(bytes: &[u8], rows: &mut Vec<Row>) -> Result<usize, AllocError>
     requires { IsSpelling bytes.now }
     ensures block { IfOk result (IsBlock bytes.now rows.new.items) }

@@ -8,6 +8,7 @@ ghost use Rattle.dgn_session.specs.Carried.{IsSpelling, IsBehind, IsFollowed, Is
 
 use crate::appended::nest_appended;
 use crate::room::make_room;
+use dgn_drawing::MOST_DESIGN;
 use edit_ops::types::Plan;
 use elem_index::Design;
 use nest_tree::types::Nest;
@@ -38,7 +39,7 @@ pub(crate) fn carry(
     carry_bytes(alloc, design, nest, log, patches, append.as_slice())
 }
 
-// The same of patches and of bytes to append, which aren't copied anywhere else.
+// Takes the memory that patches and bytes to append want, and carries them out. The bytes aren't copied anywhere else.
 pub(crate) fn carry_bytes(
     alloc: Global,
     design: &mut Design,
@@ -79,7 +80,7 @@ fn follow(
 ) -> Result<(), AllocError>
     requires kept { IsKept design.old nest.old log.old }
     requires spelled { IsSpelling append.now }
-    requires short { length append.now ≤ 67108864 }
+    requires short { length append.now ≤ MOST_DESIGN }
     ensures kept { IsKept design.new nest.old log.new }
     ensures dim { design.new.dim ≡ design.old.dim }
     ensures tail { design.new.tail.items ≡ design.old.tail.items }

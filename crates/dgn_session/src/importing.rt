@@ -8,19 +8,17 @@ ghost use Rattle.dgn_session.specs.Imported.{imported, import_entry, IsTooLong};
 
 use crate::carrying::carry_bytes;
 use crate::session::Session;
+use dgn_drawing::MOST_DESIGN;
 use edit_ops::{Cause, EditFault};
 use elem_index::Design;
 use patch_bytes::PatchList;
-
-// The most bytes that a design file may have.
-const MOST: usize = 67108864;
 
 // A file with so many bytes more would be too long.
 fn growth_cause(d: &Design, bytes: usize) -> Option<Cause>
     requires { IsWhole d.now }
     ensures { result ≡ too_long (length d.now.body.items + length d.now.tail.items + bytes) }
 {
-    if bytes <= MOST - (d.body.len() + d.tail.len()) {
+    if bytes <= MOST_DESIGN - (d.body.len() + d.tail.len()) {
         None
     } else {
         Some(Cause::TooLong)
@@ -32,8 +30,8 @@ impl Session {
     /// has no bit C (`dgn_import::gather`). It is one edit for an undo, also where there is no tree, and its entry has no
     /// patch.
     ///
-    /// Refused comes with TooLong, exactly where body, tail and the bytes are together more than 67108864 bytes, and with
-    /// no other cause. Memory comes where there is no memory for it. The session is then as before.
+    /// Refused comes with TooLong, exactly where body, tail and the bytes are together more than `MOST_DESIGN` bytes,
+    /// and with no other cause. Memory says that there was none for it. The session is then as before.
     pub fn append_trees(&mut self, bytes: &[u8]) -> Result<(), EditFault>
         requires trees { AreTrees self.old.dim bytes.now }
         ensures done { OnOk result

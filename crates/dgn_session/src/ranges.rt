@@ -17,8 +17,8 @@ use patch_bytes::ByteList;
 use std::alloc::AllocError;
 
 impl Session {
-    /// The elements whose stored range isn't the hull of their tree (`dgn_audit::audit`), in file order. There is an
-    /// error exactly where there is no memory.
+    /// The elements whose stored range isn't the hull of their tree (`dgn_audit::audit`), in file order. An error says
+    /// that there was no memory.
     pub fn audit(&self) -> Result<Vec<Finding>, AllocError>
         ensures { IfOk result (λ found. found.items ≡ findings self.now.dim (state_of self.now).top) }
     {
@@ -30,7 +30,7 @@ impl Session {
     /// findings of all other trees are as before.
     ///
     /// Refused comes with the first cause that stands, exactly where the fit is refused: Unknown; Broken; Deleted, of the
-    /// root of that tree; Locked, of the least fitted element that is locked. Memory comes where there is no memory for it.
+    /// root of that tree; Locked, of the least fitted element that is locked. Memory says that there was none for it.
     /// The session is then as before: all memory is taken before the first byte is written.
     pub fn fit(&mut self, n: u32) -> Result<(), EditFault>
         ensures done { OnOk result (state_of self.new ≡ fit_made n (state_of self.old)) }

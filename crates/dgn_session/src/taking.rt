@@ -5,6 +5,7 @@ ghost use Rattle.undo_log.specs.Entries.{IsUndone};
 ghost use Rattle.dgn_session.specs.Kept.{IsKept};
 ghost use Rattle.dgn_session.specs.Carried.{HasLast, IsCutAt};
 
+use dgn_drawing::MOST_DESIGN;
 use elem_index::Design;
 use nest_tree::types::Nest;
 use undo_log::{Entry, Log};
@@ -22,7 +23,7 @@ pub(crate) fn last_len(entries: &[Entry]) -> Option<u32>
 
 // How many elements are left where those at byte `len` and behind it are cut off.
 fn count_below(offsets: &[u32], len: u32) -> u32
-    requires { length offsets.now ≤ 67108864 }
+    requires { length offsets.now ≤ MOST_DESIGN }
     ensures { IsCutAt offsets.now len result }
 {
     let mut count = offsets.len();

@@ -1,7 +1,7 @@
 // What a session is made of.
 
 use super::*;
-use dgn_drawing::{Edit, Mask};
+use dgn_drawing::{Edit, MOST_DESIGN, Mask};
 use dgn_fence::types::Fence;
 use elem_index::{Design, read_design};
 use nest_tree::types::Nest;
@@ -28,7 +28,7 @@ fn parts(session: Session) -> (Global, Design, Nest, Log, Mask, Option<Fence>) {
 fn a_session_holds_one_drawing(rt: HostRuntime) -> Result<(), Fail> {
     let alloc = rt.alloc();
     let bytes = drawing(alloc, 0x08, 0, &[&LINE])?;
-    assert!(rt; bytes.len() <= 67108864);
+    assert!(rt; bytes.len() <= MOST_DESIGN);
     let mut session = Session::start(alloc, read_design(alloc, bytes)?)?;
     assert!(rt; session.edit(&Edit::Delete { n: 1 }) == Ok(()));
     let (_, design, nesting, log, mask, fence) = parts(session);

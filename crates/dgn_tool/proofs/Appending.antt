@@ -14,13 +14,13 @@ use Rattle.dgn_drawing.specs.WellFormed.{IsBytes}
 use Rattle.dgn_drawing.specs.Opening.{Fault, Opens, elements_of}
 use Rattle.dgn_drawing.proofs.Fronts.{opens_of, elements-spelling}
 use Rattle.elem_index.specs.Opened.{Opened, opening}
-use Rattle.elem_index.proofs.Finds.{opens-opening}
+use Rattle.elem_index.proofs.OpeningAnswers.{opens-opening}
 use Rattle.edit_ops.specs.Causes.{too_long}
 use Rattle.edit_ops.specs.declared.cause.Cause.{Cause}
-use Rattle.edit_ops.proofs.Appended.{appended_opens}
+use Rattle.edit_ops.proofs.AppendedElements.{appended_opens}
 use Rattle.dgn_import.specs.Seconds.{SecondValue, Drawing, Faulty, as_second, second_of}
 use Rattle.dgn_import.specs.Gathering.{Gathering, Trees, Bad, Dimension, Refused, fits, gathered, AreTrees}
-use Rattle.dgn_import.proofs.Meant.{are_trees, other_dim}
+use Rattle.dgn_import.proofs.GatheredTrees.{are_trees, other_dim}
 use Rattle.dgn_session.specs.State.{State}
 use Rattle.edit_script.specs.declared.command.Command.{Command}
 use Rattle.edit_script.specs.declared.command.Command.TheVariants as command

@@ -3,7 +3,7 @@ use Rattle.std.proofs.Common.{◌≡◌, ◌≤◌, ◌++◌, List, ℕ, length,
 use Rattle.std.specs.Prelude.{IfOk}
 use Rattle.dgn_drawing.specs.Opening.{Opens}
 use Rattle.elem_index.specs.Answers.{opened_of}
-use Rattle.elem_index.proofs.Finds.{opens_as_once}
+use Rattle.elem_index.proofs.OpeningAnswers.{opens_as_once}
 use Rattle.elem_index.specs.declared.design.Design.{Design}
 use Rattle.elem_index.specs.Design.{elements, IsWhole}
 use Rattle.dgn_session.specs.Kept.{started}

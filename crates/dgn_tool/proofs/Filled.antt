@@ -6,9 +6,9 @@ use Rattle.dgn_drawing.specs.Element.{Element}
 use Rattle.dgn_drawing.specs.Spelling.{spell, spelling}
 use Rattle.dgn_drawing.specs.WellFormed.{IsDimension, IsWellFormed, begins_with_mark}
 use Rattle.dgn_drawing.specs.Opening.{is_tail, BeginsWithTcb, Opens}
-use Rattle.dgn_drawing.proofs.Opening.{dimension_is}
+use Rattle.dgn_drawing.proofs.FirstElements.{dimension_is}
 use Rattle.std.specs.List.{AllByRecursion}
-use Rattle.edit_ops.proofs.Appended.{tcb_long, same_dimension}
+use Rattle.edit_ops.proofs.AppendedElements.{tcb_long, same_dimension}
 use Rattle.dgn_tool.specs.Filling.{is_blocks, filling}
 
 second_true : (a b : Bool) → b ≡ true → (a || b) ≡ true

@@ -7,10 +7,10 @@ use Rattle.dgn_drawing.specs.Opening.{Opens}
 use Rattle.dgn_drawing.specs.Rows.{row_of}
 use Rattle.dgn_drawing.specs.Numbering.{root_of, span_of}
 use Rattle.dgn_audit.specs.Findings.{findings}
-use Rattle.dgn_audit.specs.Fitting.{FitApplied, Done, Refused, apply_fit}
+use Rattle.edit_ops.specs.Applying.{Applied, Done, Refused}
+use Rattle.dgn_audit.specs.Fitting.{apply_fit}
 use Rattle.dgn_audit.specs.Laws.{is_outside}
-use Rattle.dgn_audit.specs.Told.{applied_told}
-use Rattle.dgn_audit.proofs.Ended.{ends_findings}
+use Rattle.dgn_audit.proofs.FindingsEnd.{ends_findings}
 use Rattle.dgn_listing.specs.FindingTexts.{findings_text}
 use Rattle.dgn_session.specs.State as machine
 use Rattle.dgn_session.specs.State.{State, pushed}
@@ -25,8 +25,8 @@ use Rattle.dgn_tool.proofs.Stacked.{IsStacked, steps_stack}
 use Rattle.dgn_tool.proofs.Linked.{top_of, top_opens, stack_top, steps_link, steps_dim}
 
 -- a fit that is done ends the findings of its tree
-fit_ends : (s : State) (t : List ℕ) (n root end : ℕ) (came : FitApplied) → apply_fit s.dim s.top n ≡ came → Opens (spelling s.top ++ t) s.dim s.top t → machine.is_refused (applied_told came) ≡ false → root_of row_of s.top n ≡ Some root → span_of row_of s.top root ≡ Some (root, end)
-    → text_of (pushed (applied_told came) s) command.Audit ≡ findings_text (filter (is_outside root end) (findings s.dim s.top))
+fit_ends : (s : State) (t : List ℕ) (n root end : ℕ) (came : Applied) → apply_fit s.dim s.top n ≡ came → Opens (spelling s.top ++ t) s.dim s.top t → machine.is_refused came ≡ false → root_of row_of s.top n ≡ Some root → span_of row_of s.top root ≡ Some (root, end)
+    → text_of (pushed came s) command.Audit ≡ findings_text (filter (is_outside root end) (findings s.dim s.top))
 fit_ends s t n root end (Refused cause) is opens done at spanned = absurd (let x = done in cc)
 fit_ends s t n root end (Done made) is opens done at spanned = ap findings_text (ends_findings (spelling s.top ++ t) s.dim s.top t n made root end opens is at spanned)
 

@@ -8,7 +8,7 @@ use Rattle.edit_script.specs.declared.command.Command.TheVariants as command
 use Rattle.dgn_import.specs.Seconds.{SecondValue, Drawing, Faulty}
 use Rattle.dgn_import.specs.Gathering.{Refused, gathered}
 use Rattle.dgn_import.specs.Laws.{IsOfATree}
-use Rattle.dgn_import.proofs.Refusing.{trees_alone_refuse}
+use Rattle.dgn_import.proofs.ImportRefusals.{trees_alone_refuse}
 use Rattle.dgn_tool.specs.SecondFiles.{names_of}
 
 -- a cause that refuses it is that of a tree

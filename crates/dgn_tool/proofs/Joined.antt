@@ -11,16 +11,16 @@ use Rattle.dgn_drawing.specs.Nesting.{Forest, flat, forest}
 use Rattle.dgn_drawing.specs.Values.{Displacement, IsShift}
 use Rattle.dgn_drawing.specs.WellFormed.{IsBytes, IsDimension}
 use Rattle.dgn_drawing.specs.Opening.{Fault, Opens, elements_of}
-use Rattle.dgn_drawing.proofs.Opening.{dimension_is}
+use Rattle.dgn_drawing.proofs.FirstElements.{dimension_is}
 use Rattle.dgn_drawing.proofs.Fronts.{elements-spelling}
 use Rattle.elem_index.specs.Opened.{Opened, opening}
-use Rattle.elem_index.proofs.Finds.{opens-opening, opening-opens}
+use Rattle.elem_index.proofs.OpeningAnswers.{opens-opening, opening-opens}
 use Rattle.edit_ops.specs.Causes.{too_long}
 use Rattle.edit_ops.specs.declared.cause.Cause.{Cause}
 use Rattle.dgn_import.specs.Seconds.{as_second, second_of}
 use Rattle.dgn_import.specs.Gathering.{Gathering, Trees, Bad, Dimension, Refused, fits, unless, gathered, gathered_in, taken, cause_of_roots}
 use Rattle.dgn_import.specs.Laws.{NestApart}
-use Rattle.dgn_import.proofs.Meant.{nest_apart, same_dim, fitting, other_dim}
+use Rattle.dgn_import.proofs.GatheredTrees.{nest_apart, same_dim, fitting, other_dim}
 use Rattle.dgn_session.specs.State.{State}
 use Rattle.dgn_tool.specs.Lines.{numbered}
 use Rattle.dgn_tool.specs.Commands.{begun}

@@ -23,13 +23,11 @@ use Rattle.dgn_session.specs.State.{State, applied, pushed, pushed_if, with_stac
 use Rattle.edit_ops.specs.Applying.{Applied, Done, Refused, apply, IsEdit}
 use Rattle.edit_ops.specs.Fields.{Rise, filled}
 use Rattle.edit_ops.specs.Fenced.{apply_all, AreRoots, IsFenceEdit}
-use Rattle.edit_ops.proofs.Apart.{fields_apart}
-use Rattle.edit_ops.proofs.Reopened.{edited_opens, edited_fits, changes_fields}
-use Rattle.edit_ops.proofs.Fenced.{fenced_opens, fenced_fits, fenced_changes, fenced_apart}
-use Rattle.dgn_audit.specs.Fitting as fit
+use Rattle.edit_ops.proofs.FieldsRise.{fields_apart}
+use Rattle.edit_ops.proofs.EditLaws.{edited_opens, edited_fits, changes_fields}
+use Rattle.edit_ops.proofs.FenceLaws.{fenced_opens, fenced_fits, fenced_changes, fenced_apart}
 use Rattle.dgn_audit.specs.Fitting.{apply_fit, fit_fields}
-use Rattle.dgn_audit.specs.Told.{applied_told}
-use Rattle.dgn_audit.proofs.Kept.{fitted_opens, fits_change}
+use Rattle.dgn_audit.proofs.FitKeepsRows.{fitted_opens, fits_change}
 use Rattle.dgn_session.specs.Fits.{fit_applied}
 use Rattle.edit_script.specs.declared.command.Command.{Command}
 use Rattle.edit_script.specs.declared.command.Command.TheVariants as command
@@ -141,9 +139,9 @@ module _ (dim rest : ℕ) (t : List ℕ) (base : List Element) where
       )
 
   -- and so is a fit
-  fit_links : (on : List Element) (left : List Made) (n : ℕ) (came : fit.FitApplied) → apply_fit dim on n ≡ came → on ≡ top_of base left → AreLinked dim rest t base left → AreLinked dim rest t base (with_made (applied_told came) on (Fitted n) left)
-  fit_links on left n (fit.Refused cause) is top linked = linked
-  fit_links on left n (fit.Done made) is top linked =
+  fit_links : (on : List Element) (left : List Made) (n : ℕ) (came : Applied) → apply_fit dim on n ≡ came → on ≡ top_of base left → AreLinked dim rest t base left → AreLinked dim rest t base (with_made came on (Fitted n) left)
+  fit_links on left n (Refused cause) is top linked = linked
+  fit_links on left n (Done made) is top linked =
       let opens = opens_on on left top linked in
       let changed = fits_change (spelling on ++ t) dim on t n made opens is in
       let long : length (spelling made) ≡ length (spelling on) = changed.long in (

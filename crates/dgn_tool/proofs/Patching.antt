@@ -7,7 +7,7 @@ use Rattle.std.proofs.lemmas.Bool.Decides.{Decides-and, Decides-like, Decides-eq
 use Rattle.std.proofs.lemmas.Slice.Eq.{bytes_eq-Decides}
 use Rattle.std.specs.Bool.{Decides}
 use Rattle.patch_bytes.specs.Puts.{write, AreWithin}
-use Rattle.patch_bytes.proofs.Laying.{length-write}
+use Rattle.patch_bytes.proofs.PutsLaid.{length-write}
 use Rattle.patch_file.proofs.Puts.{news_within}
 use Rattle.patch_file.specs.declared.patch_entry.PatchEntry.{PatchEntry}
 use Rattle.patch_file.specs.Exchanges.{Exchange}

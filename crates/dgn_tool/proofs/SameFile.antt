@@ -2,10 +2,10 @@
 use Rattle.std.proofs.Common.{◌≡◌, ◌≤◌, ℕ, List, length, Ok, ap, ◌∙◌, subst}
 use Rattle.dgn_desk.specs.Content.{bytes_of}
 use Rattle.dgn_drawing.specs.Spelling.{spelling}
-use Rattle.elem_index.proofs.Finds.{opens-opening}
+use Rattle.elem_index.proofs.OpeningAnswers.{opens-opening}
 use Rattle.patch_file.specs.Spelling.{Packed}
 use Rattle.patch_file.specs.Reading.{patch_of}
-use Rattle.patch_file.proofs.Again.{patch_again}
+use Rattle.patch_file.proofs.SpellingsRead.{patch_again}
 use Rattle.dgn_tool.specs.Commands.{begun}
 use Rattle.dgn_tool.specs.Filling.{file_made}
 use Rattle.dgn_tool.specs.Lines.{numbered}

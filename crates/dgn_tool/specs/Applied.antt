@@ -14,6 +14,8 @@ use Rattle.dgn_tool.specs.Ended.{Outcome, ended}
 use Rattle.dgn_tool.specs.declared.put_end.PutEnd.{PutEnd}
 use Rattle.dgn_tool.specs.declared.put_end.PutEnd.TheVariants as ends
 use Rattle.dgn_tool.specs.declared.status.Status.TheVariants as statuses
+use Rattle.dgn_drawing.specs.declared.limits.TheConstants.{MOST_DESIGN}
+use Rattle.patch_file.specs.declared.limits.TheConstants.{MOST_PATCH}
 
 -- whether the field's old bytes stand at its place
 abbrev pub holds_old : List ℕ → Exchange → Bool
@@ -35,7 +37,7 @@ abbrev pub put_from : ℕ → ℕ → List ℕ → List Packed → Patched
 put_from tail k b [] = Made b
 put_from tail k b (e ∷ es) =
     if not (does_stand b e) then Differs k
-    else if nat_lt 67108864 (length (put_on b e) + tail) then Overruns
+    else if nat_lt MOST_DESIGN (length (put_on b e) + tail) then Overruns
     else put_from tail (k + 1) (put_on b e) es
 
 -- what a run comes to with that, of so many entries, where the elements had so many bytes before
@@ -60,7 +62,7 @@ reading_outcome b tail size (Err left) output = ended statuses.BadPatch (numbere
 -- what `apply` comes to on a body with this tail
 abbrev pub body_patched : List ℕ → List ℕ → List ℕ → List ℕ → Outcome
 body_patched b tail patch output =
-    if nat_lt 134217728 (length patch) then ended statuses.TooLong (codes "too long patch\n")
+    if nat_lt MOST_PATCH (length patch) then ended statuses.TooLong (codes "too long patch\n")
     else reading_outcome b tail (length patch) (patch_of patch) output
 
 -- and on a drawing
@@ -70,7 +72,7 @@ patched d patch output = body_patched (spelling d.elements) d.tail patch output
 -- what each of the entries makes, put on in order, keeps the limit of a design file with a tail of so many bytes
 abbrev pub AllFit : ℕ → List ℕ → List Packed → Type 0
 AllFit tail b [] = Unit {0}
-AllFit tail b (e ∷ es) = (length (put_on b e) + tail ≤ 67108864) × AllFit tail (put_on b e) es
+AllFit tail b (e ∷ es) = (length (put_on b e) + tail ≤ MOST_DESIGN) × AllFit tail (put_on b e) es
 
 -- what a call that puts entries on a body answers, and leaves
 abbrev pub Puts : Result (Unit {0}) PutEnd → Patched → List ℕ → Type 0

@@ -18,6 +18,7 @@ use Rattle.dgn_tool.specs.Commands.{begun}
 use Rattle.dgn_tool.specs.Given.{after_all}
 use Rattle.dgn_tool.specs.Imports.{Importing, importing_of, import_said, import_refused, import_left}
 use Rattle.dgn_tool.specs.Laws.{IsEditIn, steps_of}
+use Rattle.dgn_drawing.specs.declared.limits.TheConstants.{MOST_DESIGN}
 
 -- the trees that an import takes of a drawing, displaced where it says so
 abbrev pub trees_taken : Opened → Option Displacement → Forest Element
@@ -29,7 +30,7 @@ pub record CanFollow (s : State) (d : Opened) (by : Option Displacement) : Type 
   pub dimension : d.dim ≡ s.dim
   pub axes : IfSome by (λ shift. shift.axes ≡ s.dim)
   pub no_cause : cause_of_roots d.dim d.elements by (taken d.elements) ≡ None
-  pub fits : length (spelling s.top) + s.rest + length (spelling (flat (trees_taken d by))) ≤ 67108864
+  pub fits : length (spelling s.top) + s.rest + length (spelling (flat (trees_taken d by))) ≤ MOST_DESIGN
 
 -- the second file opens as such a drawing; behind the import these trees stand behind those of the state, and their bytes
 -- behind all that were there; and it says how many they are

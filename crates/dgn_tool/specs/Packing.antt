@@ -15,6 +15,7 @@ use Rattle.dgn_tool.specs.Ended.{Outcome, ended}
 use Rattle.dgn_tool.specs.Lines.{numbered}
 use Rattle.dgn_tool.specs.Remaining.{Made, with_command, with_import, with_step, with_steps, fields_made, remaining}
 use Rattle.dgn_tool.specs.declared.status.Status.TheVariants as statuses
+use Rattle.patch_file.specs.declared.limits.TheConstants.{MOST_PATCH}
 
 -- the log's entry of an edit that is left: the bytes that stood in the fields that it wrote, and how many there were
 abbrev pub entry_made : ℕ → Made → Entry
@@ -39,7 +40,7 @@ filed_patch es refused patch = record {
 -- where it isn't too long; the texts of the steps aren't said
 abbrev pub packed_from : State → List Given → List ℕ → Outcome
 packed_from s gs patch =
-    if nat_lt 134217728 (length (patch_spelling (packed_after gs s))) then ended statuses.TooLong (codes "too long patch\n")
+    if nat_lt MOST_PATCH (length (patch_spelling (packed_after gs s))) then ended statuses.TooLong (codes "too long patch\n")
     else filed_patch (packed_after gs s) (refused_count gs s) patch
 
 -- and on a drawing

@@ -19,6 +19,8 @@ use Rattle.dgn_tool.specs.Laws.{IsEditIn, steps_of}
 use Rattle.dgn_tool.specs.Outcome.{told, outcome}
 use Rattle.dgn_tool.specs.Packing.{packed_after}
 use Rattle.dgn_tool.specs.declared.status.Status.TheVariants as statuses
+use Rattle.dgn_drawing.specs.declared.limits.TheConstants.{MOST_DESIGN}
+use Rattle.patch_file.specs.declared.limits.TheConstants.{MOST_PATCH}
 
 -- entry k, counted from 1, is the first that doesn't stand on what those before it made, and these keep the limit
 pub record DiffersAt (tail : ℕ) (b : List ℕ) (es : List Packed) (k : ℕ) : Type 0 where
@@ -36,9 +38,9 @@ pub record Applies (words : List (List ℕ)) (files : Files) (d : Opened) (es : 
   pub input : List ℕ
   pub patch : List ℕ
   pub asked : request_of words ≡ Some (Apply input patch output)
-  pub few : length (bytes_of files input) ≤ 67108864
+  pub few : length (bytes_of files input) ≤ MOST_DESIGN
   pub opens : opening (bytes_of files input) ≡ Ok d
-  pub short : length (bytes_of files patch) ≤ 134217728
+  pub short : length (bytes_of files patch) ≤ MOST_PATCH
   pub reads : patch_of (bytes_of files patch) ≡ Ok es
 
 -- the outcome that refuses entry k: it has no file
@@ -77,9 +79,9 @@ pub record AppliesPacked (words : List (List ℕ)) (files : Files) (d : Opened) 
   pub patch : List ℕ
   pub asked : request_of words ≡ Some (Apply input patch output)
   pub bytes : IsBytes (bytes_of files input)
-  pub few : length (bytes_of files input) ≤ 67108864
+  pub few : length (bytes_of files input) ≤ MOST_DESIGN
   pub opens : opening (bytes_of files input) ≡ Ok d
-  pub short : length (bytes_of files patch) ≤ 134217728
+  pub short : length (bytes_of files patch) ≤ MOST_PATCH
   pub packed : bytes_of files patch ≡ patch_spelling (packed_after gs (begun d))
 
 -- it writes the file that `edit` writes with these commands and second files

@@ -13,6 +13,7 @@ use Rattle.edit_script.specs.Imports.{is_name_byte}
 use Rattle.dgn_tool.specs.Given.{Given, given_all}
 use Rattle.dgn_tool.specs.Ended.{Outcome, ended}
 use Rattle.dgn_tool.specs.declared.status.Status.TheVariants as statuses
+use Rattle.dgn_drawing.specs.declared.limits.TheConstants.{MOST_DESIGN}
 
 -- the name of a second file as a desk is asked for it: each name in a script is such a text, and nothing else is one
 abbrev pub text_named : List ℕ → List ℕ
@@ -34,7 +35,7 @@ files_named names files = map (bytes_of files) names
 
 -- whether a second file is within its limit
 abbrev pub is_within : List ℕ → Bool
-is_within f = nat_le (length f) 67108864
+is_within f = nat_le (length f) MOST_DESIGN
 
 -- what a run comes to with these second files, where it goes on so with what they come to
 abbrev pub seconded : List (List ℕ) → (List SecondValue → Outcome) → Outcome
@@ -51,7 +52,7 @@ waiting seconds = map value_of (reverse seconds)
 -- these are there, each where those before it are within their limit
 abbrev pub AreThere : List (List ℕ) → Files → Type 0
 AreThere [] files = ⊤
-AreThere (name ∷ names) files = IsSome (maps.get files name) × (length (bytes_of files name) ≤ 67108864 → AreThere names files)
+AreThere (name ∷ names) files = IsSome (maps.get files name) × (length (bytes_of files name) ≤ MOST_DESIGN → AreThere names files)
 
 -- the second files of a script that is read so
 abbrev pub HasSeconds : Result (List Command) ScriptFault → Files → Type 0

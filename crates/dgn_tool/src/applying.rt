@@ -14,11 +14,9 @@ use crate::put_end::PutEnd;
 use crate::putting::put_entries;
 use crate::status::Status;
 use dgn_desk::{Desk, ReadEnd, read_all};
-use patch_file::{PatchEntry, PatchFault, read_patch};
+use dgn_drawing::MOST_DESIGN;
+use patch_file::{MOST_PATCH, PatchEntry, PatchFault, read_patch};
 use std::alloc::Global;
-
-// The most bytes that a patch file may have.
-const MOST_PATCH: usize = 134217728;
 
 // Reads and opens IN, and goes on with it.
 pub(crate) fn apply<D: Desk>(
@@ -55,7 +53,7 @@ fn apply_patch<D: Desk>(
     patch: &str,
     output: &str,
 ) -> Status
-    requires { length body.items + length tail.now ≤ 67108864 }
+    requires { length body.items + length tail.now ≤ MOST_DESIGN }
     ensures outcome { ComesTo result
         (λ files. body_patched body.items tail.now (bytes_of files patch.now) output.now)
         (D.content desk.old) (D.content desk.new) }
@@ -95,7 +93,7 @@ fn apply_entries<D: Desk>(
     entries: &[PatchEntry],
     output: &str,
 ) -> Status
-    requires few { length body.items + length tail.now ≤ 67108864 }
+    requires few { length body.items + length tail.now ≤ MOST_DESIGN }
     requires many { length entries.now < 2 ^ 32 }
     ensures outcome { ComesTo result
         (λ _. entries_outcome body.items tail.now (all_packed entries.now) output.now)
@@ -133,8 +131,8 @@ fn finish<D: Desk>(
     count: u32,
     output: &str,
 ) -> Status
-    requires before { before ≤ 67108864 }
-    requires few { length body.now + length tail.now ≤ 67108864 }
+    requires before { before ≤ MOST_DESIGN }
+    requires few { length body.now + length tail.now ≤ MOST_DESIGN }
     ensures outcome { ComesTo result
         (λ _. patched_outcome before tail.now count (Made body.now) output.now)
         (D.content desk.old) (D.content desk.new) }

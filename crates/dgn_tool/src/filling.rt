@@ -5,6 +5,7 @@ ghost use Rattle.dgn_desk.specs.Desk.{Counts, FilesAll, StaysWilling, DoesNotFai
 ghost use Rattle.dgn_tool.specs.Filling.{is_blocks, left_in_block, file_made};
 
 use dgn_desk::{Desk, Stop, write_file};
+use dgn_drawing::MOST_DESIGN;
 
 // How many bytes a block has.
 const BLOCK: usize = 512;
@@ -12,9 +13,9 @@ const BLOCK: usize = 512;
 // How many zero bytes stand behind the tail, where the elements of the file that was read had `before` bytes and have
 // `now`: where that file is of whole blocks and has a tail, the fewest that make the one that is written so.
 pub(crate) fn filling_len(before: usize, tail: &[u8], now: usize) -> usize
-    requires before { before ≤ 67108864 }
-    requires tail { length tail.now ≤ 67108864 }
-    requires now { now ≤ 67108864 }
+    requires before { before ≤ MOST_DESIGN }
+    requires tail { length tail.now ≤ MOST_DESIGN }
+    requires now { now ≤ MOST_DESIGN }
     ensures exact { result ≡ (if is_blocks before tail.now then left_in_block (now + length tail.now) else 0) }
     ensures few { result < 512 }
 {
@@ -34,9 +35,9 @@ pub(crate) fn write_filled<D: Desk>(
     body: &[u8],
     tail: &[u8],
 ) -> Result<(), Stop>
-    requires before { before ≤ 67108864 }
-    requires tail { length tail.now ≤ 67108864 }
-    requires now { length body.now ≤ 67108864 }
+    requires before { before ≤ MOST_DESIGN }
+    requires tail { length tail.now ≤ MOST_DESIGN }
+    requires now { length body.now ≤ MOST_DESIGN }
     ensures cause { Counts (D.write_faults desk.old) (D.write_faults desk.new) result }
     ensures other { D.read_faults desk.new ≡ D.read_faults desk.old }
     ensures told { FilesAll result output.now (file_made before tail.now body.now) (D.content desk.old) (D.content desk.new) }

@@ -16,6 +16,7 @@ use crate::status::Status;
 use crate::tally::{Tally, run_unsaid};
 use crate::top::write_drawing;
 use dgn_desk::{Desk, say_all};
+use dgn_drawing::MOST_DESIGN;
 use dgn_generator::generate;
 use dgn_session::Session;
 use edit_script::{Command, ScriptFault, read_script};
@@ -102,7 +103,7 @@ fn try_drawing<D: Desk>(alloc: Global, desk: &mut D, session: &mut Session, outp
 // Runs the fixed script on the drawing of a session, whose elements have `before` bytes, and gives its summary.
 fn summarize(alloc: Global, session: &mut Session, before: usize) -> Result<Vec<u8>, AllocError>
     requires before { before ≡ length (spelling (state_of session.old).top) }
-    requires few { before ≤ 67108864 }
+    requires few { before ≤ MOST_DESIGN }
     ensures text { IfOk result (λ text. text.items ≡ summary (state_of session.old) session.old.tail) }
     ensures state { OnOk result (state_of session.new ≡ after_all fixed_steps (state_of session.old)) }
     ensures tail { OnOk result (session.new.tail ≡ session.old.tail) }
@@ -133,7 +134,7 @@ fn push_sizes(
     session: &Session,
     before: usize,
 ) -> Result<(), AllocError>
-    requires { before ≤ 67108864 }
+    requires { before ≤ MOST_DESIGN }
     ensures { OnOk result (text.new.items
         ≡ text.old.items ++ sizes_of before session.now.tail (state_of session.now)) }
 {

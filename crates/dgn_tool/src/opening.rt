@@ -9,16 +9,14 @@ ghost use Rattle.dgn_tool.specs.Told.{told_fault};
 use crate::ending::{end, end_numbered};
 use crate::status::Status;
 use dgn_desk::{Desk, ReadEnd, read_all};
+use dgn_drawing::MOST_DESIGN;
 use elem_index::{Design, OpenFault, read_design};
 use std::alloc::Global;
-
-// The most bytes that a design file may have.
-pub(crate) const MOST_DESIGN: usize = 67108864;
 
 /// Reads IN whole, or ends the run.
 pub fn read_input<D: Desk>(alloc: Global, desk: &mut D, input: &str) -> Result<Vec<u8>, Status>
     ensures whole { IfOk result (λ v. IfSome (D.content desk.old) (λ c. v.items ≡ bytes_of c.files input.now)) }
-    ensures within { IfOk result (λ v. vec_len v ≤ 67108864) }
+    ensures within { IfOk result (λ v. vec_len v ≤ MOST_DESIGN) }
     ensures told { OnOk result (OnlyLeftDiffers (D.content desk.old) (D.content desk.new)) }
     ensures quiet { OnOk result (D.write_faults desk.new ≡ D.write_faults desk.old) }
     ensures calm { OnOk result (D.read_faults desk.new ≡ D.read_faults desk.old) }

@@ -27,11 +27,8 @@ use dgn_import::Second;
 use dgn_session::Session;
 use edit_script::Command;
 use elem_index::Design;
-use patch_file::{PatchEntry, patch_len, take_entry, write_patch};
+use patch_file::{MOST_PATCH, PatchEntry, patch_len, take_entry, write_patch};
 use std::alloc::{AllocError, Global};
-
-// The most bytes that a patch file may have.
-const MOST_PATCH: u64 = 134217728;
 
 // What the commands of a script did.
 #[derive(Drop)]
@@ -67,7 +64,7 @@ pub(crate) fn pack_commands<D: Desk>(
         Ok(did) => did,
         Err(_) => return Status::Memory,
     };
-    if patch_len(&did.entries) > MOST_PATCH {
+    if patch_len(&did.entries) > MOST_PATCH as u64 {
         return end(desk, b"too long patch\n", Status::TooLong);
     }
     file_entries(alloc, desk, &did.entries, did.refused, patch)
@@ -153,7 +150,7 @@ fn file_entries<D: Desk>(
     refused: u64,
     patch: &str,
 ) -> Status
-    requires { length (patch_spelling (all_packed entries.now)) ≤ 134217728 }
+    requires { length (patch_spelling (all_packed entries.now)) ≤ MOST_PATCH }
     ensures outcome { ComesTo result (λ _. filed_patch (all_packed entries.now) refused patch.now)
         (D.content desk.old) (D.content desk.new) }
     ensures counted { IsEnding result → (D.read_faults desk.new ≡ D.read_faults desk.old)
@@ -186,7 +183,7 @@ fn spell_entries(
     line: &mut Vec<u8>,
     entries: &[PatchEntry],
 ) -> Result<(), AllocError>
-    requires { length (patch_spelling (all_packed entries.now)) ≤ 134217728 }
+    requires { length (patch_spelling (all_packed entries.now)) ≤ MOST_PATCH }
     ensures file { OnOk result (file.new.items ≡ file.old.items ++ patch_spelling (all_packed entries.now)) }
     ensures line { OnOk result (line.new.items ≡ line.old.items ++ numbered (codes "entries ") (length entries.now)) }
 {

@@ -10,9 +10,9 @@ ghost use Rattle.dgn_tool.specs.Outcome.{IsEnding, IsFaultless, EndsNamed};
 ghost use Rattle.dgn_tool.specs.SecondFiles.{text_named, names_of, names_in, waiting, AreThere, ComeTo, ComeBehind};
 
 use crate::ending::end;
-use crate::opening::MOST_DESIGN;
 use crate::status::Status;
 use dgn_desk::{Desk, ReadEnd, read_all};
+use dgn_drawing::MOST_DESIGN;
 use dgn_import::{Second, read_second};
 use edit_script::Command;
 use patch_bytes::ByteList;

@@ -24,14 +24,12 @@ use crate::request::{Request, read_words};
 use crate::status::Status;
 use crate::ways::{Way, run_inputs};
 use dgn_desk::{Desk, ReadEnd, Stop, read_all};
+use dgn_drawing::MOST_DESIGN;
 use dgn_import::Second;
 use dgn_session::Session;
-use edit_script::{Command, ScriptFault, read_script};
+use edit_script::{Command, MOST_SCRIPT, ScriptFault, read_script};
 use elem_index::{Design, count_elements};
 use std::alloc::Global;
-
-// The most bytes that a script may have.
-const MOST_SCRIPT: usize = 1048576;
 
 /// Runs the program with these words, those of the command line behind the program's name, over this
 /// desk, and answers how it ended.
@@ -203,7 +201,7 @@ pub(crate) fn write_drawing<D: Desk>(
     before: usize,
     session: &Session,
 ) -> Result<(), Stop>
-    requires { before ≤ 67108864 }
+    requires { before ≤ MOST_DESIGN }
     ensures cause { Counts (D.write_faults desk.old) (D.write_faults desk.new) result }
     ensures other { D.read_faults desk.new ≡ D.read_faults desk.old }
     ensures told { FilesAll result output.now

@@ -19,7 +19,8 @@ get_or-longs_at (suc n) b p zero d within = ap (long_at b) (omega arith)
 get_or-longs_at (suc n) b p (suc k) d within =
     get_or-longs_at n b (p + 4) k d (omega arith) ∙ ap (long_at b) (omega arith)
 
-module _ {F : Type 0} (g : Mut F (ℕ × Unit {0}) ℤ) (f : F) (b : List ℕ) (p : ℕ) (reads : (k : ℕ) (v : ℤ) (f' : F) → Called g f (k, tt) v f' → (v ≡ long_at b (p + 4 * k)) × (f' ≡ f)) where
+module _ {F : Type 0} (g : Mut F (ℕ × Unit {0}) ℤ) (f : F) (b : List ℕ) (p : ℕ)
+    (reads : (k : ℕ) (v : ℤ) (f' : F) → Called g f (k, tt) v f' → (v ≡ long_at b (p + 4 * k)) × (f' ≡ f)) where
   -- what the n calls from index i on gave are the longs there
   made_each : (xs : List ℤ) (i n : ℕ) → IsFromFnResultFrom g f xs i n → (k j : ℕ) (d : ℤ) → k < n → i + k ≡ j → get_or xs j d ≡ long_at b (p + 4 * j)
   made_each xs i zero made k j d within at = absurd (omega arith)

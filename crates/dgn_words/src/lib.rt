@@ -5,10 +5,13 @@
 #![tactic(auto)]
 
 ghost use Rattle.std.specs.Prelude.{◌≡◌, ◌+◌, ◌*◌, ◌≤◌, length};
-ghost use Rattle.dgn_words.specs.Numbers.{word_at, long_at, long_word_at, longs_at, range_long_at, word_bytes, long_bytes, range_long_bytes, long_word_bytes, put};
+ghost use Rattle.dgn_words.specs.Numbers.{word_at, long_at, long_word_at, longs_at, range_long_at, word_bytes, long_bytes, range_long_bytes};
+ghost use Rattle.dgn_words.specs.Numbers.{long_word_bytes, put};
 
 use byteorder::{ByteOrder, LittleEndian};
 use std::array;
+
+pub mod laws;
 
 /// The word at byte `at`: two bytes, the low byte first, without sign.
 pub fn word(b: &[u8], at: usize) -> u16

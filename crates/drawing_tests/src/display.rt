@@ -4,8 +4,8 @@ ghost use Rattle.std.specs.Prelude.{IfOk};
 ghost use Rattle.elem_index.specs.Design.{IsWhole};
 
 use crate::told::{Body, Told, is_told};
-use dgn_drawing::Mask;
 use dgn_drawing::types::Item;
+use dgn_drawing::{MOST_DESIGN, Mask};
 use elem_index::{Design, OpenFault, read_design};
 use level_view::*;
 use sample_elements::{CELL, CELL_OF_52, MEMBER, MEMBER_ON_2, SPLINE, drawing};
@@ -31,7 +31,7 @@ fn design(alloc: Global, pieces: &[&[u8]]) -> Result<Design, OpenFault>
     ensures { IfOk result IsWhole }
 {
     match drawing(alloc, 0x08, 0, pieces) {
-        Ok(bytes) if bytes.len() <= 67108864 => read_design(alloc, bytes),
+        Ok(bytes) if bytes.len() <= MOST_DESIGN => read_design(alloc, bytes),
         _ => Err(OpenFault::Memory),
     }
 }

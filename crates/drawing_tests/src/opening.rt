@@ -2,7 +2,7 @@
 
 ghost use Rattle.elem_index.specs.Design.{IsWhole};
 
-use dgn_drawing::Row;
+use dgn_drawing::{MOST_DESIGN, Row};
 use elem_index::*;
 use sample_elements::{
     CHAIN_HEADER, CHAIN_OF_THREE, LINE, LINE_WITH_ATTRIBUTES, REFERENCE, SPACE_CHAIN,
@@ -131,7 +131,7 @@ const DAMAGED: [Damaged; 13] = [
 
 // What keeps these bytes from being opened.
 fn fault_in(alloc: Global, bytes: Vec<u8>) -> Option<OpenFault> {
-    if bytes.len() > 67108864 {
+    if bytes.len() > MOST_DESIGN {
         return None;
     }
     read_design(alloc, bytes).err()
@@ -272,7 +272,7 @@ fn has_ends(design: &Design, last: usize) -> bool
 // Whether a file that opens is read as its row says.
 fn is_read(alloc: Global, row: &Sound) -> Result<bool, AllocError> {
     let bytes = file(alloc, row.first, row.mark, row.elements, row.tail)?;
-    if bytes.len() > 67108864 {
+    if bytes.len() > MOST_DESIGN {
         return Ok(false);
     }
     match read_design(alloc, bytes) {
@@ -333,7 +333,7 @@ fn has_rows(alloc: Global, design: &Design, wanted: &[Row]) -> Result<bool, Allo
 fn rows_of_a_file(rt: HostRuntime) -> Result<(), AllocError> {
     let alloc = rt.alloc();
     let bytes = file(alloc, 0xC8, 0, &[&CHAIN_HEADER, &LINE], &[0xFF, 0xFF, 0x00])?;
-    assert!(rt; bytes.len() <= 67108864);
+    assert!(rt; bytes.len() <= MOST_DESIGN);
     match read_design(alloc, bytes) {
         Ok(design) => assert!(rt; has_rows(alloc, &design, &ROWS)?),
         Err(fault) => panic!(rt; "{fault}"),

@@ -2,7 +2,7 @@
 
 use Told::{Corners, Fence, Import, Levels, Path, Plain, Text};
 use dgn_drawing::{Edit, FenceEdit, Mode, New, NewShape, Shift, SymbChange};
-use edit_script::*;
+use edit_script::{MOST_SCRIPT, *};
 use plane_geom::Pt;
 use std::alloc::{AllocError, Global};
 use std::process::Abort;
@@ -221,7 +221,7 @@ fn are_told(commands: &[Command], told: &[Told]) -> bool {
 
 // Whether a script is read, and its commands are what is told of them.
 fn reads_as(alloc: Global, script: &[u8], told: &[Told]) -> bool {
-    if script.len() > 1048576 {
+    if script.len() > MOST_SCRIPT {
         return false;
     }
     match read_script(alloc, script) {
@@ -332,7 +332,7 @@ fn scripts_that_are_read(rt: HostRuntime) {
 
 // The number of the first bad line of a script, or 0 where it is read.
 fn first_bad(alloc: Global, script: &[u8]) -> Option<u32> {
-    if script.len() > 1048576 {
+    if script.len() > MOST_SCRIPT {
         return None;
     }
     match read_script(alloc, script) {

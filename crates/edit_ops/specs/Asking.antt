@@ -1,5 +1,6 @@
 -- What a test has against one element of a drawing, by its number; and when it is asked whether elements stay on
--- the plane: where each can be moved, so that all their coordinates are read.
+-- the plane: where each can be moved, so that all their coordinates are read. Contracts of private functions alone cite
+-- this.
 use Rattle.std.specs.Prelude.{ℕ, ◌≡◌, ◌&&◌, not, Bool, IsTrue, List, Option, Some, None}
 use Rattle.elem_head.specs.Head.{properties_of}
 use Rattle.dgn_layout.specs.Classes.{class_of, is_silent}

@@ -17,6 +17,8 @@ use Rattle.edit_ops.specs.declared.cause.Cause.TheVariants as causes
 use Rattle.edit_ops.specs.declared.asked.Test.{Test}
 use Rattle.edit_ops.specs.declared.asked.Test.TheVariants as tests
 use Rattle.edit_ops.specs.Trees.{Live, tree_at, live_tree, above_tree, path_to}
+use Rattle.dgn_drawing.specs.declared.limits.TheConstants.{MOST_DESIGN}
+use Rattle.dgn_layout.specs.declared.TheConstants.{END_MARK}
 
 -- there is no element n
 abbrev pub unknown : ℕ → List Element → Option Cause
@@ -79,7 +81,7 @@ lookless m other = None
 
 -- an element of type 127, marked deleted, could begin with the mark that ends a file's elements
 abbrev pub unmarkable : ℕ → ℕ → Option Cause
-unmarkable m kind = if kind == 127 then Some (causes.Opaque m) else None
+unmarkable m kind = if kind == END_MARK then Some (causes.Opaque m) else None
 
 -- a coordinate would leave the design plane
 abbrev pub off_plane : ℕ → Bool → Option Cause
@@ -102,7 +104,7 @@ first_cause dim test (v ∷ vs) = option_or (cause_at dim test v.number v.elemen
 
 -- the file would be longer than a design file may be
 abbrev pub too_long : ℕ → Option Cause
-too_long bytes = if nat_lt 67108864 bytes then Some causes.TooLong else None
+too_long bytes = if nat_lt MOST_DESIGN bytes then Some causes.TooLong else None
 
 -- how many bytes an edit appends: a copy as many as the part that it copies has
 abbrev pub bytes_appended : List Element → Edit → ℕ

@@ -11,6 +11,7 @@ use Rattle.edit_ops.specs.Applying.{Done}
 use Rattle.edit_ops.specs.Fields.{IsIn, Rise, filled}
 use Rattle.edit_ops.specs.Laws.{FieldsLieApart}
 use Rattle.edit_ops.specs.Fenced.{apply_all, fenced_forest, fenced_fields, edit_at, edits_at, all_appended, AreRoots, IsFenceEdit}
+use Rattle.dgn_drawing.specs.declared.limits.TheConstants.{MOST_DESIGN}
 
 -- what it leaves opens in the same dimension, with the same tail
 abbrev pub FencedDrawingsOpen : Type 0
@@ -24,7 +25,7 @@ abbrev pub FencedDrawingsFit : Type 0
 FencedDrawingsFit =
     (f : List ℕ) (dim : ℕ) (es : List Element) (t : List ℕ) (rest : ℕ) (e : FenceEdit) (ns : List ℕ) (made : List Element)
     → IsFenceEdit e → AreRoots es ns → Opens f dim es t → apply_all dim es rest e ns ≡ Done made
-    → length (spelling es) + rest ≤ 67108864 → length (spelling made) + rest ≤ 67108864
+    → length (spelling es) + rest ≤ MOST_DESIGN → length (spelling made) + rest ≤ MOST_DESIGN
 
 -- its result has the old bytes in no edited field, and is the old bytes with these written; it is longer only by whole
 -- elements, which begin without bit C, so by whole trees; and its trees are those of which the chosen ones are changed

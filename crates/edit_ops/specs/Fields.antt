@@ -19,10 +19,10 @@ pub record Field : Type 0 where
 abbrev pub spot_fields : ℕ → List Spot → List Field
 spot_fields p ss = map (λ s. record { at = p + s.at; len = 4 }) ss
 
--- the fields of a live element, or of the copy of one: each of its spots, the two bytes of its look, or byte 1
+-- the fields of a live element: each of its spots, the two bytes of its look, or byte 1. What appends writes none
 abbrev pub fields_at : ℕ → Edit → ℕ → Element → List Field
 fields_at dim (edit.Move n by) p e = spot_fields p (spots_of dim e.kind (spell e))
-fields_at dim (edit.Copy n by) p e = spot_fields p (spots_of dim e.kind (spell e))
+fields_at dim (edit.Copy n by) p e = []
 fields_at dim (edit.Sym n change) p e = record { at = p + 34; len = 2 } ∷ []
 fields_at dim (edit.Delete n) p e = record { at = p + 1; len = 1 } ∷ []
 fields_at dim (edit.Append new) p e = []

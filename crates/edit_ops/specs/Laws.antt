@@ -15,6 +15,7 @@ use Rattle.edit_ops.specs.Trees.{Live, live_tree, above_tree, path_to}
 use Rattle.edit_ops.specs.Causes.{target_of, cause_at, first_cause, bytes_appended}
 use Rattle.edit_ops.specs.Applying.{Done, apply, changed_forest, IsEdit}
 use Rattle.edit_ops.specs.Fields.{Field, IsIn, Rise, fields_at, above_fields_at, edited_fields, filled}
+use Rattle.dgn_drawing.specs.declared.limits.TheConstants.{MOST_DESIGN}
 
 -- an edit that is done on the elements of a file: what it leaves opens in the same dimension, with the same tail
 abbrev pub EditedDrawingsOpen : Type 0
@@ -26,8 +27,8 @@ EditedDrawingsOpen =
 abbrev pub EditedDrawingsFit : Type 0
 EditedDrawingsFit =
     (f : List ℕ) (dim : ℕ) (es : List Element) (t : List ℕ) (rest : ℕ) (e : Edit) (made : List Element)
-    → IsEdit e → Opens f dim es t → apply dim es rest e ≡ Done made → length (spelling es) + rest ≤ 67108864
-    → length (spelling made) + rest ≤ 67108864
+    → IsEdit e → Opens f dim es t → apply dim es rest e ≡ Done made → length (spelling es) + rest ≤ MOST_DESIGN
+    → length (spelling made) + rest ≤ MOST_DESIGN
 
 -- its result has the old bytes in no edited field, and is the old bytes with these written; it is longer only by
 -- whole elements, which begin without bit C, so by whole trees; and its trees are the changed ones

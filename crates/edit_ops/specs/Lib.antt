@@ -10,3 +10,4 @@ pub mod Planned
 pub mod Copying
 pub mod Laws
 pub mod FenceLaws
+pub mod WalkLaws

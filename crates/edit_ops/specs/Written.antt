@@ -1,5 +1,5 @@
 -- What an edit puts into the headers above its element and into the live elements of its part, where nothing
--- stands against it.
+-- stands against it. Contracts of private functions alone cite this.
 use Rattle.std.specs.Prelude.{ℕ, ◌≡◌, ◌+◌, ◌*◌, List, [], ◌∷◌, ◌++◌, map, unwrap_or, slice_get, Option, Some, IsTrue, IsFalse}
 use Rattle.std.specs.List.{AllByRecursion, flat_map}
 use Rattle.std.specs.Option.{option_to_list}
@@ -17,6 +17,7 @@ use Rattle.dgn_drawing.specs.Spelling.{second_byte, spell}
 use Rattle.dgn_drawing.specs.Changes.{look_changed, look_bytes, mark, shift, stays_on_plane, range_in}
 use Rattle.dgn_drawing.specs.SpotNumbers.{value_at, sum_at, number_bytes, wider}
 use Rattle.edit_ops.specs.Trees.{Live, live_tree, above_tree, found_at}
+use Rattle.dgn_layout.specs.declared.TheConstants.{END_MARK}
 
 -- the sum at a spot of an element that begins at byte p
 abbrev pub sum_put : Displacement → ℕ → List ℕ → Spot → Put
@@ -74,7 +75,7 @@ abbrev pub IsReady : ℕ → Edit → Element → Type 0
 IsReady dim (edit.Move n by) e = IsTrue (has_spots (class_of e.kind)) × IsTrue (stays_on_plane dim by e)
 IsReady dim (edit.Copy n by) e = IsTrue (has_spots (class_of e.kind)) × IsTrue (stays_on_plane dim by e)
 IsReady dim (edit.Sym n change) e = IsFalse (is_silent (class_of e.kind))
-IsReady dim (edit.Delete n) e = ¬ (e.kind ≡ 127)
+IsReady dim (edit.Delete n) e = ¬ (e.kind ≡ END_MARK)
 IsReady dim (edit.Append new) e = Unit {0}
 
 -- the headers above a moved element have spots, so their ranges can be made wider

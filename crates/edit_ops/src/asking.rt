@@ -16,9 +16,9 @@ use crate::fencing::same_shift;
 use crate::finding::find;
 use crate::making::size_made;
 use crate::sums::stays_on_plane;
-use dgn_drawing::{Edit, New, Shift};
+use dgn_drawing::{Edit, MOST_DESIGN, New, Shift};
 use dgn_layout::types::Class;
-use dgn_layout::{class, is_silent};
+use dgn_layout::{END_MARK, class, is_silent};
 use elem_head::properties;
 use elem_index::Design;
 
@@ -50,7 +50,7 @@ pub fn edit_cause(d: &Design, edit: &Edit, above: &[u32], live: &[u32]) -> Optio
 // What is against an element that is appended. `pending` is how many bytes are to be appended already.
 pub fn append_cause(d: &Design, new: &New, pending: usize) -> Option<Cause>
     requires whole { IsWhole d.now }
-    requires room { length d.now.body.items + (length d.now.tail.items + pending) ≤ 67108864 }
+    requires room { length d.now.body.items + (length d.now.tail.items + pending) ≤ MOST_DESIGN }
     ensures { result ≡ first_of
         (causes_of d.now.dim (elements d.now) (length d.now.tail.items + pending) (Edit.Append new.now)) }
 {
@@ -83,8 +83,8 @@ pub fn move_cause(d: &Design, live: &[u32], by: &Shift) -> Option<Cause>
 
 // The file would be too long with so many bytes more.
 pub fn growth_cause(d: &Design, appended: usize, pending: usize) -> Option<Cause>
-    requires few { appended ≤ 67108864 }
-    requires room { length d.now.body.items + (length d.now.tail.items + pending) ≤ 67108864 }
+    requires few { appended ≤ MOST_DESIGN }
+    requires room { length d.now.body.items + (length d.now.tail.items + pending) ≤ MOST_DESIGN }
     ensures { result ≡ too_long
         (length d.now.body.items + (length d.now.tail.items + pending) + appended) }
 {
@@ -196,7 +196,7 @@ pub fn lookless(m: u32, class: Class) -> Option<Cause>
 pub fn unmarkable(m: u32, kind: u8) -> Option<Cause>
     ensures { result ≡ unmarkable m kind }
 {
-    if kind == 127 {
+    if kind == END_MARK {
         Some(Cause::Opaque(m))
     } else {
         None

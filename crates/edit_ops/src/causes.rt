@@ -13,12 +13,10 @@ use crate::asked::Test;
 use crate::asking::{cause_against, first_cause};
 use crate::cause::Cause;
 use crate::finding::find;
+use dgn_drawing::MOST_DESIGN;
 use dgn_layout::is_silent;
 use elem_index::Design;
 use nest_tree::types::Nest;
-
-// The most bytes that a design file may have.
-const MOST: usize = 67108864;
 
 // There is no element n.
 pub fn unknown(d: &Design, n: u32) -> Option<Cause>
@@ -91,7 +89,7 @@ pub fn silent_at(n: u32, kind: u8) -> Option<Cause>
 pub fn too_long(bytes: usize) -> Option<Cause>
     ensures { result ≡ too_long bytes }
 {
-    if bytes <= MOST {
+    if bytes <= MOST_DESIGN {
         None
     } else {
         Some(Cause::TooLong)

@@ -12,7 +12,7 @@ ghost use Rattle.edit_ops.specs.Written.{found, live_puts, IsReady};
 
 use crate::live::end_of;
 use crate::patches::push_live;
-use dgn_drawing::Edit;
+use dgn_drawing::{Edit, MOST_DESIGN};
 use elem_index::Design;
 use nest_tree::types::Nest;
 use patch_bytes::{Patch, PatchList, swap_in};
@@ -49,7 +49,7 @@ pub fn part_len(d: &Design, t: &Nest, n: u32) -> usize
     requires nesting { t.now.rows ≡ map row_of (elements d.now) }
     requires known { n < length (elements d.now) }
     ensures exact { result ≡ length (spelling (flat (tree_at n (forest row_of (elements d.now))))) }
-    ensures few { result ≤ 67108864 }
+    ensures few { result ≤ MOST_DESIGN }
 {
     place_of(d, end_of(t, n)) - place_of(d, n)
 }

@@ -9,7 +9,7 @@ use crate::edit_fault::EditFault;
 use crate::numbers::{Numbers, no_numbers};
 use crate::planning::plan_behind;
 use crate::types::Plan;
-use dgn_drawing::{Edit, FenceEdit, Shift, SymbChange};
+use dgn_drawing::{Edit, FenceEdit, MOST_DESIGN, Shift, SymbChange};
 use elem_index::Design;
 use nest_tree::types::Nest;
 use patch_bytes::{ByteList, PatchList};
@@ -23,7 +23,7 @@ use std::alloc::Global;
 /// Otherwise the plan has the patches of all roots in their order, and the bytes that each appends, one behind the
 /// other. Of no root it is a plan without either.
 ///
-/// It takes the time of the trees that it edits. Memory may come wherever a root is edited.
+/// It takes the time of the trees that it edits. Memory says that there was none for the plan.
 pub fn plan_all(
     alloc: Global,
     d: &Design,
@@ -88,7 +88,7 @@ fn join_root(
 ) -> Result<(), EditFault>
     requires whole { IsWhole d.now }
     requires nesting { t.now.rows ≡ map row_of (elements d.now) }
-    requires room { length d.now.body.items + (length d.now.tail.items + length all.old.append) ≤ 67108864 }
+    requires room { length d.now.body.items + (length d.now.tail.items + length all.old.append) ≤ MOST_DESIGN }
     ensures planned { IfOk result
         (λ _. IsPlanBehind d.now.dim (elements d.now) (length d.now.tail.items + length all.old.append) (edit_at edit.now n) all.old all.new) }
     ensures refused { IfErr result
@@ -119,7 +119,7 @@ fn root_edit(edit: &FenceEdit, n: u32) -> Edit
     }
 }
 
-// The same displacement.
+// A second value of a displacement.
 pub(crate) fn same_shift(by: &Shift) -> Shift
     ensures { result ≡ by.now }
 {
@@ -129,7 +129,7 @@ pub(crate) fn same_shift(by: &Shift) -> Shift
     }
 }
 
-// The same change of the look.
+// A second value of a change of the look.
 fn same_look(change: &SymbChange) -> SymbChange
     ensures { result ≡ change.now }
 {
@@ -146,6 +146,7 @@ fn keep_values(edit: &FenceEdit)
 {
     match edit {
         FenceEdit::Move(by) | FenceEdit::Copy(by) => {
+            // Read, so that what its type keeps is known.
             let _axes = by.axes;
         }
         FenceEdit::Sym(change) => {

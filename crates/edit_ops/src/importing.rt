@@ -51,7 +51,7 @@ pub fn copy_tree(
     copied
 }
 
-// The same, where the bytes are put behind those of a vector.
+// Appends the bytes of a copy to a vector, or says what refuses it.
 fn push_tree_copy(
     alloc: Global,
     d: &Design,
@@ -75,7 +75,7 @@ fn push_tree_copy(
     }
 }
 
-// The same, whatever part it is.
+// Appends the bytes of a copy of any part to a vector, or says what refuses it.
 fn push_listed_copy(
     alloc: Global,
     d: &Design,

@@ -1,6 +1,8 @@
 //! What holds of every edit. Each call does nothing; its contract is the law.
 
-ghost use Rattle.edit_ops.specs.Laws.{EditedDrawingsOpen, EditedDrawingsFit, EditsChangeTheirFields, EditedFieldsAreApart, LiveNumbersRise, PathNumbersRise, FirstCauseIsLeast};
+ghost use Rattle.edit_ops.specs.Laws.{EditedDrawingsOpen, EditedDrawingsFit, EditsChangeTheirFields, EditedFieldsAreApart, LiveNumbersRise};
+ghost use Rattle.edit_ops.specs.Laws.{PathNumbersRise, FirstCauseIsLeast};
+ghost use Rattle.edit_ops.specs.WalkLaws.{HeadersAreNumbered, PartsAreSpans, ExchangesAreLocal, FieldsRiseAsPatches, SpotsRiseAsFields};
 ghost use Rattle.edit_ops.specs.FenceLaws.{FencedDrawingsOpen, FencedDrawingsFit, FenceEditsChangeTheirFields, FencedFieldsAreApart};
 
 /// An edited drawing opens: what an edit that is done leaves opens in the same dimension, with the elements
@@ -49,4 +51,19 @@ pub fn a_fence_edit_changes_its_fields_alone()
 /// each root lie as those of an edit of that root alone, in the root's tree, and each in its element.
 pub fn fenced_fields_are_apart()
     ensures { FencedFieldsAreApart }
+{}
+
+/// The walks to one element agree: the headers above it have the numbers of the numbering, its part is the elements of
+/// its span, and an exchange of its part leaves the elements before and behind that span.
+pub fn walks_agree()
+    ensures headers { HeadersAreNumbered }
+    ensures parts { PartsAreSpans }
+    ensures exchanges { ExchangesAreLocal }
+{}
+
+/// Spots, fields and patches rise alike: spots of an element where their fields do, and fields where the patches do that
+/// fill them.
+pub fn rising_is_one_order()
+    ensures fields { FieldsRiseAsPatches }
+    ensures spots { SpotsRiseAsFields }
 {}

@@ -36,7 +36,7 @@ pub fn lone_at<'a>(d: &'a Design, t: &Nest, n: u32) -> Option<Found<'a>>
     Some(found)
 }
 
-// The same, where it also stands below no header and isn't broken, so that nothing keeps it from any edit.
+// Such an element, where it also stands below no header and isn't broken, so that nothing keeps it from any edit.
 pub fn lone_root<'a>(d: &'a Design, t: &Nest, n: u32) -> Option<Found<'a>>
     requires whole { IsWhole d.now }
     requires nesting { t.now.rows ≡ map row_of (elements d.now) }

@@ -52,7 +52,7 @@ pub fn plan_lone(
     }
 }
 
-// The same of another look.
+// Appends what another look puts into it, or says what stands against that.
 fn plan_lone_look(
     d: &Design,
     n: u32,
@@ -87,7 +87,7 @@ fn lone_look_cause(d: &Design, n: u32, found: Found) -> Option<Cause>
     locked_at(n, found.kind, found.bytes).or(lookless(n, class(found.kind)))
 }
 
-// The same of a deletion.
+// Appends what a deletion puts into it, or says what stands against that.
 fn plan_lone_mark(
     d: &Design,
     n: u32,

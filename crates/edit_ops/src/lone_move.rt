@@ -24,7 +24,7 @@ use crate::causes::other_axes;
 use crate::edit_fault::EditFault;
 use crate::finding::Found;
 use crate::sums::{bytes_at, spots_in, sum};
-use dgn_drawing::Shift;
+use dgn_drawing::{MOST_DESIGN, Shift};
 use dgn_layout::{Spot, class};
 use elem_index::Design;
 use patch_bytes::{Patch, PatchList};
@@ -78,7 +78,7 @@ fn push_staying(
     requires dimension { IsDimension dim }
     requires kind { found.kind < 128 }
     requires holds { HoldsPoints dim found.kind found.bytes.now (length found.bytes.now) }
-    requires few { found.place + length found.bytes.now ≤ 67108864 }
+    requires few { found.place + length found.bytes.now ≤ MOST_DESIGN }
     ensures sums { OnOk result (patches.new ≡ patches.old
         ++ map (sum_put by.now found.entry.place found.entry.bytes.now) (spots_of dim found.entry.kind found.entry.bytes.now)) }
     ensures stays { IfOk result (λ _. off_plane m (list_all (λ s. is_on_plane (sum_at by.now found.entry.bytes.now s))
@@ -98,7 +98,7 @@ fn push_staying(
 // The sum at a spot. None exactly where it is off the design plane.
 fn staying_patch(found: Found, spot: Spot, by: &Shift) -> Option<Patch>
     requires within { spot.at + 4 ≤ length found.bytes.now }
-    requires few { found.place + length found.bytes.now ≤ 67108864 }
+    requires few { found.place + length found.bytes.now ≤ MOST_DESIGN }
     ensures on { OnSome result (IsTrue (is_on_plane (sum_at by.now found.entry.bytes.now spot))) }
     ensures off { IfNone result (IsFalse (is_on_plane (sum_at by.now found.entry.bytes.now spot))) }
     ensures put { IfSome result (λ q. put_of q ≡ sum_put by.now found.entry.place found.entry.bytes.now spot) }

@@ -3,7 +3,9 @@ ghost use Rattle.std.specs.List.{flat_map};
 ghost use Rattle.dgn_words.specs.Numbers.{word_bytes, long_bytes, range_long_bytes};
 ghost use Rattle.dgn_drawing.specs.WellFormed.{IsDimension};
 ghost use Rattle.dgn_drawing.specs.Spelling.{first_byte, second_byte, point_bytes, display_bytes, parts_bytes, spell, size_of};
-ghost use Rattle.dgn_drawing.specs.NewElements.{IsShapeFor, kind_made, points_given, lowest, highest, even_up, chars_start, size_made as size_in, run_made, parts_made, rest_made, display_made, made};
+ghost use Rattle.dgn_layout.specs.Ends.{chars_start};
+ghost use Rattle.dgn_drawing.specs.NewElements.{IsShapeFor, kind_made, points_given, lowest, highest, even_up, size_made as size_in, run_made, parts_made};
+ghost use Rattle.dgn_drawing.specs.NewElements.{rest_made, display_made, made};
 
 use dgn_drawing::{New, NewShape};
 use dgn_words::{put_long, put_range_long, put_word};

@@ -18,7 +18,7 @@ ghost use Rattle.edit_ops.specs.Written.{found, live_puts, above_puts, part_puts
 
 use crate::finding::{Found, find};
 use crate::sums::{bytes_at, spots_in, sum, value};
-use dgn_drawing::{Edit, Shift, SymbChange};
+use dgn_drawing::{Edit, MOST_DESIGN, Shift, SymbChange};
 use dgn_layout::Spot;
 use dgn_words::range_long;
 use elem_head::symb;
@@ -170,7 +170,7 @@ fn push_range(patches: &mut PatchList, dim: u8, found: Found, r: Box3) -> Result
     requires kind { found.kind < 128 }
     requires spotted { IsTrue (has_spots (class_of found.kind)) }
     requires holds { HoldsPoints dim found.kind found.bytes.now (length found.bytes.now) }
-    requires few { found.place + length found.bytes.now ≤ 67108864 }
+    requires few { found.place + length found.bytes.now ≤ MOST_DESIGN }
     ensures { OnOk result (patches.new ≡ patches.old ++ wider_puts dim r found.entry.place found.entry.bytes.now) }
 {
     'spots: for spot in spots_in(dim, found.kind, found.bytes) {
@@ -184,7 +184,7 @@ fn push_range(patches: &mut PatchList, dim: u8, found: Found, r: Box3) -> Result
 // The number at a range spot, made to hold a range too.
 fn wider_patch(found: Found, spot: Spot, r: Box3) -> Patch
     requires within { spot.at + 4 ≤ length found.bytes.now }
-    requires few { found.place + length found.bytes.now ≤ 67108864 }
+    requires few { found.place + length found.bytes.now ≤ MOST_DESIGN }
     ensures { put_of result ≡ wider_put r found.entry.place found.entry.bytes.now spot }
 {
     let number = wider(spot, value(found.bytes, spot), r);
@@ -257,7 +257,7 @@ fn push_sums(patches: &mut PatchList, dim: u8, found: Found, by: &Shift) -> Resu
     requires dimension { IsDimension dim }
     requires kind { found.kind < 128 }
     requires holds { HoldsPoints dim found.kind found.bytes.now (length found.bytes.now) }
-    requires few { found.place + length found.bytes.now ≤ 67108864 }
+    requires few { found.place + length found.bytes.now ≤ MOST_DESIGN }
     requires plane { IsTrue (list_all (λ s. is_on_plane (sum_at by.now found.bytes.now s))
         (spots_of dim found.kind found.bytes.now)) }
     ensures { OnOk result (patches.new ≡ patches.old
@@ -272,7 +272,7 @@ fn push_sums(patches: &mut PatchList, dim: u8, found: Found, by: &Shift) -> Resu
 // The sum at a spot, which is on the design plane.
 fn sum_patch(found: Found, spot: Spot, by: &Shift) -> Patch
     requires within { spot.at + 4 ≤ length found.bytes.now }
-    requires few { found.place + length found.bytes.now ≤ 67108864 }
+    requires few { found.place + length found.bytes.now ≤ MOST_DESIGN }
     requires plane { IsTrue (is_on_plane (sum_at by.now found.bytes.now spot)) }
     ensures { put_of result ≡ sum_put by.now found.entry.place found.entry.bytes.now spot }
 {
@@ -289,7 +289,7 @@ fn sum_patch(found: Found, spot: Spot, by: &Shift) -> Patch
 // The two bytes of an element's look with what is given of another.
 pub fn look_patch(found: Found, change: &SymbChange) -> Patch
     requires long { 36 ≤ length found.bytes.now }
-    requires few { found.place + length found.bytes.now ≤ 67108864 }
+    requires few { found.place + length found.bytes.now ≤ MOST_DESIGN }
     ensures { put_of result ≡ record {
       at = found.entry.place + 34;
       bytes = new_look change.now (symbology_of found.entry.bytes.now);
@@ -310,7 +310,7 @@ pub fn look_patch(found: Found, change: &SymbChange) -> Patch
 pub fn mark_patch(found: Found) -> Patch
     requires kind { found.kind < 128 }
     requires long { 4 ≤ length found.bytes.now }
-    requires few { found.place + length found.bytes.now ≤ 67108864 }
+    requires few { found.place + length found.bytes.now ≤ MOST_DESIGN }
     ensures { put_of result ≡ record { at = found.entry.place + 1; bytes = (found.entry.kind + 128) ∷ [] } }
 {
     Patch {

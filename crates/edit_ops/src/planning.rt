@@ -26,7 +26,7 @@ use crate::making::spelled;
 use crate::numbers::{Numbers, no_numbers};
 use crate::patches::push_part;
 use crate::types::Plan;
-use dgn_drawing::{Edit, Shift};
+use dgn_drawing::{Edit, MOST_DESIGN, Shift};
 use elem_index::Design;
 use nest_tree::types::Nest;
 use patch_bytes::{ByteList, PatchList};
@@ -46,13 +46,13 @@ use std::alloc::Global;
 ///   that is read; of a deletion, where the element is silent, or a live one has type 127.
 /// - Of a move and a copy: OffPlane.
 /// - Of a copy and an appended element: TooLong, where body, tail, `pending` and the new bytes are together more
-///   than 67108864 bytes.
+///   than `MOST_DESIGN` bytes.
 ///
 /// Of each the least element of which it can be said is named. Otherwise the plan has the edited fields of the
 /// headers above and of the live elements, with the bytes that the result has there, and the bytes to append.
 ///
-/// It takes the time of the part and of the headers above it, not of the drawing. Memory may come from any edit
-/// but that of an unknown element.
+/// It takes the time of the part and of the headers above it, not of the drawing. Memory says that there was none
+/// for the plan.
 pub fn plan(
     alloc: Global,
     d: &Design,
@@ -62,7 +62,7 @@ pub fn plan(
 ) -> Result<Plan, EditFault>
     requires whole { IsWhole d.now }
     requires nesting { t.now.rows ≡ map row_of (elements d.now) }
-    requires room { length d.now.body.items + (length d.now.tail.items + pending) ≤ 67108864 }
+    requires room { length d.now.body.items + (length d.now.tail.items + pending) ≤ MOST_DESIGN }
     ensures planned { IfOk result
         (IsPlan d.now.dim (elements d.now) (length d.now.tail.items + pending) edit.now) }
     ensures kept { IfOk result (λ _. IsEdit edit.now) }
@@ -91,7 +91,7 @@ pub(crate) fn plan_behind(
 ) -> Result<(), EditFault>
     requires whole { IsWhole d.now }
     requires nesting { t.now.rows ≡ map row_of (elements d.now) }
-    requires room { length d.now.body.items + (length d.now.tail.items + pending) ≤ 67108864 }
+    requires room { length d.now.body.items + (length d.now.tail.items + pending) ≤ MOST_DESIGN }
     ensures planned { IfOk result
         (λ _. IsPlanBehind d.now.dim (elements d.now) (length d.now.tail.items + pending) edit.now all.old all.new) }
     ensures kept { IfOk result (λ _. IsEdit edit.now) }
@@ -104,7 +104,7 @@ pub(crate) fn plan_behind(
     }
 }
 
-// The same of an edit of the part of element n.
+// Puts what an edit of the part of element n comes to behind what `all` has already.
 fn plan_part(
     alloc: Global,
     d: &Design,
@@ -117,7 +117,7 @@ fn plan_part(
 ) -> Result<(), EditFault>
     requires whole { IsWhole d.now }
     requires nesting { t.now.rows ≡ map row_of (elements d.now) }
-    requires room { length d.now.body.items + (length d.now.tail.items + pending) ≤ 67108864 }
+    requires room { length d.now.body.items + (length d.now.tail.items + pending) ≤ MOST_DESIGN }
     requires target { target_of edit.now ≡ Some n }
     requires fits { IsEdit edit.now }
     ensures planned { IfOk result
@@ -149,7 +149,7 @@ fn plan_copy(
 ) -> Result<(), EditFault>
     requires whole { IsWhole d.now }
     requires nesting { t.now.rows ≡ map row_of (elements d.now) }
-    requires room { length d.now.body.items + (length d.now.tail.items + pending) ≤ 67108864 }
+    requires room { length d.now.body.items + (length d.now.tail.items + pending) ≤ MOST_DESIGN }
     requires known { n < length (elements d.now) }
     requires above { found (elements d.now) numbers.old.above.items ≡ above_tree (elements d.now) n }
     ensures copied { OnOk result
@@ -202,7 +202,8 @@ fn plan_in_place(
     plan_found(d, t, n, edit, &numbers.above, &numbers.live, patches)
 }
 
-// The same, whatever part it is. `above` has the numbers of the headers above it, and `live` those of its live elements.
+// Appends what such an edit puts into the part, whatever part it is, or says what stands against it. `above` has the
+// numbers of the headers above it, and `live` those of its live elements.
 fn plan_found(
     d: &Design,
     t: &Nest,
@@ -264,7 +265,7 @@ fn plan_append(
     all: &mut Plan,
 ) -> Result<(), EditFault>
     requires whole { IsWhole d.now }
-    requires room { length d.now.body.items + (length d.now.tail.items + pending) ≤ 67108864 }
+    requires room { length d.now.body.items + (length d.now.tail.items + pending) ≤ MOST_DESIGN }
     requires target { target_of edit.now ≡ None }
     requires fits { IsEdit edit.now }
     ensures planned { IfOk result
@@ -291,6 +292,7 @@ fn target(edit: &Edit) -> Option<u32>
 {
     match edit {
         Edit::Move { n, by } | Edit::Copy { n, by } => {
+            // Read, so that what its type keeps is known.
             let _axes = by.axes;
             Some(*n)
         }

@@ -4,7 +4,7 @@ use Rattle.std.specs.Prelude.{◌≢◌}
 use Rattle.std.specs.List.{slice_split, before_first, after_first, position_or_len}
 use Rattle.std.proofs.lemmas.List.Splits.{slice_split_first, length-slice_split}
 use Rattle.edit_script.specs.Points.{is_comma, numbers_of, point_with}
-use Rattle.edit_script.proofs.Pieces.{split_whole}
+use Rattle.edit_script.proofs.TextPieces.{split_whole}
 
 -- where as many bytes stand before the first comma as there are, none is one
 pub cut_whole : (p : ℕ → Bool) (xs : List ℕ) → length (before_first p xs) ≡ length xs → slice_split p xs ≡ xs ∷ []

@@ -20,7 +20,8 @@ unlimited imports r x good is = elim (cases_Bool (nat_le 4 imports && is_import 
 ]
 
 -- behind a line that is read the first bad one stays the first
-later : (number from imports : ℕ) (line : List ℕ) (lines : List (List ℕ)) → IsRead (limited imports (command_of line)) → IsFirst number (from + 1) (imports_with imports (command_of line)) lines
+later : (number from imports : ℕ) (line : List ℕ) (lines : List (List ℕ)) → IsRead (limited imports (command_of line))
+    → IsFirst number (from + 1) (imports_with imports (command_of line)) lines
     → IsFirst number from imports (line ∷ lines)
 later number from imports line lines is_read h = record {
   before = line ∷ h.before;
@@ -42,7 +43,8 @@ passed from imports line lines (Err (fault.Line number)) e h = later number from
 passed from imports line lines (Err fault.Memory) e h = h
 
 -- a line that says a command
-said : (from imports : ℕ) (c : Command) (line : List ℕ) (lines : List (List ℕ)) (rest : Result (List Command) ScriptFault) → limited imports (command_of line) ≡ Asks c
+said : (from imports : ℕ) (c : Command) (line : List ℕ) (lines : List (List ℕ)) (rest : Result (List Command) ScriptFault)
+    → limited imports (command_of line) ≡ Asks c
     → Means lines (from + 1) (imports_with imports (command_of line)) rest → Means (line ∷ lines) from imports (with_first c rest)
 said from imports c line lines (Ok commands) e h =
     let says : command_of line ≡ Asks c = unlimited imports (command_of line) (Asks c) (λ x. let y = x in cc) e in
@@ -55,7 +57,8 @@ here : (from imports : ℕ) (line : List ℕ) (lines : List (List ℕ)) → limi
 here from imports line lines e = record { before = []; line = line; behind = lines; parts = refl; counted = omega arith; read = tt; reads = e }
 
 -- a line before others, by what it says
-joins : (from imports : ℕ) (line : List ℕ) (lines : List (List ℕ)) (reading : Reading) (rest : Result (List Command) ScriptFault) → limited imports (command_of line) ≡ reading
+joins : (from imports : ℕ) (line : List ℕ) (lines : List (List ℕ)) (reading : Reading) (rest : Result (List Command) ScriptFault)
+    → limited imports (command_of line) ≡ reading
     → Means lines (from + 1) (imports_with imports (command_of line)) rest → Means (line ∷ lines) from imports (joined from reading rest)
 joins from imports line lines Nothing rest e h = passed from imports line lines rest e h
 joins from imports line lines (Asks c) rest e h = said from imports c line lines rest e h

@@ -1,7 +1,7 @@
 mod Commas
-mod EachRead
+mod NamedValues
 mod FirstFault
-mod InOrder
+mod CommandLines
 mod Masks
 mod Numerals
-mod Pieces
+mod TextPieces

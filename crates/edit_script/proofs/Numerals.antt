@@ -27,7 +27,8 @@ some_digits word h =
 pub number_is_text : (word : List ℕ) → is_number_word word ≡ true → IsUtf8 word
 number_is_text word h = IsUtf8-from_ascii word (IsAscii-from_digits word (digits.to word (all_digits word h)))
 
-pub number_too_large : {E : Type 0} (word : List ℕ) (most : ℕ) (e : E) → is_number_word word ≡ true → most < 2 ^ 32 → ParsesUnsigned 32 10 word (Err e) → number_within most word ≡ None
+pub number_too_large : {E : Type 0} (word : List ℕ) (most : ℕ) (e : E) → is_number_word word ≡ true → most < 2 ^ 32 → ParsesUnsigned 32 10 word (Err e)
+    → number_within most word ≡ None
 number_too_large word most e h fits parsed =
     let not_both = parse_digits digits 32 word (Err e) parsed (all_digits word h) in
     let small : digits_value 10 word < 2 ^ 32 → number_within most word ≡ None = λ l. absurd (not_both (some_digits word h, l)) in

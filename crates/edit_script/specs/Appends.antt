@@ -64,7 +64,8 @@ lettering_of (Some f) (Some j) (Some wide) (Some high) (Some p) = Some (record {
 
 -- `F J M M P`, the first five words
 abbrev pub lettering_named : List (List ℕ) → Option Lettering
-lettering_named (f ∷ j ∷ wide ∷ high ∷ p ∷ words) = lettering_of (number_within 255 f) (number_within 255 j) (multiplier_named wide) (multiplier_named high) (point_named p)
+lettering_named (f ∷ j ∷ wide ∷ high ∷ p ∷ words) =
+    lettering_of (number_within 255 f) (number_within 255 j) (multiplier_named wide) (multiplier_named high) (point_named p)
 lettering_named _ = None
 
 -- the characters of a text

@@ -13,11 +13,11 @@ with_levels mask first (suc count) = with_levels (bit_or mask (2 ^ first)) (firs
 abbrev pub is_dash : ℕ → Bool
 is_dash b = b == 45
 
-abbrev pub first_of : List ℕ → List ℕ
-first_of word = before_first is_dash word
+abbrev pub first_part : List ℕ → List ℕ
+first_part word = before_first is_dash word
 
-abbrev pub last_of : List ℕ → List ℕ
-last_of word = if length (first_of word) == length word then word else after_first is_dash word
+abbrev pub last_part : List ℕ → List ℕ
+last_part word = if length (first_part word) == length word then word else after_first is_dash word
 
 -- a mask and the levels of a range, where it is one: both are levels, and the first isn't above the last
 abbrev pub with_range : ℕ → Option ℕ → Option ℕ → Option ℕ
@@ -25,7 +25,7 @@ with_range mask (Some first) (Some last) = if nat_le first last then Some (with_
 with_range mask first last = None
 
 abbrev pub with_word : ℕ → List ℕ → Option ℕ
-with_word mask word = with_range mask (number_within 63 (first_of word)) (number_within 63 (last_of word))
+with_word mask word = with_range mask (number_within 63 (first_part word)) (number_within 63 (last_part word))
 
 -- a mask and the levels of all words, where each is a range
 abbrev pub with_words : Option ℕ → List (List ℕ) → Option ℕ

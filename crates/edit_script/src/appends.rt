@@ -4,7 +4,8 @@ ghost use Rattle.dgn_drawing.specs.NewElements.{IsShapeFor};
 ghost use Rattle.edit_script.specs.Words.{words_of};
 ghost use Rattle.edit_script.specs.Numbers.{number_within};
 ghost use Rattle.edit_script.specs.Points.{point_named};
-ghost use Rattle.edit_script.specs.Appends.{pen_of, pen_named, appending, line_command, string_command, shape_command, multiplier_named, lettering_of, lettering_named, chars_given, behind_words, text_command, IsPen, IsMultiplier, IsLettering, IsChars};
+ghost use Rattle.edit_script.specs.Appends.{pen_of, pen_named, appending, line_command, string_command, shape_command, multiplier_named, lettering_of};
+ghost use Rattle.edit_script.specs.Appends.{lettering_named, chars_given, behind_words, text_command, IsPen, IsMultiplier, IsLettering, IsChars};
 
 use crate::command::Command;
 use crate::numbers::number;

@@ -1,7 +1,8 @@
 ghost use Rattle.std.specs.Prelude.{◌≡◌, ◌≤◌, pos, Some, IfSome};
 ghost use Rattle.range_code.specs.Plane.{IsDisplacement};
 ghost use Rattle.edit_script.specs.Words.{words_of};
-ghost use Rattle.edit_script.specs.Edits.{color_command, given_within, look_named, sym_command, distance_named, shift_of, shift_named, move_command, copy_command, delete_command, one_element};
+ghost use Rattle.edit_script.specs.Edits.{color_command, given_within, look_named, sym_command, distance_named, shift_of, shift_named, move_command};
+ghost use Rattle.edit_script.specs.Edits.{copy_command, delete_command, one_element};
 
 use crate::command::Command;
 use crate::numbers::{number, signed_number};

@@ -1,6 +1,7 @@
 ghost use Rattle.std.specs.Prelude.{◌≡◌, IfOk};
 ghost use Rattle.edit_script.specs.Words.{words_of, each_named};
-ghost use Rattle.edit_script.specs.Fences.{corner_named, fence_command, mode_named, select_command, fmove_command, fcopy_command, fsym_command, fdelete_command};
+ghost use Rattle.edit_script.specs.Fences.{corner_named, fence_command, mode_named, select_command, fmove_command, fcopy_command, fsym_command};
+ghost use Rattle.edit_script.specs.Fences.{fdelete_command};
 
 use crate::command::Command;
 use crate::edits::{read_look, read_shift};

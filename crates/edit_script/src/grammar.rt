@@ -70,7 +70,7 @@ fn other_command(name: &[u8], rest: &[u8]) -> Reading
     }
 }
 
-// The same of a word that names no edit of one element.
+// Reads the command of a word that names no edit of one element, with these bytes behind it.
 fn listing_command(name: &[u8], rest: &[u8]) -> Reading
     ensures { result ≡ listing_reading name.now rest.now }
 {
@@ -110,7 +110,7 @@ fn fence_command(name: &[u8], rest: &[u8]) -> Reading
     }
 }
 
-// The same of a word that does nothing with a fence.
+// Reads the command of a word that does nothing with a fence, with these bytes behind it.
 fn range_command(name: &[u8], rest: &[u8]) -> Reading
     ensures { result ≡ range_reading name.now rest.now }
 {

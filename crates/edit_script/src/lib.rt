@@ -14,6 +14,7 @@ mod grammar;
 mod imports;
 pub mod laws;
 mod levels;
+mod limits;
 mod lines;
 mod numbers;
 mod points;
@@ -23,5 +24,6 @@ mod words;
 
 pub use command::Command;
 pub use fault::ScriptFault;
+pub use limits::MOST_SCRIPT;
 pub use numbers::number;
 pub use script::read_script;

@@ -1,6 +1,7 @@
 ghost use Rattle.std.specs.Prelude.{◌≡◌, ◌≤◌, length, Ok, IfOk, IfErr};
 ghost use Rattle.edit_script.specs.Script.{commands_of, Tells};
 
+use crate::MOST_SCRIPT;
 use crate::command::Command;
 use crate::fault::ScriptFault;
 use crate::grammar::read_line;
@@ -8,12 +9,12 @@ use crate::lines::next_line;
 use crate::reading::Reading;
 use std::alloc::Global;
 
-/// The commands of a script of at most 1048576 bytes, in the order of its lines.
+/// The commands of a script of at most `MOST_SCRIPT` bytes, in the order of its lines.
 ///
 /// `Line` comes exactly where a line is bad, or a fifth asks for an import, and tells the number of the first. `Memory`
-/// comes where there is no memory for the list of commands, or for the points or the characters of one of them.
+/// says that there was none for the list of commands, or for the points or the characters of one of them.
 pub fn read_script(alloc: Global, bytes: &[u8]) -> Result<Vec<Command>, ScriptFault>
-    requires { length bytes.now ≤ 1048576 }
+    requires { length bytes.now ≤ MOST_SCRIPT }
     ensures commands { IfOk result (λ v. commands_of bytes.now ≡ Ok v.items) }
     ensures fault { IfErr result (Tells bytes.now) }
 {

@@ -4,6 +4,7 @@ ghost use Rattle.std.specs.Prelude.{IfSome};
 ghost use Rattle.elem_index.specs.Design.{IsWhole};
 
 use dgn_audit::*;
+use dgn_drawing::MOST_DESIGN;
 use elem_index::{Design, read_design};
 use level_view::nest_design;
 use range_code::Box3;
@@ -34,7 +35,7 @@ fn design(alloc: Global, pieces: &Pieces) -> Option<Design>
     ensures { IfSome result IsWhole }
 {
     match bytes_of(alloc, pieces) {
-        Ok(bytes) if bytes.len() <= 67108864 => read_design(alloc, bytes).ok(),
+        Ok(bytes) if bytes.len() <= MOST_DESIGN => read_design(alloc, bytes).ok(),
         _ => None,
     }
 }

@@ -5,7 +5,7 @@ ghost use Rattle.elem_index.specs.Design.{IsWhole};
 
 use crate::joined::are_joined;
 use crate::shifts::along;
-use dgn_drawing::{Edit, New, NewShape, Shift, SymbChange};
+use dgn_drawing::{Edit, MOST_DESIGN, New, NewShape, Shift, SymbChange};
 use edit_ops::types::Plan;
 use edit_ops::*;
 use elem_head::types::Symb;
@@ -28,7 +28,7 @@ fn opened(alloc: Global, axes: u8, elements: &[&[u8]]) -> Option<Design>
 {
     let mark = if axes == 3 { 0x40 } else { 0 };
     let bytes = drawing(alloc, 0x08, mark, elements).ok()?;
-    if bytes.len() > 67108864 {
+    if bytes.len() > MOST_DESIGN {
         return None;
     }
     match read_design(alloc, bytes) {

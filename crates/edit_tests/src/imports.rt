@@ -1,7 +1,7 @@
 // What is gathered from worked drawings.
 
 use crate::joined::are_joined;
-use dgn_drawing::Shift;
+use dgn_drawing::{MOST_DESIGN, Shift};
 use dgn_import::*;
 use edit_ops::Cause;
 use sample_elements::{ARC, CELL, CELL_OF_81, DELETED_LINE, LINE, MEMBER, REFERENCE, drawing};
@@ -14,7 +14,7 @@ fn gathered(
     bytes: Vec<u8>,
     by: Option<&Shift>,
 ) -> Result<Gathered, ImportFault> {
-    if bytes.len() > 67108864 {
+    if bytes.len() > MOST_DESIGN {
         return Err(ImportFault::Memory);
     }
     let second = read_second(alloc, bytes)?;

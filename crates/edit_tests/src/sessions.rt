@@ -2,7 +2,7 @@
 
 use crate::shifts::along;
 use dgn_drawing::types::Item;
-use dgn_drawing::{Edit, Mask, New, NewShape};
+use dgn_drawing::{Edit, MOST_DESIGN, Mask, New, NewShape};
 use dgn_import::{gather, read_second};
 use dgn_session::*;
 use edit_ops::{Cause, EditFault};
@@ -17,7 +17,7 @@ use std::alloc::{AllocError, Global};
 fn begun(alloc: Global, total: u8) -> Option<Session> {
     let cell = with_byte(CELL, 36, total);
     match drawing(alloc, 0x08, 0, &[&cell, &MEMBER, &[0xFF, 0xFF, 0x07]]) {
-        Ok(bytes) if bytes.len() <= 67108864 => match read_design(alloc, bytes) {
+        Ok(bytes) if bytes.len() <= MOST_DESIGN => match read_design(alloc, bytes) {
             Ok(design) => Session::start(alloc, design).ok(),
             Err(_) => None,
         },
@@ -71,7 +71,7 @@ fn imports(alloc: Global, session: &mut Session, element: &[u8]) -> bool {
     let Ok(bytes) = file_of(alloc, element) else {
         return false;
     };
-    if bytes.len() > 67108864 {
+    if bytes.len() > MOST_DESIGN {
         return false;
     }
     let Ok(second) = read_second(alloc, bytes) else {

@@ -1,5 +1,6 @@
 -- What is kept of an element of a whole design says its row, but for a total.
-use Rattle.std.proofs.Common.{◌≡◌, ℕ, ◌+◌, ◌-◌, ◌%◌, ◌<◌, Bool, List, [], ◌∷◌, ◌++◌, length, take, drop, map, get_or, refl, sym, ap, ◌∙◌, subst, arith, true, false}
+use Rattle.std.proofs.Common.{◌≡◌, ℕ, ◌+◌, ◌-◌, ◌%◌, ◌<◌, Bool, List, [], ◌∷◌, ◌++◌, length, take, drop, map, get_or, refl, sym, ap, ◌∙◌, subst, arith}
+use Rattle.std.proofs.Common.{true, false}
 use Rattle.std.specs.Prelude.{slice_get, leb, not, Option, Some, None, option_map, IsFalse, slice_index_or}
 use Rattle.std.proofs.lemmas.List.{map-append, drop_more, get_or_default}
 use Rattle.std.proofs.lemmas.Bool.Decides.{nat_tests}
@@ -43,7 +44,8 @@ no_total Class.Boxed b is = refl
 abbrev row_with : ℕ → ℕ → Bool → ℕ → Row
 row_with size kind cbit total = record { size = size; kind = kind; cbit = cbit; total = total }
 
-same_row : (row : Row) (size kind : ℕ) (cbit : Bool) (total : ℕ) → row.size ≡ size → row.kind ≡ kind → row.cbit ≡ cbit → row.total ≡ total → row ≡ row_with size kind cbit total
+same_row : (row : Row) (size kind : ℕ) (cbit : Bool) (total : ℕ) → row.size ≡ size → row.kind ≡ kind → row.cbit ≡ cbit → row.total ≡ total
+    → row ≡ row_with size kind cbit total
 same_row row size kind cbit total one two three four = let e : row_with row.size row.kind row.cbit row.total ≡ row_with size kind cbit total = cc in e
 
 -- an element whose row is given
@@ -110,7 +112,8 @@ module _ (es : List Element) (n : ℕ) (row : Row) (is : option_map row_of (slic
   this = of_some (slice_get es n) is
 
   pub rows_more : map row_of (take (n + 1) es) ≡ map row_of (take n es) ++ row ∷ []
-  rows_more = ap (map row_of) (take_one_more es n this.0 this.1) ∙ map-append row_of (take n es) (this.0 ∷ []) ∙ ap (λ (r : Row). map row_of (take n es) ++ r ∷ []) (sym this.2)
+  rows_more = ap (map row_of) (take_one_more es n this.0 this.1) ∙ map-append row_of (take n es) (this.0 ∷ [])
+      ∙ ap (λ (r : Row). map row_of (take n es) ++ r ∷ []) (sym this.2)
 
   -- and where it has no bit C, the elements from there on begin without it
   pub free_here : not row.cbit ≡ true → BeginsFree row_of (drop n es)

@@ -1,7 +1,7 @@
-pub mod Finds
+pub mod OpeningAnswers
 pub mod KindBytes
-pub mod Runs
+pub mod FileWalk
 pub mod Places
 pub mod KeptRows
-pub mod Growing
-pub mod Grown
+pub mod DesignGrowth
+pub mod WrittenDesigns

@@ -1,5 +1,6 @@
 -- What a whole design says of its elements: how many there are, and where each stands in the body.
-use Rattle.std.proofs.Common.{◌≡◌, ℕ, zero, suc, ◌+◌, ◌-◌, ◌<◌, ◌≤◌, List, [], ◌∷◌, ◌++◌, length, take, drop, map, get_or, refl, sym, ap, ◌∙◌, subst, arith, true, false, length-append, zero-add, inl, inr}
+use Rattle.std.proofs.Common.{◌≡◌, ℕ, zero, suc, ◌+◌, ◌-◌, ◌<◌, ◌≤◌, List, [], ◌∷◌, ◌++◌, length, take, drop, map, get_or, refl, sym, ap, ◌∙◌, subst, arith}
+use Rattle.std.proofs.Common.{true, false, length-append, zero-add, inl, inr}
 use Rattle.std.specs.Prelude.{slice_get, vec_len, Option, Some, None, option_map, IsFalse, Bool, not}
 use Rattle.std.specs.List.{AllByRecursion}
 use Rattle.std.specs.declared.result.Result.TheVariants.{Ok}
@@ -8,12 +9,12 @@ use Rattle.dgn_drawing.specs.Element.{Element}
 use Rattle.dgn_drawing.specs.Spelling.{spell, spelling, size_of}
 use Rattle.dgn_drawing.specs.WellFormed.{IsDimension, IsWellFormed}
 use Rattle.dgn_drawing.specs.Faults.{IsSoundIn, IsSound}
-use Rattle.dgn_drawing.proofs.Read.{size_said-spell, element_fault-spell}
+use Rattle.dgn_drawing.proofs.RecordsRead.{size_said-spell, element_fault-spell}
 use Rattle.dgn_drawing.proofs.Rows.{row_at-spell}
 use Rattle.elem_head.specs.Head.{size_of as size_said}
 use Rattle.dgn_drawing.specs.Rows.{row_of, row_at}
 use Rattle.dgn_drawing.specs.Opening.{dimension, Opens}
-use Rattle.dgn_drawing.proofs.Opening.{dimension_is}
+use Rattle.dgn_drawing.proofs.FirstElements.{dimension_is}
 use Rattle.dgn_drawing.proofs.Fronts.{opens_elements, opens_of, body_spelled, four_each}
 use Rattle.dgn_drawing.proofs.Offsets.{length-offsets_from, get_or-offsets_from}
 use Rattle.dgn_drawing.specs.declared.row.Row.{Row}
@@ -24,9 +25,10 @@ use Rattle.elem_index.specs.Offsets.{offset_of, offsets_of}
 use Rattle.elem_index.specs.Opened.{opening}
 use Rattle.elem_index.specs.Design.{elements, kind_bytes, IsWhole}
 use Rattle.elem_index.specs.Answers.{IsRun, opened_of}
+use Rattle.dgn_drawing.specs.declared.limits.TheConstants.{MOST_DESIGN}
 
 -- a run that is split at its end is a whole design
-module _ (d : Design) (f : List ℕ) (p : ℕ) (run : IsRun f d.kept.items d.kinds.items p) (few : length f ≤ 67108864) (axes : d.dim ≡ dimension f)
+module _ (d : Design) (f : List ℕ) (p : ℕ) (run : IsRun f d.kept.items d.kinds.items p) (few : length f ≤ MOST_DESIGN) (axes : d.dim ≡ dimension f)
     (body : d.body.items ≡ take p f) (tail : d.tail.items ≡ drop p f) where
   both : f ≡ d.body.items ++ d.tail.items
   both = sym (take-append-drop p f) ∙ ap (λ (x : List ℕ). x ++ drop p f) (sym body) ∙ ap (λ (x : List ℕ). d.body.items ++ x) (sym tail)
@@ -87,7 +89,7 @@ module _ (d : Design) (whole : IsWhole d) where
   length-elements = omega (arith, d.kept.ok.0, length-kept)
 
   -- there are no more elements than bytes
-  pub few_elements : length (elements d) ≤ 67108864
+  pub few_elements : length (elements d) ≤ MOST_DESIGN
   few_elements = omega (arith, four_each d.dim axes_of (elements d) opening_of.each, ap (length {A = ℕ}) body_is, whole.is_open.few)
 
   -- the offset of each element is kept
@@ -124,7 +126,8 @@ stands_at (x ∷ es) (suc n) within =
     ∙ ap (drop (offset_of es n)) (drop_at (spell x) (spelling es) (size_of x) refl) in
     let next = stands.next in
     let inside = stands.inside in
-    let more : offset_of (x ∷ es) (suc n + 1) ≡ length (spelling (x ∷ take (n + 1) es)) = let e : suc n + 1 ≡ suc (n + 1) = omega arith in ap (offset_of (x ∷ es)) e in (
+    let more : offset_of (x ∷ es) (suc n + 1) ≡ length (spelling (x ∷ take (n + 1) es)) = let e : suc n + 1 ≡ suc (n + 1) = omega arith in
+    ap (offset_of (x ∷ es)) e in (
       below.0,
       record {
         found = stands.found;
@@ -155,7 +158,8 @@ sound_spell dim e (inl two) good = inl (subst (λ (n : ℕ). IsSoundIn n (spell 
 sound_spell dim e (inr three) good = inr (subst (λ (n : ℕ). IsSoundIn n (spell e)) three (sound_in dim e (inr three) good))
 
 -- the bytes of an element of a whole design, between its offset and the next
-module _ (d : Design) (whole : IsWhole d) (n : ℕ) (known : n < length (elements d)) (start end : ℕ) (begins : start ≡ offset_of (elements d) n) (ends : end ≡ offset_of (elements d) (n + 1)) where
+module _ (d : Design) (whole : IsWhole d) (n : ℕ) (known : n < length (elements d)) (start end : ℕ) (begins : start ≡ offset_of (elements d) n)
+    (ends : end ≡ offset_of (elements d) (n + 1)) where
   standing : (e : Element) × Stands (elements d) n e
   standing = stands_at (elements d) n known
 

@@ -10,6 +10,7 @@ use Rattle.dgn_drawing.specs.Rows.{row_of}
 use Rattle.dgn_drawing.specs.Nesting.{BeginsFree}
 use Rattle.dgn_drawing.specs.Opening.{Opens, elements_of}
 use Rattle.elem_index.specs.Offsets.{offsets_of}
+use Rattle.dgn_drawing.specs.declared.limits.TheConstants.{MOST_DESIGN}
 
 -- the offsets that are kept
 abbrev pub kept_of : Design → List ℕ
@@ -39,9 +40,9 @@ kind_bytes es = map kind_byte (map row_of es)
 abbrev pub elements : Design → List Element
 elements d = elements_of d.dim d.body.items
 
--- body and tail are those of a file of at most 67108864 bytes that opens, in the design's dimension
+-- body and tail are those of a file of at most MOST_DESIGN bytes that opens, in the design's dimension
 pub record IsOpen (d : Design) : Type 0 where
-  pub few : length d.body.items + length d.tail.items ≤ 67108864
+  pub few : length d.body.items + length d.tail.items ≤ MOST_DESIGN
   pub opens : Opens (d.body.items ++ d.tail.items) d.dim (elements d) d.tail.items
 
 -- and the kept offsets and bytes are those of the elements

@@ -8,6 +8,7 @@ ghost use Rattle.elem_index.specs.Answers.{HasCount, HasToldFault, Tells, TellsF
 use crate::beginning::{begins_with_tcb, dimension};
 use crate::open_fault::OpenFault;
 use crate::walk::{count_in, elements_in};
+use dgn_drawing::MOST_DESIGN;
 use std::alloc::Global;
 
 mod growth;
@@ -37,7 +38,7 @@ pub struct Design {
 /// come exactly by the first faulty element: one that the file doesn't hold whole, one that ends
 /// before its body does, and one with attribute data in a wrong place, in this order.
 pub fn read_design(alloc: Global, mut bytes: Vec<u8>) -> Result<Design, OpenFault>
-    requires { vec_len bytes ≤ 67108864 }
+    requires { vec_len bytes ≤ MOST_DESIGN }
     ensures whole { IfOk result IsWhole }
     ensures text { IfOk result (λ d. d.body.items ++ d.tail.items ≡ bytes.items) }
     ensures fault { IfErr result (HasToldFault bytes.items) }
@@ -63,7 +64,7 @@ pub fn read_design(alloc: Global, mut bytes: Vec<u8>) -> Result<Design, OpenFaul
 /// How many elements the bytes of a file have. The faults come exactly where `read_design` gives them.
 /// Nothing is kept and no memory is taken, so Memory never comes.
 pub fn count_elements(bytes: &[u8]) -> Result<u32, OpenFault>
-    requires { length bytes.now ≤ 67108864 }
+    requires { length bytes.now ≤ MOST_DESIGN }
     ensures count { IfOk result (HasCount bytes.now) }
     ensures fault { IfErr result (HasToldFault bytes.now) }
     ensures told { IfErr result (TellsFault (opening bytes.now)) }

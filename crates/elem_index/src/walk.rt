@@ -8,6 +8,7 @@ ghost use Rattle.elem_index.specs.Opened.{opening};
 use crate::beginning::{dimension, next_size};
 use crate::kind_byte::kind_byte;
 use crate::open_fault::OpenFault;
+use dgn_drawing::MOST_DESIGN;
 use std::alloc::Global;
 
 // Where a walk through a file is: at an element's beginning, or where the elements end.
@@ -35,7 +36,7 @@ impl Walk {
     // mark, or at the end of the file.
     #[inline(always)]
     fn next_place(&mut self, f: &[u8]) -> Result<Option<u32>, OpenFault>
-        requires few { length f.now ≤ 67108864 }
+        requires few { length f.now ≤ MOST_DESIGN }
         requires axes { self.old.dim ≡ dimension f.now }
         ensures step { IfOk result (Steps f.now self.old.at self.new.at) }
         ensures fault { IfErr result (StandsFaulty f.now self.old.at) }
@@ -57,7 +58,7 @@ impl Walk {
 // The offsets of all elements of the file, type and bit C of each in a byte, and the byte behind the last one. A head is
 // at hand when the walk is at it, so that is the time to keep what the rows want of it.
 pub(crate) fn elements_in(alloc: Global, f: &[u8]) -> Result<(Vec<u32>, Vec<u8>, usize), OpenFault>
-    requires few { length f.now ≤ 67108864 }
+    requires few { length f.now ≤ MOST_DESIGN }
     requires tcb { is_tcb f.now ≡ true }
     ensures opens { IfOk result (λ run. IsRun f.now run.0.items run.1.items run.2) }
     ensures fault { IfErr result (HasToldFault f.now) }
@@ -77,7 +78,7 @@ pub(crate) fn elements_in(alloc: Global, f: &[u8]) -> Result<(Vec<u32>, Vec<u8>,
 
 // How many elements the file has.
 pub(crate) fn count_in(f: &[u8]) -> Result<u32, OpenFault>
-    requires few { length f.now ≤ 67108864 }
+    requires few { length f.now ≤ MOST_DESIGN }
     requires tcb { is_tcb f.now ≡ true }
     ensures count { IfOk result (HasCount f.now) }
     ensures fault { IfErr result (HasToldFault f.now) }

@@ -29,18 +29,22 @@ module _ (dim : ℕ) (b : List ℕ) (h : Head) (is : h ≡ head_of b) where
     mask_hides here hidden =
         let e : (element_at dim b).deleted ≡ false = sym deleted-read ∙ here in
         let l : shows mask (element_at dim b).level ≡ false = ap (shows mask) (sym level-read) ∙ hidden in
-        sym (cond-false (not (element_at dim b).deleted && shows mask (element_at dim b).level) _ _ (ap (λ (t : Bool). not t && shows mask (element_at dim b).level) e ∙ l))
+        sym (cond-false (not (element_at dim b).deleted && shows mask (element_at dim b).level) _ _
+        (ap (λ (t : Bool). not t && shows mask (element_at dim b).level) e ∙ l))
 
-    pub is_shown : h.deleted ≡ false → shows mask h.level ≡ true → its_item dim number depth (element_at dim b) ≡ shown_alone dim mask number depth (element_at dim b)
+    pub is_shown : h.deleted ≡ false → shows mask h.level ≡ true
+        → its_item dim number depth (element_at dim b) ≡ shown_alone dim mask number depth (element_at dim b)
     is_shown here seen =
         let e : (element_at dim b).deleted ≡ false = sym deleted-read ∙ here in
         let l : shows mask (element_at dim b).level ≡ true = ap (shows mask) (sym level-read) ∙ seen in
-        sym (cond-true (not (element_at dim b).deleted && shows mask (element_at dim b).level) _ _ (ap (λ (t : Bool). not t && shows mask (element_at dim b).level) e ∙ l))
+        sym (cond-true (not (element_at dim b).deleted && shows mask (element_at dim b).level) _ _
+        (ap (λ (t : Bool). not t && shows mask (element_at dim b).level) e ∙ l))
 
   module _ (number depth end : ℕ) (found : List Item) where
     pub group_gone : h.deleted ≡ true → past end found ≡ with_group dim number depth end (element_at dim b) found
     group_gone gone = sym (cond-true (element_at dim b).deleted _ _ (sym deleted-read ∙ gone))
 
-    pub group_shown : h.deleted ≡ false → begins_below end found ≡ true → its_item dim number depth (element_at dim b) ++ found ≡ with_group dim number depth end (element_at dim b) found
+    pub group_shown : h.deleted ≡ false → begins_below end found ≡ true → its_item dim number depth (element_at dim b)
+        ++ found ≡ with_group dim number depth end (element_at dim b) found
     group_shown here some =
         sym (cond-false (element_at dim b).deleted _ _ (sym deleted-read ∙ here) ∙ cond-true (begins_below end found) _ _ some)

@@ -12,8 +12,8 @@ use Rattle.dgn_drawing.specs.Items.{item_in, shown_item}
 use Rattle.dgn_drawing.specs.Nesting.{Knot, Leaf, Group, Run, Loose, Forest, NoTree, Tree, flat}
 use Rattle.dgn_drawing.specs.Numbering.{Mark, mark_of, end_of}
 use Rattle.dgn_drawing.specs.Shown.{shows, its_item, shown_alone, headed, shown_tree, items}
-use Rattle.nest_tree.specs.Shapes.{knot_told}
-use Rattle.nest_tree.proofs.Grown.{all_both}
+use Rattle.nest_tree.specs.Shapes.{code_knot}
+use Rattle.nest_tree.proofs.GrownNestings.{all_both}
 use Rattle.level_view.specs.Back.{past, begins_below, with_group, with_element, with_marked, read_back}
 
 -- what holds of each of some items
@@ -25,31 +25,37 @@ module _ (P : Item → Type 0) (dim : ℕ) (mask : Mask) where
   past_all end [] there = tt
   past_all end (i ∷ is) there = cond_both (nat_lt i.number end) (past end is) (i ∷ is) (AllByRecursion P) (λ _. past_all end is there.1) (λ _. there)
 
-  group_all : (number depth end : ℕ) (e : Element) (found : List Item) → AllByRecursion P (its_item dim number depth e) → AllByRecursion P found → AllByRecursion P (with_group dim number depth end e found)
+  group_all : (number depth end : ℕ) (e : Element) (found : List Item) → AllByRecursion P (its_item dim number depth e) → AllByRecursion P found
+      → AllByRecursion P (with_group dim number depth end e found)
   group_all number depth end e found here there =
-      cond_both e.deleted (past end found) (cond (begins_below end found) (its_item dim number depth e ++ found) found) (AllByRecursion P) (λ _. past_all end found there) (λ _.
-      cond_both (begins_below end found) (its_item dim number depth e ++ found) found (AllByRecursion P) (λ _. all_both P (its_item dim number depth e) found here there) (λ _. there))
+      cond_both e.deleted (past end found) (cond (begins_below end found) (its_item dim number depth e ++ found) found) (AllByRecursion P)
+      (λ _. past_all end found there) (λ _.
+      cond_both (begins_below end found) (its_item dim number depth e ++ found) found (AllByRecursion P)
+      (λ _. all_both P (its_item dim number depth e) found here there) (λ _. there))
 
   element_all : (knot : Knot) (number depth end : ℕ) (e : Element) (found : List Item) → AllByRecursion P (its_item dim number depth e) → AllByRecursion P found
-      → AllByRecursion P (with_element dim mask (knot_told knot) number depth end e found)
+      → AllByRecursion P (with_element dim mask (code_knot knot) number depth end e found)
   element_all Leaf number depth end e found here there = all_both P (shown_alone dim mask number depth e) found (alone_all number depth e here) there
   element_all Group number depth end e found here there = group_all number depth end e found here there
   element_all Run number depth end e found here there =
       all_both P (shown_alone dim mask number depth e) (past end found) (alone_all number depth e here) (past_all end found there)
   element_all Loose number depth end e found here there = there
 
-  marked_all : (number : ℕ) (m : Option Mark) (e : Option Element) (found : List Item) → ((depth : ℕ) (a : Element) → e ≡ Some a → AllByRecursion P (its_item dim number depth a))
+  marked_all : (number : ℕ) (m : Option Mark) (e : Option Element) (found : List Item)
+      → ((depth : ℕ) (a : Element) → e ≡ Some a → AllByRecursion P (its_item dim number depth a))
       → AllByRecursion P found → AllByRecursion P (with_marked dim mask number m e found)
   marked_all number None e found here there = there
   marked_all number (Some m) None found here there = there
   marked_all number (Some m) (Some e) found here there = element_all m.knot number m.depth m.end e found (here m.depth e refl) there
 
   -- where it holds of the item of each element, it does of those that are found backwards
-  pub back_all : (es : List Element) (n count : ℕ) → ((k depth : ℕ) (e : Element) → n ≤ k → k < n + count → slice_get es k ≡ Some e → AllByRecursion P (its_item dim k depth e))
+  pub back_all : (es : List Element) (n count : ℕ)
+      → ((k depth : ℕ) (e : Element) → n ≤ k → k < n + count → slice_get es k ≡ Some e → AllByRecursion P (its_item dim k depth e))
       → AllByRecursion P (read_back dim mask es n count)
   back_all es n zero each = tt
   back_all es n (suc count) each =
-      marked_all n (mark_of row_of es n) (slice_get es n) (read_back dim mask es (n + 1) count) (λ depth e there. each n depth e (omega arith) (omega arith) there)
+      marked_all n (mark_of row_of es n) (slice_get es n) (read_back dim mask es (n + 1) count)
+      (λ depth e there. each n depth e (omega arith) (omega arith) there)
       (back_all es (n + 1) count (λ k depth e low high there. each k depth e (omega arith) (omega arith) there))
 
 -- each of the items has a number of which that holds
@@ -75,10 +81,12 @@ module _ (P : ℕ → Type 0) (dim : ℕ) (mask : Mask) where
   headed_each head [] here there = tt
   headed_each head (i ∷ is) here there = both head (i ∷ is) here there
 
-  tree_each : (knot : Knot) (number depth : ℕ) (e : Element) (found : List Item) → P number → Each P found → Each P (shown_tree dim mask knot number depth e found)
+  tree_each : (knot : Knot) (number depth : ℕ) (e : Element) (found : List Item) → P number → Each P found
+      → Each P (shown_tree dim mask knot number depth e found)
   tree_each Leaf number depth e found here there = alone_each number depth e here
   tree_each Group number depth e found here there =
-      cond_both e.deleted [] (headed (its_item dim number depth e) found) (Each P) (λ _. tt) (λ _. headed_each (its_item dim number depth e) found (item_each number depth e here) there)
+      cond_both e.deleted [] (headed (its_item dim number depth e) found) (Each P) (λ _. tt)
+      (λ _. headed_each (its_item dim number depth e) found (item_each number depth e here) there)
   tree_each Run number depth e found here there =
       cond_both (e.kind == 34) [] (shown_alone dim mask number depth e) (Each P) (λ _. tt) (λ _. alone_each number depth e here)
   tree_each Loose number depth e found here there = tt

@@ -10,7 +10,7 @@ use Rattle.dgn_drawing.specs.Reading.{element_at}
 use Rattle.dgn_drawing.specs.Rows.{row_of}
 use Rattle.dgn_drawing.specs.Nesting.{Forest, itself, forest}
 use Rattle.dgn_drawing.specs.Numbering.{Mark, marks_of, mark_of, span_of, depth_of, knot_of}
-use Rattle.dgn_drawing.proofs.Read.{element_at-spell}
+use Rattle.dgn_drawing.proofs.RecordsRead.{element_at-spell}
 use Rattle.elem_index.specs.declared.design.Design.{Design}
 use Rattle.elem_index.specs.Design.{elements, IsWhole}
 use Rattle.elem_index.proofs.Places.{axes_of, each_at, sound_in}
@@ -19,7 +19,7 @@ use Rattle.level_view.specs.declared.place.Place.{Place}
 use Rattle.level_view.specs.Back.{with_element, with_marked, read_back, IsPlace}
 use Rattle.dgn_drawing.specs.declared.types.item.Item.{Item}
 use Rattle.dgn_drawing.specs.declared.mask.Mask.{Mask}
-use Rattle.nest_tree.specs.Shapes.{knot_told}
+use Rattle.nest_tree.specs.Shapes.{code_knot}
 use Rattle.nest_tree.proofs.ByRows.{forest_rows, marks-map}
 
 -- the marks of elements are those of their rows
@@ -59,8 +59,9 @@ same_some : {A : Type 0} (x y : A) → Some x ≡ Some y → x ≡ y
 same_some x y is = cc
 
 -- an element's mark, by what is told of it
-module _ (es : List Element) (rows : List Row) (are : rows ≡ map row_of es) (n number end depth : ℕ) (knot : told.Knot) (spanned : ◌≡◌ {A = Option (ℕ × ℕ)} (Some (number, end)) (span_of itself rows n))
-    (deep : Some depth ≡ depth_of itself rows n) (known : Some knot ≡ option_map knot_told (knot_of itself rows n)) where
+module _ (es : List Element) (rows : List Row) (are : rows ≡ map row_of es) (n number end depth : ℕ) (knot : told.Knot)
+    (spanned : ◌≡◌ {A = Option (ℕ × ℕ)} (Some (number, end)) (span_of itself rows n))
+    (deep : Some depth ≡ depth_of itself rows n) (known : Some knot ≡ option_map code_knot (knot_of itself rows n)) where
   span_here : ◌≡◌ {A = Option (ℕ × ℕ)} (Some (number, end)) (option_map (λ (m : Mark). (n, m.end)) (mark_of row_of es n))
   span_here = spanned ∙ ap (option_map (λ (m : Mark). (n, m.end))) (mark-rows es rows n are)
 
@@ -86,18 +87,20 @@ module _ (es : List Element) (rows : List Row) (are : rows ≡ map row_of es) (n
   pub place_depth : depth ≡ place_mark.depth
   place_depth = mark_told (λ (m : Mark). m.depth) place_mark (mark_of itself rows n) depth deep (mark-rows es rows n are ∙ place_marked)
 
-  pub place_knot : knot ≡ knot_told place_mark.knot
-  place_knot = same_some knot (knot_told place_mark.knot) (known ∙ ap (λ (o : Option Mark). option_map knot_told (option_map (λ (m : Mark). m.knot) o)) (mark-rows es rows n are ∙ place_marked))
+  pub place_knot : knot ≡ code_knot place_mark.knot
+  place_knot = same_some knot (code_knot place_mark.knot)
+      (known ∙ ap (λ (o : Option Mark). option_map code_knot (option_map (λ (m : Mark). m.knot) o)) (mark-rows es rows n are ∙ place_marked))
 
 -- an element at its place, before what is shown behind it
 module _ (dim : ℕ) (mask : Mask) (es : List Element) (n : ℕ) (p : Place) (is : IsPlace dim es n p) where
   place_step : (found : List Item)
-      → with_element dim mask p.knot p.number p.depth p.end (element_at dim p.bytes.now) found ≡ with_marked dim mask n (mark_of row_of es n) (slice_get es n) found
+      → with_element dim mask p.knot p.number p.depth p.end (element_at dim p.bytes.now) found
+      ≡ with_marked dim mask n (mark_of row_of es n) (slice_get es n) found
   place_step found =
       ap (λ (k : told.Knot). with_element dim mask k p.number p.depth p.end (element_at dim p.bytes.now) found) is.knot
-      ∙ ap (λ (k : ℕ). with_element dim mask (knot_told is.mark.knot) k p.depth p.end (element_at dim p.bytes.now) found) is.number
-      ∙ ap (λ (k : ℕ). with_element dim mask (knot_told is.mark.knot) n k p.end (element_at dim p.bytes.now) found) is.depth
-      ∙ ap (λ (k : ℕ). with_element dim mask (knot_told is.mark.knot) n is.mark.depth k (element_at dim p.bytes.now) found) is.end
+      ∙ ap (λ (k : ℕ). with_element dim mask (code_knot is.mark.knot) k p.depth p.end (element_at dim p.bytes.now) found) is.number
+      ∙ ap (λ (k : ℕ). with_element dim mask (code_knot is.mark.knot) n k p.end (element_at dim p.bytes.now) found) is.depth
+      ∙ ap (λ (k : ℕ). with_element dim mask (code_knot is.mark.knot) n is.mark.depth k (element_at dim p.bytes.now) found) is.end
       ∙ ap (λ (o : Option Element). with_marked dim mask n (Some is.mark) o found) (sym is.element)
       ∙ ap (λ (o : Option Mark). with_marked dim mask n o (slice_get es n) found) (sym is.marked)
 

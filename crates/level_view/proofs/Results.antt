@@ -6,7 +6,8 @@ use Rattle.std.specs.declared.result.Result.{Result}
 use Rattle.std.specs.declared.result.Result.TheVariants.{Ok, Err}
 use Rattle.std.specs.Option.{option_to_list}
 
-pub ok_lists : {A E : Type 0} (r : Result (Option A) E) (o : Option A) (l : List A) → IfOk r (λ found. found ≡ o) → option_to_list o ≡ l → IfOk r (λ found. option_to_list found ≡ l)
+pub ok_lists : {A E : Type 0} (r : Result (Option A) E) (o : Option A) (l : List A) → IfOk r (λ found. found ≡ o) → option_to_list o ≡ l
+    → IfOk r (λ found. option_to_list found ≡ l)
 ok_lists (Ok found) o l is same = ap option_to_list is ∙ same
 ok_lists (Err e) o l is same = tt
 

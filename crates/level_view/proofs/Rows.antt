@@ -7,7 +7,7 @@ use Rattle.elem_index.specs.declared.design.Design.{Design}
 use Rattle.elem_index.specs.Design.{elements, IsWhole}
 use Rattle.elem_index.proofs.Places.{axes_of, few_elements}
 use Rattle.nest_tree.specs.Shapes.{IsRow}
-use Rattle.nest_tree.proofs.Nestable.{AreNestable, nestable}
+use Rattle.nest_tree.proofs.NestableRows.{AreNestable, nestable}
 
 module _ (d : Design) (whole : IsWhole d) (rows : List Row) (are : rows ≡ map row_of (elements d)) where
   able : AreNestable rows

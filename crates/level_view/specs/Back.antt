@@ -10,7 +10,7 @@ use Rattle.dgn_drawing.specs.Rows.{row_of}
 use Rattle.dgn_drawing.specs.Numbering.{Mark, mark_of}
 use Rattle.dgn_drawing.specs.Shown.{its_item, shown_alone}
 use Rattle.nest_tree.specs.declared.knot.Knot.{Knot}
-use Rattle.nest_tree.specs.Shapes.{knot_told}
+use Rattle.nest_tree.specs.Shapes.{code_knot}
 use Rattle.level_view.specs.declared.place.Place.{Place}
 
 -- whether the first of the items, if there is one, has a number below `end`
@@ -38,7 +38,7 @@ with_element dim mask Knot.Loose number depth end e found = found
 
 -- the same of the element that has that number and that mark
 abbrev pub with_marked : ℕ → Mask → ℕ → Option Mark → Option Element → List Item → List Item
-with_marked dim mask number (Some m) (Some e) found = with_element dim mask (knot_told m.knot) number m.depth m.end e found
+with_marked dim mask number (Some m) (Some e) found = with_element dim mask (code_knot m.knot) number m.depth m.end e found
 with_marked dim mask number marked element found = found
 
 -- what so many elements show, of which the first has number n
@@ -52,7 +52,7 @@ pub record IsPlace (dim : ℕ) (es : List Element) (n : ℕ) (p : Place) : Type 
   pub mark : Mark
   pub marked : mark_of row_of es n ≡ Some mark
   pub element : slice_get es n ≡ Some (element_at dim p.bytes.now)
-  pub knot : p.knot ≡ knot_told mark.knot
+  pub knot : p.knot ≡ code_knot mark.knot
   pub depth : p.depth ≡ mark.depth
   pub end : p.end ≡ mark.end
   pub sound : IsSoundIn dim p.bytes.now

@@ -6,6 +6,7 @@ use Rattle.dgn_drawing.specs.declared.mask.Mask.{Mask}
 use Rattle.dgn_drawing.specs.Element.{Element}
 use Rattle.dgn_drawing.specs.Shown.{shows}
 use Rattle.nest_tree.specs.declared.knot.Knot.{Knot}
+use Rattle.dgn_layout.specs.declared.TheConstants.{SHARED_CELL}
 
 -- the numbers of items
 abbrev pub numbers_of : List Item → List ℕ
@@ -18,7 +19,7 @@ alone_if false number = []
 
 -- whether an element has an item, by its type
 abbrev pub has_item : ℕ → Bool
-has_item kind = not (is_silent (class_of kind)) && not (kind == 34)
+has_item kind = not (is_silent (class_of kind)) && not (kind == SHARED_CELL)
 
 -- whether it shows its item by itself
 abbrev pub is_alone : Mask → Element → Bool

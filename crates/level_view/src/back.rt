@@ -55,7 +55,8 @@ fn add_group(
 ) -> Result<(), AllocError>
     requires dimension { IsDimension dim }
     requires sound { IsSoundIn dim place.bytes.now }
-    ensures { OnOk result (reverse items.new.items ≡ with_group dim place.entry.number place.entry.depth place.entry.end (element_at dim place.entry.bytes.now) (reverse items.old.items)) }
+    ensures { OnOk result (reverse items.new.items
+        ≡ with_group dim place.entry.number place.entry.depth place.entry.end (element_at dim place.entry.bytes.now) (reverse items.old.items)) }
 {
     if head(place.bytes).deleted {
         cut_back(items, place.end);
@@ -80,7 +81,8 @@ fn add_run(
 ) -> Result<(), AllocError>
     requires dimension { IsDimension dim }
     requires sound { IsSoundIn dim place.bytes.now }
-    ensures { OnOk result (reverse items.new.items ≡ shown_alone dim mask place.entry.number place.entry.depth (element_at dim place.entry.bytes.now) ++ past place.entry.end (reverse items.old.items)) }
+    ensures { OnOk result (reverse items.new.items ≡ shown_alone dim mask place.entry.number place.entry.depth (element_at dim place.entry.bytes.now)
+        ++ past place.entry.end (reverse items.old.items)) }
 {
     cut_back(items, place.end);
     put_first(items, shown_alone(alloc, dim, mask, place)?)
@@ -96,7 +98,9 @@ pub(crate) fn add(
 ) -> Result<(), AllocError>
     requires dimension { IsDimension dim }
     requires sound { IsSoundIn dim place.bytes.now }
-    ensures { OnOk result (reverse items.new.items ≡ with_element dim mask place.entry.knot place.entry.number place.entry.depth place.entry.end (element_at dim place.entry.bytes.now) (reverse items.old.items)) }
+    ensures { OnOk result (reverse items.new.items
+        ≡ with_element dim mask place.entry.knot place.entry.number place.entry.depth place.entry.end (element_at dim place.entry.bytes.now)
+        (reverse items.old.items)) }
 {
     match place.knot {
         Knot::Leaf => put_first(items, shown_alone(alloc, dim, mask, place)?),

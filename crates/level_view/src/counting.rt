@@ -14,7 +14,7 @@ use nest_tree::types::Nest;
 use std::alloc::{AllocError, Global};
 
 /// How many items the display shows of the drawing `d` under `mask`: as many as `show` gives. No item is made for it.
-/// `t` is the nesting of `d`. There is an error exactly where there is no memory.
+/// `t` is the nesting of `d`. An error says that there was no memory.
 pub fn count_shown(alloc: Global, d: &Design, t: &Nest, mask: Mask) -> Result<usize, AllocError>
     requires whole { IsWhole d.now }
     requires nesting { t.now.rows ≡ map row_of (elements d.now) }

@@ -21,8 +21,8 @@ const LONG_RUN: u32 = 4096;
 const KEPT_ROWS: usize = 8192;
 
 /// The nesting of the elements of the design. Their rows are read block by block, so no more than those of a block are
-/// kept; of many roots with nothing below them, one behind the other, no row is made. There is an error exactly where
-/// there is no memory.
+/// kept; of many roots with nothing below them, one behind the other, no row is made. An error says that there was no
+/// memory.
 pub fn nest_design(alloc: Global, d: &Design) -> Result<Nest, AllocError>
     requires { IsWhole d.now }
     ensures { IfOk result (λ t. t.rows ≡ map row_of (elements d.now)) }

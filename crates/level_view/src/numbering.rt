@@ -65,7 +65,8 @@ fn put_number(numbers: &mut Vec<u32>, number: u32, shown: bool) -> Result<(), Al
 // Adds the number of a group's header to those of what its members show, if they show anything.
 fn add_group(_dim: u8, place: Place<'_>, numbers: &mut Vec<u32>) -> Result<(), AllocError>
     requires { IsSoundIn _dim place.bytes.now }
-    ensures { OnOk result (reverse numbers.new.items ≡ with_group_number place.entry.number place.entry.end (element_at _dim place.entry.bytes.now) (reverse numbers.old.items)) }
+    ensures { OnOk result (reverse numbers.new.items
+        ≡ with_group_number place.entry.number place.entry.end (element_at _dim place.entry.bytes.now) (reverse numbers.old.items)) }
 {
     let head = head(place.bytes);
     if head.deleted {
@@ -79,7 +80,8 @@ fn add_group(_dim: u8, place: Place<'_>, numbers: &mut Vec<u32>) -> Result<(), A
 // Puts the number of a run's header in the place of those of what its parts show.
 fn add_run(_dim: u8, mask: Mask, place: Place<'_>, numbers: &mut Vec<u32>) -> Result<(), AllocError>
     requires { IsSoundIn _dim place.bytes.now }
-    ensures { OnOk result (reverse numbers.new.items ≡ alone_if (is_alone mask (element_at _dim place.entry.bytes.now)) place.entry.number ++ numbers_past place.entry.end (reverse numbers.old.items)) }
+    ensures { OnOk result (reverse numbers.new.items ≡ alone_if (is_alone mask (element_at _dim place.entry.bytes.now)) place.entry.number
+        ++ numbers_past place.entry.end (reverse numbers.old.items)) }
 {
     cut_below(numbers, place.end);
     put_number(numbers, place.number, is_alone(_dim, mask, place.bytes))
@@ -93,7 +95,8 @@ pub(crate) fn add_number(
     numbers: &mut Vec<u32>,
 ) -> Result<(), AllocError>
     requires { IsSoundIn dim place.bytes.now }
-    ensures { OnOk result (reverse numbers.new.items ≡ with_number mask place.entry.knot place.entry.number place.entry.end (element_at dim place.entry.bytes.now) (reverse numbers.old.items)) }
+    ensures { OnOk result (reverse numbers.new.items
+        ≡ with_number mask place.entry.knot place.entry.number place.entry.end (element_at dim place.entry.bytes.now) (reverse numbers.old.items)) }
 {
     match place.knot {
         Knot::Leaf => {

@@ -23,7 +23,7 @@ use std::alloc::{AllocError, Global};
 /// isn't marked deleted, and whose members give at least one item, gives its header's item, whatever
 /// the header's level is, and then those of its members. The header of a shared cell definition, a run
 /// of type 34, a loose header and a group that is marked deleted give nothing, and neither does what
-/// stands below them. There is an error exactly where there is no memory.
+/// stands below them. An error says that there was no memory.
 pub fn show(alloc: Global, d: &Design, t: &Nest, mask: Mask) -> Result<Vec<Item>, AllocError>
     requires whole { IsWhole d.now }
     requires nesting { t.now.rows ≡ map row_of (elements d.now) }
@@ -35,7 +35,7 @@ pub fn show(alloc: Global, d: &Design, t: &Nest, mask: Mask) -> Result<Vec<Item>
 }
 
 /// The items that the display shows of the tree of the root `n` under `mask`, by the rules of `show`.
-/// `t` is the nesting of `d`. There is an error exactly where there is no memory.
+/// `t` is the nesting of `d`. An error says that there was no memory.
 pub fn tree_items(
     alloc: Global,
     d: &Design,

@@ -13,9 +13,9 @@ use Rattle.dgn_drawing.specs.WellFormed.{IsDimension, IsWellFormed, HasBody}
 use Rattle.dgn_drawing.specs.Reading.{form_at}
 use Rattle.dgn_drawing.specs.Faults.{is_shown, IsSoundIn, IsSound}
 use Rattle.dgn_drawing.specs.Rows.{total_of}
-use Rattle.dgn_drawing.proofs.Read.{kind-spell, size-spell, form-spell, size_said-spell, end_at-spell, element_fault-spell}
-use Rattle.dgn_drawing.proofs.Written.{shown_after}
-use Rattle.dgn_drawing.proofs.Ends.{total_within}
+use Rattle.dgn_drawing.proofs.RecordsRead.{kind-spell, size-spell, form-spell, size_said-spell, end_at-spell, element_fault-spell}
+use Rattle.dgn_drawing.proofs.BytesSpelled.{shown_after}
+use Rattle.dgn_drawing.proofs.BodyEnds.{total_within}
 use Rattle.nest_tree.specs.Depths.{least_size}
 use Rattle.nest_tree.specs.Laws.{HasElementRow}
 

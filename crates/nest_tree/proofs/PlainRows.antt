@@ -1,5 +1,6 @@
 -- Roots with nothing below them, behind other elements: their marks, and what is kept of all.
-use Rattle.std.proofs.Common.{◌≡◌, ℕ, zero, suc, ◌+◌, ◌≤◌, ◌<◌, List, [], ◌∷◌, ◌++◌, length, take, drop, map, get_or, replicate, refl, sym, ap, ◌∙◌, arith, length-append, true, false, Bool, inl, inr}
+use Rattle.std.proofs.Common.{◌≡◌, ℕ, zero, suc, ◌+◌, ◌≤◌, ◌<◌, List, [], ◌∷◌, ◌++◌, length, take, drop, map, get_or, replicate, refl, sym, ap, ◌∙◌, arith}
+use Rattle.std.proofs.Common.{length-append, true, false, Bool, inl, inr}
 use Rattle.std.specs.Prelude.{None, ◌&&◌, ◌||◌, ◌==◌, not}
 use Rattle.std.specs.List.{AllByRecursion, range_with_len}
 use Rattle.std.proofs.lemmas.List.{map-append, get_or-append-add}
@@ -7,20 +8,21 @@ use Rattle.std.proofs.lemmas.Bool.{cond-true, cond-false, cases_Bool, or_cases, 
 use Rattle.dgn_layout.specs.declared.types.Class.{Class}
 use Rattle.dgn_layout.specs.Classes.{class_of, is_among}
 use Rattle.dgn_drawing.specs.declared.row.Row.{Row}
-use Rattle.dgn_drawing.specs.Nesting.{All, Members, Leaf, Forest, NoTree, Tree, Shape, leaf, shape, nest, itself, is_counted, is_all, is_spline_part, has_bit, member_count, front_count}
+use Rattle.dgn_drawing.specs.Nesting.{Whole, Members, Leaf, Forest, NoTree, Tree, Shape, leaf, shape, nest, itself, is_counted, is_all, is_spline_part}
+use Rattle.dgn_drawing.specs.Nesting.{has_bit, member_count, front_count}
 use Rattle.dgn_drawing.specs.Numbering.{Mark, marks, is_broken}
 use Rattle.nest_tree.specs.Linked.{Link, plain_link}
 use Rattle.nest_tree.specs.Depths.{IsWordTotal}
 use Rattle.nest_tree.specs.Plain.{is_header, IsPlain, plain_mark}
 use Rattle.nest_tree.specs.Passing.{passing, broken_in}
-use Rattle.nest_tree.specs.Places.{marks_in, link_of, end_told, broken_told, NestApart}
+use Rattle.nest_tree.specs.Places.{marks_in, link_of, end_of_mark, broken_by_link, NestApart}
 use Rattle.nest_tree.specs.Nested.{IsNest}
-use Rattle.nest_tree.proofs.Unfolded.{shape_cases, nest_cons, nest_nil}
-use Rattle.nest_tree.proofs.Begun.{all_marks, all_links}
-use Rattle.nest_tree.proofs.Weighed.{no_row}
-use Rattle.nest_tree.proofs.Placed.{length-links}
-use Rattle.nest_tree.proofs.Grown.{grown_words, length-grown, grown_broken, length-kept_ends}
-use Rattle.nest_tree.proofs.Passed.{one_fails, said}
+use Rattle.nest_tree.proofs.NestingSteps.{shape_cases, nest_cons, nest_nil}
+use Rattle.nest_tree.proofs.FirstLinks.{all_marks, all_links}
+use Rattle.nest_tree.proofs.MemberBytes.{no_row}
+use Rattle.nest_tree.proofs.OpenLists.{length-links}
+use Rattle.nest_tree.proofs.GrownNestings.{grown_words, length-grown, grown_broken, length-kept_ends}
+use Rattle.nest_tree.proofs.BrokenList.{one_fails, said}
 
 -- rows of which all pass a test from the front on pass it
 pub all_pass : (test : Row → Bool) (rows : List Row) → front_count test rows ≡ length rows → AllByRecursion (λ r. test r ≡ true) rows
@@ -67,31 +69,32 @@ spline_header kind spline = elim (or_cases (kind == 24) ((kind == 27) || false) 
 ]
 
 -- nothing stands below such a root
-plain_shape : (h : Row) (r : List Row) → IsPlain h → shape itself All h r ≡ leaf
+plain_shape : (h : Row) (r : List Row) → IsPlain h → shape itself Whole h r ≡ leaf
 plain_shape h r plain =
     let none = no_header h plain in
-    shape_cases (λ s. s ≡ leaf) All h (member_count itself h r) (front_count (λ e. is_spline_part (itself e)) r) (front_count (λ e. has_bit (itself e)) r)
+    shape_cases (λ s. s ≡ leaf) Whole h (member_count itself h r) (front_count (λ e. is_spline_part (itself e)) r) (front_count (λ e. has_bit (itself e)) r)
     refl
     (λ counted. absurd (both_ways (is_header (class_of h.kind)) none (counted_header (class_of h.kind) counted)))
     (λ _ spline. absurd (both_ways (is_header (class_of h.kind)) none (spline_header h.kind spline)))
-    (λ _ shared. absurd (both_ways (is_header (class_of h.kind)) none (header_among h.kind 34 (and_parts (h.kind == 34) (is_all All) shared).0 refl)))
+    (λ _ shared. absurd (both_ways (is_header (class_of h.kind)) none (header_among h.kind 34 (and_parts (h.kind == 34) (is_all Whole) shared).0 refl)))
 
-plain_tree : (h : Row) (r : List Row) → IsPlain h → nest itself All (h ∷ r) ≡ Tree Leaf h NoTree (nest itself All r)
+plain_tree : (h : Row) (r : List Row) → IsPlain h → nest itself Whole (h ∷ r) ≡ Tree Leaf h NoTree (nest itself Whole r)
 plain_tree h r plain =
-    nest_cons itself All h r
-    ∙ ap (λ (s : Shape). Tree s.knot h (nest itself s.inside (take s.count r)) (nest itself All (drop s.count r))) (plain_shape h r plain)
-    ∙ ap (λ (f : Forest Row). Tree Leaf h f (nest itself All r)) (nest_nil itself Members)
+    nest_cons itself Whole h r
+    ∙ ap (λ (s : Shape). Tree s.knot h (nest itself s.inside (take s.count r)) (nest itself Whole (drop s.count r))) (plain_shape h r plain)
+    ∙ ap (λ (f : Forest Row). Tree Leaf h f (nest itself Whole r)) (nest_nil itself Members)
 
 -- so their marks are plain
-plain_marks : (rows : List Row) (n : ℕ) → AllByRecursion IsPlain rows → marks (nest itself All rows) n 0 None ≡ map plain_mark (range_with_len (n + 1) (length rows))
-plain_marks [] n plain = ap (λ (f : Forest Row). marks f n 0 None) (nest_nil itself All)
+plain_marks : (rows : List Row) (n : ℕ) → AllByRecursion IsPlain rows
+    → marks (nest itself Whole rows) n 0 None ≡ map plain_mark (range_with_len (n + 1) (length rows))
+plain_marks [] n plain = ap (λ (f : Forest Row). marks f n 0 None) (nest_nil itself Whole)
 plain_marks (r ∷ rows) n plain =
     let next : n + 1 + 0 ≡ n + 1 = omega arith in
     ap (λ (f : Forest Row). marks f n 0 None) (plain_tree r rows plain.0)
-    ∙ ap (λ (k : ℕ). plain_mark k ∷ marks (nest itself All rows) k 0 None) next
+    ∙ ap (λ (k : ℕ). plain_mark k ∷ marks (nest itself Whole rows) k 0 None) next
     ∙ ap (λ (l : List Mark). plain_mark (n + 1) ∷ l) (plain_marks rows (n + 1) plain.1)
 
-plain_ends : (n k : ℕ) → map end_told (map plain_mark (range_with_len n k)) ≡ range_with_len n k
+plain_ends : (n k : ℕ) → map end_of_mark (map plain_mark (range_with_len n k)) ≡ range_with_len n k
 plain_ends n zero = refl
 plain_ends n (suc k) = ap (λ (l : List ℕ). n ∷ l) (plain_ends (n + 1) k)
 
@@ -104,7 +107,7 @@ and_last true = refl
 and_last false = refl
 
 -- and none is broken
-plain_told : (n : ℕ) (r : Row) → r.cbit ≡ false → broken_told n plain_link r ≡ false
+plain_told : (n : ℕ) (r : Row) → r.cbit ≡ false → broken_by_link n plain_link r ≡ false
 plain_told n r none = ap (λ (b : Bool). not (n == 0) && true && b) none ∙ and_last (not (n == 0))
 
 plain_at : (rows : List Row) (i : ℕ) → AllByRecursion IsPlain rows → i < length rows → (get_or rows i no_row).cbit ≡ false
@@ -118,16 +121,17 @@ same_link (suc k) zero = refl
 same_link (suc k) (suc i) = same_link k i
 
 -- what is kept of all, where such rows are put behind the others
-module _ (rows new all : List Row) (ends : List ℕ) (links : List Link) (broken : List ℕ) (kept : IsNest rows ends links broken) (apart : NestApart rows new) (is : all ≡ rows ++ new) (plain : AllByRecursion IsPlain new) where
+module _ (rows new all : List Row) (ends : List ℕ) (links : List Link) (broken : List ℕ) (kept : IsNest rows ends links broken) (apart : NestApart rows new)
+    (is : all ≡ rows ++ new) (plain : AllByRecursion IsPlain new) where
   all_marks_are : marks_in all ≡ marks_in rows ++ map plain_mark (range_with_len (length rows + 1) (length new))
   all_marks_are = ap marks_in is ∙ apart ∙ ap (λ (l : List Mark). marks_in rows ++ l) (plain_marks new (length rows) plain)
 
-  ends_are : ends ++ range_with_len (length rows + 1) (length new) ≡ map end_told (marks_in all)
+  ends_are : ends ++ range_with_len (length rows + 1) (length new) ≡ map end_of_mark (marks_in all)
   ends_are =
-      ap (λ (l : List ℕ). l ++ range_with_len (length rows + 1) (length new)) (kept.places.ends_are ∙ ap (map end_told) (all_marks rows))
-      ∙ ap (λ (l : List ℕ). map end_told (marks_in rows) ++ l) (sym (plain_ends (length rows + 1) (length new)))
-      ∙ sym (map-append end_told (marks_in rows) (map plain_mark (range_with_len (length rows + 1) (length new))))
-      ∙ ap (map end_told) (sym all_marks_are)
+      ap (λ (l : List ℕ). l ++ range_with_len (length rows + 1) (length new)) (kept.places.ends_are ∙ ap (map end_of_mark) (all_marks rows))
+      ∙ ap (λ (l : List ℕ). map end_of_mark (marks_in rows) ++ l) (sym (plain_ends (length rows + 1) (length new)))
+      ∙ sym (map-append end_of_mark (marks_in rows) (map plain_mark (range_with_len (length rows + 1) (length new))))
+      ∙ ap (map end_of_mark) (sym all_marks_are)
 
   links_are : links ++ replicate (length new) plain_link ≡ map link_of (marks_in all)
   links_are =
@@ -145,8 +149,9 @@ module _ (rows new all : List Row) (ends : List ℕ) (links : List Link) (broken
       let row : (get_or all (length rows + k) no_row).cbit ≡ false =
       ap (λ (l : List Row). (get_or l (length rows + k) no_row).cbit) is
       ∙ ap (λ (r : Row). r.cbit) (get_or-append-add rows new k no_row) ∙ plain_at new k plain inside in
-      sym (said all (links ++ replicate (length new) plain_link) links_are (length rows + k) plain_link no_row (omega (arith, ap (length {A = Row}) is, length-append rows new)))
-      ∙ ap (λ (l : Link). broken_told (length rows + k) l (get_or all (length rows + k) no_row)) link
+      sym (said all (links ++ replicate (length new) plain_link) links_are (length rows + k) plain_link no_row
+      (omega (arith, ap (length {A = Row}) is, length-append rows new)))
+      ∙ ap (λ (l : Link). broken_by_link (length rows + k) l (get_or all (length rows + k) no_row)) link
       ∙ plain_told (length rows + k) (get_or all (length rows + k) no_row) row
 
   broken_yet : (k : ℕ) → k ≤ length new → broken ≡ passing (is_broken itself all) 0 (length rows + k)
@@ -167,7 +172,8 @@ module _ (rows new all : List Row) (ends : List ℕ) (links : List Link) (broken
       let whole : length rows + length new ≡ length all = sym (length-grown rows new all ends links broken kept apart is) in
       broken_yet (length new) (omega arith) ∙ ap (passing (is_broken itself all) 0) whole
 
-  pub plain_grown : length all < 4294967295 → AllByRecursion IsWordTotal new → IsNest all (ends ++ range_with_len (length rows + 1) (length new)) (links ++ replicate (length new) plain_link) broken
+  pub plain_grown : length all < 4294967295 → AllByRecursion IsWordTotal new
+      → IsNest all (ends ++ range_with_len (length rows + 1) (length new)) (links ++ replicate (length new) plain_link) broken
   plain_grown few words =
       let some = kept.some in
       record {
@@ -176,7 +182,7 @@ module _ (rows new all : List Row) (ends : List ℕ) (links : List Link) (broken
         words = grown_words rows new all ends links broken kept apart is words;
         places = record {
           within = omega arith;
-          ends_are = ends_are ∙ ap (map end_told) (sym (all_marks all));
+          ends_are = ends_are ∙ ap (map end_of_mark) (sym (all_marks all));
           links_are = links_are ∙ ap (map link_of) (sym (all_marks all));
         };
         are_broken = broken_still;

@@ -5,8 +5,9 @@ use Rattle.dgn_drawing.specs.declared.row.Row.{Row}
 use Rattle.dgn_drawing.specs.Element.{Element}
 use Rattle.dgn_drawing.specs.Rows.{row_of}
 use Rattle.dgn_drawing.specs.WellFormed.{IsDimension, IsWellFormed}
-use Rattle.dgn_drawing.specs.Nesting.{Scope, All, Forest, NoTree, Tree, AreMembers, member_count, shape, nest, forest, joined, flat, forest_map, BeginsFree, itself}
-use Rattle.dgn_drawing.specs.Numbering.{Mark, marks, marks_of, first_from}
+use Rattle.dgn_drawing.specs.Nesting.{Scope, Whole, Forest, NoTree, Tree, AreMembers, member_count, shape, nest, forest, joined, flat, forest_map}
+use Rattle.dgn_drawing.specs.Nesting.{BeginsFree, itself}
+use Rattle.dgn_drawing.specs.Numbering.{Mark, marks, marks_of, parent_of, headers_of, first_from}
 use Rattle.nest_tree.specs.Shapes.{IsRow}
 use Rattle.nest_tree.specs.Depths.{IsSized, IsWordTotal, headers}
 
@@ -46,17 +47,17 @@ TreesAreKnownByRows = (f : Forest Element) → forest_map row_of f ≡ forest it
 -- what is read behind other elements, and begins without bit C, nests apart from them
 abbrev pub AppendedElementsNestApart : Type 0
 AppendedElementsNestApart =
-    (es new : List Element) → 0 < length es → BeginsFree row_of new → forest row_of (es ++ new) ≡ joined (forest row_of es) (nest row_of All new)
+    (es new : List Element) → 0 < length es → BeginsFree row_of new → forest row_of (es ++ new) ≡ joined (forest row_of es) (nest row_of Whole new)
 
 abbrev pub AppendedRowsNestApart : Type 0
 AppendedRowsNestApart =
-    (rows new : List Row) → 0 < length rows → BeginsFree itself new → forest itself (rows ++ new) ≡ joined (forest itself rows) (nest itself All new)
+    (rows new : List Row) → 0 < length rows → BeginsFree itself new → forest itself (rows ++ new) ≡ joined (forest itself rows) (nest itself Whole new)
 
 -- so their numbers are those behind the others, whose marks stay
 abbrev pub AppendedRowsAreNumberedBehind : Type 0
 AppendedRowsAreNumberedBehind =
     (rows new : List Row) → 0 < length rows → BeginsFree itself new
-    → marks_of (forest itself (rows ++ new)) ≡ marks_of (forest itself rows) ++ marks (nest itself All new) (length rows) 0 None
+    → marks_of (forest itself (rows ++ new)) ≡ marks_of (forest itself rows) ++ marks (nest itself Whole new) (length rows) 0 None
 
 -- and the other way round: where they are taken away, the marks of the others stay
 abbrev pub FirstRowsKeepTheirMarks : Type 0
@@ -72,7 +73,17 @@ FewHeadersLieInEachOther =
 
 abbrev pub NoElementLiesDeep : Type 0
 NoElementLiesDeep =
-    (rows : List Row) → AllByRecursion IsSized rows → AllByRecursion IsWordTotal rows → AllByRecursion (λ (m : Mark). m.depth ≤ 3278) (marks_of (forest itself rows))
+    (rows : List Row) → AllByRecursion IsSized rows → AllByRecursion IsWordTotal rows
+    → AllByRecursion (λ (m : Mark). m.depth ≤ 3278) (marks_of (forest itself rows))
+
+-- the headers above an element are those above its header, which stands before it, and then that one; above a root there
+-- are none
+pub record GoByParents (es : List Element) (n : ℕ) : Type 0 where
+  pub header : (q : ℕ) → parent_of row_of es n ≡ Some (Some q) → (q < n) × (headers_of row_of es n ≡ headers_of row_of es q ++ q ∷ [])
+  pub root : parent_of row_of es n ≡ Some None → headers_of row_of es n ≡ []
+
+abbrev pub HeadersGoByParents : Type 0
+HeadersGoByParents = (es : List Element) (n : ℕ) → GoByParents es n
 
 -- the number is the least that passes the test, of so many from n on
 pub record IsLeast (test : ℕ → Bool) (n count m : ℕ) : Type 0 where

@@ -1,15 +1,16 @@
 -- The places of the elements, as they are found one behind the other: of the elements that have theirs, which
 -- ones these are, and of the others, in which lists they are still to be read.
-use Rattle.std.specs.Prelude.{ℕ, ◌+◌, ◌-◌, ◌<◌, ◌≤◌, ◌≡◌, ◌&&◌, ◌||◌, ◌==◌, not, is_some, Bool, true, false, if◌then◌else◌, Option, Some, None, List, [], ◌∷◌, ◌++◌, length, take, drop, map, slice_index, slice_index_or}
+use Rattle.std.specs.Prelude.{ℕ, ◌+◌, ◌-◌, ◌<◌, ◌≤◌, ◌≡◌, ◌&&◌, ◌||◌, ◌==◌, not, is_some, Bool, true, false, if◌then◌else◌, Option, Some, None, List, []}
+use Rattle.std.specs.Prelude.{◌∷◌, ◌++◌, length, take, drop, map, slice_index, slice_index_or}
 use Rattle.dgn_layout.specs.Classes.{is_among}
 use Rattle.dgn_drawing.specs.declared.row.Row.{Row}
-use Rattle.dgn_drawing.specs.Nesting.{All, itself, nest, forest}
-use Rattle.dgn_drawing.specs.Numbering.{Mark, marks, marks_of}
+use Rattle.dgn_drawing.specs.Nesting.{Whole, itself, nest, forest}
+use Rattle.dgn_drawing.specs.Numbering.{Mark, marks, marks_of, is_loose}
 use Rattle.nest_tree.specs.declared.knot.Knot.{Knot}
 use Rattle.nest_tree.specs.Linked.{Link}
 use Rattle.nest_tree.specs.declared.open_list.OpenList.{OpenList}
 use Rattle.nest_tree.specs.declared.shape.Scope.{Scope}
-use Rattle.nest_tree.specs.Shapes.{knot_told, scope_meant}
+use Rattle.nest_tree.specs.Shapes.{code_knot, defined_knot, defined_scope}
 
 -- the marks of the elements with these rows
 unfoldable pub marks_in : List Row → List Mark
@@ -17,27 +18,23 @@ marks_in rows = marks_of (forest itself rows)
 
 -- new elements with these rows nest apart from those before them
 abbrev pub NestApart : List Row → List Row → Type 0
-NestApart rows new = marks_in (rows ++ new) ≡ marks_in rows ++ marks (nest itself All new) (length rows) 0 None
+NestApart rows new = marks_in (rows ++ new) ≡ marks_in rows ++ marks (nest itself Whole new) (length rows) 0 None
 
 -- what is kept of a mark beside its end
 abbrev pub link_of : Mark → Link
-link_of m = record { parent = m.parent; depth = m.depth; knot = knot_told m.knot }
+link_of m = record { parent = m.parent; depth = m.depth; knot = code_knot m.knot }
 
-abbrev pub end_told : Mark → ℕ
-end_told m = m.end
+abbrev pub end_of_mark : Mark → ℕ
+end_of_mark m = m.end
 
 -- whether an element is broken, by what is kept of it: a loose header, or a root but for element 0 with bit C
-abbrev pub is_loose : Knot → Bool
-is_loose Knot.Loose = true
-is_loose other = false
-
-abbrev pub broken_told : ℕ → Link → Row → Bool
-broken_told n link row = is_loose link.knot || not (n == 0) && not (is_some link.parent) && row.cbit
+abbrev pub broken_by_link : ℕ → Link → Row → Bool
+broken_by_link n link row = is_loose (defined_knot link.knot) || not (n == 0) && not (is_some link.parent) && row.cbit
 
 -- what is kept of the first n elements
 pub record ArePlaces (rows : List Row) (n : ℕ) (ends : List ℕ) (links : List Link) : Type 0 where
   pub within : n ≤ length rows
-  pub ends_are : ends ≡ map end_told (take n (marks_in rows))
+  pub ends_are : ends ≡ map end_of_mark (take n (marks_in rows))
   pub links_are : links ≡ map link_of (take n (marks_in rows))
 
 -- what the marks say of element n
@@ -51,7 +48,7 @@ abbrev pub depth_in : List Row → ℕ → ℕ
 depth_in rows n = slice_index (map (λ (m : Mark). m.depth) (marks_in rows)) n
 
 abbrev pub knot_in : List Row → ℕ → Knot
-knot_in rows n = slice_index_or (map (λ (m : Mark). knot_told m.knot) (marks_in rows)) n Knot.Leaf
+knot_in rows n = slice_index_or (map (λ (m : Mark). code_knot m.knot) (marks_in rows)) n Knot.Leaf
 
 abbrev pub kind_in : List Row → ℕ → ℕ
 kind_in rows n = slice_index (map (λ (r : Row). r.kind) rows) n
@@ -78,7 +75,7 @@ list_around rows n = list_in rows (parent_in rows n) (depth_in rows n)
 abbrev pub resume : List OpenList → ℕ → List Row → List Mark
 resume [] at l = []
 resume (f ∷ fs) at l =
-    marks (nest itself (scope_meant f.scope) (take (f.end - at) l)) at f.depth f.parent
+    marks (nest itself (defined_scope f.scope) (take (f.end - at) l)) at f.depth f.parent
     ++ resume fs (at + (f.end - at)) (drop (f.end - at) l)
 
 -- list f stands in list g, below a header before number at

@@ -3,7 +3,7 @@
 ghost use Rattle.std.specs.Prelude.{◌≡◌, ◌+◌, ◌-◌, ◌<◌, ◌≤◌, nat_lt, length, drop, map, vec_len, vec_capacity, OnOk, OnErr};
 ghost use Rattle.dgn_drawing.specs.Nesting.{itself};
 ghost use Rattle.dgn_drawing.specs.Numbering.{is_broken};
-ghost use Rattle.nest_tree.specs.Places.{marks_in, link_of, broken_told};
+ghost use Rattle.nest_tree.specs.Places.{marks_in, link_of, broken_by_link};
 ghost use Rattle.nest_tree.specs.Passing.{passing, broken_in, below};
 ghost use Rattle.std.specs.List.Sorted.{IsPartitionedBy};
 
@@ -16,7 +16,7 @@ use std::alloc::AllocError;
 
 // Whether element `n` is broken, by what is kept of it.
 fn is_broken_as(n: u32, link: Link, row: Row) -> bool
-    ensures { result ≡ broken_told n link row }
+    ensures { result ≡ broken_by_link n link row }
 {
     let orphan = n != 0 && link.parent().is_none() && row.cbit;
     matches!(link.knot(), Knot::Loose) || orphan

@@ -1,6 +1,9 @@
 //! What holds of all nestings. Each call does nothing; its contract is the law.
 
-ghost use Rattle.nest_tree.specs.Laws.{ListsAreRead, NothingIsReadOfNothing, MembersAreCounted, OrderIsKept, ElementsNestByRows, ElementsAreNumberedByRows, TreesAreKnownByRows, AppendedElementsNestApart, AppendedRowsNestApart, AppendedRowsAreNumberedBehind, FirstRowsKeepTheirMarks, FewHeadersLieInEachOther, NoElementLiesDeep, FirstIsLeast, ElementsHaveRows};
+ghost use Rattle.nest_tree.specs.Laws.{ListsAreRead, NothingIsReadOfNothing, MembersAreCounted, OrderIsKept, ElementsNestByRows, ElementsAreNumberedByRows};
+ghost use Rattle.nest_tree.specs.Laws.{TreesAreKnownByRows, AppendedElementsNestApart, AppendedRowsNestApart, AppendedRowsAreNumberedBehind};
+ghost use Rattle.nest_tree.specs.Laws.{FirstRowsKeepTheirMarks, FewHeadersLieInEachOther, NoElementLiesDeep, HeadersGoByParents, FirstIsLeast};
+ghost use Rattle.nest_tree.specs.Laws.{ElementsHaveRows};
 
 /// Lists are read from the front: each element is a leaf or the head of a tree over some of those
 /// behind it, and reading goes on behind these. The trees have the elements of the list in its order.
@@ -39,6 +42,12 @@ pub fn appended_trees_nest_apart()
 pub fn no_element_lies_deep()
     ensures headers { FewHeadersLieInEachOther }
     ensures depth { NoElementLiesDeep }
+{}
+
+/// The headers above an element are found by going up from parent to parent: they are those above its
+/// own header, which stands before it, and then that one; above a root there are none.
+pub fn headers_go_by_parents()
+    ensures { HeadersGoByParents }
 {}
 
 /// The first number that passes a test is the least one, so the first broken one is the least one.

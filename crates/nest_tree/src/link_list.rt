@@ -1,6 +1,7 @@
 // What is kept of all elements beside the numbers behind their spans.
 
-ghost use Rattle.std.specs.Prelude.{◌≡◌, ◌-◌, ◌<◌, ◌≤◌, ◌+◌, [], ◌∷◌, ◌++◌, length, take, get_or, slice_get, replicate, true, vec_len, vec_capacity, IfOk, OnOk};
+ghost use Rattle.std.specs.Prelude.{◌≡◌, ◌-◌, ◌<◌, ◌≤◌, ◌+◌, [], ◌∷◌, ◌++◌, length, take, get_or, slice_get, replicate, true, vec_len, vec_capacity, IfOk};
+ghost use Rattle.std.specs.Prelude.{OnOk};
 ghost use Rattle.nest_tree.specs.Linked.{Links, plain_link};
 
 use crate::knot::Knot;

@@ -1,10 +1,11 @@
-ghost use Rattle.std.specs.Prelude.{◌≡◌, ◌≤◌, ◌<◌, ◌+◌, ◌-◌, ◌++◌, ◌↔◌, nat_lt, length, take, drop, map, slice_get, option_map, vec_len, vec_capacity, IsNone, IfSome, OnOk};
+ghost use Rattle.std.specs.Prelude.{◌≡◌, ◌≤◌, ◌<◌, ◌+◌, ◌-◌, ◌++◌, ◌↔◌, nat_lt, length, take, drop, map, slice_get, option_map, vec_len, vec_capacity};
+ghost use Rattle.std.specs.Prelude.{IsNone, IfSome, OnOk};
 ghost use Rattle.std.specs.List.{AllByRecursion};
 ghost use Rattle.nest_tree.specs.Depths.{IsSized, IsWordTotal};
 ghost use Rattle.dgn_drawing.specs.Nesting.{BeginsFree, itself};
 ghost use Rattle.dgn_drawing.specs.Numbering.{span_of, depth_of, parent_of, knot_of, root_of, first_broken_of};
-ghost use Rattle.nest_tree.specs.Shapes.{knot_told, IsRow};
-ghost use Rattle.nest_tree.specs.Places.{marks_in, link_of, end_told, NestApart};
+ghost use Rattle.nest_tree.specs.Shapes.{code_knot, IsRow};
+ghost use Rattle.nest_tree.specs.Places.{marks_in, link_of, end_of_mark, NestApart};
 ghost use Rattle.nest_tree.specs.Passing.{broken_in, first_at, if_below};
 ghost use Rattle.nest_tree.specs.Plain.{IsPlain, IsPlainKind, kept_rows};
 ghost use Rattle.nest_tree.specs.Nested.{Nested, nested_of, IsNest};
@@ -43,7 +44,8 @@ pub struct Nest {
 impl Model for Nest {
     ghost Value = { Nested };
 
-    ghost view = { λ s. nested_of s.seen.list (vec_capacity s.sums - 1) (vec_capacity s.ends - vec_len s.ends) s.links.spare (vec_capacity s.broken - vec_len s.broken) };
+    ghost view = { λ s. nested_of s.seen.list (vec_capacity s.sums - 1) (vec_capacity s.ends - vec_len s.ends) s.links.spare
+        (vec_capacity s.broken - vec_len s.broken) };
 
     ghost invariant = { λ s. IsNest s.seen.list s.ends.items s.links.items s.broken.items };
 }
@@ -67,7 +69,7 @@ fn if_below(number: Option<u32>, end: u32) -> Option<u32>
 
 impl Nest {
     /// Makes room for at least `n` more elements. All else stays as it is, with every answer.
-    /// There is an error exactly where there is no memory.
+    /// An error says that there was no memory.
     pub fn reserve(&mut self, n: u32) -> Result<(), AllocError>
         ensures rows { self.new.rows ≡ self.old.rows }
         ensures room { OnOk result (n ≤ self.new.spare) }
@@ -109,7 +111,7 @@ impl Nest {
         }
     }
 
-    // The same, where each is a root with nothing below it.
+    // Adds elements of which each is a root with nothing below it.
     fn add_plain(&mut self, rows: &[Row])
         requires room { length rows.now ≤ self.old.spare }
         requires few { length self.old.rows + length rows.now < 4294967295 }
@@ -125,7 +127,7 @@ impl Nest {
         self.seen = self.seen.then(&Step::Behind(rows));
     }
 
-    // The same, whatever they are.
+    // Adds elements of any kind.
     fn add_any(&mut self, rows: &[Row])
         requires room { length rows.now ≤ self.old.spare }
         requires few { length self.old.rows + length rows.now < 4294967295 }
@@ -151,7 +153,8 @@ impl Nest {
     }
 
     /// Adds elements behind the others which are roots with nothing below them (`plain_run`), by what is kept of them: the
-    /// place where each begins, type and bit C of each in a byte, and the place where the last one ends. It takes no memory.
+    /// place where each begins, type and bit C of each in a byte, and the place where the last one ends. It takes no
+    /// memory.
     pub fn grow_plain(&mut self, places: &[u32], kinds: &[u8], end: u32)
         requires room { length places.now ≤ self.old.spare }
         requires few { length self.old.rows + length places.now < 4294967295 }
@@ -182,7 +185,7 @@ impl Nest {
 
     /// For each element, in the order of the file, the number behind the last element below it.
     pub fn ends(&self) -> &[u32]
-        ensures { result.now ≡ map end_told (marks_in self.now.rows) }
+        ensures { result.now ≡ map end_of_mark (marks_in self.now.rows) }
     {
         &self.ends
     }
@@ -197,7 +200,7 @@ impl Nest {
 
     // The number behind the last element below element `n`, where there is one.
     fn end(&self, n: u32) -> Option<u32>
-        ensures { result ≡ option_map end_told (slice_get (marks_in self.now.rows) n) }
+        ensures { result ≡ option_map end_of_mark (slice_get (marks_in self.now.rows) n) }
     {
         entry(&self.ends, n as usize)
     }
@@ -249,7 +252,7 @@ impl Nest {
     /// What element `n` is in its tree. None exactly for an unknown number.
     pub fn knot(&self, n: u32) -> Option<Knot>
         ensures none { IsNone result ↔ (length self.now.rows ≤ n) }
-        ensures knot { result ≡ option_map knot_told (knot_of itself self.now.rows n) }
+        ensures knot { result ≡ option_map code_knot (knot_of itself self.now.rows n) }
     {
         let link = self.link(n)?;
         Some(link.knot())

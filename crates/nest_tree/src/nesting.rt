@@ -18,7 +18,7 @@ use std::alloc::{AllocError, Global};
 const BLOCK: usize = 4096;
 
 /// Nests the elements with these rows. Element 0 is a leaf, and every other one is read by its type.
-/// There is an error exactly where there is no memory.
+/// An error says that there was no memory.
 pub fn nest(alloc: Global, rows: &[Row]) -> Result<Nest, AllocError>
     requires some { 0 < length rows.now }
     requires few { length rows.now < 4294967295 }

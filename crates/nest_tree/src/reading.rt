@@ -2,7 +2,7 @@
 
 ghost use Rattle.std.specs.Prelude.{◌≡◌, ◌<◌, ◌≤◌, ◌*◌, ◌+◌, length, drop, None, vec_capacity};
 ghost use Rattle.std.specs.List.{AllByRecursion};
-ghost use Rattle.dgn_drawing.specs.Nesting.{All, itself, nest};
+ghost use Rattle.dgn_drawing.specs.Nesting.{Whole, itself, nest};
 ghost use Rattle.dgn_drawing.specs.Numbering.{marks};
 ghost use Rattle.nest_tree.specs.Sums.{weights, sums_from};
 ghost use Rattle.nest_tree.specs.Shapes.{IsRow};
@@ -30,7 +30,8 @@ pub(crate) fn read_on(
     requires light { weights rows.now ≤ 4294967295 * length rows.now }
     requires sums { sums.now ≡ sums_from 0 rows.now }
     requires places { ArePlaces seen.now.list (length ends.old.items) ends.old.items links.old.items }
-    requires apart { drop (length ends.old.items) (marks_in seen.now.list) ≡ marks (nest itself All (drop (length ends.old.items) seen.now.list)) (length ends.old.items) 0 None }
+    requires apart { drop (length ends.old.items) (marks_in seen.now.list)
+        ≡ marks (nest itself Whole (drop (length ends.old.items) seen.now.list)) (length ends.old.items) 0 None }
     requires room_for_ends { length seen.now.list ≤ vec_capacity ends.old }
     requires room_for_links { length seen.now.list ≤ length links.old.items + links.old.spare }
     ensures { ArePlaces seen.now.list (length seen.now.list) ends.new.items links.new.items }

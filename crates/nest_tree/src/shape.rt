@@ -1,9 +1,9 @@
 // What the first element of a list is, and what stands below it.
 
 ghost use Rattle.std.specs.Prelude.{◌≡◌, ◌<◌, ◌==◌, ◌&&◌, Option, [], ◌∷◌};
-ghost use Rattle.dgn_drawing.specs.Nesting.{front_count, is_all, is_parts, is_spline_part, has_bit, group_or_loose, run_over};
+ghost use Rattle.dgn_drawing.specs.Nesting.{front_count, is_all, is_parts, is_spline_part, group_or_loose, run_over};
 ghost use Rattle.dgn_layout.specs.Classes.{is_among};
-ghost use Rattle.nest_tree.specs.Shapes.{scope_meant, shape_told, shape_in, rows_between, IsBetween};
+ghost use Rattle.nest_tree.specs.Shapes.{defined_scope, code_shape, is_part_in, shape_in, rows_between, IsBetween};
 
 use crate::knot::Knot;
 use crate::sums::members;
@@ -42,24 +42,23 @@ fn is_spline_part(row: Row) -> bool
     row.cbit && matches!(row.kind, 21 | 25 | 26 | 28)
 }
 
-// How many rows from the front on are parts of a B-spline.
-fn spline_parts(rows: &[Row]) -> usize
-    ensures { result ≡ front_count is_spline_part rows.now }
+// Whether an element is a part of a run, where it follows one whose parts are that list: of a B-spline, or else of a
+// shared cell definition.
+fn is_part(inside: Scope, row: Row) -> bool
+    ensures { result ≡ is_part_in inside row }
 {
-    for (i, row) in rows.iter().enumerate() {
-        if !is_spline_part(*row) {
-            return i;
-        }
+    match inside {
+        Scope::Parts => is_spline_part(row),
+        Scope::All | Scope::Members => row.cbit,
     }
-    rows.len()
 }
 
-// How many rows from the front on have bit C.
-fn shared_parts(rows: &[Row]) -> usize
-    ensures { result ≡ front_count has_bit rows.now }
+// How many rows from the front on are parts of such a run.
+fn parts(inside: Scope, rows: &[Row]) -> usize
+    ensures { result ≡ front_count (is_part_in inside) rows.now }
 {
     for (i, row) in rows.iter().enumerate() {
-        if !row.cbit {
+        if !is_part(inside, *row) {
             return i;
         }
     }
@@ -68,14 +67,14 @@ fn shared_parts(rows: &[Row]) -> usize
 
 // Whether that is the type of a shared cell definition, in the list of all elements.
 fn is_shared(kind: u8, scope: Scope) -> bool
-    ensures { result ≡ (kind == 34 && is_all (scope_meant scope)) }
+    ensures { result ≡ (kind == SHARED_CELL && is_all (defined_scope scope)) }
 {
     kind == SHARED_CELL && matches!(scope, Scope::All)
 }
 
 // Whether the list is the parts of a B-spline.
 fn is_parts(scope: Scope) -> bool
-    ensures { result ≡ is_parts (scope_meant scope) }
+    ensures { result ≡ is_parts (defined_scope scope) }
 {
     matches!(scope, Scope::Parts)
 }
@@ -90,7 +89,7 @@ fn is_spline(kind: u8) -> bool
 // The shape of element `at` in a list of that scope, which ends before element `end`.
 pub(crate) fn shape_at(rows: &[Row], sums: &[u64], scope: Scope, at: usize, end: usize) -> Shape
     requires { IsBetween rows.now sums.now at end }
-    ensures { result ≡ shape_told (shape_in scope (rows_between rows.now at end)) }
+    ensures { result ≡ code_shape (shape_in scope (rows_between rows.now at end)) }
 {
     let (_, rest) = rows.split_at(at + 1);
     let (list, _) = rest.split_at(end - at - 1);
@@ -100,9 +99,9 @@ pub(crate) fn shape_at(rows: &[Row], sums: &[u64], scope: Scope, at: usize, end:
     } else if is_counted(kind) {
         header(members(rows, sums, at, end))
     } else if is_spline(kind) {
-        run(Scope::Parts, spline_parts(list))
+        run(Scope::Parts, list)
     } else if is_shared(kind, scope) {
-        run(Scope::Members, shared_parts(list))
+        run(Scope::Members, list)
     } else {
         LEAF
     }
@@ -110,7 +109,7 @@ pub(crate) fn shape_at(rows: &[Row], sums: &[u64], scope: Scope, at: usize, end:
 
 // A counted header over its members, if it has any number of them.
 fn header(members: Option<usize>) -> Shape
-    ensures { result ≡ shape_told (group_or_loose members) }
+    ensures { result ≡ code_shape (group_or_loose members) }
 {
     let (knot, count) = match members {
         Some(count) => (Knot::Group, count),
@@ -123,13 +122,13 @@ fn header(members: Option<usize>) -> Shape
     }
 }
 
-// The header of a run over so many parts.
-fn run(inside: Scope, count: usize) -> Shape
-    ensures { result ≡ shape_told (run_over (scope_meant inside) count) }
+// The header of a run over those of the rows from the front on that are its parts.
+fn run(inside: Scope, rows: &[Row]) -> Shape
+    ensures { result ≡ code_shape (run_over (defined_scope inside) (front_count (is_part_in inside) rows.now)) }
 {
     Shape {
         knot: Knot::Run,
         inside,
-        count,
+        count: parts(inside, rows),
     }
 }

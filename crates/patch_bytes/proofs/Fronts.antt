@@ -18,7 +18,8 @@ pub later : (a b old mid new : List ℕ) → mid ≡ old ++ a → AppendsFrontOf
 later a b old mid new before f = record {
   count = length a + f.count;
   within = omega (arith, length-append a b, f.within);
-  bytes = f.bytes ∙ (ap (λ (t : List ℕ). t ++ take f.count b) before ∙ (append_assoc old a (take f.count b) ∙ ap (λ (t : List ℕ). old ++ t) (sym (take-append-add a b f.count))));
+  bytes = f.bytes ∙ (ap (λ (t : List ℕ). t ++ take f.count b) before
+      ∙ (append_assoc old a (take f.count b) ∙ ap (λ (t : List ℕ). old ++ t) (sym (take-append-add a b f.count))));
 }
 
 -- what holds of an exit is said of its result
@@ -27,6 +28,7 @@ said (Ok x) text old new f = tt
 said (Err e) text old new f = f
 
 -- a front of the last piece
-pub last : {E : Type 0} (r : Result (Unit {0}) E) (a b old mid new : List ℕ) → mid ≡ old ++ a → OnErr r (AppendsFrontOf b mid new) → OnErr r (AppendsFrontOf (a ++ b) old new)
+pub last : {E : Type 0} (r : Result (Unit {0}) E) (a b old mid new : List ℕ) → mid ≡ old ++ a → OnErr r (AppendsFrontOf b mid new)
+    → OnErr r (AppendsFrontOf (a ++ b) old new)
 last (Ok x) a b old mid new before f = tt
 last (Err e) a b old mid new before f = later a b old mid new before f

@@ -1,5 +1,5 @@
 pub mod Fronts
-pub mod Laying
-pub mod Same
-pub mod Spans
-pub mod Steps
+pub mod PutsLaid
+pub mod PatchEquality
+pub mod RisingPuts
+pub mod WriteBackSteps

@@ -42,9 +42,9 @@ BytesBehindStay =
     → write (b ++ more) ps ≡ write b ps ++ more
 
 -- puts that rise lie within, and no byte is held by two
-abbrev pub RisingAreApart : Type 0
-RisingAreApart = (n m : ℕ) (ps : List Put) → Span n ps m → AreWithin m ps × AreApart ps
+abbrev pub RisingPutsAreApart : Type 0
+RisingPutsAreApart = (n m : ℕ) (ps : List Put) → Span n ps m → AreWithin m ps × AreApart ps
 
 -- and one list behind another that rises, rising from where that ends, rises with it
-abbrev pub RisingJoin : Type 0
-RisingJoin = (n k m : ℕ) (ps qs : List Put) → Span n ps k → Span k qs m → Span n (ps ++ qs) m
+abbrev pub RisingPutsJoin : Type 0
+RisingPutsJoin = (n k m : ℕ) (ps qs : List Put) → Span n ps k → Span k qs m → Span n (ps ++ qs) m

@@ -1,6 +1,7 @@
 //! What holds of all patches. Each call does nothing; its contract is the law.
 
-ghost use Rattle.patch_bytes.specs.Laws.{LayingExchanges, LayingIsLocal, WritingBackRestores, ApartHoldTheFirst, OtherBytesStay, BytesBehindStay, RisingAreApart, RisingJoin};
+ghost use Rattle.patch_bytes.specs.Laws.{LayingExchanges, LayingIsLocal, WritingBackRestores, ApartHoldTheFirst, OtherBytesStay, BytesBehindStay};
+ghost use Rattle.patch_bytes.specs.Laws.{RisingPutsAreApart, RisingPutsJoin};
 ghost use Rattle.patch_bytes.specs.PatchView.{PutsTell};
 
 use crate::Patch;
@@ -37,6 +38,6 @@ pub fn untouched_bytes_stay()
 /// Patches that rise, each ending where the next begins or before, lie within and share no byte, and
 /// two such lists, one behind the other, are one.
 pub fn rising_patches_are_apart()
-    ensures apart { RisingAreApart }
-    ensures join { RisingJoin }
+    ensures apart { RisingPutsAreApart }
+    ensures join { RisingPutsJoin }
 {}

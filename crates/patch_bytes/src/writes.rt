@@ -37,8 +37,9 @@ fn exchanged(buf: &mut [u8], p: Patch) -> [u8; 4]
     }
 }
 
-// The same of a patch of LEN bytes. That the number is known makes the copies single moves. The new bytes are named one by
-// one, since a processor waits long for a number that it has just put to the stack in pieces.
+// Writes the bytes of a patch of LEN bytes, and gives those that stood there, with zeros behind them. That the number
+// is known makes the copies single moves. The new bytes are named one by one, since a processor waits long for a number
+// that it has just put to the stack in pieces.
 fn exchange<const LEN: usize>(buf: &mut [u8], p: Patch) -> [u8; 4]
     requires long { p.len ≡ LEN }
     requires within { IsWithin (length buf.old) (put_of p) }

@@ -8,7 +8,7 @@ use Rattle.patch_file.specs.declared.patch_entry.PatchEntry.{PatchEntry}
 use Rattle.patch_file.specs.Exchanges.{Exchange}
 use Rattle.patch_file.specs.Spelling.{Packed, mark, number, field_spelling, head_spelling, entry_spelling, patch_spelling}
 use Rattle.patch_file.specs.PatchView.{packed_of, all_packed}
-use Rattle.patch_file.proofs.Again.{length-number}
+use Rattle.patch_file.proofs.SpellingsRead.{length-number}
 
 pub length-field : (f : Exchange) → length (field_spelling f) ≡ 5 + length f.was + length f.put
 length-field f =
@@ -16,16 +16,33 @@ length-field f =
 
 length-head : (len fields append : ℕ) → length (head_spelling len fields append) ≡ 12
 length-head len fields append =
-    omega (arith, length-append (number len) (number fields ++ number append), length-append (number fields) (number append), length-number len, length-number fields, length-number append)
+    omega (
+      arith,
+      length-append (number len) (number fields ++ number append),
+      length-append (number fields) (number append),
+      length-number len,
+      length-number fields,
+      length-number append,
+    )
 
 pub length-entry : (e : Packed) → length (entry_spelling e) ≡ 12 + length (flat_map field_spelling e.fields) + length e.append
 length-entry e =
-    omega (arith, length-append (head_spelling e.len (length e.fields) (length e.append)) (flat_map field_spelling e.fields ++ e.append), length-append (flat_map field_spelling e.fields) e.append, length-head e.len (length e.fields) (length e.append))
+    omega (
+      arith,
+      length-append (head_spelling e.len (length e.fields) (length e.append)) (flat_map field_spelling e.fields ++ e.append),
+      length-append (flat_map field_spelling e.fields) e.append,
+      length-head e.len (length e.fields) (length e.append),
+    )
 
 pub length-patch : (es : List Packed) → length (patch_spelling es) ≡ 12 + length (flat_map entry_spelling es)
 length-patch es =
     let eight : length mark ≡ 8 = refl in
-    omega (arith, length-append mark (number (length es) ++ flat_map entry_spelling es), length-append (number (length es)) (flat_map entry_spelling es), length-number (length es))
+    omega (
+      arith,
+      length-append mark (number (length es) ++ flat_map entry_spelling es),
+      length-append (number (length es)) (flat_map entry_spelling es),
+      length-number (length es),
+    )
 
 length-more : (e : Packed) (es : List Packed) → length (flat_map entry_spelling (e ∷ es)) ≡ length (entry_spelling e) + length (flat_map entry_spelling es)
 length-more e es = ap length (flat_map-cons entry_spelling e es) ∙ length-append (entry_spelling e) (flat_map entry_spelling es)

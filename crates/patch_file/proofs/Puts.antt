@@ -1,10 +1,11 @@
 -- What stands where puts are laid and written back.
-use Rattle.std.proofs.Common.{ℕ, ◌≡◌, ◌+◌, ◌≤◌, List, [], ◌∷◌, ◌++◌, length, take, drop, map, refl, ap, sym, ◌∙◌, subst, arith, length-append, length-drop, length-take}
+use Rattle.std.proofs.Common.{ℕ, ◌≡◌, ◌+◌, ◌≤◌, List, [], ◌∷◌, ◌++◌, length, take, drop, map, refl, ap, sym, ◌∙◌, subst, arith, length-append, length-drop}
+use Rattle.std.proofs.Common.{length-take}
 use Rattle.std.specs.List.{AllByRecursion}
 use Rattle.std.proofs.lemmas.List.{take-append-drop, take-append-le, drop-append-le, take_at, drop_at}
 use Rattle.patch_bytes.specs.Puts.{Put, lay, write, write_back, old_of, IsWithin, AreWithin, IsApart, AreApart, Span}
-use Rattle.patch_bytes.proofs.Laying.{within_laid, length-write, length-write_back, lay-old_of, old_of-old_of, old_of-lay, write_front}
-use Rattle.patch_bytes.proofs.Spans.{span_within, span_apart}
+use Rattle.patch_bytes.proofs.PutsLaid.{within_laid, length-write, length-write_back, lay-old_of, old_of-old_of, old_of-lay, write_front}
+use Rattle.patch_bytes.proofs.RisingPuts.{span_within, span_apart}
 use Rattle.undo_log.specs.declared.entry.Entry.{Entry}
 use Rattle.undo_log.specs.Entries.{entry_of, back, back_by}
 use Rattle.undo_log.specs.Commits.{Change, changed, MayCommit}
@@ -40,7 +41,8 @@ old_of-write b p [] w a = refl
 old_of-write b p (q ∷ qs) w a =
     old_of-write (lay b q) p qs (within_laid b q qs w.0 w.1) a.1 ∙ old_of-lay b q p w.0 (apart_from p q a.0)
 
-pub old_of-write_back : (b : List ℕ) (p : Put) (ps : List Put) → AreWithin (length b) ps → AllByRecursion (IsApart p) ps → old_of (write_back b ps) p ≡ old_of b p
+pub old_of-write_back : (b : List ℕ) (p : Put) (ps : List Put) → AreWithin (length b) ps → AllByRecursion (IsApart p) ps
+    → old_of (write_back b ps) p ≡ old_of b p
 old_of-write_back b p [] w a = refl
 old_of-write_back b p (q ∷ qs) w a =
     let same : length b ≡ length (write_back b qs) = sym (length-write_back b qs w.1) in
@@ -53,11 +55,13 @@ written_there b (p ∷ ps) w a =
     let w' = within_laid b p ps w.0 w.1 in
     (old_of-write (lay b p) p ps w' a.0 ∙ laid_there b p w.0, written_there (lay b p) ps w' a.1)
 
-moved : (c d : List ℕ) (qs : List Put) → AllByRecursion (λ q. old_of d q ≡ old_of c q) qs → AllByRecursion (λ q. old_of c q ≡ q) qs → AllByRecursion (λ q. old_of d q ≡ q) qs
+moved : (c d : List ℕ) (qs : List Put) → AllByRecursion (λ q. old_of d q ≡ old_of c q) qs → AllByRecursion (λ q. old_of c q ≡ q) qs
+    → AllByRecursion (λ q. old_of d q ≡ q) qs
 moved c d [] same there = tt
 moved c d (q ∷ qs) same there = (same.0 ∙ there.0, moved c d qs same.1 there.1)
 
-laid_apart : (c : List ℕ) (p : Put) (qs : List Put) → IsWithin (length c) p → AllByRecursion (IsApart p) qs → AllByRecursion (λ q. old_of (lay c p) q ≡ old_of c q) qs
+laid_apart : (c : List ℕ) (p : Put) (qs : List Put) → IsWithin (length c) p → AllByRecursion (IsApart p) qs
+    → AllByRecursion (λ q. old_of (lay c p) q ≡ old_of c q) qs
 laid_apart c p [] w a = tt
 laid_apart c p (q ∷ qs) w a = (old_of-lay c p q w a.0, laid_apart c p qs w a.1)
 
@@ -88,7 +92,8 @@ unfolding old_of
 old_of-append b more p w =
     let e = w.ends in
     let made : List ℕ → Put = λ x. record { at = p.at; bytes = x } in
-    ap made (ap (take (length p.bytes)) (drop-append-le p.at b more (omega arith)) ∙ take-append-le (length p.bytes) (drop p.at b) more (omega (arith, length-drop p.at b)))
+    ap made (ap (take (length p.bytes)) (drop-append-le p.at b more (omega arith))
+    ∙ take-append-le (length p.bytes) (drop p.at b) more (omega (arith, length-drop p.at b)))
 
 olds-append : (b more : List ℕ) (ps : List Put) → AreWithin (length b) ps → map (old_of (b ++ more)) ps ≡ map (old_of b) ps
 olds-append b more [] w = refl
@@ -137,19 +142,23 @@ apart_there b more [] w = tt
 apart_there b more (p ∷ ps) w = (old_of-append b more p w.0, apart_there b more ps w.1)
 
 -- what stands where an edit wrote is what it wrote, with bytes appended too
-edits_are : (b d : List ℕ) (ps : List Put) → AreWithin (length b) ps → AllByRecursion (λ p. old_of d p ≡ p) ps → map (exchanged d) (map (old_of b) ps) ≡ map (edited b) ps
+edits_are : (b d : List ℕ) (ps : List Put) → AreWithin (length b) ps → AllByRecursion (λ p. old_of d p ≡ p) ps
+    → map (exchanged d) (map (old_of b) ps) ≡ map (edited b) ps
 edits_are b d [] w there = refl
 edits_are b d (p ∷ ps) w there =
     let same : old_of d (old_of b p) ≡ p = sym (same_place d p (old_of b p) (at-old_of b p) (long-old_of b p w.0)) ∙ there.0 in
-    ap (λ (x : Exchange). x ∷ map (exchanged d) (map (old_of b) ps)) (one_edit b d p same) ∙ ap (λ (xs : List Exchange). edited b p ∷ xs) (edits_are b d ps w.1 there.1)
+    ap (λ (x : Exchange). x ∷ map (exchanged d) (map (old_of b) ps)) (one_edit b d p same)
+    ∙ ap (λ (xs : List Exchange). edited b p ∷ xs) (edits_are b d ps w.1 there.1)
 
-pub taken_is_the_edit : (b : List ℕ) (c : Change) → MayCommit b c → taken_of (changed b c) (entry_of b c.patches) ≡ record { len = length b; fields = map (edited b) c.patches; append = c.append }
+pub taken_is_the_edit : (b : List ℕ) (c : Change) → MayCommit b c
+    → taken_of (changed b c) (entry_of b c.patches) ≡ record { len = length b; fields = map (edited b) c.patches; append = c.append }
 taken_is_the_edit b c may =
     let ps : List Put = c.patches in
     let n : length (write b ps) ≡ length b = length-write b ps may.within in
     let append : drop (length b) (write b ps ++ c.append) ≡ c.append = drop_at (write b ps) c.append (length b) n in
     let within : AreWithin (length (write b ps)) ps = subst (λ k. AreWithin k ps) (sym n) may.within in
-    let there : AllByRecursion (λ p. old_of (write b ps ++ c.append) p ≡ p) ps = moved (write b ps) (write b ps ++ c.append) ps (apart_there (write b ps) c.append ps within) (written_there b ps may.within may.apart) in
+    let there : AllByRecursion (λ p. old_of (write b ps ++ c.append) p ≡ p) ps =
+    moved (write b ps) (write b ps ++ c.append) ps (apart_there (write b ps) c.append ps within) (written_there b ps may.within may.apart) in
     let made : List Exchange → List ℕ → Packed = λ fs xs. record { len = length b; fields = fs; append = xs } in
     ap (λ (fs : List Exchange). made fs (drop (length b) (write b ps ++ c.append))) (edits_are b (write b ps ++ c.append) ps may.within there)
     ∙ ap (made (map (edited b) ps)) append
@@ -175,7 +184,8 @@ news_within from len (f ∷ fs) rules =
     (record { ends = omega arith }, news_within (f.at + length f.was) len fs rules.1)
 
 -- puts that are written once more bytes are appended
-pub put_whole : (old append x y : List ℕ) (ps : List Put) (n : ℕ) → AreWithin (length old) ps → y ≡ old ++ append → x ≡ write y ps → n ≡ length y → take n (x ++ drop (length x) y) ≡ write old ps ++ append
+pub put_whole : (old append x y : List ℕ) (ps : List Put) (n : ℕ) → AreWithin (length old) ps → y ≡ old ++ append → x ≡ write y ps → n ≡ length y
+    → take n (x ++ drop (length x) y) ≡ write old ps ++ append
 put_whole old append x y ps n w more written e =
     let y' : length y ≡ length old + length append = ap length more ∙ length-append old append in
     let w' : AreWithin (length y) ps = within_more (length old) (length y) ps (omega arith) w in
@@ -192,7 +202,8 @@ put_more : (b : List ℕ) (es : List Packed) (e : Packed) → put_all b (es ++ e
 put_more b [] e = refl
 put_more b (f ∷ fs) e = put_more (put_on b f) fs e
 
-pub all_taken_give_the_same : (b : List ℕ) (es : List Entry) → MayTakeAll b es → AllStand (back_by (length es) b es) (all_taken b es) × (put_all (back_by (length es) b es) (all_taken b es) ≡ b)
+pub all_taken_give_the_same : (b : List ℕ) (es : List Entry) → MayTakeAll b es → AllStand (back_by (length es) b es) (all_taken b es)
+    × (put_all (back_by (length es) b es) (all_taken b es) ≡ b)
 all_taken_give_the_same b [] may = (tt, refl)
 all_taken_give_the_same b (e ∷ es) may =
     let start : List ℕ = back_by (length es) (back b e) es in

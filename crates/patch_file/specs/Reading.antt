@@ -1,7 +1,8 @@
 -- Reading a patch file from left to right, piece by piece, up to the first bad one. A piece is bad where the file ends
 -- before it does, or where it breaks its rule. Reading gives a value and the bytes behind it, or how many bytes there
 -- are from where the bad piece begins to the end of the file.
-use Rattle.std.specs.Prelude.{ℕ, zero, suc, ◌≡◌, ◌+◌, Bool, ◌&&◌, List, [], ◌∷◌, length, take, drop, Result, Ok, Err, nat_lt, nat_le, nat_eq, ◌==◌, if◌then◌else◌}
+use Rattle.std.specs.Prelude.{ℕ, zero, suc, ◌≡◌, ◌+◌, Bool, ◌&&◌, List, [], ◌∷◌, length, take, drop, Result, Ok, Err, nat_lt, nat_le, nat_eq, ◌==◌}
+use Rattle.std.specs.Prelude.{if◌then◌else◌}
 use Rattle.std.specs.Int.{w32, from_le_bytes}
 use Rattle.std.specs.List.{starts_with}
 use Rattle.patch_file.specs.Exchanges.{Exchange}

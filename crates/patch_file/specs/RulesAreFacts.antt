@@ -6,7 +6,13 @@ use Rattle.patch_file.specs.Exchanges.{Exchange, KeepsRules, AllKeepRules}
 
 keeps_prop : (from len : ℕ) (f : Exchange) → IsProp (KeepsRules from len f)
 keeps_prop from len f =
-    hlevel (le_prop {n = 1} {m = length f.was}, le_prop {n = length f.was} {m = 4}, ℕ_set, le_prop {n = from} {m = f.at}, le_prop {n = f.at + length f.was} {m = len})
+    hlevel (
+      le_prop {n = 1} {m = length f.was},
+      le_prop {n = length f.was} {m = 4},
+      ℕ_set,
+      le_prop {n = from} {m = f.at},
+      le_prop {n = f.at + length f.was} {m = len},
+    )
 
 pub rules_prop : (from len : ℕ) (fs : List Exchange) → IsProp (AllKeepRules from len fs)
 rules_prop from len [] = hlevel

@@ -9,7 +9,7 @@ ghost use Rattle.patch_file.specs.Answers.{Gives, Spells, IsList, Tells};
 
 use crate::pieces::{bytes_at, field_at, head_at, mark_at, number_at};
 use crate::stop::Stop;
-use crate::{Field, FieldList, PatchEntry, PatchFault};
+use crate::{Field, FieldList, MOST_PATCH, PatchEntry, PatchFault};
 use patch_bytes::ByteList;
 use std::alloc::Global;
 
@@ -88,14 +88,14 @@ fn patch_of(alloc: Global, bytes: &[u8]) -> Result<Vec<PatchEntry>, Stop>
     Ok(entries)
 }
 
-/// The entries of a patch file of at most 134217728 bytes, in order.
+/// The entries of a patch file of at most `MOST_PATCH` bytes, in order.
 ///
 /// The file is the mark `DGNPAT01`, the number of entries, and the entries, each with its head, its
 /// fields and its appended bytes. At is the answer exactly where a piece is cut off or breaks its
 /// rule, or bytes stand behind the last entry, and its offset is that of the first such piece.
 /// Memory may be the answer where there is none for the entries.
 pub fn read_patch(alloc: Global, bytes: &[u8]) -> Result<Vec<PatchEntry>, PatchFault>
-    requires { length bytes.now ≤ 134217728 }
+    requires { length bytes.now ≤ MOST_PATCH }
     // The file is the spelling of what is read.
     ensures found { IfOk result (λ v. Spells (all_packed v.items) bytes.now) }
 

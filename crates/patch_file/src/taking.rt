@@ -47,7 +47,7 @@ fn all_exchanged(alloc: Global, body: &[u8], patches: &[Patch]) -> Result<FieldL
 /// The patch entry of the edit that the log's entry `e` takes back from `body`: the old length, at
 /// each place the bytes that `e` holds and those that `body` has there, and what is behind the old
 /// length. The body has at least `e.len` bytes; the patches of `e` rise, lie below `e.len` and share no
-/// byte. There is an error exactly where there is no memory.
+/// byte. An error says that there was no memory.
 pub fn take_entry(alloc: Global, body: &[u8], e: &Entry) -> Result<PatchEntry, AllocError>
     requires { MayTake body.now e.now }
     ensures { IfOk result (λ p. packed_of p ≡ taken_of body.now e.now) }

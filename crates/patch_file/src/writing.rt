@@ -9,7 +9,7 @@ ghost use Rattle.patch_file.specs.PatchView.{packed_of, all_packed};
 ghost use Rattle.patch_bytes.specs.Fronts.{AppendsFrontOf};
 
 use crate::pieces::MARK;
-use crate::{Field, PatchEntry, patch_len};
+use crate::{Field, MOST_PATCH, PatchEntry, patch_len};
 use std::alloc::{AllocError, Global};
 
 fn put_bytes(out: &mut Vec<u8>, bytes: &[u8]) -> Result<(), AllocError>
@@ -90,7 +90,7 @@ fn put_entries(out: &mut Vec<u8>, entries: &[PatchEntry]) -> Result<(), AllocErr
     Ok(())
 }
 
-/// Appends to `out` the patch file of `entries`, of at most 134217728 bytes: the mark, the number of
+/// Appends to `out` the patch file of `entries`, of at most `MOST_PATCH` bytes: the mark, the number of
 /// entries, and each entry. Room for all of it is taken first; where there is no memory, `out` is its
 /// old bytes and a front of the file.
 pub fn write_patch(
@@ -98,7 +98,7 @@ pub fn write_patch(
     out: &mut Vec<u8>,
     entries: &[PatchEntry],
 ) -> Result<(), AllocError>
-    requires { length (patch_spelling (all_packed entries.now)) ≤ 134217728 }
+    requires { length (patch_spelling (all_packed entries.now)) ≤ MOST_PATCH }
     ensures text { OnOk result
         (out.new.items ≡ out.old.items ++ patch_spelling (all_packed entries.now)) }
     ensures front { OnErr result

@@ -1,7 +1,7 @@
 pub mod Readings
 pub mod Signs
 pub mod Axes
-pub mod Touching
-pub mod Told
-pub mod Beside
-pub mod Outside
+pub mod CommonPoints
+pub mod TestOfTouch
+pub mod BoxesBeside
+pub mod OutsidePolygons

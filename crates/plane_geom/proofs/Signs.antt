@@ -1,5 +1,6 @@
 -- Signs of two turns: what the test of them says, and which sums they rule out.
-use Rattle.std.proofs.Common.{◌≡◌, ℕ, zero, suc, ◌+◌, ◌*◌, ◌<◌, ◌≤◌, not, IsTrue, nat_eq, arith, ap, refl, mul-le-mul_left, ℤ, pos, negsuc, ◌+ℤ◌, ◌-ℤ◌, ◌*ℤ◌, int_lt, w8, of_z, to_z}
+use Rattle.std.proofs.Common.{◌≡◌, ℕ, zero, suc, ◌+◌, ◌*◌, ◌<◌, ◌≤◌, not, IsTrue, nat_eq, arith, ap, refl, mul-le-mul_left, ℤ, pos, negsuc, ◌+ℤ◌, ◌-ℤ◌}
+use Rattle.std.proofs.Common.{◌*ℤ◌, int_lt, w8, of_z, to_z}
 use Rattle.std.specs.Int.{int_signum}
 use borrow.Author.Differences.{up, down, ints}
 use Rattle.plane_geom.specs.Tests.{Split}
@@ -55,7 +56,8 @@ split_unequal (negsuc m) (pos (suc n)) e = (λ _. record { not_above = λ h k. o
 split_unequal (negsuc m) (negsuc n) e = (λ t. absurd (grind (arith, t)), λ s. absurd (s.not_below (omega (arith, ints)) (omega (arith, ints))))
 
 -- a first side that isn't 0 splits where the second is another
-pub unequal_splits : (m n r t : ℤ) → r ≡ int_signum m → t ≡ int_signum n → (of_z w8 r ≡ 0 → ⊥) → (IsTrue (not (nat_eq (of_z w8 r) (of_z w8 t))) → Split m n) × (Split m n → IsTrue (not (nat_eq (of_z w8 r) (of_z w8 t))))
+pub unequal_splits : (m n r t : ℤ) → r ≡ int_signum m → t ≡ int_signum n → (of_z w8 r ≡ 0 → ⊥) → (IsTrue (not (nat_eq (of_z w8 r) (of_z w8 t))) → Split m n)
+    × (Split m n → IsTrue (not (nat_eq (of_z w8 r) (of_z w8 t))))
 unequal_splits m n r t e f = rw (e, f, sign_is m, sign_is n) (split_unequal m n)
 
 -- two numbers with a weighted sum of 0 are not of one sign

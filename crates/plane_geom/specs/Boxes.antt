@@ -31,4 +31,5 @@ high_left low high = record { x = low.x; y = high.y }
 -- whether all four corners of a box lie strictly on one side of the line through r and s
 unfoldable pub lies_beside : Pt → Pt → Pt → Pt → Bool
 lies_beside low high r s =
-    on_one_side (turn r s low) (turn r s high) && on_one_side (turn r s low) (turn r s (low_right low high)) && on_one_side (turn r s low) (turn r s (high_left low high))
+    on_one_side (turn r s low) (turn r s high) && on_one_side (turn r s low) (turn r s (low_right low high)) && on_one_side (turn r s low)
+    (turn r s (high_left low high))

@@ -1,10 +1,16 @@
--- Two segments touch whichever is named first, and from whichever end they are read. What lies apart or
--- beside needs no test, and a polygon has nothing outside of a box that holds its corners.
+-- The test of two segments holds exactly where they have a common point. Two segments touch whichever is named first,
+-- and from whichever end they are read. What lies apart or beside needs no test, and a polygon has nothing outside of a
+-- box that holds its corners.
 use Rattle.std.specs.Prelude.{◌↔◌, IsTrue, List}
 use Rattle.plane_geom.specs.declared.pt.Pt.{Pt}
 use Rattle.plane_geom.specs.Segments.{Touch}
+use Rattle.plane_geom.specs.Touches.{touches}
 use Rattle.plane_geom.specs.Boxes.{IsInBox, AreInBox, lies_apart, lies_beside}
 use Rattle.plane_geom.specs.Polygons.{is_within}
+
+-- the test that computes, and a common point
+abbrev pub TestTells : Type 0
+TestTells = (p q r s : Pt) → IsTrue (touches p q r s) ↔ Touch p q r s
 
 -- the segments exchanged
 abbrev pub SegmentsExchange : Type 0

@@ -1,7 +1,12 @@
 //! Laws over the definitions that the contracts cite. Each function does nothing; it states one law and
 //! is proved.
 
-ghost use Rattle.plane_geom.specs.Laws.{SegmentsExchange, EndsExchange, ApartIsUntouched, BesideIsUntouched, WithinIsInBoxes};
+ghost use Rattle.plane_geom.specs.Laws.{TestTells, SegmentsExchange, EndsExchange, ApartIsUntouched, BesideIsUntouched, WithinIsInBoxes};
+
+/// The test of two segments, as it computes, holds exactly where they have a common point.
+pub fn the_test_tells()
+    ensures { TestTells }
+{}
 
 /// Two segments touch exactly where they touch with the first and the second exchanged.
 pub fn segments_exchange()

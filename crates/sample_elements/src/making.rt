@@ -10,7 +10,7 @@ const TCB_SIZE: usize = 1536;
 const MARK: usize = 1214;
 
 /// The bytes of a drawing: a TCB with this first byte, 0x08 or 0xC8, and this byte 1214, in which bit 0x40 is set for three
-/// axes, and the pieces behind it. There is an error exactly where there is no memory.
+/// axes, and the pieces behind it. An error says that there was no memory.
 pub fn drawing(alloc: Global, first: u8, mark: u8, pieces: &[&[u8]]) -> Result<Vec<u8>, AllocError>
     ensures { IfOk result (λ bytes. bytes.items ≡ tcb first mark ++ joined (map (λ piece. piece.now) pieces.now)) }
 {

@@ -1,3 +1,3 @@
-pub mod Swapping
-pub mod Undoings
-pub mod WritingBack
+pub mod PutsExchanged
+pub mod UndoAnswers
+pub mod EntriesBack

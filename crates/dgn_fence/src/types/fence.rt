@@ -102,7 +102,8 @@ impl Fence {
         self.takes_made(alloc, mode, dim, b)
     }
 
-    // The same, by the item, which is made. It stands apart, so that the elements of which bounds tell don't pay for it.
+    // Whether the fence takes the item of such an element, which is made for it. It stands apart, so that the elements
+    // of which bounds tell don't pay for it.
     #[inline(never)]
     fn takes_made(&self, alloc: Global, mode: Mode, dim: u8, b: &[u8]) -> Result<bool, AllocError>
         requires dimension { IsDimension dim }
@@ -167,7 +168,7 @@ impl Fence {
     }
 
     // Whether the segments of an item are inside.
-    #[tactic(auto, using(crate::proofs::Misses::is_far, crate::proofs::Misses::is_near), unfolding(crate::specs::Taken::is_inside))]
+    #[tactic(auto, using(crate::proofs::FenceMisses::is_far, crate::proofs::FenceMisses::is_near), unfolding(crate::specs::Taken::is_inside))]
     fn is_inside(&self, item: &Item) -> bool
         ensures { result ≡ is_inside self.now (segments_of item.now) }
     {
@@ -178,7 +179,7 @@ impl Fence {
     }
 
     // Whether they overlap.
-    #[tactic(auto, using(crate::proofs::Misses::is_far, crate::proofs::Misses::is_near), unfolding(crate::specs::Taken::overlaps))]
+    #[tactic(auto, using(crate::proofs::FenceMisses::is_far, crate::proofs::FenceMisses::is_near), unfolding(crate::specs::Taken::overlaps))]
     fn overlaps(&self, item: &Item) -> bool
         ensures { result ≡ overlaps self.now (segments_of item.now) }
     {

@@ -1,7 +1,7 @@
 use Rattle.std.proofs.Common.{◌++◌}
 use Rattle.dgn_drawing.specs.Spelling.{spelling}
 use Rattle.dgn_generator.specs.Generator.{trees_within}
-use Rattle.dgn_generator.proofs.Growing.{begins, grows_drawn, ends}
+use Rattle.dgn_generator.proofs.DrawingGrows.{begins, grows_drawn, ends}
 use Rattle.dgn_generator.proofs.push_trees.Goals as goal
 
 pub trees-init : goal.trees-init

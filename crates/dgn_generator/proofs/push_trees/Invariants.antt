@@ -1,7 +1,7 @@
 use Rattle.std.proofs.Common.{◌-◌, ◌++◌}
 use Rattle.dgn_drawing.specs.Spelling.{spelling}
 use Rattle.dgn_generator.specs.Generator.{trees_within}
-use Rattle.dgn_generator.proofs.Growing.{IsGrowing}
+use Rattle.dgn_generator.proofs.DrawingGrows.{IsGrowing}
 use Rattle.dgn_generator.proofs.push_trees.Given as goal
 
 -- the trees so far and those that are left are all

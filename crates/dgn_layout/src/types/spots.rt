@@ -67,7 +67,7 @@ impl Iterator for Spots<'_> {
 
     ghost remaining = { item_count spots_left };
 
-    #[tactic(auto, using(crate::proofs::Left::next_left))]
+    #[tactic(auto, using(crate::proofs::PointsLeft::next_left))]
     fn next(&mut self) -> Option<Spot> {
         if let Some((spot, rest)) = self.fixed.split_first() {
             self.fixed = rest;

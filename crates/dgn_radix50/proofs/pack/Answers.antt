@@ -1,5 +1,5 @@
 use Rattle.std.proofs.Common.{ℕ, ◌+◌, ◌*◌, Some, arith, rules, sym}
-use Rattle.dgn_radix50.proofs.Packing.{signs_of-word_of, word-IsSome}
+use Rattle.dgn_radix50.proofs.SignsAndWords.{signs_of-word_of, word-IsSome}
 use Rattle.dgn_radix50.proofs.pack.Goals as goal
 
 pub returns-in_err-code-clause-some : goal.returns-in_err-code-clause-some

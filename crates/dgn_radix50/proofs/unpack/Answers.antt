@@ -1,5 +1,5 @@
 use Rattle.std.proofs.Common.{arith}
-use Rattle.dgn_radix50.proofs.Packing.{word_of-signs_of}
+use Rattle.dgn_radix50.proofs.SignsAndWords.{word_of-signs_of}
 use Rattle.dgn_radix50.proofs.unpack.Goals as goal
 
 pub returns-then-w-lt-WORDS-clause-back : goal.returns-then-w-lt-WORDS-clause-back

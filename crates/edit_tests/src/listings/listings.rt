@@ -4,6 +4,7 @@ ghost use Rattle.std.specs.Prelude.{IfSome};
 ghost use Rattle.elem_index.specs.Design.{IsWhole};
 
 use super::file;
+use dgn_drawing::MOST_DESIGN;
 use dgn_listing::{write_elements, write_links, write_refs};
 use elem_index::{Design, read_design};
 use sample_elements::{
@@ -16,7 +17,7 @@ pub(super) fn design(alloc: Global, elements: &[&[u8]]) -> Option<Design>
     ensures { IfSome result IsWhole }
 {
     match file(alloc, elements) {
-        Ok(bytes) if bytes.len() <= 67108864 => read_design(alloc, bytes).ok(),
+        Ok(bytes) if bytes.len() <= MOST_DESIGN => read_design(alloc, bytes).ok(),
         _ => None,
     }
 }

@@ -11,7 +11,7 @@ use std::alloc::AllocError;
 impl Design {
     /// Makes room for what is kept of `n` more elements. With either answer all else is as before: the
     /// dimension, body and tail with their own room, and the kept offsets and bytes.
-    /// There is an error exactly where there is no memory.
+    /// An error says that there was no memory.
     pub fn reserve_index(&mut self, n: u32) -> Result<(), AllocError>
         ensures spare { OnOk result (n ≤ spare_of self.new) }
         ensures kept { kept_of self.new ≡ kept_of self.old }

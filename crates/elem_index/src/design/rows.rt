@@ -15,7 +15,7 @@ const ROW_BLOCK: usize = 4096;
 impl Design {
     /// Puts the rows of some elements, from number `n` on, in place of what the list holds: of 4096 and of those with bit C
     /// that follow, or of as many as there are. So what is behind them nests apart.
-    /// There is an error exactly where there is no memory.
+    /// An error says that there was no memory.
     pub fn row_block(&self, n: u32, rows: &mut Vec<Row>) -> Result<(), AllocError>
         requires whole { IsWhole self.now }
         requires known { n < length (elements self.now) }
@@ -33,7 +33,7 @@ impl Design {
     }
 
     /// The row of each element, in file order: what the nesting looks at.
-    /// There is an error exactly where there is no memory.
+    /// An error says that there was no memory.
     pub fn rows(&self) -> Result<Vec<Row>, AllocError>
         requires { IsWhole self.now }
         ensures { IfOk result (λ rows. rows.items ≡ map row_of (elements self.now)) }

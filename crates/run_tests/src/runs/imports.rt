@@ -1,7 +1,7 @@
 // Imports of second drawings.
 
 use super::*;
-use dgn_drawing::Shift;
+use dgn_drawing::{MOST_DESIGN, Shift};
 use dgn_import::read_second;
 use dgn_session::Session;
 use elem_index::read_design;
@@ -28,8 +28,8 @@ const SAID: &[u8] = b"ok 1\nrefused import floating 3\n1 0 3 1 0 0 0 path 0,0 10
 2 0 2 1 0 0 0 cell [ABC       ] 0,0\n3 1 3 1 0 0 0 path 0,0 100,50\n4 1 16 1 0 0 0 box 5,5 9,9\nshown 4\nok\n\
 1 0 3 1 0 0 0 path 0,0 100,50\nshown 1\n";
 
-// Runs these lists of words one after the other over a desk with this script and that cell as the second file. Gives how the
-// last one ends, all that is said, and the file `out`. No test rests on more of it.
+// Runs these lists of words one after the other over a desk with this script and that cell as the second file. Gives
+// how the last one ends, all that is said, and the file `out`. No test rests on more of it.
 fn runs(
     alloc: Global,
     script: &[u8],
@@ -117,7 +117,7 @@ fn imports_at_the_limits(rt: HostRuntime) -> Result<(), Fail> {
 // A session on the design file of a line.
 fn begun(alloc: Global) -> Option<Session> {
     match design(alloc, 0, &[&LINE, &END]) {
-        Ok(bytes) if bytes.len() <= 67108864 => match read_design(alloc, bytes) {
+        Ok(bytes) if bytes.len() <= MOST_DESIGN => match read_design(alloc, bytes) {
             Ok(drawing) => Session::start(alloc, drawing).ok(),
             Err(_) => None,
         },
@@ -133,7 +133,7 @@ fn answered(
 ) -> Result<(Vec<u8>, bool), AllocError> {
     let mut said = Vec::new(alloc);
     let bytes = library(alloc)?;
-    if bytes.len() > 67108864 {
+    if bytes.len() > MOST_DESIGN {
         return Ok((said, true));
     }
     let second = read_second(alloc, bytes)?;

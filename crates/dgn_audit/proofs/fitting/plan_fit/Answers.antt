@@ -3,11 +3,11 @@ use Rattle.elem_index.specs.Design.{elements}
 use Rattle.dgn_drawing.specs.Rows.{row_of}
 use Rattle.dgn_drawing.specs.Numbering.{root_of}
 use Rattle.dgn_drawing.specs.Nesting.{itself}
-use Rattle.edit_ops.proofs.Rooted.{root_by_rows}
+use Rattle.edit_ops.proofs.RootRows.{root_by_rows}
 use Rattle.elem_index.proofs.Places.{axes_of}
-use Rattle.dgn_audit.proofs.Asked.{ok_as, err_as, refused_cause}
-use Rattle.dgn_audit.proofs.Rooted.{root_known}
-use Rattle.dgn_audit.proofs.Fitted.{root_planned}
+use Rattle.dgn_audit.proofs.FitQuestions.{ok_as, err_as, refused_cause}
+use Rattle.dgn_audit.proofs.TreePlaces.{root_known}
+use Rattle.dgn_audit.proofs.FittedBytes.{root_planned}
 use Rattle.dgn_audit.proofs.fitting.plan_fit.Goals as goal
 use Rattle.dgn_audit.proofs.fitting.plan_fit.Goals.{In-Some}
 

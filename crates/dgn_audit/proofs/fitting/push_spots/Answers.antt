@@ -4,8 +4,8 @@ use Rattle.dgn_layout.specs.declared.spot.Spot.{Spot}
 use Rattle.dgn_layout.specs.declared.types.spots.Spots.{Spots}
 use Rattle.dgn_layout.specs.Spots.{spots_of}
 use Rattle.dgn_layout.specs.SpotsLeft.{spots_left}
-use Rattle.edit_ops.proofs.Steps.{LieIn, lie_in}
-use Rattle.edit_ops.proofs.Wider.{of_ranges, ranges_are}
+use Rattle.edit_ops.proofs.SpotSteps.{LieIn, lie_in}
+use Rattle.edit_ops.proofs.WiderRanges.{of_ranges, ranges_are}
 use Rattle.dgn_audit.specs.Fitting.{range_put}
 use Rattle.dgn_audit.proofs.fitting.push_spots.Goals as goal
 
@@ -24,4 +24,5 @@ returns c =
     sym (append-nil c.spots.patches)
     ∙ ap (λ (ss : List Spot). c.spots.patches ++ map (range_put c.args.hull c.args.place) (of_ranges ss)) (sym none)
     ∙ c.spots.invariant.all
-    ∙ ap (λ (ss : List Spot). c.args.patches.now ++ map (range_put c.args.hull c.args.place) ss) (ranges_are c.args.dim c.args.kind c.args.b.now c.requires.spotted)
+    ∙ ap (λ (ss : List Spot). c.args.patches.now ++ map (range_put c.args.hull c.args.place) ss)
+    (ranges_are c.args.dim c.args.kind c.args.b.now c.requires.spotted)

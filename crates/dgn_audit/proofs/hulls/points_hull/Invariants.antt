@@ -1,8 +1,8 @@
 use Rattle.std.proofs.Common.{◌≡◌, length, None}
 use Rattle.dgn_layout.specs.Spots.{spots_of}
 use Rattle.dgn_layout.specs.SpotsLeft.{spots_left}
-use Rattle.edit_ops.proofs.Steps.{LieIn}
-use Rattle.dgn_audit.proofs.Points.{blank, read_from}
+use Rattle.edit_ops.proofs.SpotSteps.{LieIn}
+use Rattle.dgn_audit.proofs.PointHulls.{blank, read_from}
 use Rattle.dgn_audit.proofs.hulls.points_hull.Given as goal
 
 -- what is read so far and what is left give what all spots do

@@ -1,4 +1,4 @@
-use Rattle.dgn_audit.proofs.Ended.{ends_findings}
+use Rattle.dgn_audit.proofs.FindingsEnd.{ends_findings}
 use Rattle.dgn_audit.proofs.laws.a_fit_ends_findings.Goals as goal
 
 pub returns : goal.returns

@@ -1,4 +1,4 @@
-use Rattle.dgn_audit.proofs.Kept.{fitted_opens}
+use Rattle.dgn_audit.proofs.FitKeepsRows.{fitted_opens}
 use Rattle.dgn_audit.proofs.laws.a_fitted_drawing_opens.Goals as goal
 
 pub returns : goal.returns

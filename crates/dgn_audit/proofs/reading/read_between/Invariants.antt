@@ -7,5 +7,5 @@ abbrev pub invariant-loop-n : goal.invariant-loop-n
 invariant-loop-n l = record {
   room : vec_capacity l.boxes ≡ 3278;
   after : l.first ≤ l.n;
-  pass : pass_of l.boxes.items l.told.items ≡ read_back l.keep l.d.dim (elements l.d) l.n (l.end - l.n);
+  pass : pass_of l.boxes.items l.noted.items ≡ read_back l.keep l.d.dim (elements l.d) l.n (l.end - l.n);
 }

@@ -4,7 +4,7 @@ use Rattle.elem_head.specs.Head.{kind_of}
 use Rattle.dgn_layout.specs.Classes.{class_of, is_silent}
 use Rattle.dgn_drawing.specs.Reading.{form_at}
 use Rattle.dgn_drawing.specs.Faults.{is_shown}
-use Rattle.dgn_drawing.proofs.Ends.{silent_class, silent_sound, read_shown}
+use Rattle.dgn_drawing.proofs.BodyEnds.{silent_class, silent_sound, read_shown}
 use Rattle.dgn_drawing.proofs.check.check_elem.Goals as goal
 
 pub returns-then-is_silent : goal.returns-then-is_silent

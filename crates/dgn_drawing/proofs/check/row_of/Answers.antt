@@ -1,7 +1,7 @@
 use Rattle.std.proofs.Common.{sym, ap, ◌∙◌}
 use Rattle.elem_head.specs.declared.types.Head.{Head}
 use Rattle.dgn_layout.specs.Classes.{class_of}
-use Rattle.dgn_drawing.proofs.Ends.{total_within}
+use Rattle.dgn_drawing.proofs.BodyEnds.{total_within}
 use Rattle.dgn_drawing.proofs.check.row_of.Goals as goal
 
 pub counted_total-requires-clause-total : goal.counted_total-requires-clause-total

@@ -8,9 +8,9 @@ use Rattle.dgn_drawing.specs.Forms.{form_of}
 use Rattle.dgn_drawing.specs.Items.{item_body_of}
 use Rattle.dgn_drawing.specs.Reading.{form_at, parts_at}
 use Rattle.dgn_drawing.specs.Faults.{is_shown}
-use Rattle.dgn_drawing.proofs.Ends.{shown_from, sound_end}
-use Rattle.dgn_drawing.proofs.Written.{shown_after}
-use Rattle.dgn_drawing.proofs.Shown.{silent_item, shared_item, made_item}
+use Rattle.dgn_drawing.proofs.BodyEnds.{shown_from, sound_end}
+use Rattle.dgn_drawing.proofs.BytesSpelled.{shown_after}
+use Rattle.dgn_drawing.proofs.ItemsShown.{silent_item, shared_item, made_item}
 use Rattle.dgn_drawing.proofs.items.item.Goals as goal
 
 pub returns-then-eq : goal.returns-then-eq

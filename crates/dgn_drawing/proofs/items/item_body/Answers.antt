@@ -4,8 +4,8 @@ use Rattle.body_vertex.specs.Points.{points_of, points_end}
 use Rattle.dgn_drawing.specs.declared.types.item_body.ItemBody.{ItemBody}
 use Rattle.dgn_drawing.specs.Forms.{form_of}
 use Rattle.dgn_drawing.specs.Items.{in_space}
-use Rattle.dgn_drawing.proofs.Ends.{end-text, end-node, end-cell}
-use Rattle.dgn_drawing.proofs.Shown.{path_kind, path_fits, path_shown, text_shown, node_shown, cell_shown, header_shown, plain_shown, silent_shown}
+use Rattle.dgn_drawing.proofs.BodyEnds.{end-text, end-node, end-cell}
+use Rattle.dgn_drawing.proofs.ItemsShown.{path_kind, path_fits, path_shown, text_shown, node_shown, cell_shown, header_shown, plain_shown, silent_shown}
 use Rattle.dgn_drawing.proofs.items.item_body.Goals as goal
 
 pub points-requires-clause-kind : goal.points-requires-clause-kind

@@ -1,5 +1,5 @@
 use Rattle.dgn_drawing.specs.Items.{in_space}
-use Rattle.dgn_drawing.proofs.Shown.{map-take_get}
+use Rattle.dgn_drawing.proofs.ItemsShown.{map-take_get}
 use Rattle.dgn_drawing.proofs.items.points.Goals as goal
 
 pub loop-i-preserved : goal.loop-i-preserved

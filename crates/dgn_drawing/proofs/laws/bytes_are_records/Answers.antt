@@ -1,5 +1,5 @@
 use Rattle.dgn_drawing.proofs.Rows.{record-read}
-use Rattle.dgn_drawing.proofs.Written.{spell-element_at, element_at_good}
+use Rattle.dgn_drawing.proofs.BytesSpelled.{spell-element_at, element_at_good}
 use Rattle.dgn_drawing.proofs.laws.bytes_are_records.Goals as goal
 
 pub returns-clause-spelled : goal.returns-clause-spelled

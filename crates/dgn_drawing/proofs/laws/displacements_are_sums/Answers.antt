@@ -1,4 +1,4 @@
-use Rattle.dgn_drawing.proofs.Displaced.{shift_put}
+use Rattle.dgn_drawing.proofs.DisplacedRecords.{shift_put}
 use Rattle.dgn_drawing.proofs.laws.displacements_are_sums.Goals as goal
 
 pub returns : goal.returns

@@ -1,7 +1,7 @@
 use Rattle.std.proofs.Common.{[], ◌∙◌}
 use Rattle.std.proofs.lemmas.List.{append-nil}
 use Rattle.dgn_drawing.specs.Spelling.{spell}
-use Rattle.dgn_drawing.proofs.Read.{one_spelling}
+use Rattle.dgn_drawing.proofs.RecordsRead.{one_spelling}
 use Rattle.dgn_drawing.proofs.laws.one_spelling_one_record.Goals as goal
 
 pub returns-clause-one : goal.returns-clause-one

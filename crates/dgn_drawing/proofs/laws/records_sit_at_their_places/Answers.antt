@@ -1,5 +1,5 @@
-use Rattle.dgn_drawing.proofs.Sits.{all-sits}
-use Rattle.dgn_drawing.proofs.Spotted.{spots_sit}
+use Rattle.dgn_drawing.proofs.FieldPlaces.{all-sits}
+use Rattle.dgn_drawing.proofs.SpotValues.{spots_sit}
 use Rattle.dgn_drawing.proofs.laws.records_sit_at_their_places.Goals as goal
 
 pub returns-clause-fields : goal.returns-clause-fields

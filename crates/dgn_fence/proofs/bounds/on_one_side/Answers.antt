@@ -1,5 +1,5 @@
 -- Signs are equal where their numbers lie on one side.
-use Rattle.plane_geom.proofs.Told.{equal_signs, no_sign}
+use Rattle.plane_geom.proofs.TestOfTouch.{equal_signs, no_sign}
 use Rattle.dgn_fence.proofs.bounds.on_one_side.Goals as goal
 
 pub returns-then-first-ne0 : goal.returns-then-first-ne0

@@ -9,5 +9,6 @@ abbrev pub invariant-loop-point : goal.invariant-loop-point
 invariant-loop-point l = record {
   first : IsEnd l.r l.s l.start;
   here : IsEnd l.r l.s l.from;
-  left : any_touches (legs l.closes l.start.point l.from.point (map flat (drop l.point-index l.rest))) (l.r, l.s) ≡ any_touches (path_segments l.closed (map flat l.points)) (l.r, l.s);
+  left : any_touches (legs l.closes l.start.point l.from.point (map flat (drop l.point-index l.rest))) (l.r, l.s)
+      ≡ any_touches (path_segments l.closed (map flat l.points)) (l.r, l.s);
 }

@@ -1,6 +1,6 @@
 -- No segment touches an edge that all of them miss.
 use Rattle.std.proofs.Common.{◌∙◌, sym}
-use Rattle.dgn_fence.proofs.Misses.{edge_missed}
+use Rattle.dgn_fence.proofs.FenceMisses.{edge_missed}
 use Rattle.dgn_fence.proofs.edges.touches_edge.Goals as goal
 
 pub returns-then-misses : goal.returns-then-misses

@@ -5,7 +5,7 @@ use Rattle.dgn_layout.specs.Classes.{class_of}
 use Rattle.body_vertex.specs.Points.{points_of}
 use Rattle.dgn_fence.specs.Segments.{flat}
 use Rattle.dgn_fence.specs.Outlines.{path_outline, range_outline}
-use Rattle.dgn_fence.proofs.Drawn.{path_drawn, range_drawn, none_drawn, shared_drawn}
+use Rattle.dgn_fence.proofs.ElementOutlines.{path_drawn, range_drawn, none_drawn, shared_drawn}
 use Rattle.dgn_fence.proofs.outline.read_outline.Goals as goal
 
 pub returns-then-kind-eq-SHARED_CELL : goal.returns-then-kind-eq-SHARED_CELL

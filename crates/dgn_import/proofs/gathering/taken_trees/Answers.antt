@@ -3,7 +3,8 @@ use Rattle.std.specs.Prelude.{option_map}
 use Rattle.std.proofs.lemmas.Result.{err_from_is_err_and}
 use Rattle.elem_index.specs.Design.{elements}
 use Rattle.elem_index.proofs.Places.{few_elements}
-use Rattle.dgn_import.proofs.Collected.{none_gathered, more_elements, next_refused, goes_on, next_left, next_gathered, all_gathered, all_accepted, all_counted}
+use Rattle.dgn_import.proofs.TreesGathered.{none_gathered, more_elements, next_refused, goes_on, next_left, next_gathered, all_gathered, all_accepted}
+use Rattle.dgn_import.proofs.TreesGathered.{all_counted}
 use Rattle.dgn_import.proofs.gathering.taken_trees.Goals as goal
 use Rattle.dgn_import.proofs.gathering.taken_trees.Goals.{then-is_taken+in_ok-push_tree, else-is_taken}
 
@@ -15,41 +16,56 @@ roots-init c =
 pub roots-smaller : goal.roots-smaller
 roots-smaller c =
     let known : c.roots.root < length (elements c.args.d.now) = omega (arith, c.roots-test.true, c.count-count.ensures) in
-    let on : c.roots.root < c.end_of-root.result = goes_on c.args.d.now.dim (elements c.args.d.now) (option_map (λ b. b.now) c.args.by) c.args.t.now.rows c.requires.nesting c.roots.root c.roots.trees c.roots.bytes c.roots.invariant known c.end_of-root.result c.end_of-root.ensures in
+    let on : c.roots.root < c.end_of-root.result =
+    goes_on c.args.d.now.dim (elements c.args.d.now) (option_map (λ b. b.now) c.args.by)
+    c.args.t.now.rows c.requires.nesting c.roots.root c.roots.trees c.roots.bytes c.roots.invariant known c.end_of-root.result c.end_of-root.ensures in
     omega (arith, on, c.roots-test.true)
 
 pub overflow_add-trees : goal.overflow_add-trees
 overflow_add-trees c =
     let known : c.roots.root < length (elements c.args.d.now) = omega (arith, c.roots-test.true, c.count-count.ensures) in
-    let more = more_elements c.args.d.now.dim (elements c.args.d.now) (option_map (λ b. b.now) c.args.by) c.args.t.now.rows c.requires.nesting c.roots.root c.roots.trees c.roots.bytes c.roots.invariant known (sym c.is_taken.ensures ∙ c.if-is_taken.true) in
+    let more = more_elements c.args.d.now.dim (elements c.args.d.now) (option_map (λ b. b.now) c.args.by)
+    c.args.t.now.rows c.requires.nesting c.roots.root c.roots.trees c.roots.bytes c.roots.invariant known (sym c.is_taken.ensures ∙ c.if-is_taken.true) in
     omega (arith, more, few_elements c.args.d.now c.requires.whole)
 
 pub returns-in_err-push_tree-clause-refused : goal.returns-in_err-push_tree-clause-refused
 returns-in_err-push_tree-clause-refused c =
     let known : c.roots.root < length (elements c.args.d.now) = omega (arith, c.roots-test.true, c.count-count.ensures) in
     let told = err_from_is_err_and c.from_residual-in_err-push_tree.result c.from_residual-in_err-push_tree.ensures.1 in
-    rw (told.1, told.2) (next_refused c.args.d.now.dim (elements c.args.d.now) (option_map (λ b. b.now) c.args.by) c.args.t.now.rows c.requires.nesting c.roots.root c.roots.trees c.roots.bytes c.roots.invariant known (sym c.is_taken.ensures ∙ c.if-is_taken.true) c.in_err-push_tree.field-0.0 c.in_err-push_tree.ensures.refused)
+    rw (told.1, told.2) (next_refused c.args.d.now.dim (elements c.args.d.now) (option_map (λ b. b.now) c.args.by)
+    c.args.t.now.rows c.requires.nesting c.roots.root c.roots.trees c.roots.bytes c.roots.invariant known (sym c.is_taken.ensures ∙ c.if-is_taken.true)
+    c.in_err-push_tree.field-0.0 c.in_err-push_tree.ensures.refused)
 
 pub roots-preserved : goal.roots-preserved
 roots-preserved c =
     let known : c.roots.root < length (elements c.args.d.now) = omega (arith, c.roots-test.true, c.count-count.ensures) in
     elim c.if-is_taken.branch [
       | then-is_taken+in_ok-push_tree w ↦
-          rw (w.bytes-is, w.trees-is) (next_gathered c.args.d.now.dim (elements c.args.d.now) (option_map (λ b. b.now) c.args.by) c.args.t.now.rows c.requires.nesting c.roots.root c.roots.trees c.roots.bytes c.roots.invariant known c.end_of-root.result c.end_of-root.ensures
+          rw (w.bytes-is, w.trees-is)
+          (next_gathered c.args.d.now.dim (elements c.args.d.now) (option_map (λ b. b.now) c.args.by)
+          c.args.t.now.rows c.requires.nesting c.roots.root c.roots.trees c.roots.bytes c.roots.invariant known c.end_of-root.result c.end_of-root.ensures
           (sym c.is_taken.ensures ∙ w.if-is_taken.true) w.push_tree.new.out w.in_ok-push_tree.ensures.accepted w.in_ok-push_tree.ensures.pushed)
       | else-is_taken w ↦
-          rw (w.bytes-is, w.trees-is) (next_left c.args.d.now.dim (elements c.args.d.now) (option_map (λ b. b.now) c.args.by) c.args.t.now.rows c.requires.nesting c.roots.root c.roots.trees c.roots.bytes c.roots.invariant known c.end_of-root.result c.end_of-root.ensures
+          rw (w.bytes-is, w.trees-is)
+          (next_left c.args.d.now.dim (elements c.args.d.now) (option_map (λ b. b.now) c.args.by)
+          c.args.t.now.rows c.requires.nesting c.roots.root c.roots.trees c.roots.bytes c.roots.invariant known c.end_of-root.result c.end_of-root.ensures
           (sym c.is_taken.ensures ∙ w.if-is_taken.false))
     ]
 
 pub returns-clause-bytes : goal.returns-clause-bytes
 returns-clause-bytes c =
-    all_gathered c.args.d.now.dim (elements c.args.d.now) (option_map (λ b. b.now) c.args.by) c.args.t.now.rows c.requires.nesting c.roots.root c.roots.trees c.roots.bytes c.roots.invariant (omega (arith, c.roots-test.false, c.count-count.ensures))
+    all_gathered c.args.d.now.dim (elements c.args.d.now) (option_map (λ b. b.now) c.args.by)
+    c.args.t.now.rows c.requires.nesting c.roots.root c.roots.trees c.roots.bytes c.roots.invariant
+    (omega (arith, c.roots-test.false, c.count-count.ensures))
 
 pub returns-clause-trees : goal.returns-clause-trees
 returns-clause-trees c =
-    all_counted c.args.d.now.dim (elements c.args.d.now) (option_map (λ b. b.now) c.args.by) c.args.t.now.rows c.requires.nesting c.roots.root c.roots.trees c.roots.bytes c.roots.invariant (omega (arith, c.roots-test.false, c.count-count.ensures))
+    all_counted c.args.d.now.dim (elements c.args.d.now) (option_map (λ b. b.now) c.args.by)
+    c.args.t.now.rows c.requires.nesting c.roots.root c.roots.trees c.roots.bytes c.roots.invariant
+    (omega (arith, c.roots-test.false, c.count-count.ensures))
 
 pub returns-clause-accepted : goal.returns-clause-accepted
 returns-clause-accepted c =
-    all_accepted c.args.d.now.dim (elements c.args.d.now) (option_map (λ b. b.now) c.args.by) c.args.t.now.rows c.requires.nesting c.roots.root c.roots.trees c.roots.bytes c.roots.invariant (omega (arith, c.roots-test.false, c.count-count.ensures))
+    all_accepted c.args.d.now.dim (elements c.args.d.now) (option_map (λ b. b.now) c.args.by)
+    c.args.t.now.rows c.requires.nesting c.roots.root c.roots.trees c.roots.bytes c.roots.invariant
+    (omega (arith, c.roots-test.false, c.count-count.ensures))

@@ -1,7 +1,7 @@
 use Rattle.std.proofs.Common.{◌-◌}
 use Rattle.std.specs.Prelude.{option_map}
 use Rattle.elem_index.specs.Design.{elements}
-use Rattle.dgn_import.proofs.Collected.{AreGathered}
+use Rattle.dgn_import.proofs.TreesGathered.{AreGathered}
 use Rattle.dgn_import.proofs.gathering.taken_trees.Given as goal
 
 abbrev pub invariant-roots : goal.invariant-roots

@@ -1,5 +1,5 @@
 -- The spots rise.
-use Rattle.dgn_layout.proofs.Rising as rising
+use Rattle.dgn_layout.proofs.SpotsRise as rising
 use Rattle.dgn_layout.proofs.laws.spots_rise.Goals as goal
 
 pub returns : goal.returns

@@ -1,7 +1,7 @@
 -- What is by the rules fills the data.
 use Rattle.std.proofs.Common.{length, arith}
 use Rattle.dgn_linkage.specs.Linkages.{linkages_of}
-use Rattle.dgn_linkage.proofs.Enough.{rules_of, fills}
+use Rattle.dgn_linkage.proofs.LinkageSteps.{rules_of, fills}
 use Rattle.dgn_linkage.proofs.laws.adds_up.Goals as goal
 
 pub returns : goal.returns

@@ -1,7 +1,7 @@
 -- The linkages are the one list by the rules.
 use Rattle.std.proofs.Common.{sym, subst, length, arith}
 use Rattle.dgn_linkage.specs.Laws.{ByRules}
-use Rattle.dgn_linkage.proofs.Enough.{by_rules, rules_of}
+use Rattle.dgn_linkage.proofs.LinkageSteps.{by_rules, rules_of}
 use Rattle.dgn_linkage.proofs.laws.follows_rules.Goals as goal
 
 pub returns : goal.returns

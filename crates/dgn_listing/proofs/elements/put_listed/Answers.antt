@@ -2,7 +2,7 @@ use Rattle.std.proofs.Common.{◌++◌}
 use Rattle.dgn_listing.specs.Lines.{line_feed}
 use Rattle.dgn_listing.specs.ElementTexts.{places_text, signs_text}
 use Rattle.dgn_listing.proofs.Fronts.{first, later, last, said}
-use Rattle.dgn_listing.proofs.Found.{wrote}
+use Rattle.dgn_listing.proofs.FindingLines.{wrote}
 use Rattle.dgn_listing.proofs.elements.put_listed.Goals as goal
 
 pub returns-in_err-put_signs-clause-front : goal.returns-in_err-put_signs-clause-front

@@ -1,5 +1,5 @@
 use Rattle.dgn_listing.proofs.Fronts.{last}
-use Rattle.dgn_listing.proofs.Found.{wrote}
+use Rattle.dgn_listing.proofs.FindingLines.{wrote}
 use Rattle.dgn_listing.proofs.elements.put_signs.Goals as goal
 
 pub returns-clause-front : goal.returns-clause-front

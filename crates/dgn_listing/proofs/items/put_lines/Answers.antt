@@ -3,7 +3,7 @@ use Rattle.dgn_listing.specs.Lines.{AppendsFrontOf}
 use Rattle.dgn_listing.specs.ItemTexts.{item_text}
 use Rattle.dgn_drawing.specs.declared.types.item.Item.{Item}
 use Rattle.dgn_listing.proofs.Fronts.{among, said}
-use Rattle.dgn_listing.proofs.Found.{more_at, all_at}
+use Rattle.dgn_listing.proofs.FindingLines.{more_at, all_at}
 use Rattle.dgn_listing.proofs.items.put_lines.Goals as goal
 
 pub returns-in_err-put_item-clause-front : goal.returns-in_err-put_item-clause-front

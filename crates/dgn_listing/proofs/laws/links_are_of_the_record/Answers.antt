@@ -1,4 +1,4 @@
-use Rattle.dgn_listing.proofs.Linked.{links-spell}
+use Rattle.dgn_listing.proofs.AttributeData.{links-spell}
 use Rattle.dgn_listing.proofs.laws.links_are_of_the_record.Goals as goal
 
 pub returns : goal.returns

@@ -1,4 +1,4 @@
-use Rattle.dgn_listing.proofs.Told.{long_enough}
+use Rattle.dgn_listing.proofs.LineFields.{long_enough}
 use Rattle.dgn_listing.proofs.Listings.{listed_is}
 use Rattle.dgn_listing.proofs.listed.listed_at.Goals as goal
 
@@ -7,4 +7,5 @@ head-head-requires c = long_enough c.args.d.now c.requires c.args.n c.in_ok-byte
 
 pub returns : goal.returns
 returns c =
-    listed_is c.args.d.now c.requires c.args.n c.in_ok-offset.offset c.in_ok-bytes.bytes.now c.head-head.result c.in_ok-bytes.ensures.bytes c.in_ok-offset.ensures.place c.head-head.ensures
+    listed_is c.args.d.now c.requires c.args.n c.in_ok-offset.offset c.in_ok-bytes.bytes.now c.head-head.result c.in_ok-bytes.ensures.bytes
+    c.in_ok-offset.ensures.place c.head-head.ensures

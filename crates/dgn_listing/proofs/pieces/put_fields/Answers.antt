@@ -1,6 +1,6 @@
 use Rattle.dgn_listing.specs.Lines.{field_text}
 use Rattle.dgn_listing.proofs.Fronts.{among, said}
-use Rattle.dgn_listing.proofs.Found.{more_at, all_at}
+use Rattle.dgn_listing.proofs.FindingLines.{more_at, all_at}
 use Rattle.dgn_listing.proofs.pieces.put_fields.Goals as goal
 
 pub returns-in_err-put_field-clause-front : goal.returns-in_err-put_field-clause-front

@@ -1,6 +1,6 @@
 use Rattle.dgn_listing.specs.SelectedTexts.{number_line}
 use Rattle.dgn_listing.proofs.Fronts.{among, said}
-use Rattle.dgn_listing.proofs.Found.{more_at, all_at}
+use Rattle.dgn_listing.proofs.FindingLines.{more_at, all_at}
 use Rattle.dgn_listing.proofs.selected.put_number_lines.Goals as goal
 
 pub returns-in_err-put_number_line-clause-front : goal.returns-in_err-put_number_line-clause-front

@@ -2,7 +2,7 @@ use Rattle.std.proofs.Common.{◌≡◌, ℕ, ◌<◌, List, length, sym, ap, �
 use Rattle.dgn_drawing.specs.Shown.{tree_shown}
 use Rattle.dgn_fence.specs.Taken.{takes}
 use Rattle.elem_index.specs.Design.{elements}
-use Rattle.dgn_import.proofs.Choosing.{StandsAt, stands_first, all_found, further, stands_taken, stands_left}
+use Rattle.dgn_import.proofs.TakenRoots.{StandsAt, stands_first, all_found, further, stands_taken, stands_left}
 use Rattle.dgn_session.proofs.selecting.select.Goals as goal
 use Rattle.dgn_session.proofs.selecting.select.Goals.{then-taken+in_ok-push, else-taken}
 

@@ -2,7 +2,7 @@ use Rattle.std.proofs.Common.{◌-◌}
 use Rattle.dgn_drawing.specs.Shown.{tree_shown}
 use Rattle.dgn_fence.specs.Taken.{takes}
 use Rattle.elem_index.specs.Design.{elements}
-use Rattle.dgn_import.proofs.Choosing.{StandsAt}
+use Rattle.dgn_import.proofs.TakenRoots.{StandsAt}
 use Rattle.dgn_session.proofs.selecting.select.Given as goal
 
 abbrev pub invariant-roots : goal.invariant-roots

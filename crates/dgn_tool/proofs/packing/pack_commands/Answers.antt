@@ -18,17 +18,17 @@ returns-in-Err-clause-outcome g c =
     let old = g.D.Desk.content c.args.desk.now in
     wants (λ _. packed (opened_of c.args.design) (given_all c.args.commands.now (waiting c.args.seconds.now.items)) c.args.patch.now) old old (nothing_done old)
 
-pub returns-then-patch_len-gt-MOST_PATCH-clause-outcome : goal.returns-then-patch_len-gt-MOST_PATCH-clause-outcome
-returns-then-patch_len-gt-MOST_PATCH-clause-outcome g c =
+pub returns-then-patch_len-clause-outcome : goal.returns-then-patch_len-clause-outcome
+returns-then-patch_len-clause-outcome g c =
     let entries = ap all_packed c.deref.ensures.value ∙ c.in-Ok.ensures.entries in
     subst (λ (o : Outcome). ComesTo c.end.result (λ _. o) (g.D.Desk.content c.args.desk.now) (g.D.Desk.content c.end.new.desk))
-    (packed_long (given_all c.args.commands.now (waiting c.args.seconds.now.items)) (begun (opened_of c.args.design)) (all_packed c.deref.result.now) c.args.patch.now entries (beyond_cap c.patch_len.result _ c.patch_len.ensures c.if-patch_len-gt-MOST_PATCH.true))
+    (packed_long (given_all c.args.commands.now (waiting c.args.seconds.now.items)) (begun (opened_of c.args.design)) (all_packed c.deref.result.now) c.args.patch.now entries (beyond_cap c.patch_len.result _ c.patch_len.ensures c.if-patch_len.true))
     c.end.ensures.outcome
 
 pub returns-clause-outcome : goal.returns-clause-outcome
 returns-clause-outcome g c =
     let entries = ap all_packed c.deref-2.ensures.value ∙ c.in-Ok.ensures.entries in
-    let short = within_cap c.patch_len.result _ c.patch_len.ensures c.if-patch_len-gt-MOST_PATCH.false in
+    let short = within_cap c.patch_len.result _ c.patch_len.ensures c.if-patch_len.false in
     subst (λ (o : Outcome). ComesTo c.file_entries.result (λ _. o) (g.D.Desk.content c.args.desk.now) (g.D.Desk.content c.file_entries.new.desk))
     (packed_short (given_all c.args.commands.now (waiting c.args.seconds.now.items)) (begun (opened_of c.args.design)) (all_packed c.deref-2.result.now) c.in-Ok.did.refused c.args.patch.now entries c.in-Ok.ensures.refused
     (subst (λ (b : List PatchEntry). length (patch_spelling (all_packed b)) ≤ 134217728) (c.deref.ensures.value ∙ sym c.deref-2.ensures.value) short))

@@ -4,16 +4,17 @@ use Rattle.dgn_drawing.specs.declared.row.Row.{Row}
 use Rattle.dgn_drawing.specs.Rows.{row_of}
 use Rattle.dgn_drawing.specs.Nesting.{itself}
 use Rattle.dgn_drawing.specs.Numbering.{headers_of}
-use Rattle.nest_tree.proofs.Climbing.{climbs, ends_climb, headers_by_rows}
+use Rattle.nest_tree.proofs.HeaderChains.{climbs, ends_climb, headers_by_rows}
 use Rattle.elem_index.specs.Design.{elements}
 use Rattle.edit_ops.specs.Written.{found}
-use Rattle.edit_ops.proofs.Climbed.{found_above}
+use Rattle.edit_ops.proofs.HeadersFound.{found_above}
 use Rattle.edit_ops.proofs.above.put_numbers_above.Goals as goal
 
 -- one header more is found
 one_more : (front above new : List ℕ) (q : ℕ) → new ≡ above ++ q ∷ [] → front ++ reverse new ≡ (front ++ q ∷ []) ++ reverse above
 one_more front above new q is =
-    ap (λ (l : List ℕ). front ++ reverse l) is ∙ ap (λ (l : List ℕ). front ++ l) (reverse-append above (q ∷ [])) ∙ sym (append_assoc front (q ∷ []) (reverse above))
+    ap (λ (l : List ℕ). front ++ reverse l) is ∙ ap (λ (l : List ℕ). front ++ l) (reverse-append above (q ∷ []))
+    ∙ sym (append_assoc front (q ∷ []) (reverse above))
 
 pub up-smaller : goal.up-smaller
 up-smaller c = (climbs itself c.args.t.now.rows c.up.i c.in-Some.header c.in-Some.ensures).0

@@ -1,7 +1,7 @@
 use Rattle.std.proofs.Common.{ℕ, true, false, sym, ap, ◌∙◌}
 use Rattle.dgn_layout.specs.Classes.{class_of, is_silent}
 use Rattle.edit_ops.specs.Asking.{locked_in}
-use Rattle.edit_ops.proofs.Told.{lock_cause, lock_found, long_found, asked_of_spots, plane_cause, holds_found, stays_found}
+use Rattle.edit_ops.proofs.ElementAnswers.{lock_cause, lock_found, long_found, asked_of_spots, plane_cause, holds_found, stays_found}
 use Rattle.edit_ops.proofs.asking.cause_against.Goals as goal
 
 pub stays_on_plane-requires-clause-holds : goal.stays_on_plane-requires-clause-holds
@@ -35,5 +35,6 @@ pub returns-in-Unlocked : goal.returns-in-Unlocked
 returns-in-Unlocked c =
     let found = c.in_ok-found.ensures.found in
     c.locked_at.ensures
-    ∙ lock_cause c.args.d.now.dim c.args.test.now c.args.m _ found.element (locked_in c.in_ok-found.found.kind c.in_ok-found.found.bytes.now) c.in-Unlocked.is found.there
+    ∙ lock_cause c.args.d.now.dim c.args.test.now c.args.m _ found.element (locked_in c.in_ok-found.found.kind c.in_ok-found.found.bytes.now)
+    c.in-Unlocked.is found.there
     (lock_found c.args.d.now c.requires.whole c.args.m c.in_ok-found.found found)

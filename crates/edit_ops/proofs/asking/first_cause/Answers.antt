@@ -4,7 +4,7 @@ use Rattle.elem_index.specs.Design.{elements}
 use Rattle.edit_ops.specs.declared.cause.Cause.{Cause}
 use Rattle.edit_ops.specs.Causes.{first_cause}
 use Rattle.edit_ops.specs.Written.{found}
-use Rattle.edit_ops.proofs.Listed.{cause_next, asked_next}
+use Rattle.edit_ops.proofs.ListedLive.{cause_next, asked_next}
 use Rattle.edit_ops.proofs.asking.first_cause.Goals as goal
 
 pub cause_against-cause-requires-clause-asked : goal.cause_against-cause-requires-clause-asked

@@ -1,7 +1,7 @@
 use Rattle.elem_index.specs.Design.{elements}
 use Rattle.edit_ops.specs.declared.asked.Test.TheVariants as tests
 use Rattle.edit_ops.specs.Written.{found}
-use Rattle.edit_ops.proofs.Listed.{cause_both}
+use Rattle.edit_ops.proofs.ListedLive.{cause_both}
 use Rattle.edit_ops.proofs.asking.locked.Goals as goal
 
 pub returns : goal.returns

@@ -2,7 +2,7 @@ use Rattle.std.proofs.Common.{◌≡◌, ℕ, List, ◌++◌, length, map, drop}
 use Rattle.std.specs.List.{AllByRecursion}
 use Rattle.patch_bytes.specs.Puts.{write}
 use Rattle.patch_bytes.specs.PatchView.{put_of}
-use Rattle.edit_ops.proofs.Lowered.{LiesFrom}
+use Rattle.edit_ops.proofs.LoweredPuts.{LiesFrom}
 use Rattle.edit_ops.proofs.copying.lay_all.Given as goal
 
 -- what is left lies in the bytes, and laid behind others gives what all of it gives

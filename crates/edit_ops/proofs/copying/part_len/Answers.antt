@@ -1,8 +1,8 @@
 use Rattle.std.proofs.Common.{ℕ, length, ap, arith}
 use Rattle.elem_index.specs.Design.{elements}
 use Rattle.elem_index.proofs.Places.{body_is}
-use Rattle.edit_ops.proofs.Walked.{end_said}
-use Rattle.edit_ops.proofs.Spanned.{part_ends, part_size, part_inside}
+use Rattle.edit_ops.proofs.LiveWalk.{end_said}
+use Rattle.edit_ops.proofs.PartSpan.{part_ends, part_size, part_inside}
 use Rattle.edit_ops.proofs.copying.part_len.Goals as goal
 
 pub place_of-requires-clause-known : goal.place_of-requires-clause-known

@@ -1,6 +1,6 @@
 use Rattle.std.proofs.Common.{length, drop}
 use Rattle.elem_index.specs.Design.{elements}
-use Rattle.edit_ops.proofs.Joined.{AreJoined}
+use Rattle.edit_ops.proofs.JoinedPlans.{AreJoined}
 use Rattle.edit_ops.proofs.fencing.join_plans.Given as goal
 
 -- what is joined so far and what the roots that are left give are what all give

@@ -1,5 +1,5 @@
 use Rattle.std.proofs.Common.{refl}
-use Rattle.edit_ops.proofs.Seen.{head_fits, found_here}
+use Rattle.edit_ops.proofs.DesignElements.{head_fits, found_here}
 use Rattle.edit_ops.proofs.finding.find.Goals as goal
 
 pub head-head-requires : goal.head-head-requires

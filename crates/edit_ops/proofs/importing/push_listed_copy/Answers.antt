@@ -9,14 +9,15 @@ use Rattle.edit_ops.specs.Trees.{Live, live_tree}
 use Rattle.edit_ops.specs.Causes.{first_cause}
 use Rattle.edit_ops.specs.Copying.{copy_cause}
 use Rattle.edit_ops.specs.Written.{found, IsReady}
-use Rattle.edit_ops.proofs.Accepted.{copy_ready}
+use Rattle.edit_ops.proofs.AcceptedEdit.{copy_ready}
 use Rattle.edit_ops.proofs.importing.push_listed_copy.Goals as goal
 
 pub push_copy-requires-clause-ready : goal.push_copy-requires-clause-ready
 push_copy-requires-clause-ready c =
     let d = c.args.d.now in
     let es = elements c.args.d.now in
-    let are : found (elements c.args.d.now) c.deref.result.now ≡ live_tree (elements c.args.d.now) c.args.n = ap (found (elements c.args.d.now)) c.deref.ensures.value ∙ c.in_ok-live.ensures.found in
+    let are : found (elements c.args.d.now) c.deref.result.now ≡ live_tree (elements c.args.d.now) c.args.n =
+    ap (found (elements c.args.d.now)) c.deref.ensures.value ∙ c.in_ok-live.ensures.found in
     let none : copy_cause d.dim es c.args.by.now c.args.n ≡ None =
     ap (λ (vs : List Live). option_or (first_cause d.dim tests.Moves vs) (first_cause d.dim (tests.Leaves c.args.by.now) vs)) (sym are)
     ∙ sym c.move_cause.ensures ∙ c.in_default.is in

@@ -1,4 +1,4 @@
-use Rattle.edit_ops.proofs.Fenced.{fenced_opens, fenced_fits}
+use Rattle.edit_ops.proofs.FenceLaws.{fenced_opens, fenced_fits}
 use Rattle.edit_ops.proofs.laws.a_fenced_drawing_opens.Goals as goal
 
 pub returns-clause-opens : goal.returns-clause-opens

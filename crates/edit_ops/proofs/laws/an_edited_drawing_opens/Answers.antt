@@ -1,4 +1,4 @@
-use Rattle.edit_ops.proofs.Reopened.{edited_opens, edited_fits}
+use Rattle.edit_ops.proofs.EditLaws.{edited_opens, edited_fits}
 use Rattle.edit_ops.proofs.laws.an_edited_drawing_opens.Goals as goal
 
 pub returns-clause-opens : goal.returns-clause-opens

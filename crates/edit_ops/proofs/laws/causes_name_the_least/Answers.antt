@@ -1,5 +1,5 @@
-use Rattle.edit_ops.proofs.Least.{first_cause_is_least}
-use Rattle.edit_ops.proofs.Numbered.{live_numbers_rise, path_numbers_rise}
+use Rattle.edit_ops.proofs.LeastCause.{first_cause_is_least}
+use Rattle.edit_ops.proofs.NumbersRise.{live_numbers_rise, path_numbers_rise}
 use Rattle.edit_ops.proofs.laws.causes_name_the_least.Goals as goal
 
 pub returns-clause-live : goal.returns-clause-live

@@ -1,4 +1,4 @@
-use Rattle.edit_ops.proofs.Apart.{fields_apart}
+use Rattle.edit_ops.proofs.FieldsRise.{fields_apart}
 use Rattle.edit_ops.proofs.laws.edited_fields_are_apart.Goals as goal
 
 pub returns : goal.returns

@@ -1,6 +1,6 @@
 use Rattle.std.proofs.Common.{◌-◌}
 use Rattle.elem_index.specs.Design.{elements}
-use Rattle.edit_ops.proofs.Walked.{IsLeft}
+use Rattle.edit_ops.proofs.LiveWalk.{IsLeft}
 use Rattle.edit_ops.proofs.live.put_live_numbers.Given as goal
 
 abbrev pub invariant-elements : goal.invariant-elements

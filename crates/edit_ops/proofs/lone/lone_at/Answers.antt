@@ -1,7 +1,7 @@
 use Rattle.std.proofs.Common.{sym, ◌∙◌, arith}
 use Rattle.elem_index.specs.Design.{elements}
-use Rattle.edit_ops.proofs.Walked.{end_said}
-use Rattle.edit_ops.proofs.Spanned.{part_above, alone_bytes, alone_live}
+use Rattle.edit_ops.proofs.LiveWalk.{end_said}
+use Rattle.edit_ops.proofs.PartSpan.{part_above, alone_bytes, alone_live}
 use Rattle.edit_ops.proofs.lone.lone_at.Goals as goal
 
 pub overflow_sub-end_of : goal.overflow_sub-end_of

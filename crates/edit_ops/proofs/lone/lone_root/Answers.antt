@@ -10,12 +10,14 @@ use Rattle.elem_index.specs.Design.{elements}
 use Rattle.edit_ops.specs.declared.finding.Found.{Found}
 use Rattle.edit_ops.specs.Found.{IsFound, IsLone}
 use Rattle.edit_ops.specs.Trees.{found_at, live_tree}
-use Rattle.edit_ops.proofs.Rooted.{none_above, root_free}
+use Rattle.edit_ops.proofs.RootRows.{none_above, root_free}
 use Rattle.edit_ops.proofs.lone.lone_root.Goals as goal
 
 -- a live element that is all of its part stands by itself, where it is a root and no number of its tree is broken
-stands : (d : Design) (rows : List Row) (n : ℕ) (o : Option Found) → rows ≡ map row_of (elements d) → n < length (elements d) → parent_of itself rows n ≡ Some None → first_broken_of itself rows n ≡ Some None
-    → IfSome o (IsFound d n) → IfSome o (λ f. f.deleted ≡ false) → IfSome o (λ _. live_tree (elements d) n ≡ option_to_list (found_at (elements d) n)) → IfSome o (λ _. IsLone d n)
+stands : (d : Design) (rows : List Row) (n : ℕ) (o : Option Found) → rows ≡ map row_of (elements d) → n < length (elements d)
+    → parent_of itself rows n ≡ Some None → first_broken_of itself rows n ≡ Some None
+    → IfSome o (IsFound d n) → IfSome o (λ f. f.deleted ≡ false) → IfSome o (λ _. live_tree (elements d) n ≡ option_to_list (found_at (elements d) n))
+    → IfSome o (λ _. IsLone d n)
 stands d rows n None by known root sound found alive live = tt
 stands d rows n (Some f) by known root sound found alive live = record {
   above = none_above (elements d) rows n by root;

@@ -1,6 +1,6 @@
 use Rattle.std.proofs.Common.{Some, sym, ap, ◌∙◌}
 use Rattle.edit_ops.specs.Causes.{unmovable, off_plane}
-use Rattle.edit_ops.proofs.Solitary.{unmoved, copy_leaves_plane}
+use Rattle.edit_ops.proofs.LoneCopy.{unmoved, copy_leaves_plane}
 use Rattle.edit_ops.proofs.lone_copy.push_lone_copy.Goals as goal
 
 pub returns-in-Some-clause-refused : goal.returns-in-Some-clause-refused

@@ -3,7 +3,7 @@ use Rattle.std.specs.Option.{option_or}
 use Rattle.dgn_layout.specs.declared.types.Class.{Class}
 use Rattle.edit_ops.specs.declared.cause.Cause.{Cause}
 use Rattle.edit_ops.specs.Causes.{lookless}
-use Rattle.edit_ops.proofs.Singled.{locks_found, looks_found, long_alone}
+use Rattle.edit_ops.proofs.LoneEdit.{locks_found, looks_found, long_alone}
 use Rattle.edit_ops.proofs.lone_edit.lone_look_cause.Goals as goal
 
 pub locked_at-requires-clause-long : goal.locked_at-requires-clause-long

@@ -1,7 +1,7 @@
 use Rattle.std.proofs.Common.{Option, ap, ◌∙◌}
 use Rattle.std.specs.Option.{option_or}
 use Rattle.edit_ops.specs.declared.cause.Cause.{Cause}
-use Rattle.edit_ops.proofs.Singled.{three_same, locks_found, quiet_found, marks_found, long_alone}
+use Rattle.edit_ops.proofs.LoneEdit.{three_same, locks_found, quiet_found, marks_found, long_alone}
 use Rattle.edit_ops.proofs.lone_edit.lone_mark_cause.Goals as goal
 
 pub locked_at-requires-clause-long : goal.locked_at-requires-clause-long

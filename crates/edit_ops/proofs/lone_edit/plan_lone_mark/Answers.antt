@@ -1,4 +1,4 @@
-use Rattle.edit_ops.proofs.Told.{four_found}
+use Rattle.edit_ops.proofs.ElementAnswers.{four_found}
 use Rattle.edit_ops.proofs.lone_edit.plan_lone_mark.Goals as goal
 
 pub mark_patch-requires-clause-long : goal.mark_patch-requires-clause-long

@@ -8,8 +8,8 @@ use Rattle.dgn_layout.specs.SpotsLeft.{spots_left}
 use Rattle.dgn_drawing.specs.SpotNumbers.{sum_at}
 use Rattle.patch_bytes.specs.Puts.{Put}
 use Rattle.edit_ops.specs.Written.{sum_put}
-use Rattle.edit_ops.proofs.Steps.{LieIn, lie_in, all_put}
-use Rattle.edit_ops.proofs.Singled.{stays_next}
+use Rattle.edit_ops.proofs.SpotSteps.{LieIn, lie_in, all_put}
+use Rattle.edit_ops.proofs.LoneEdit.{stays_next}
 use Rattle.edit_ops.proofs.lone_move.push_staying.Goals as goal
 
 pub spots-init : goal.spots-init
@@ -18,7 +18,8 @@ spots-init c =
     ap (λ (s : Spots). spots_left s) c.into_iter-spot-iterator.ensures.into_iter_gives ∙ c.spots_in-spot-items.ensures in
     record {
       all = ap (λ (ss : List Spot). c.args.patches.now ++ map (sum_put c.args.by.now c.args.found.place c.args.found.bytes.now) ss) begun;
-      lie = subst (LieIn (length c.args.found.bytes.now)) (sym begun) (lie_in c.args.dim c.args.found.kind c.args.found.bytes.now c.requires.dimension c.requires.holds);
+      lie = subst (LieIn (length c.args.found.bytes.now)) (sym begun)
+          (lie_in c.args.dim c.args.found.kind c.args.found.bytes.now c.requires.dimension c.requires.holds);
       same = ap (λ (ss : List Spot). list_all (λ s. is_on_plane (sum_at c.args.by.now c.args.found.bytes.now s)) ss) begun;
     }
 
@@ -26,13 +27,16 @@ pub spots-preserved : goal.spots-preserved
 spots-preserved c =
     record {
       all =
-          ap (λ (qs : List Put). qs ++ map (sum_put c.args.by.now c.args.found.place c.args.found.bytes.now) (spots_left c.next.new.self)) c.in_ok-push.ensures.ok
-          ∙ all_put c.args.by.now c.args.found.place c.args.found.bytes.now c.spots.patches c.in-Some.spot (spots_left c.next.new.self) _ c.in-Some-staying_patch.ensures.put
+          ap (λ (qs : List Put). qs ++ map (sum_put c.args.by.now c.args.found.place c.args.found.bytes.now) (spots_left c.next.new.self))
+          c.in_ok-push.ensures.ok
+          ∙ all_put c.args.by.now c.args.found.place c.args.found.bytes.now c.spots.patches c.in-Some.spot (spots_left c.next.new.self)
+          _ c.in-Some-staying_patch.ensures.put
           ∙ ap (λ (ss : List Spot). c.spots.patches ++ map (sum_put c.args.by.now c.args.found.place c.args.found.bytes.now) ss) (sym c.in-Some.ensures.steps)
           ∙ c.spots.invariant.all;
       lie = (subst (LieIn (length c.args.found.bytes.now)) c.in-Some.ensures.steps c.spots.invariant.lie).1;
       same =
-          stays_next (λ s. is_on_plane (sum_at c.args.by.now c.args.found.bytes.now s)) c.in-Some.spot (spots_left c.next.new.self) c.in-Some-staying_patch.ensures.on
+          stays_next (λ s. is_on_plane (sum_at c.args.by.now c.args.found.bytes.now s)) c.in-Some.spot (spots_left c.next.new.self)
+          c.in-Some-staying_patch.ensures.on
           ∙ ap (λ (ss : List Spot). list_all (λ s. is_on_plane (sum_at c.args.by.now c.args.found.bytes.now s)) ss) (sym c.in-Some.ensures.steps)
           ∙ c.spots.invariant.same;
     }

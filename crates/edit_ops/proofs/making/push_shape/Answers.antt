@@ -4,7 +4,7 @@ use Rattle.std.specs.Int.{w32}
 use Rattle.std.proofs.lemmas.Int.{to_z-of_z}
 use Rattle.std.proofs.lemmas.Result.{on_ok_weaker}
 use Rattle.dgn_drawing.specs.Spelling.{parts_bytes}
-use Rattle.edit_ops.proofs.Made.{row_pushed, text_pushed}
+use Rattle.edit_ops.proofs.MadeBytes.{row_pushed, text_pushed}
 use Rattle.edit_ops.proofs.making.push_shape.Goals as goal
 
 pub returns-in-Line : goal.returns-in-Line
@@ -14,7 +14,8 @@ returns-in-Line c = search (rules, append_assoc)
 pub returns-in_ok-push_word-in-Chain : goal.returns-in_ok-push_word-in-Chain
 returns-in_ok-push_word-in-Chain c =
     on_ok_weaker c.push_points-in-Chain.result
-    (row_pushed c.args.axes c.args.shape.now c.in-Chain.points c.as_slice-in-Chain.result.now c.len.result c.args.bytes.now.items c.push_word.new.bytes.items c.push_points-in-Chain.new.bytes.items
+    (row_pushed c.args.axes c.args.shape.now c.in-Chain.points c.as_slice-in-Chain.result.now c.len.result c.args.bytes.now.items
+    c.push_word.new.bytes.items c.push_points-in-Chain.new.bytes.items
     c.in-Chain.is c.len.ensures c.as_slice-in-Chain.ensures c.in_ok-push_word-in-Chain.ensures)
     c.push_points-in-Chain.ensures
 
@@ -26,5 +27,6 @@ returns-in_ok-push_point-in-Text c =
     (text_pushed c.args.axes c.args.shape.now c.in-Text.font c.in-Text.just c.in-Text.length c.in-Text.height
     (to_z w32 (of_z w32 c.in-Text.length)) (to_z w32 (of_z w32 c.in-Text.height)) c.in-Text.origin c.in-Text.chars c.as_slice-in-Text.result.now
     c.args.bytes.now.items c.push_run.new.bytes.items c.push_point.new.bytes.items c.push_chars.new.bytes.items
-    c.in-Text.is (to_z-of_z w32 c.in-Text.length wide) (to_z-of_z w32 c.in-Text.height high) c.as_slice-in-Text.ensures c.in_ok-push_run-in-Text.ensures c.in_ok-push_point-in-Text.ensures)
+    c.in-Text.is (to_z-of_z w32 c.in-Text.length wide) (to_z-of_z w32 c.in-Text.height high)
+    c.as_slice-in-Text.ensures c.in_ok-push_run-in-Text.ensures c.in_ok-push_point-in-Text.ensures)
     c.push_chars.ensures

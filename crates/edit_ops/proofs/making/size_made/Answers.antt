@@ -1,7 +1,7 @@
 use Rattle.std.proofs.Common.{◌≡◌, sym, ap, ◌∙◌, subst}
 use Rattle.dgn_drawing.specs.NewElements.{NewElement, IsNew}
 use Rattle.dgn_drawing.specs.NewElements.{size_made as size_in}
-use Rattle.dgn_drawing.proofs.Making.{size-made}
+use Rattle.dgn_drawing.proofs.MadeElements.{size-made}
 use Rattle.edit_ops.proofs.making.size_made.Goals as goal
 
 pub returns-clause-size : goal.returns-clause-size

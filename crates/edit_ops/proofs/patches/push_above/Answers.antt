@@ -7,7 +7,7 @@ use Rattle.patch_bytes.specs.Puts.{Put}
 use Rattle.dgn_drawing.specs.declared.edit.Edit.{Edit}
 use Rattle.dgn_drawing.specs.Element.{Element}
 use Rattle.edit_ops.specs.Written.{found, above_puts, IsReady}
-use Rattle.edit_ops.proofs.Wider.{above_none, above_still, holds_of, long_spots, corners_stay, above_moved, all_wider}
+use Rattle.edit_ops.proofs.WiderRanges.{above_none, above_still, holds_of, long_spots, corners_stay, above_moved, all_wider}
 use Rattle.edit_ops.proofs.patches.push_above.Goals as goal
 
 pub returns-in_default : goal.returns-in_default
@@ -26,29 +26,36 @@ returns-in_default-find c =
 pub moved_range-requires-clause-long : goal.moved_range-requires-clause-long
 moved_range-requires-clause-long c =
     let found = c.in-Some.ensures.found in
-    let ready = subst (λ (e : Edit). IsReady c.args.d.now.dim e found.element) c.in-Move.is (holds_of (IsReady c.args.d.now.dim c.args.edit.now) (slice_get (elements c.args.d.now) c.args.n) found.element found.there c.requires.head) in
+    let ready = subst (λ (e : Edit). IsReady c.args.d.now.dim e found.element) c.in-Move.is
+    (holds_of (IsReady c.args.d.now.dim c.args.edit.now) (slice_get (elements c.args.d.now) c.args.n) found.element found.there c.requires.head) in
     long_spots c.args.d.now c.requires.whole c.args.n c.in-Some.head found ready.0
 
 pub moved_range-requires-clause-low : goal.moved_range-requires-clause-low
 moved_range-requires-clause-low c =
     let found = c.in-Some.ensures.found in
-    let ready = subst (λ (e : Edit). IsReady c.args.d.now.dim e found.element) c.in-Move.is (holds_of (IsReady c.args.d.now.dim c.args.edit.now) (slice_get (elements c.args.d.now) c.args.n) found.element found.there c.requires.head) in
+    let ready = subst (λ (e : Edit). IsReady c.args.d.now.dim e found.element) c.in-Move.is
+    (holds_of (IsReady c.args.d.now.dim c.args.edit.now) (slice_get (elements c.args.d.now) c.args.n) found.element found.there c.requires.head) in
     (corners_stay c.args.d.now c.requires.whole c.args.n c.in-Some.head found c.in-Move.by ready.0 ready.1).0
 
 pub moved_range-requires-clause-high : goal.moved_range-requires-clause-high
 moved_range-requires-clause-high c =
     let found = c.in-Some.ensures.found in
-    let ready = subst (λ (e : Edit). IsReady c.args.d.now.dim e found.element) c.in-Move.is (holds_of (IsReady c.args.d.now.dim c.args.edit.now) (slice_get (elements c.args.d.now) c.args.n) found.element found.there c.requires.head) in
+    let ready = subst (λ (e : Edit). IsReady c.args.d.now.dim e found.element) c.in-Move.is
+    (holds_of (IsReady c.args.d.now.dim c.args.edit.now) (slice_get (elements c.args.d.now) c.args.n) found.element found.there c.requires.head) in
     (corners_stay c.args.d.now c.requires.whole c.args.n c.in-Some.head found c.in-Move.by ready.0 ready.1).1
 
 pub returns : goal.returns
 returns c =
     let head = c.in-Some.ensures.found in
-    let ready = subst (λ (e : Edit). IsReady c.args.d.now.dim e head.element) c.in-Move.is (holds_of (IsReady c.args.d.now.dim c.args.edit.now) (slice_get (elements c.args.d.now) c.args.n) head.element head.there c.requires.head) in
-    let puts = above_moved c.args.d.now c.requires.whole c.args.n c.in-Some.head head c.in-Move.n c.in-Move.by (found (elements c.args.d.now) c.args.above.now) ready.0 in
+    let ready = subst (λ (e : Edit). IsReady c.args.d.now.dim e head.element) c.in-Move.is
+    (holds_of (IsReady c.args.d.now.dim c.args.edit.now) (slice_get (elements c.args.d.now) c.args.n) head.element head.there c.requires.head) in
+    let puts = above_moved c.args.d.now c.requires.whole c.args.n c.in-Some.head head c.in-Move.n c.in-Move.by
+    (found (elements c.args.d.now) c.args.above.now) ready.0 in
     let same : c.args.patches.now ++ all_wider c.args.d.now.dim c.moved_range.result (found (elements c.args.d.now) c.args.above.now)
-    ≡ c.args.patches.now ++ above_puts c.args.d.now.dim c.args.edit.now (slice_get (elements c.args.d.now) c.args.n) (found (elements c.args.d.now) c.args.above.now) =
+    ≡ c.args.patches.now ++ above_puts c.args.d.now.dim c.args.edit.now (slice_get (elements c.args.d.now) c.args.n)
+    (found (elements c.args.d.now) c.args.above.now) =
     ap (λ (r : Box3). c.args.patches.now ++ all_wider c.args.d.now.dim r (found (elements c.args.d.now) c.args.above.now)) c.moved_range.ensures
     ∙ ap (λ (ps : List Put). c.args.patches.now ++ ps) (sym puts)
-    ∙ ap (λ (e : Edit). c.args.patches.now ++ above_puts c.args.d.now.dim e (slice_get (elements c.args.d.now) c.args.n) (found (elements c.args.d.now) c.args.above.now)) (sym c.in-Move.is) in
+    ∙ ap (λ (e : Edit). c.args.patches.now
+    ++ above_puts c.args.d.now.dim e (slice_get (elements c.args.d.now) c.args.n) (found (elements c.args.d.now) c.args.above.now)) (sym c.in-Move.is) in
     subst (λ (ps : List Put). OnOk c.push_all_wider.result (c.push_all_wider.new.patches ≡ ps)) same c.push_all_wider.ensures

@@ -8,5 +8,6 @@ use Rattle.edit_ops.proofs.patches.push_live.Given as goal
 abbrev pub invariant-live : goal.invariant-live
 invariant-live l = record {
   ready : AllByRecursion (λ v. IsReady l.d.dim l.edit v.element) (found (elements l.d) (drop l.m-index l.live));
-  all : l.patches ++ live_puts l.d.dim l.edit (found (elements l.d) (drop l.m-index l.live)) ≡ l.fn.patches ++ live_puts l.d.dim l.edit (found (elements l.d) l.live);
+  all : l.patches ++ live_puts l.d.dim l.edit (found (elements l.d) (drop l.m-index l.live)) ≡ l.fn.patches
+      ++ live_puts l.d.dim l.edit (found (elements l.d) l.live);
 }

@@ -8,7 +8,7 @@ use Rattle.dgn_layout.specs.SpotsLeft.{spots_left}
 use Rattle.dgn_drawing.specs.SpotNumbers.{sum_at}
 use Rattle.patch_bytes.specs.Puts.{Put}
 use Rattle.edit_ops.specs.Written.{sum_put}
-use Rattle.edit_ops.proofs.Steps.{LieIn, lie_in, all_next, all_put}
+use Rattle.edit_ops.proofs.SpotSteps.{LieIn, lie_in, all_next, all_put}
 use Rattle.edit_ops.proofs.patches.push_sums.Goals as goal
 
 pub spots-init : goal.spots-init
@@ -17,23 +17,27 @@ spots-init c =
     ap (λ (s : Spots). spots_left s) c.into_iter-spot-iterator.ensures.into_iter_gives ∙ c.spots_in-spot-items.ensures in
     record {
       all = ap (λ (ss : List Spot). c.args.patches.now ++ map (sum_put c.args.by.now c.args.found.place c.args.found.bytes.now) ss) begun;
-      lie = subst (LieIn (length c.args.found.bytes.now)) (sym begun) (lie_in c.args.dim c.args.found.kind c.args.found.bytes.now c.requires.dimension c.requires.holds);
+      lie = subst (LieIn (length c.args.found.bytes.now)) (sym begun)
+          (lie_in c.args.dim c.args.found.kind c.args.found.bytes.now c.requires.dimension c.requires.holds);
       plane = ap (λ (ss : List Spot). list_all (λ s. is_on_plane (sum_at c.args.by.now c.args.found.bytes.now s)) ss) begun ∙ c.requires.plane;
     }
 
 pub sum_patch-requires-clause-plane : goal.sum_patch-requires-clause-plane
 sum_patch-requires-clause-plane c =
     let here : list_all (λ s. is_on_plane (sum_at c.args.by.now c.args.found.bytes.now s)) (c.in-Some.spot ∷ spots_left c.next.new.self) ≡ true =
-    ap (λ (ss : List Spot). list_all (λ s. is_on_plane (sum_at c.args.by.now c.args.found.bytes.now s)) ss) (sym c.in-Some.ensures.steps) ∙ c.spots.invariant.plane in
+    ap (λ (ss : List Spot). list_all (λ s. is_on_plane (sum_at c.args.by.now c.args.found.bytes.now s)) ss) (sym c.in-Some.ensures.steps)
+    ∙ c.spots.invariant.plane in
     (all_next (λ s. is_on_plane (sum_at c.args.by.now c.args.found.bytes.now s)) c.in-Some.spot (spots_left c.next.new.self) here).0
 
 pub spots-preserved : goal.spots-preserved
 spots-preserved c =
     let here : list_all (λ s. is_on_plane (sum_at c.args.by.now c.args.found.bytes.now s)) (c.in-Some.spot ∷ spots_left c.next.new.self) ≡ true =
-    ap (λ (ss : List Spot). list_all (λ s. is_on_plane (sum_at c.args.by.now c.args.found.bytes.now s)) ss) (sym c.in-Some.ensures.steps) ∙ c.spots.invariant.plane in
+    ap (λ (ss : List Spot). list_all (λ s. is_on_plane (sum_at c.args.by.now c.args.found.bytes.now s)) ss) (sym c.in-Some.ensures.steps)
+    ∙ c.spots.invariant.plane in
     record {
       all =
-          ap (λ (qs : List Put). qs ++ map (sum_put c.args.by.now c.args.found.place c.args.found.bytes.now) (spots_left c.next.new.self)) c.in_ok-push.ensures.ok
+          ap (λ (qs : List Put). qs ++ map (sum_put c.args.by.now c.args.found.place c.args.found.bytes.now) (spots_left c.next.new.self))
+          c.in_ok-push.ensures.ok
           ∙ all_put c.args.by.now c.args.found.place c.args.found.bytes.now c.spots.patches c.in-Some.spot (spots_left c.next.new.self) _ c.sum_patch.ensures
           ∙ ap (λ (ss : List Spot). c.spots.patches ++ map (sum_put c.args.by.now c.args.found.place c.args.found.bytes.now) ss) (sym c.in-Some.ensures.steps)
           ∙ c.spots.invariant.all;

@@ -6,14 +6,15 @@ use Rattle.elem_index.specs.Design.{elements}
 use Rattle.patch_bytes.specs.Puts.{Put}
 use Rattle.edit_ops.specs.Trees.{Live}
 use Rattle.elem_index.proofs.Places.{axes_of}
-use Rattle.edit_ops.proofs.Told.{holds_found}
-use Rattle.edit_ops.proofs.Wider.{one_of, wider_found}
+use Rattle.edit_ops.proofs.ElementAnswers.{holds_found}
+use Rattle.edit_ops.proofs.WiderRanges.{one_of, wider_found}
 use Rattle.edit_ops.proofs.patches.push_wider.Goals as goal
 
 pub push_range-requires : goal.push_range-requires
 push_range-requires c =
     let found = c.in-Some.ensures.found in
-    let spotted : has_spots (class_of found.element.kind) ≡ true = one_of (λ (v : Live). has_spots (class_of v.element.kind) ≡ true) (elements c.args.d.now) c.args.m found.element found.there c.requires.spotted in
+    let spotted : has_spots (class_of found.element.kind) ≡ true =
+    one_of (λ (v : Live). has_spots (class_of v.element.kind) ≡ true) (elements c.args.d.now) c.args.m found.element found.there c.requires.spotted in
     record {
       dimension = axes_of c.args.d.now c.requires.whole;
       kind = subst (λ (k : ℕ). k < 128) (sym found.kind) found.good.kind;

@@ -9,8 +9,8 @@ use Rattle.edit_ops.specs.Trees.{Live, live_tree}
 use Rattle.edit_ops.specs.Causes.{other_axes, first_cause, part_cause}
 use Rattle.edit_ops.specs.Copying.{copy_cause}
 use Rattle.edit_ops.specs.Written.{found}
-use Rattle.edit_ops.proofs.Lengthened.{long_copy, short_copy}
-use Rattle.edit_ops.proofs.Singled.{ok_so}
+use Rattle.edit_ops.proofs.CopyLength.{long_copy, short_copy}
+use Rattle.edit_ops.proofs.LoneEdit.{ok_so}
 use Rattle.edit_ops.proofs.planning.plan_copy.Goals as goal
 
 pub returns-in-Some-growth_cause-clause-refused : goal.returns-in-Some-growth_cause-clause-refused
@@ -26,7 +26,8 @@ returns-in-Some-growth_cause-clause-refused c =
     ap (found es) c.deref-in-Some-growth_cause.ensures.value ∙ c.in_ok-put_live_numbers.ensures.found in
     let itself : c.move_cause.result ≡ copy_cause d.dim es c.args.by.now c.args.n =
     c.move_cause.ensures ∙ ap (λ (vs : List Live). option_or (first_cause d.dim tests.Moves vs) (first_cause d.dim (tests.Leaves c.args.by.now) vs)) are in
-    long_copy d c.requires.whole c.args.n c.args.pending c.part_len.result c.args.by.now free c.part_len.ensures.exact c.move_cause.result c.in-Some-growth_cause.long itself
+    long_copy d c.requires.whole c.args.n c.args.pending c.part_len.result c.args.by.now free c.part_len.ensures.exact c.move_cause.result
+    c.in-Some-growth_cause.long itself
     (sym c.growth_cause.ensures ∙ c.in-Some-growth_cause.is)
     ∙ ap (λ (x : Cause). Some x) (sym c.unwrap_or-cause.ensures)
 
@@ -41,4 +42,5 @@ returns-clause-free c =
     ∙ sym c.or-first.ensures ∙ c.in_default.is in
     let all = short_copy d c.requires.whole c.args.n c.args.pending c.part_len.result c.args.by.now free c.part_len.ensures.exact
     (sym c.growth_cause.ensures ∙ c.in_default-growth_cause.is) in
-    subst (λ (o : Option Cause). IfOk c.copy_tree.result (λ _. o ≡ None)) (sym all) (ok_so c.copy_tree.result (copy_cause d.dim es c.args.by.now c.args.n ≡ None) c.copy_tree.ensures.accepted)
+    subst (λ (o : Option Cause). IfOk c.copy_tree.result (λ _. o ≡ None)) (sym all)
+    (ok_so c.copy_tree.result (copy_cause d.dim es c.args.by.now c.args.n ≡ None) c.copy_tree.ensures.accepted)

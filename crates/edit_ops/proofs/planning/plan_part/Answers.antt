@@ -11,16 +11,18 @@ use Rattle.edit_ops.specs.Causes.{part_cause, causes_of, first_of}
 use Rattle.edit_ops.specs.Copying.{tree_copy}
 use Rattle.edit_ops.specs.Planned.{IsPlanBehind}
 use Rattle.edit_ops.specs.Written.{part_puts}
-use Rattle.edit_ops.proofs.Behind.{appends_behind, writes_behind}
-use Rattle.edit_ops.proofs.Deciding.{known_is, unknown_refused, later_first, stopped_refused, copied_plan, changed_plan, causes_in_place, is_in_place, copy_named}
-use Rattle.edit_ops.proofs.Singled.{both_ok}
+use Rattle.edit_ops.proofs.PlanBehind.{appends_behind, writes_behind}
+use Rattle.edit_ops.proofs.CauseOrder.{known_is, unknown_refused, later_first, stopped_refused, copied_plan, changed_plan, causes_in_place, is_in_place}
+use Rattle.edit_ops.proofs.CauseOrder.{copy_named}
+use Rattle.edit_ops.proofs.LoneEdit.{both_ok}
 use Rattle.edit_ops.proofs.planning.plan_part.Goals as goal
 
 pub returns-in-Some : goal.returns-in-Some
 returns-in-Some c = record {
   planned = tt;
   refused =
-      unknown_refused c.args.d.now.dim (elements c.args.d.now) (length c.args.d.now.tail.items + c.args.pending) c.args.edit.now c.args.n c.in-Some.cause c.requires.target (sym c.unknown.ensures ∙ c.in-Some.is);
+      unknown_refused c.args.d.now.dim (elements c.args.d.now) (length c.args.d.now.tail.items + c.args.pending)
+      c.args.edit.now c.args.n c.in-Some.cause c.requires.target (sym c.unknown.ensures ∙ c.in-Some.is);
 }
 
 pub returns-in-Copy : goal.returns-in-Copy
@@ -43,7 +45,8 @@ returns-in-Copy c =
           (λ more free.
           appends_behind d.dim es rest e c.args.all.now after bytes
           (copied_plan d.dim es rest e c.args.n c.args.n c.in-Copy.by (record { patches = []; append = bytes }) c.requires.target named
-          (later_first d.dim es rest e c.args.n c.requires.target known ∙ same ∙ free) refl (ap (λ (x : Edit). spelling (flat (copied d.dim es x c.args.n))) (sym named)))
+          (later_first d.dim es rest e c.args.n c.requires.target known ∙ same ∙ free) refl
+          (ap (λ (x : Edit). spelling (flat (copied d.dim es x c.args.n))) (sym named)))
           refl more);
       refused = stopped_refused d.dim es rest e c.args.n _ c.plan_copy.result c.requires.target known same c.plan_copy.ensures.refused;
     }
@@ -70,7 +73,8 @@ returns c =
           c.plan_in_place.ensures.planned c.plan_in_place.ensures.free
           (λ more free.
           writes_behind d.dim es rest e c.args.all.now after puts
-          (changed_plan (d.body.items ++ d.tail.items) d.dim es d.tail.items rest e c.args.n (record { patches = puts; append = [] }) c.requires.fits c.requires.whole.is_open.opens c.requires.target
+          (changed_plan (d.body.items ++ d.tail.items) d.dim es d.tail.items rest e c.args.n (record { patches = puts; append = [] })
+          c.requires.fits c.requires.whole.is_open.opens c.requires.target
           c.in_default-edit.not-Copy (later_first d.dim es rest e c.args.n c.requires.target known ∙ same ∙ free) refl refl)
           more refl);
       refused = stopped_refused d.dim es rest e c.args.n _ c.plan_in_place.result c.requires.target known same c.plan_in_place.ensures.refused;

@@ -1,7 +1,7 @@
 use Rattle.std.proofs.Common.{◌≡◌, ◌∙◌, arith}
 use Rattle.dgn_words.specs.Numbers.{put}
 use Rattle.dgn_drawing.specs.SpotNumbers.{number_bytes}
-use Rattle.edit_ops.proofs.Putting.{put_written}
+use Rattle.edit_ops.proofs.LivePuts.{put_written}
 use Rattle.edit_ops.proofs.sums.put_number.Goals as goal
 
 pub returns-then-spot : goal.returns-then-spot

@@ -4,12 +4,13 @@ use Rattle.range_code.specs.Plane.{is_on_plane}
 use Rattle.dgn_layout.specs.Spots.{spots_of}
 use Rattle.dgn_layout.specs.SpotsLeft.{spots_left}
 use Rattle.dgn_drawing.specs.SpotNumbers.{sum_at}
-use Rattle.edit_ops.proofs.Steps.{LieIn}
+use Rattle.edit_ops.proofs.SpotSteps.{LieIn}
 use Rattle.edit_ops.proofs.sums.stays_on_plane.Given as goal
 
 -- what is left stays exactly where all do
 abbrev pub invariant-spots : goal.invariant-spots
 invariant-spots l = record {
-  same : list_all (λ s. is_on_plane (sum_at l.by l.b s)) (spots_left l.spot-iterator) ≡ list_all (λ s. is_on_plane (sum_at l.by l.b s)) (spots_of l.dim l.kind l.b);
+  same : list_all (λ s. is_on_plane (sum_at l.by l.b s)) (spots_left l.spot-iterator)
+      ≡ list_all (λ s. is_on_plane (sum_at l.by l.b s)) (spots_of l.dim l.kind l.b);
   lie : LieIn (length l.b) (spots_left l.spot-iterator);
 }

@@ -1,4 +1,5 @@
-use Rattle.std.proofs.Common.{◌≡◌, ◌<◌, ◌≤◌, ◌==◌, ℕ, zero, suc, Bool, true, false, List, [], ◌∷◌, length, get_or, Some, None, sym, ap, ◌∙◌, subst, arith, Fits, w8}
+use Rattle.std.proofs.Common.{◌≡◌, ◌<◌, ◌≤◌, ◌==◌, ℕ, zero, suc, Bool, true, false, List, [], ◌∷◌, length, get_or, Some, None, sym, ap, ◌∙◌, subst, arith}
+use Rattle.std.proofs.Common.{Fits, w8}
 use Rattle.std.proofs.lemmas.Bool.Decides.{nat_tests}
 use Rattle.dgn_drawing.specs.WellFormed.{IsBytes}
 use Rattle.edit_script.specs.Appends.{chars_given, IsChars}
@@ -19,7 +20,8 @@ each_byte [] each k d before = absurd (omega arith)
 each_byte (b ∷ bytes) each zero d before = let here : Fits w8 b = each 0 in omega arith
 each_byte (b ∷ bytes) each (suc k) d before = each_byte bytes (λ (i : ℕ). each (suc i)) k d (omega arith)
 
-are_chars : (bytes : List ℕ) (empty : Bool) → empty ≡ (length bytes == 0) → empty ≡ false → length bytes ≤ 255 → ((k : ℕ) → Fits w8 (get_or bytes k 0)) → IsChars bytes
+are_chars : (bytes : List ℕ) (empty : Bool) → empty ≡ (length bytes == 0) → empty ≡ false → length bytes ≤ 255 → ((k : ℕ) → Fits w8 (get_or bytes k 0))
+    → IsChars bytes
 are_chars bytes empty is some few each = record { some = grind (arith, nat_tests); few = few; bytes = each_byte bytes each }
 
 pub returns-then-is_empty-clause-value : goal.returns-then-is_empty-clause-value

@@ -1,7 +1,7 @@
 use Rattle.std.proofs.Common.{◌≡◌, length}
 use Rattle.edit_script.specs.Words.{words_of, each_named}
 use Rattle.edit_script.specs.Fences.{corner_named}
-use Rattle.edit_script.proofs.EachRead.{behind_all}
+use Rattle.edit_script.proofs.NamedValues.{behind_all}
 use Rattle.edit_script.proofs.fences.read_corners.Given as goal
 
 abbrev pub invariant-words : goal.invariant-words

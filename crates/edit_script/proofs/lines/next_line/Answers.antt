@@ -1,6 +1,6 @@
 use Rattle.std.proofs.Common.{◌≡◌, ◌<◌, length, arith, ◌==◌, false}
 use Rattle.std.proofs.lemmas.Bool.Decides.{nat_tests}
-use Rattle.edit_script.proofs.Pieces.{lines_of-first}
+use Rattle.edit_script.proofs.TextPieces.{lines_of-first}
 use Rattle.edit_script.proofs.lines.next_line.Goals as goal
 
 pub returns : goal.returns

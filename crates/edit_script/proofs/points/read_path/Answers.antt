@@ -6,12 +6,14 @@ use Rattle.edit_script.proofs.points.read_path.Goals as goal
 use Rattle.edit_script.proofs.points.read_path.Goals.{else-least-len-via-then-least-len+else-len-most, else-least-len-via-else-least-len}
 
 -- the path of words, the first of which spells that point
-path_begun : (least most : ℕ) (first : Option PointGiven) (words : List (List ℕ)) (word : List ℕ) (more : List (List ℕ)) → words ≡ word ∷ more → first ≡ point_named word → path_from least most first words ≡ path_named least most words
+path_begun : (least most : ℕ) (first : Option PointGiven) (words : List (List ℕ)) (word : List ℕ) (more : List (List ℕ)) → words ≡ word ∷ more
+    → first ≡ point_named word → path_from least most first words ≡ path_named least most words
 path_begun least most first words word more is spells =
     ap (path_from least most first) is ∙ ap (λ (p : Option PointGiven). path_from least most p (word ∷ more)) spells ∙ sym (ap (path_named least most) is)
 
 -- and all of which spell those points
-path_given : (least most axes : ℕ) (found given named : Option (List (List ℤ))) → found ≡ given → found ≡ named → path_of least most axes given ≡ path_of least most axes named
+path_given : (least most axes : ℕ) (found given named : Option (List (List ℤ))) → found ≡ given → found ≡ named
+    → path_of least most axes given ≡ path_of least most axes named
 path_given least most axes found given named is are = ap (path_of least most axes) (sym is ∙ are)
 
 no_path : (least most axes : ℕ) (points : List (List ℤ)) → (length points < least) ⊎ (most < length points) → None ≡ path_of least most axes (Some points)

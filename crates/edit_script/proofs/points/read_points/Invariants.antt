@@ -3,7 +3,7 @@ use Rattle.std.specs.List.{AllByRecursion}
 use Rattle.dgn_drawing.specs.NewElements.{IsPointFor}
 use Rattle.edit_script.specs.Words.{words_of}
 use Rattle.edit_script.specs.Points.{points_named}
-use Rattle.edit_script.proofs.EachRead.{behind_all}
+use Rattle.edit_script.proofs.NamedValues.{behind_all}
 use Rattle.edit_script.proofs.points.read_points.Given as goal
 
 abbrev pub invariant-words : goal.invariant-words

@@ -1,7 +1,7 @@
 use Rattle.std.proofs.Common.{◌≡◌, ◌≤◌, ◌<◌, ◌+◌, length}
 use Rattle.edit_script.specs.Lines.{lines_of}
 use Rattle.edit_script.specs.Script.{commands_from, commands_of}
-use Rattle.edit_script.proofs.InOrder.{behind}
+use Rattle.edit_script.proofs.CommandLines.{behind}
 use Rattle.edit_script.proofs.script.read_script.Given as goal
 
 abbrev pub invariant-lines : goal.invariant-lines

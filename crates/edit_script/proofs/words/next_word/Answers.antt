@@ -1,6 +1,6 @@
 use Rattle.std.proofs.Common.{◌<◌, ◌≡◌, ◌==◌, length, arith, false, true}
 use Rattle.std.proofs.lemmas.Bool.Decides.{nat_tests}
-use Rattle.edit_script.proofs.Pieces.{words_of-none, words_of-some}
+use Rattle.edit_script.proofs.TextPieces.{words_of-none, words_of-some}
 use Rattle.edit_script.proofs.words.next_word.Goals as goal
 
 pub returns-then-is_empty-clause-word : goal.returns-then-is_empty-clause-word

@@ -1,5 +1,6 @@
-use Rattle.elem_index.proofs.Runs.{bare_sound}
+use Rattle.elem_index.proofs.FileWalk.{bare_sound}
 use Rattle.elem_index.proofs.beginning.next_size.Goals as goal
 
 pub returns-then-is_bare-clause-next : goal.returns-then-is_bare-clause-next
-returns-then-is_bare-clause-next c = (c.is_bare.ensures.more c.if-is_bare.true, bare_sound c.args.dim c.args.rest.now (c.is_bare.ensures.bare c.if-is_bare.true))
+returns-then-is_bare-clause-next c =
+    (c.is_bare.ensures.more c.if-is_bare.true, bare_sound c.args.dim c.args.rest.now (c.is_bare.ensures.bare c.if-is_bare.true))

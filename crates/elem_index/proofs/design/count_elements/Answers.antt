@@ -1,5 +1,5 @@
 use Rattle.std.proofs.Common.{◌∙◌, sym}
-use Rattle.elem_index.proofs.Finds.{opening-other}
+use Rattle.elem_index.proofs.OpeningAnswers.{opening-other}
 use Rattle.elem_index.proofs.design.count_elements.Goals as goal
 
 pub returns-then-not-begins_with_tcb-clause-told : goal.returns-then-not-begins_with_tcb-clause-told

@@ -1,4 +1,4 @@
-use Rattle.elem_index.proofs.Finds.{opens-opening, opening-opens, fault-opening, opening-fault}
+use Rattle.elem_index.proofs.OpeningAnswers.{opens-opening, opening-opens, fault-opening, opening-fault}
 use Rattle.elem_index.proofs.laws.opening_finds_all.Goals as goal
 
 pub returns-clause-opens : goal.returns-clause-opens

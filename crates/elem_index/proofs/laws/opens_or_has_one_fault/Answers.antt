@@ -1,4 +1,4 @@
-use Rattle.elem_index.proofs.Finds.{opens_or_faults}
+use Rattle.elem_index.proofs.OpeningAnswers.{opens_or_faults}
 use Rattle.elem_index.proofs.laws.opens_or_has_one_fault.Goals as goal
 
 pub returns : goal.returns

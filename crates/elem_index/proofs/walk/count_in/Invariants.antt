@@ -1,6 +1,6 @@
 use Rattle.std.proofs.Common.{◌≡◌, ◌-◌, length}
 use Rattle.dgn_drawing.specs.Opening.{dimension}
-use Rattle.elem_index.proofs.Runs.{Counted}
+use Rattle.elem_index.proofs.FileWalk.{Counted}
 use Rattle.elem_index.proofs.walk.count_in.Given as goal
 
 abbrev pub invariant-elements : goal.invariant-elements

@@ -2,34 +2,42 @@ use Rattle.std.proofs.Common.{◌≡◌, ℕ, ◌∙◌, ◌++◌, ◌∷◌, []
 use Rattle.std.proofs.lemmas.Result.{err_from_is_err_and}
 use Rattle.elem_index.specs.Answers.{Steps}
 use Rattle.elem_index.specs.Design.{kind_byte_at}
-use Rattle.elem_index.proofs.Runs.{are_bytes, faulty_here, told_here, going_more, run_ends}
+use Rattle.elem_index.proofs.FileWalk.{are_bytes, faulty_here, told_here, going_more, run_ends}
 use Rattle.elem_index.proofs.walk.elements_in.Goals as goal
 
 pub returns-in_err-at-clause-fault : goal.returns-in_err-at-clause-fault
 returns-in_err-at-clause-fault c =
     let p = err_from_is_err_and c.from_residual.result c.from_residual.ensures.1 in
     let bytes = are_bytes c.args.f.now (λ i. omega (arith, c.type_inv.f i)) in
-    rw (p.1, p.2) (faulty_here c.args.f.now bytes c.requires.tcb c.elements.kept.items c.elements.kinds.items c.elements.walk.at c.elements.invariant.1 c.in_err-at.field-0.0 c.in_err-at.ensures.fault)
+    rw (p.1, p.2) (faulty_here c.args.f.now bytes c.requires.tcb c.elements.kept.items c.elements.kinds.items c.elements.walk.at c.elements.invariant.1
+    c.in_err-at.field-0.0 c.in_err-at.ensures.fault)
 
 pub returns-in_err-at-clause-told : goal.returns-in_err-at-clause-told
 returns-in_err-at-clause-told c =
     let p = err_from_is_err_and c.from_residual.result c.from_residual.ensures.1 in
     let bytes = are_bytes c.args.f.now (λ i. omega (arith, c.type_inv.f i)) in
-    rw (p.1, p.2) (told_here c.args.f.now bytes c.requires.tcb c.elements.kept.items c.elements.kinds.items c.elements.walk.at c.elements.invariant.1 c.in_err-at.field-0.0 c.in_err-at.ensures.fault)
+    rw (p.1, p.2) (told_here c.args.f.now bytes c.requires.tcb c.elements.kept.items c.elements.kinds.items c.elements.walk.at c.elements.invariant.1
+    c.in_err-at.field-0.0 c.in_err-at.ensures.fault)
 
 pub elements-preserved : goal.elements-preserved
 elements-preserved c =
     let bytes = are_bytes c.args.f.now (λ i. omega (arith, c.type_inv.f i)) in
     let step = subst (Steps c.args.f.now c.elements.walk.at c.next_place.new.self.at) c.in-Some.is c.in_ok-at.ensures.step in
-    let offsets : c.push.new.self.items ≡ c.elements.kept.items ++ c.in-Some.at ∷ [] = grind (arith, c.push.ensures.items, c.is_err.ensures, c.if-is_err.false) in
-    let kinds : c.push-else-is_err.new.self.items ≡ c.elements.kinds.items ++ c.kind_byte.result ∷ [] = grind (arith, c.push-else-is_err.ensures.items, c.is_err-else-is_err.ensures, c.if-is_err-2.false) in
-    let byte : c.kind_byte.result ≡ kind_byte_at (drop c.elements.walk.at c.args.f.now) = c.kind_byte.ensures ∙ ap kind_byte_at (c.split_at.ensures.back ∙ ap (λ (k : ℕ). drop k c.args.f.now) step.0) in (
+    let offsets : c.push.new.self.items ≡ c.elements.kept.items ++ c.in-Some.at ∷ [] =
+    grind (arith, c.push.ensures.items, c.is_err.ensures, c.if-is_err.false) in
+    let kinds : c.push-else-is_err.new.self.items ≡ c.elements.kinds.items ++ c.kind_byte.result ∷ [] =
+    grind (arith, c.push-else-is_err.ensures.items, c.is_err-else-is_err.ensures, c.if-is_err-2.false) in
+    let byte : c.kind_byte.result ≡ kind_byte_at (drop c.elements.walk.at c.args.f.now) =
+    c.kind_byte.ensures ∙ ap kind_byte_at (c.split_at.ensures.back ∙ ap (λ (k : ℕ). drop k c.args.f.now) step.0) in (
       c.in_ok-at.ensures.axes ∙ c.elements.invariant.0,
-      rw (offsets, kinds, byte) (going_more c.args.f.now bytes c.requires.tcb c.elements.kept.items c.elements.kinds.items c.elements.walk.at c.elements.invariant.1 c.in-Some.at c.next_place.new.self.at step),
+      rw (offsets, kinds, byte)
+          (going_more c.args.f.now bytes c.requires.tcb c.elements.kept.items c.elements.kinds.items c.elements.walk.at c.elements.invariant.1 c.in-Some.at
+          c.next_place.new.self.at step),
     )
 
 pub returns-clause-opens : goal.returns-clause-opens
 returns-clause-opens c =
     let bytes = are_bytes c.args.f.now (λ i. omega (arith, c.type_inv.f i)) in
     let ends = subst (Steps c.args.f.now c.elements.walk.at c.next_place.new.self.at) c.in_default.is c.in_ok-at.ensures.step in
-    run_ends c.args.f.now bytes c.requires.tcb c.elements.kept.items c.elements.kinds.items c.elements.walk.at c.elements.invariant.1 c.next_place.new.self.at ends
+    run_ends c.args.f.now bytes c.requires.tcb c.elements.kept.items c.elements.kinds.items c.elements.walk.at c.elements.invariant.1
+    c.next_place.new.self.at ends

@@ -1,6 +1,6 @@
 use Rattle.std.proofs.Common.{◌≡◌, ◌-◌, length}
 use Rattle.dgn_drawing.specs.Opening.{dimension}
-use Rattle.elem_index.proofs.Runs.{Going}
+use Rattle.elem_index.proofs.FileWalk.{Going}
 use Rattle.elem_index.proofs.walk.elements_in.Given as goal
 
 abbrev pub invariant-elements : goal.invariant-elements

@@ -8,12 +8,16 @@ pub returns-then-head : goal.returns-then-head
 returns-then-head c =
     let h = c.head-head.result in
     elim c.then-head.branch [
-      | then-head-via-then-head w ↦ deleted_hides c.args.dim c.args.place.bytes.now c.head-head.result c.head-head.ensures c.args.mask c.args.place.number c.args.place.depth w.if-head.true
+      | then-head-via-then-head w ↦
+          deleted_hides c.args.dim c.args.place.bytes.now c.head-head.result c.head-head.ensures c.args.mask c.args.place.number c.args.place.depth
+          w.if-head.true
       | then-head-via-else-head+then-not-shows w ↦
-          mask_hides c.args.dim c.args.place.bytes.now c.head-head.result c.head-head.ensures c.args.mask c.args.place.number c.args.place.depth w.if-head.false (sym w.shows.ensures ∙ w.if-not-shows.true)
+          mask_hides c.args.dim c.args.place.bytes.now c.head-head.result c.head-head.ensures c.args.mask c.args.place.number c.args.place.depth
+          w.if-head.false (sym w.shows.ensures ∙ w.if-not-shows.true)
     ]
 
 pub returns : goal.returns
 returns c =
     ok_lists c.item.result _ _ c.item.ensures
-    (is_shown c.args.dim c.args.place.bytes.now c.head-head.result c.head-head.ensures c.args.mask c.args.place.number c.args.place.depth c.if-head.false (sym c.shows.ensures ∙ c.if-not-shows.false))
+    (is_shown c.args.dim c.args.place.bytes.now c.head-head.result c.head-head.ensures c.args.mask c.args.place.number c.args.place.depth c.if-head.false
+    (sym c.shows.ensures ∙ c.if-not-shows.false))

@@ -2,14 +2,15 @@ use Rattle.std.proofs.Common.{◌≡◌, ℕ, ◌-◌, length, reverse, sym, ap,
 use Rattle.elem_index.specs.Design.{elements}
 use Rattle.level_view.specs.Back.{read_back}
 use Rattle.level_view.specs.Numbers.{numbers_of}
-use Rattle.level_view.proofs.Counted.{number_step}
-use Rattle.level_view.proofs.Stands.{all_found}
+use Rattle.level_view.proofs.NumbersShown.{number_step}
+use Rattle.level_view.proofs.ItemsBack.{all_found}
 use Rattle.level_view.proofs.counting.numbers_shown.Goals as goal
 
 pub loop-n-init : goal.loop-n-init
 loop-n-init c =
     let none : c.count-end.result - c.count-end.result ≡ 0 = omega arith in
-    ap reverse c.new-numbers.ensures.items ∙ ap (λ (k : ℕ). numbers_of (read_back c.args.d.now.dim c.args.mask (elements c.args.d.now) c.count-end.result k)) (sym none)
+    ap reverse c.new-numbers.ensures.items
+    ∙ ap (λ (k : ℕ). numbers_of (read_back c.args.d.now.dim c.args.mask (elements c.args.d.now) c.count-end.result k)) (sym none)
 
 pub loop-n-preserved : goal.loop-n-preserved
 loop-n-preserved c =

@@ -1,4 +1,4 @@
-use Rattle.level_view.proofs.Trees.{display_joins, all_roots}
+use Rattle.level_view.proofs.RootItems.{display_joins, all_roots}
 use Rattle.level_view.proofs.laws.display_is_of_trees.Goals as goal
 
 pub returns-clause-trees : goal.returns-clause-trees

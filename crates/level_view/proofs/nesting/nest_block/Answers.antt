@@ -7,7 +7,7 @@ use Rattle.dgn_drawing.specs.Nesting.{BeginsFree, itself}
 use Rattle.elem_index.specs.Design.{elements}
 use Rattle.elem_index.proofs.Places.{few_elements}
 use Rattle.nest_tree.specs.Shapes.{IsRow}
-use Rattle.level_view.proofs.Blocks.{block_each, block_free}
+use Rattle.level_view.proofs.DesignBlocks.{block_each, block_free}
 use Rattle.level_view.proofs.nesting.nest_block.Goals as goal
 
 pub overflow_cast-len : goal.overflow_cast-len
@@ -35,7 +35,8 @@ grow-requires-clause-few c =
 
 pub grow-requires-clause-each : goal.grow-requires-clause-each
 grow-requires-clause-each c =
-    subst (AllByRecursion IsRow) (sym c.deref.ensures.value) (block_each c.args.d.now c.requires.whole c.args.n c.row_block.new.rows.items c.in_ok-row_block.ensures.block)
+    subst (AllByRecursion IsRow) (sym c.deref.ensures.value)
+    (block_each c.args.d.now c.requires.whole c.args.n c.row_block.new.rows.items c.in_ok-row_block.ensures.block)
 
 pub grow-requires-clause-free : goal.grow-requires-clause-free
 grow-requires-clause-free c =

@@ -1,6 +1,6 @@
 use Rattle.std.proofs.Common.{◌+◌, arith}
 use Rattle.elem_index.proofs.Places.{few_elements}
-use Rattle.level_view.proofs.Runs.{free_from}
+use Rattle.level_view.proofs.PlainRuns.{free_from}
 use Rattle.level_view.proofs.nesting.nest_next.Goals as goal
 
 pub overflow_add-result : goal.overflow_add-result

@@ -1,5 +1,5 @@
 use Rattle.std.proofs.Common.{arith, refl}
-use Rattle.level_view.proofs.Runs.{place_small, body_ends}
+use Rattle.level_view.proofs.PlainRuns.{place_small, body_ends}
 use Rattle.level_view.proofs.nesting.place_of.Goals as goal
 
 pub overflow_cast-result : goal.overflow_cast-result

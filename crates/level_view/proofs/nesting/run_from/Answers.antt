@@ -2,12 +2,19 @@ use Rattle.std.proofs.Common.{◌<◌, ◌+◌, ◌∙◌, ap, subst, arith, len
 use Rattle.elem_index.specs.Design.{elements}
 use Rattle.elem_index.proofs.Places.{few_elements}
 use Rattle.elem_index.proofs.KindBytes.{length-kind_bytes}
-use Rattle.level_view.proofs.Runs.{at_left}
+use Rattle.level_view.proofs.PlainRuns.{at_left}
 use Rattle.level_view.proofs.nesting.run_from.Goals as goal
 
 pub overflow_cast-result : goal.overflow_cast-result
 overflow_cast-result c =
-    omega (arith, c.plain_run.ensures.within, c.split_at.ensures.back_len, few_elements c.args.d.now c.requires.whole, ap (length {A = ℕ}) c.kind_bytes.ensures, length-kind_bytes (elements c.args.d.now))
+    omega (
+      arith,
+      c.plain_run.ensures.within,
+      c.split_at.ensures.back_len,
+      few_elements c.args.d.now c.requires.whole,
+      ap (length {A = ℕ}) c.kind_bytes.ensures,
+      length-kind_bytes (elements c.args.d.now),
+    )
 
 pub returns-clause-free : goal.returns-clause-free
 returns-clause-free c =

@@ -1,5 +1,5 @@
 use Rattle.std.proofs.Common.{sym, ◌∙◌}
-use Rattle.level_view.proofs.Counted.{gone_alone, hidden_alone, seen_alone}
+use Rattle.level_view.proofs.NumbersShown.{gone_alone, hidden_alone, seen_alone}
 use Rattle.level_view.proofs.numbering.is_alone.Goals as goal
 use Rattle.level_view.proofs.numbering.is_alone.Goals.{then-head-via-then-head, then-head-via-else-head+then-not-shows}
 

@@ -1,7 +1,7 @@
 use Rattle.std.proofs.Common.{◌≡◌, ◌-◌, length, ap, ◌∙◌, arith}
 use Rattle.elem_index.specs.Design.{elements}
 use Rattle.level_view.specs.Back.{read_back}
-use Rattle.level_view.proofs.Stands.{all_found}
+use Rattle.level_view.proofs.ItemsBack.{all_found}
 use Rattle.level_view.proofs.view.show.Goals as goal
 
 pub returns : goal.returns

@@ -7,7 +7,7 @@ use Rattle.elem_index.specs.Design.{elements}
 use Rattle.level_view.specs.Back.{read_back}
 use Rattle.level_view.proofs.Results.{ok_same}
 use Rattle.level_view.proofs.Places.{mark-rows, mark_told}
-use Rattle.level_view.proofs.Roots.{IsTree, parent_at, root_known, root_found}
+use Rattle.level_view.proofs.TreeItems.{IsTree, parent_at, root_known, root_found}
 use Rattle.level_view.proofs.view.tree_items_into.Goals as goal
 use Rattle.level_view.proofs.view.tree_items_into.Goals.{In-Some}
 
@@ -21,7 +21,8 @@ tree_of c =
 span_is : (c : goal.In-Some) → ◌≡◌ {A = ℕ × ℕ} (c.in-Some.first, c.in-Some.end) (c.args.n, (tree_of c).mark.end)
 span_is c =
     mark_told (λ (m : Mark). (c.args.n, m.end)) (tree_of c).mark (mark_of row_of (elements c.args.d.now) c.args.n) (c.in-Some.first, c.in-Some.end)
-    (c.in-Some.ensures.span ∙ ap (option_map (λ (m : Mark). (c.args.n, m.end))) (mark-rows (elements c.args.d.now) c.args.t.now.rows c.args.n c.requires.nesting)) (tree_of c).marked
+    (c.in-Some.ensures.span ∙ ap (option_map (λ (m : Mark). (c.args.n, m.end)))
+    (mark-rows (elements c.args.d.now) c.args.t.now.rows c.args.n c.requires.nesting)) (tree_of c).marked
 
 first_is : (c : goal.In-Some) → c.in-Some.first ≡ c.args.n
 first_is c = ap (λ (x : ℕ × ℕ). x.0) (span_is c)
@@ -33,7 +34,8 @@ pub put_between-requires-clause-within : goal.put_between-requires-clause-within
 put_between-requires-clause-within c = let at = (goal.at.put_between-requires-clause-within c).In-Some in omega (arith, end_is at, (tree_of at).within)
 
 pub put_between-requires-clause-ordered : goal.put_between-requires-clause-ordered
-put_between-requires-clause-ordered c = let at = (goal.at.put_between-requires-clause-ordered c).In-Some in omega (arith, first_is at, end_is at, (tree_of at).ordered)
+put_between-requires-clause-ordered c = let at = (goal.at.put_between-requires-clause-ordered c).In-Some in
+    omega (arith, first_is at, end_is at, (tree_of at).ordered)
 
 pub returns : goal.returns
 returns c =

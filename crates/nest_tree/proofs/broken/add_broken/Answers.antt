@@ -2,13 +2,13 @@ use Rattle.std.proofs.Common.{◌≡◌, ◌+◌, ◌-◌, ◌<◌, List, get_or
 use Rattle.std.proofs.lemmas.List.{get_or-drop, length-drop}
 use Rattle.dgn_drawing.specs.declared.row.Row.{Row}
 use Rattle.nest_tree.specs.Linked.{Link}
-use Rattle.nest_tree.specs.Places.{broken_told}
+use Rattle.nest_tree.specs.Places.{broken_by_link}
 use Rattle.std.specs.Prelude.{OnErr}
 use Rattle.std.specs.declared.result.Result.{Result}
 use Rattle.std.proofs.Common.{Ok, Err}
-use Rattle.nest_tree.proofs.Weighed.{no_row}
-use Rattle.nest_tree.proofs.Placed.{no_link}
-use Rattle.nest_tree.proofs.Passed.{length-links_of, broken_kept, sound_passed, all_asked}
+use Rattle.nest_tree.proofs.MemberBytes.{no_row}
+use Rattle.nest_tree.proofs.OpenLists.{no_link}
+use Rattle.nest_tree.proofs.BrokenList.{length-links_of, broken_kept, sound_passed, all_asked}
 use Rattle.nest_tree.proofs.broken.add_broken.Goals as goal
 use Rattle.nest_tree.proofs.broken.add_broken.Goals.{then-is_broken_as+in_ok-push, else-is_broken_as}
 
@@ -53,20 +53,24 @@ loop-n-preserved c =
     let inside : c.loop-n.n < length c.args._seen.now.list = let test = c.loop-n-test.true in omega arith in
     let place : c.args.first + (c.loop-n.n - c.args.first) ≡ c.loop-n.n = let from = c.loop-n.auto.n in omega arith in
     let row : get_or c.args.rows.now (c.loop-n.n - c.args.first) no_row ≡ get_or c.args._seen.now.list c.loop-n.n no_row =
-    ap (λ (l : List Row). get_or l (c.loop-n.n - c.args.first) no_row) c.requires.rows ∙ get_or-drop c.args.first c.args._seen.now.list (c.loop-n.n - c.args.first) no_row
+    ap (λ (l : List Row). get_or l (c.loop-n.n - c.args.first) no_row) c.requires.rows
+    ∙ get_or-drop c.args.first c.args._seen.now.list (c.loop-n.n - c.args.first) no_row
     ∙ ap (λ (k : ℕ). get_or c.args._seen.now.list k no_row) place in
     let link = c.at.ensures in
-    let linked = ap (λ (l : Link). broken_told c.loop-n.n l (get_or c.args.rows.now (c.loop-n.n - c.args.first) no_row)) link in
-    let told = ap (λ (r : Row). broken_told c.loop-n.n (get_or c.args.links.now.items c.loop-n.n no_link) r) row in
+    let linked = ap (λ (l : Link). broken_by_link c.loop-n.n l (get_or c.args.rows.now (c.loop-n.n - c.args.first) no_row)) link in
+    let told = ap (λ (r : Row). broken_by_link c.loop-n.n (get_or c.args.links.now.items c.loop-n.n no_link) r) row in
     elim c.if-is_broken_as.branch [
       | then-is_broken_as+in_ok-push w ↦ (
-        broken_kept c.args._seen.now.list c.args.links.now.items c.requires.links c.loop-n.n no_link no_row c.loop-n.list.items c.if-is_broken_as.list.items inside c.loop-n.invariant.0
-            (sym told ∙ sym linked ∙ sym c.is_broken_as.ensures ∙ w.if-is_broken_as.true) (ap (λ (v : Vec ℕ Global). v.items) w.list-is ∙ w.in_ok-push.ensures.items),
+        broken_kept c.args._seen.now.list c.args.links.now.items c.requires.links c.loop-n.n no_link no_row c.loop-n.list.items c.if-is_broken_as.list.items
+            inside c.loop-n.invariant.0
+            (sym told ∙ sym linked ∙ sym c.is_broken_as.ensures ∙ w.if-is_broken_as.true)
+            (ap (λ (v : Vec ℕ Global). v.items) w.list-is ∙ w.in_ok-push.ensures.items),
         omega (arith, c.loop-n.invariant.1, ap (λ (v : Vec ℕ Global). vec_capacity v) w.list-is, w.in_ok-push.ensures.capacity),
         omega (arith, c.loop-n.invariant.2, ap (λ (v : Vec ℕ Global). vec_len v) w.list-is, w.in_ok-push.ensures.len),
       )
       | else-is_broken_as w ↦ (
-        sound_passed c.args._seen.now.list c.args.links.now.items c.requires.links c.loop-n.n no_link no_row c.loop-n.list.items c.if-is_broken_as.list.items inside c.loop-n.invariant.0
+        sound_passed c.args._seen.now.list c.args.links.now.items c.requires.links c.loop-n.n no_link no_row c.loop-n.list.items
+            c.if-is_broken_as.list.items inside c.loop-n.invariant.0
             (sym told ∙ sym linked ∙ sym c.is_broken_as.ensures ∙ w.if-is_broken_as.false) (ap (λ (v : Vec ℕ Global). v.items) w.list-is),
         omega (arith, c.loop-n.invariant.1, ap (λ (v : Vec ℕ Global). vec_capacity v) w.list-is),
         omega (arith, c.loop-n.invariant.2, ap (λ (v : Vec ℕ Global). vec_len v) w.list-is),

@@ -1,7 +1,7 @@
 use Rattle.dgn_drawing.specs.Rows.{row_of}
 use Rattle.dgn_drawing.specs.Nesting.{itself}
-use Rattle.nest_tree.proofs.Apart.{forest_apart}
-use Rattle.nest_tree.proofs.Numbered.{numbered_behind, first_marks}
+use Rattle.nest_tree.proofs.TreesApart.{forest_apart}
+use Rattle.nest_tree.proofs.NumbersApart.{numbered_behind, first_marks}
 use Rattle.nest_tree.proofs.laws.appended_trees_nest_apart.Goals as goal
 
 pub returns-clause-elements : goal.returns-clause-elements

@@ -1,4 +1,4 @@
-use Rattle.nest_tree.proofs.Least.{first_is}
+use Rattle.nest_tree.proofs.LeastNumber.{first_is}
 use Rattle.nest_tree.proofs.laws.first_is_least.Goals as goal
 
 pub returns : goal.returns

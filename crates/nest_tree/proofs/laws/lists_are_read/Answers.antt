@@ -1,5 +1,5 @@
 use Rattle.dgn_drawing.specs.Nesting.{itself}
-use Rattle.nest_tree.proofs.Unfolded.{nest_cons, nest_nil, flat-forest}
+use Rattle.nest_tree.proofs.NestingSteps.{nest_cons, nest_nil, flat-forest}
 use Rattle.nest_tree.proofs.laws.lists_are_read.Goals as goal
 
 pub returns-clause-some : goal.returns-clause-some

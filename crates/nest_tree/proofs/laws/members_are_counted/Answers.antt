@@ -1,5 +1,5 @@
 use Rattle.dgn_drawing.specs.Nesting.{itself}
-use Rattle.nest_tree.proofs.Fills.{members_are}
+use Rattle.nest_tree.proofs.MemberCounts.{members_are}
 use Rattle.nest_tree.proofs.laws.members_are_counted.Goals as goal
 
 pub returns : goal.returns

@@ -4,7 +4,7 @@ use Rattle.dgn_drawing.specs.declared.row.Row.{Row}
 use Rattle.dgn_drawing.specs.Rows.{row_of}
 use Rattle.dgn_drawing.specs.Nesting.{Forest, forest}
 use Rattle.dgn_drawing.specs.Numbering.{marks_of}
-use Rattle.nest_tree.proofs.Same.{known}
+use Rattle.nest_tree.proofs.SameTrees.{known}
 use Rattle.nest_tree.proofs.ByRows.{forest_rows, marks-map}
 use Rattle.nest_tree.proofs.laws.nesting_looks_at_rows_alone.Goals as goal
 

@@ -1,4 +1,4 @@
-use Rattle.nest_tree.proofs.Deep.{headers_few, depths_low}
+use Rattle.nest_tree.proofs.Depths.{headers_few, depths_low}
 use Rattle.nest_tree.proofs.laws.no_element_lies_deep.Goals as goal
 
 pub returns-clause-headers : goal.returns-clause-headers

@@ -1,7 +1,7 @@
 use Rattle.std.proofs.Common.{◌≡◌, ◌<◌, ◌++◌, length}
 use Rattle.std.specs.List.{AllByRecursion}
 use Rattle.nest_tree.specs.Shapes.{IsRow}
-use Rattle.nest_tree.proofs.Blocks.{ComesNext}
+use Rattle.nest_tree.proofs.RowBlocks.{ComesNext}
 use Rattle.nest_tree.proofs.nesting.nest.Given as goal
 
 abbrev pub invariant-blocks-2 : goal.invariant-blocks-2

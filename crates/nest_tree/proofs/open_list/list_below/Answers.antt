@@ -1,14 +1,14 @@
 use Rattle.std.proofs.Common.{◌∙◌, ap, length, Some}
 use Rattle.nest_tree.specs.declared.shape.Scope.{Scope}
 use Rattle.nest_tree.specs.declared.open_list.OpenList.{OpenList}
-use Rattle.nest_tree.proofs.Placed.{list_below_is, no_link}
+use Rattle.nest_tree.proofs.OpenLists.{list_below_is, no_link}
 use Rattle.std.proofs.Common.{◌≡◌, ◌+◌, ◌-◌, get_or, arith, ℕ, List}
 use Rattle.std.proofs.lemmas.List.{get_or-drop, length-drop}
 use Rattle.dgn_drawing.specs.declared.row.Row.{Row}
 use Rattle.nest_tree.specs.declared.knot.Knot.{Knot}
 use Rattle.nest_tree.specs.Linked.{Link}
 use Rattle.nest_tree.specs.Places as told
-use Rattle.nest_tree.proofs.Weighed.{no_row}
+use Rattle.nest_tree.proofs.MemberBytes.{no_row}
 use Rattle.nest_tree.proofs.open_list.list_below.Goals as goal
 
 abbrev made : Scope → OpenList → OpenList
@@ -26,9 +26,24 @@ returns c =
     let link = c.at.ensures in
     let place : c.args.first + (c.args.header - c.args.first) ≡ c.args.header = let read = c.requires.read in omega arith in
     let row : get_or c.args.rows.now (c.args.header - c.args.first) no_row ≡ get_or c.args._seen.now.list c.args.header no_row =
-    ap (λ (l : List Row). get_or l (c.args.header - c.args.first) no_row) c.requires.rows ∙ get_or-drop c.args.first c.args._seen.now.list (c.args.header - c.args.first) no_row
+    ap (λ (l : List Row). get_or l (c.args.header - c.args.first) no_row) c.requires.rows
+    ∙ get_or-drop c.args.first c.args._seen.now.list (c.args.header - c.args.first) no_row
     ∙ ap (λ (k : ℕ). get_or c.args._seen.now.list k no_row) place in
-    ap (λ (s : Scope). made s (record { scope = s; end = get_or c.args.ends.now c.args.header 0; depth = c.args.depth; parent = Some c.args.header })) c.scope_below.ensures
-    ∙ ap (λ (k : Knot). record { scope = told.scope_below k (get_or c.args.rows.now (c.args.header - c.args.first) no_row).kind; end = get_or c.args.ends.now c.args.header 0; depth = c.args.depth; parent = Some c.args.header }) (c.knot.ensures ∙ ap (λ (x : Link). x.knot) link)
-    ∙ ap (λ (r : Row). record { scope = told.scope_below (get_or c.args.links.now.items c.args.header no_link).knot r.kind; end = get_or c.args.ends.now c.args.header 0; depth = c.args.depth; parent = Some c.args.header }) row
-    ∙ list_below_is c.args._seen.now.list (length c.args.links.now.items) c.args.ends.now c.args.links.now.items c.requires.places c.args.header c.requires.known c.args.depth
+    ap (λ (s : Scope). made s (record { scope = s; end = get_or c.args.ends.now c.args.header 0; depth = c.args.depth; parent = Some c.args.header }))
+    c.scope_below.ensures
+    ∙ ap (λ (k : Knot). record {
+      scope = told.scope_below k (get_or c.args.rows.now (c.args.header - c.args.first) no_row).kind;
+      end =
+          get_or c.args.ends.now c.args.header 0;
+      depth = c.args.depth;
+      parent = Some c.args.header;
+    }) (c.knot.ensures ∙ ap (λ (x : Link). x.knot) link)
+    ∙ ap (λ (r : Row). record {
+      scope = told.scope_below (get_or c.args.links.now.items c.args.header no_link).knot r.kind;
+      end =
+          get_or c.args.ends.now c.args.header 0;
+      depth = c.args.depth;
+      parent = Some c.args.header;
+    }) row
+    ∙ list_below_is c.args._seen.now.list (length c.args.links.now.items)
+    c.args.ends.now c.args.links.now.items c.requires.places c.args.header c.requires.known c.args.depth

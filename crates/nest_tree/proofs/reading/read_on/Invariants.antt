@@ -5,5 +5,6 @@ use Rattle.nest_tree.proofs.reading.read_on.Given as goal
 
 abbrev pub invariant-loop-at : goal.invariant-loop-at
 invariant-loop-at l =
-    ArePlaces l.seen.list l.at l.ends.items l.links.items × Going l.seen.list l.at l.list × (length l.seen.list ≤ vec_capacity l.ends) × (length l.seen.list ≤ length l.links.items + l.links.spare)
+    ArePlaces l.seen.list l.at l.ends.items l.links.items × Going l.seen.list l.at l.list × (length l.seen.list ≤ vec_capacity l.ends)
+    × (length l.seen.list ≤ length l.links.items + l.links.spare)
     × IfSome l.list.parent (λ p. l.first ≤ p)

@@ -1,22 +1,38 @@
 use Rattle.std.proofs.Common.{arith}
 use Rattle.nest_tree.specs.Depths.{IsWordTotal}
-use Rattle.nest_tree.proofs.Weighed.{no_row}
-use Rattle.nest_tree.proofs.Summed.{all_more, all_rows, length-summed, summed_first, summed_more, summed_all, summed_light}
+use Rattle.nest_tree.proofs.MemberBytes.{no_row}
+use Rattle.nest_tree.proofs.RowSums.{all_more, all_rows, length-summed, summed_first, summed_more, summed_all, summed_light}
 use Rattle.nest_tree.proofs.sums.set_sums.Goals as goal
 
 pub loop-i-init : goal.loop-i-init
-loop-i-init c = (summed_first c.args.rows.now c.clear.new.self.items c.push_reserved.new.self.items c.clear.ensures.items c.push_reserved.ensures.items, omega (arith, c.push_reserved.ensures.capacity, c.clear.ensures.capacity), tt)
+loop-i-init c = (
+  summed_first c.args.rows.now c.clear.new.self.items c.push_reserved.new.self.items c.clear.ensures.items c.push_reserved.ensures.items,
+  omega (arith, c.push_reserved.ensures.capacity, c.clear.ensures.capacity),
+  tt,
+)
 
 pub overflow_add-sum : goal.overflow_add-sum
 overflow_add-sum c = let light = c.loop-i.invariant.0.light in omega arith
 
 pub push_reserved-requires-in-loop-i : goal.push_reserved-requires-in-loop-i
-push_reserved-requires-in-loop-i c = omega (arith, c.requires.room, c.loop-i.invariant.1, c.loop-i.sums.ok.0, length-summed c.args.rows.now c.loop-i.sums.items c.loop-i.sum c.loop-i.i c.loop-i.invariant.0)
+push_reserved-requires-in-loop-i c =
+    omega (
+      arith,
+      c.requires.room,
+      c.loop-i.invariant.1,
+      c.loop-i.sums.ok.0,
+      length-summed c.args.rows.now c.loop-i.sums.items c.loop-i.sum c.loop-i.i c.loop-i.invariant.0,
+    )
 
 pub loop-i-preserved : goal.loop-i-preserved
 loop-i-preserved c =
-    let more = summed_more c.args.rows.now c.loop-i.sums.items c.loop-i.sum c.loop-i.i c.weight-sum.result no_row c.loop-i.invariant.0 c.loop-i-test.true c.weight-sum.ensures.counted c.weight-sum.ensures.small in
-    rw c.push_reserved-in-loop-i.ensures.items (more, omega (arith, c.loop-i.invariant.1, c.push_reserved-in-loop-i.ensures.capacity), all_more IsWordTotal c.args.rows.now c.loop-i.i no_row c.loop-i-test.true c.loop-i.invariant.2 c.weight-sum.ensures.word)
+    let more = summed_more c.args.rows.now c.loop-i.sums.items c.loop-i.sum c.loop-i.i c.weight-sum.result no_row c.loop-i.invariant.0 c.loop-i-test.true
+    c.weight-sum.ensures.counted c.weight-sum.ensures.small in
+    rw c.push_reserved-in-loop-i.ensures.items (
+      more,
+      omega (arith, c.loop-i.invariant.1, c.push_reserved-in-loop-i.ensures.capacity),
+      all_more IsWordTotal c.args.rows.now c.loop-i.i no_row c.loop-i-test.true c.loop-i.invariant.2 c.weight-sum.ensures.word,
+    )
 
 pub returns-clause-sums : goal.returns-clause-sums
 returns-clause-sums c = summed_all c.args.rows.now c.loop-i.sums.items c.loop-i.sum c.loop-i.i c.loop-i.invariant.0 (omega arith)

@@ -1,5 +1,5 @@
 use Rattle.std.proofs.Common.{arith}
-use Rattle.patch_bytes.proofs.Same.{puts_tell}
+use Rattle.patch_bytes.proofs.PatchEquality.{puts_tell}
 use Rattle.patch_bytes.proofs.laws.puts_tell.Goals as goal
 
 pub returns : goal.returns

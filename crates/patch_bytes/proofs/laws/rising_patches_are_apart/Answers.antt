@@ -1,4 +1,4 @@
-use Rattle.patch_bytes.proofs.Spans.{span_within, span_apart, span_more}
+use Rattle.patch_bytes.proofs.RisingPuts.{span_within, span_apart, span_more}
 use Rattle.patch_bytes.proofs.laws.rising_patches_are_apart.Goals as goal
 
 pub returns-clause-apart : goal.returns-clause-apart

@@ -1,4 +1,4 @@
-use Rattle.patch_bytes.proofs.Laying.{length-write, write_other, write_front}
+use Rattle.patch_bytes.proofs.PutsLaid.{length-write, write_other, write_front}
 use Rattle.patch_bytes.proofs.laws.untouched_bytes_stay.Goals as goal
 
 pub returns-clause-within : goal.returns-clause-within

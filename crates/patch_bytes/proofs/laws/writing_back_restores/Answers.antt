@@ -1,4 +1,4 @@
-use Rattle.patch_bytes.proofs.Laying.{all_restored, olds_are}
+use Rattle.patch_bytes.proofs.PutsLaid.{all_restored, olds_are}
 use Rattle.patch_bytes.proofs.laws.writing_back_restores.Goals as goal
 
 pub returns-clause-restores : goal.returns-clause-restores

@@ -1,4 +1,4 @@
-use Rattle.patch_bytes.proofs.Laying.{lay-old_of, old_of-old_of, lay_held, lay_other}
+use Rattle.patch_bytes.proofs.PutsLaid.{lay-old_of, old_of-old_of, lay_held, lay_other}
 use Rattle.patch_bytes.proofs.laws.writing_exchanges.Goals as goal
 
 pub returns-clause-exchanges : goal.returns-clause-exchanges

@@ -1,6 +1,6 @@
 use Rattle.std.proofs.Common.{ℕ, [], ◌∷◌, take, drop, sym, ap, ◌∙◌, arith, length-take}
 use Rattle.patch_bytes.specs.Puts.{old_of}
-use Rattle.patch_bytes.proofs.Laying.{put_mid-lay, zeros_behind, old_bytes, four_named}
+use Rattle.patch_bytes.proofs.PutsLaid.{put_mid-lay, zeros_behind, old_bytes, four_named}
 use Rattle.patch_bytes.proofs.writes.exchange.Goals as goal
 
 -- behind the old bytes stand the zeros that were there first

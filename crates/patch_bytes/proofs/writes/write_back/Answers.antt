@@ -1,5 +1,5 @@
 use Rattle.std.proofs.Common.{◌∙◌, arith}
-use Rattle.patch_bytes.proofs.Steps.{IsLast, last_left, back_more, within_more}
+use Rattle.patch_bytes.proofs.WriteBackSteps.{IsLast, last_left, back_more, within_more}
 use Rattle.patch_bytes.proofs.writes.write_back.Goals as goal
 
 -- the patch at hand is the last of those that are left

@@ -9,7 +9,9 @@ use Rattle.patch_file.proofs.applying.apply_entry.Goals as goal
 pub put_fields-requires : goal.put_fields-requires
 put_fields-requires c =
     let e = c.args.e.now in
-    let longer : length c.deref_mut.result.now ≡ length (c.args.body.now.items ++ e.append) = ap length (c.deref_mut.ensures.value ∙ c.in_ok-extend_from_slice.ensures.items ∙ ap (λ (t : List ℕ). c.args.body.now.items ++ t) c.as_slice.ensures) in
+    let longer : length c.deref_mut.result.now ≡ length (c.args.body.now.items ++ e.append) =
+    ap length (c.deref_mut.ensures.value ∙ c.in_ok-extend_from_slice.ensures.items
+    ∙ ap (λ (t : List ℕ). c.args.body.now.items ++ t) c.as_slice.ensures) in
     let old = c.requires.long in
     let long : e.len ≤ length c.deref_mut.result.now = omega (arith, length-append c.args.body.now.items e.append) in
     subst (λ (fs : List Exchange). AreWithin (length c.deref_mut.result.now) (map new_of fs)) (sym c.as_slice-2.ensures)
@@ -19,7 +21,8 @@ pub returns-clause-ok : goal.returns-clause-ok
 returns-clause-ok c =
     let e = c.args.e.now in
     let y : List ℕ = c.extend_from_slice.new.self.items in
-    let more : c.extend_from_slice.new.self.items ≡ c.args.body.now.items ++ e.append = c.in_ok-extend_from_slice.ensures.items ∙ ap (λ (t : List ℕ). c.args.body.now.items ++ t) c.as_slice.ensures in
+    let more : c.extend_from_slice.new.self.items ≡ c.args.body.now.items ++ e.append =
+    c.in_ok-extend_from_slice.ensures.items ∙ ap (λ (t : List ℕ). c.args.body.now.items ++ t) c.as_slice.ensures in
     let written : c.put_fields.new.body ≡ write y (map new_of e.fields) =
     c.put_fields.ensures ∙ ap (λ (b : List ℕ). write b (map new_of (map exchange_of c.as_slice-2.result.now))) c.deref_mut.ensures.value
     ∙ ap (λ (fs : List Exchange). write y (map new_of fs)) c.as_slice-2.ensures in

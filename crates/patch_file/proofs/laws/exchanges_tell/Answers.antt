@@ -1,5 +1,5 @@
 use Rattle.std.proofs.Common.{arith}
-use Rattle.patch_file.proofs.Same.{exchanges_tell}
+use Rattle.patch_file.proofs.FieldEquality.{exchanges_tell}
 use Rattle.patch_file.proofs.laws.exchanges_tell.Goals as goal
 
 pub returns : goal.returns

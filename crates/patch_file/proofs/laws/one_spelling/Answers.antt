@@ -1,5 +1,5 @@
-use Rattle.patch_file.proofs.Again.{patch_again}
-use Rattle.patch_file.proofs.Answering.{same_spelling}
+use Rattle.patch_file.proofs.SpellingsRead.{patch_again}
+use Rattle.patch_file.proofs.ReadAnswers.{same_spelling}
 use Rattle.patch_file.proofs.laws.one_spelling.Goals as goal
 
 pub returns-clause-read : goal.returns-clause-read

@@ -1,6 +1,6 @@
 use Rattle.std.proofs.Common.{◌≡◌, ◌-◌}
 use Rattle.patch_file.specs.Reading.{fields_at}
-use Rattle.patch_file.proofs.Loops.{with_front}
+use Rattle.patch_file.proofs.ReadLoops.{with_front}
 use Rattle.patch_file.proofs.reading.fields_of.Given as goal
 
 -- with what was read before, the fields that are left are all of them

@@ -1,7 +1,7 @@
 use Rattle.std.proofs.Common.{arith}
 use Rattle.patch_file.specs.PatchView.{all_packed}
-use Rattle.patch_file.proofs.Answering.{found, only, no_bad, bad_at}
-use Rattle.patch_file.proofs.Left.{left_within}
+use Rattle.patch_file.proofs.ReadAnswers.{found, only, no_bad, bad_at}
+use Rattle.patch_file.proofs.BytesLeft.{left_within}
 use Rattle.patch_file.proofs.reading.read_patch.Goals as goal
 
 pub overflow_sub-result : goal.overflow_sub-result

@@ -19,6 +19,7 @@ returns c =
     ∙ ap (λ (l : List Exchange). length (flat_map field_spelling l)) c.as_slice-field-items.ensures in
     c.saturating_add.ensures
     ∙ ap (λ (k : ℕ). min (c.loop-field.len + k) 18446744073709551615) c.len.ensures
-    ∙ capped c.loop-field.len (length e.append) (12 + length (flat_map field_spelling (map exchange_of (take c.loop-field.field-index items)))) 18446744073709551615 c.loop-field.invariant
+    ∙ capped c.loop-field.len (length e.append) (12 + length (flat_map field_spelling (map exchange_of (take c.loop-field.field-index items))))
+    18446744073709551615 c.loop-field.invariant
     ∙ ap (λ (k : ℕ). min (12 + k + length e.append) 18446744073709551615) whole
     ∙ ap (λ (k : ℕ). min k 18446744073709551615) (sym (length-entry (packed_of e)))

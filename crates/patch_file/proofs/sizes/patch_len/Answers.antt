@@ -10,5 +10,6 @@ use Rattle.patch_file.proofs.sizes.patch_len.Goals as goal
 pub returns : goal.returns
 returns c =
     c.loop-entry.invariant
-    ∙ ap (λ (l : List PatchEntry). min (12 + length (flat_map entry_spelling (all_packed l))) 18446744073709551615) (take_all c.loop-entry.entry-index c.args.entries.now c.loop-entry-test.false)
+    ∙ ap (λ (l : List PatchEntry). min (12 + length (flat_map entry_spelling (all_packed l))) 18446744073709551615)
+    (take_all c.loop-entry.entry-index c.args.entries.now c.loop-entry-test.false)
     ∙ ap (λ (k : ℕ). min k 18446744073709551615) (sym (length-patch (all_packed c.args.entries.now)))

@@ -1,7 +1,7 @@
 use Rattle.std.proofs.Common.{◌≡◌, length, map, ap, sym, ◌∙◌, subst}
 use Rattle.std.specs.List.{AllByRecursion}
 use Rattle.patch_bytes.specs.Puts.{AreWithin}
-use Rattle.patch_bytes.proofs.Spans.{span_within}
+use Rattle.patch_bytes.proofs.RisingPuts.{span_within}
 use Rattle.patch_file.specs.Exchanges.{IsSized, AllKeepRules}
 use Rattle.patch_file.specs.Standing.{exchanged}
 use Rattle.patch_file.proofs.Puts.{within_more, taken_rules}
@@ -19,4 +19,7 @@ invariant_of-result c =
     let e = c.args.e.now in
     let b = c.args.body.now in
     let are : c.in_ok-fields.fields ≡ map (exchanged c.args.body.now) e.patches = c.in_ok-fields.ensures.are ∙ ap (map (exchanged b)) c.as_slice.ensures in
-    record { rules = subst (AllKeepRules 0 e.len) (sym are) (taken_rules b 0 e.len e.patches c.requires.rising (subst (AllByRecursion IsSized) are c.in_ok-fields.ensures.sized)) }
+    record {
+      rules = subst (AllKeepRules 0 e.len) (sym are)
+          (taken_rules b 0 e.len e.patches c.requires.rising (subst (AllByRecursion IsSized) are c.in_ok-fields.ensures.sized));
+    }

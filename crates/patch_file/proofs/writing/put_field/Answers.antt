@@ -24,7 +24,8 @@ returns-in_err-put_bytes-2-clause-front c =
     let one : c.put_bytes.new.out.items ≡ c.put_number.new.out.items ++ length (take f.len f.was) ∷ [] =
     c.in_ok-put_bytes.ensures.text ∙ ap (λ (k : ℕ). c.put_number.new.out.items ++ k ∷ []) long in
     let front : AppendsFrontOf (take f.len f.was) c.put_bytes.new.out.items c.put_bytes-2.new.out.items =
-    subst (λ (k : ℕ). AppendsFrontOf (take k f.was) c.put_bytes.new.out.items c.put_bytes-2.new.out.items) c.from-len.ensures c.in_err-put_bytes-2.ensures.front in
+    subst (λ (k : ℕ). AppendsFrontOf (take k f.was) c.put_bytes.new.out.items c.put_bytes-2.new.out.items)
+    c.from-len.ensures c.in_err-put_bytes-2.ensures.front in
     said _ _ _ _ (later (number f.at) (length (take f.len f.was) ∷ (take f.len f.was ++ take f.len f.put)) _ _ _ c.in_ok-put_number.ensures.text
     (later (length (take f.len f.was) ∷ []) (take f.len f.was ++ take f.len f.put) _ _ _ one
     (first (take f.len f.was) (take f.len f.put) _ _ front)))
@@ -38,7 +39,8 @@ returns-clause-front c =
     let two : c.put_bytes-2.new.out.items ≡ c.put_bytes.new.out.items ++ take f.len f.was =
     c.in_ok-put_bytes-2.ensures.text ∙ ap (λ (k : ℕ). c.put_bytes.new.out.items ++ take k f.was) c.from-len.ensures in
     let front : OnErr c.put_bytes-3.result (AppendsFrontOf (take f.len f.put) c.put_bytes-2.new.out.items c.put_bytes-3.new.out.items) =
-    subst (λ (k : ℕ). OnErr c.put_bytes-3.result (AppendsFrontOf (take k f.put) c.put_bytes-2.new.out.items c.put_bytes-3.new.out.items)) c.from-len.ensures c.put_bytes-3.ensures.front in
+    subst (λ (k : ℕ). OnErr c.put_bytes-3.result (AppendsFrontOf (take k f.put) c.put_bytes-2.new.out.items c.put_bytes-3.new.out.items))
+    c.from-len.ensures c.put_bytes-3.ensures.front in
     last c.put_bytes-3.result (number f.at) (length (take f.len f.was) ∷ (take f.len f.was ++ take f.len f.put)) _ _ _ c.in_ok-put_number.ensures.text
     (last c.put_bytes-3.result (length (take f.len f.was) ∷ []) (take f.len f.was ++ take f.len f.put) _ _ _ one
     (last c.put_bytes-3.result (take f.len f.was) (take f.len f.put) _ _ _ two front))

@@ -4,7 +4,8 @@ use Rattle.patch_file.proofs.Fronts.{first, later, last, said, ended}
 use Rattle.patch_file.proofs.writing.put_head.Goals as goal
 
 pub returns-in_err-put_number-clause-front : goal.returns-in_err-put_number-clause-front
-returns-in_err-put_number-clause-front c = said _ _ _ _ (first (number c.args.len) (number c.args.fields ++ number c.args.append) _ _ c.in_err-put_number.ensures.front)
+returns-in_err-put_number-clause-front c =
+    said _ _ _ _ (first (number c.args.len) (number c.args.fields ++ number c.args.append) _ _ c.in_err-put_number.ensures.front)
 
 pub returns-in_err-put_number-2-clause-front : goal.returns-in_err-put_number-2-clause-front
 returns-in_err-put_number-2-clause-front c =

@@ -7,13 +7,14 @@ use Rattle.patch_file.specs.PatchView.{packed_of, all_packed}
 use Rattle.patch_file.proofs.Fronts.{first, later, last, said}
 use Rattle.patch_file.proofs.Lengths.{few_entries, short_appends}
 use Rattle.patch_file.proofs.writing.write_patch.Goals as goal
+use Rattle.patch_file.specs.declared.limits.TheConstants.{MOST_PATCH}
 
 pub put_entries-requires : goal.put_entries-requires
-put_entries-requires c = short_appends c.args.entries.now 134217728 (omega arith) c.requires
+put_entries-requires c = short_appends c.args.entries.now MOST_PATCH (omega arith) c.requires
 
 pub overflow_cast-entries : goal.overflow_cast-entries
 overflow_cast-entries c =
-    let few = few_entries c.args.entries.now 134217728 c.requires in
+    let few = few_entries c.args.entries.now MOST_PATCH c.requires in
     record { fits = omega arith }
 
 pub returns-in_err-put_bytes-clause-front : goal.returns-in_err-put_bytes-clause-front
@@ -29,7 +30,8 @@ returns-in_err-put_number-clause-front c =
     let marked : c.put_bytes.new.out.items ≡ c.args.out.now.items ++ mark =
     c.in_ok-put_bytes.ensures.text ∙ ap (λ (t : List ℕ). t ++ mark) c.in_ok-reserve_exact.ensures.items in
     let front : AppendsFrontOf (number (length es)) c.put_bytes.new.out.items c.put_number.new.out.items =
-    subst (λ (k : ℕ). AppendsFrontOf (number k) c.put_bytes.new.out.items c.put_number.new.out.items) (sym (length-map c.args.entries.now packed_of)) c.in_err-put_number.ensures.front in
+    subst (λ (k : ℕ). AppendsFrontOf (number k) c.put_bytes.new.out.items c.put_number.new.out.items) (sym (length-map c.args.entries.now packed_of))
+    c.in_err-put_number.ensures.front in
     said _ _ _ _ (later mark (number (length es) ++ flat_map entry_spelling es) _ _ _ marked
     (first (number (length es)) (flat_map entry_spelling es) _ _ front))
 

@@ -1,5 +1,5 @@
 -- Either end of a segment may be read first.
-use Rattle.plane_geom.proofs.Touching.{turned, turned_second}
+use Rattle.plane_geom.proofs.CommonPoints.{turned, turned_second}
 use Rattle.plane_geom.proofs.laws.ends_exchange.Goals as goal
 
 pub returns : goal.returns

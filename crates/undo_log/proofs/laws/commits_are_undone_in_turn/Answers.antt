@@ -1,4 +1,4 @@
-use Rattle.undo_log.proofs.WritingBack.{commits_restore, commits_fit, commit_pushes}
+use Rattle.undo_log.proofs.EntriesBack.{commits_restore, commits_fit, commit_pushes}
 use Rattle.undo_log.proofs.laws.commits_are_undone_in_turn.Goals as goal
 
 pub returns-clause-restore : goal.returns-clause-restore

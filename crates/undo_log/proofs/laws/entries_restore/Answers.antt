@@ -1,4 +1,4 @@
-use Rattle.undo_log.proofs.WritingBack.{entry_restores, entry_fits, length-back}
+use Rattle.undo_log.proofs.EntriesBack.{entry_restores, entry_fits, length-back}
 use Rattle.undo_log.proofs.laws.entries_restore.Goals as goal
 
 pub returns-clause-restores : goal.returns-clause-restores

@@ -1,4 +1,4 @@
-use Rattle.undo_log.proofs.WritingBack.{undo_may_follow, undo_takes_back}
+use Rattle.undo_log.proofs.EntriesBack.{undo_may_follow, undo_takes_back}
 use Rattle.undo_log.proofs.laws.undo_takes_back.Goals as goal
 
 pub returns : goal.returns

@@ -1,6 +1,6 @@
 use Rattle.std.proofs.Common.{◌+◌, set, ap, sym, ◌∙◌, subst, arith}
 use Rattle.patch_bytes.specs.PatchView.{put_of}
-use Rattle.undo_log.proofs.Swapping.{AreSwapped, within_at, some_before, swapped_more}
+use Rattle.undo_log.proofs.PutsExchanged.{AreSwapped, within_at, some_before, swapped_more}
 use Rattle.undo_log.proofs.swaps.swap_all.Goals as goal
 
 pub swap_in-old-requires : goal.swap_in-old-requires

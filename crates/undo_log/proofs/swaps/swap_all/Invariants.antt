@@ -1,4 +1,4 @@
-use Rattle.undo_log.proofs.Swapping.{AreSwapped}
+use Rattle.undo_log.proofs.PutsExchanged.{AreSwapped}
 use Rattle.undo_log.proofs.swaps.swap_all.Given as goal
 
 abbrev pub invariant-loop-i : goal.invariant-loop-i

@@ -12,7 +12,7 @@ use Rattle.edit_ops.specs.Fenced.{fenced_fields}
 use Rattle.dgn_session.specs.State.{SessionValue, state_of, pushed_if, selection, fence_applied, fence_edited, fence_entry, value_with}
 use Rattle.dgn_session.specs.Kept.{value_of}
 use Rattle.dgn_session.proofs.Carried.{fence_made, sound, made_here, done_state, value_after}
-use Rattle.dgn_import.proofs.Choosing.{chosen_few}
+use Rattle.dgn_import.proofs.TakenRoots.{chosen_few}
 use Rattle.dgn_session.proofs.Chosen.{selection_is, applied_is}
 use Rattle.dgn_session.proofs.session.Session.edit_fence.Goals as goal
 

@@ -1,6 +1,6 @@
 use Rattle.std.proofs.Common.{◌-◌, length}
 use Rattle.elem_index.specs.Design.{SameText}
-use Rattle.elem_index.proofs.Growing.{Left}
+use Rattle.elem_index.proofs.DesignGrowth.{Left}
 use Rattle.elem_index.proofs.design.Design.grow.Given as goal
 
 abbrev pub invariant-elements : goal.invariant-elements

@@ -21,7 +21,8 @@ pub returns-then-is_counted : goal.returns-then-is_counted
 returns-then-is_counted c =
     let begins = kept_place c.args.self.now c.requires.whole c.args.n c.requires.known c.index.result.now c.index.ensures in
     let byte = kept_byte c.args.self.now c.requires.whole c.args.n c.requires.known c.index-byte.result.now c.index-byte.ensures in
-    row_is c.args.self.now c.requires.whole c.args.n c.requires.known c.index-byte.result.now byte c.index.result.now c.end_of.result c.total.result begins c.end_of.ensures
+    row_is c.args.self.now c.requires.whole c.args.n c.requires.known c.index-byte.result.now byte c.index.result.now c.end_of.result c.total.result begins
+    c.end_of.ensures
     (counted c.args.self.now c.requires.whole c.args.n c.requires.known c.index-byte.result.now byte c.total.result c.total.ensures)
 
 pub returns-else-is_counted : goal.returns-else-is_counted

@@ -5,4 +5,5 @@ use Rattle.elem_index.proofs.design.Design.row_block.Given as goal
 
 abbrev pub invariant-loop-at : goal.invariant-loop-at
 invariant-loop-at l =
-    (map row_of (take l.n (elements l.self)) ++ l.rows.items ≡ map row_of (take l.at (elements l.self))) × (l.n + length l.rows.items ≡ l.at) × (l.at ≤ length (elements l.self))
+    (map row_of (take l.n (elements l.self)) ++ l.rows.items ≡ map row_of (take l.at (elements l.self))) × (l.n + length l.rows.items ≡ l.at)
+    × (l.at ≤ length (elements l.self))

@@ -7,4 +7,5 @@ pub row_of-requires : goal.row_of-requires
 row_of-requires c = sound_here c.args.self.now c.requires.whole c.args.n c.in-Some.bytes.now c.in-Some.ensures.bytes
 
 pub returns : goal.returns
-returns c = total_read c.args.self.now c.requires.whole c.args.n c.in-Some.bytes.now c.in-Some.ensures.bytes c.row_of.result.total (ap (λ (r : Row). r.total) c.row_of.ensures)
+returns c = total_read c.args.self.now c.requires.whole c.args.n c.in-Some.bytes.now c.in-Some.ensures.bytes c.row_of.result.total
+    (ap (λ (r : Row). r.total) c.row_of.ensures)

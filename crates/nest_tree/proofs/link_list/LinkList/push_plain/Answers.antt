@@ -1,7 +1,7 @@
 use Rattle.std.proofs.Common.{sym, ap, arith, vec_len}
 use Rattle.std.proofs.lemmas.Bool.{eqb-true}
 use Rattle.nest_tree.specs.Linked.{Links, plain_link}
-use Rattle.nest_tree.proofs.Pushing.{more_same}
+use Rattle.nest_tree.proofs.NumbersPushed.{more_same}
 use Rattle.nest_tree.proofs.link_list.LinkList.push_plain.Goals as goal
 
 pub returns-then-is_empty : goal.returns-then-is_empty

@@ -1,6 +1,6 @@
 use Rattle.std.proofs.Common.{◌∙◌, ap, ◌++◌, take, replicate, arith, List}
 use Rattle.nest_tree.specs.Linked.{Link, Links, plain_link}
-use Rattle.nest_tree.proofs.Linking.{first_links}
+use Rattle.nest_tree.proofs.FirstParts.{first_links}
 use Rattle.nest_tree.proofs.link_list.LinkList.truncate.Goals as goal
 
 pub returns-clause-items : goal.returns-clause-items

@@ -4,7 +4,7 @@ use Rattle.dgn_drawing.specs.declared.row.Row.{Row}
 use Rattle.nest_tree.specs.Linked.{plain_link}
 use Rattle.nest_tree.specs.Nested.{Nested, IsNest}
 use Rattle.nest_tree.specs.Places.{NestApart}
-use Rattle.nest_tree.proofs.Grown.{length-grown, length-kept_ends}
+use Rattle.nest_tree.proofs.GrownNestings.{length-grown, length-kept_ends}
 use Rattle.nest_tree.proofs.PlainRows.{plain_grown}
 use Rattle.nest_tree.proofs.nested.Nest.add_plain.Goals as goal
 

@@ -2,7 +2,7 @@ use Rattle.std.proofs.Common.{rules, of_calls, ◌≡◌, ◌∙◌, sym, ap, �
 use Rattle.std.proofs.lemmas.Fn.{always_returns_same}
 use Rattle.nest_tree.specs.Nested.{Nested}
 use Rattle.nest_tree.specs.Passing.{broken_in, first_at}
-use Rattle.nest_tree.proofs.Passed.{found_at_point}
+use Rattle.nest_tree.proofs.BrokenList.{found_at_point}
 use Rattle.nest_tree.proofs.nested.Nest.broken_from.Goals as goal
 
 pub returns : goal.returns

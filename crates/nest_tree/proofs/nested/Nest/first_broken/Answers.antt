@@ -2,27 +2,28 @@ use Rattle.std.proofs.Common.{◌∙◌, ◌-◌, ap, ℕ}
 use Rattle.std.specs.Prelude.{Option, Some}
 use Rattle.dgn_drawing.specs.Nesting.{itself}
 use Rattle.dgn_drawing.specs.Numbering.{Mark, is_broken, first_from}
-use Rattle.nest_tree.specs.Places.{end_told}
+use Rattle.nest_tree.specs.Places.{end_of_mark}
 use Rattle.nest_tree.specs.Passing.{if_below}
-use Rattle.nest_tree.proofs.Told.{untold, none_past, none_known}
-use Rattle.nest_tree.proofs.Passed.{broken_before}
+use Rattle.nest_tree.proofs.LookUps.{untold, none_past, none_known}
+use Rattle.nest_tree.proofs.BrokenList.{broken_before}
 use Rattle.nest_tree.proofs.nested.Nest.first_broken.Goals as goal
 
 pub returns-in_err-end-clause-none : goal.returns-in_err-end-clause-none
 returns-in_err-end-clause-none c =
-    none_past c.args.self.now.rows c.args.n end_told (λ (m : Mark). first_from (is_broken itself c.args.self.now.rows) c.args.n (m.end - c.args.n))
+    none_past c.args.self.now.rows c.args.n end_of_mark (λ (m : Mark). first_from (is_broken itself c.args.self.now.rows) c.args.n (m.end - c.args.n))
     c.from_residual.result c.from_residual.ensures c.in_err-end.ensures
 
 pub returns-in_err-end-clause-first : goal.returns-in_err-end-clause-first
 returns-in_err-end-clause-first c =
-    untold c.args.self.now.rows c.args.n end_told (λ (m : Mark). first_from (is_broken itself c.args.self.now.rows) c.args.n (m.end - c.args.n))
+    untold c.args.self.now.rows c.args.n end_of_mark (λ (m : Mark). first_from (is_broken itself c.args.self.now.rows) c.args.n (m.end - c.args.n))
     c.from_residual.result c.from_residual.ensures c.in_err-end.ensures
 
 pub returns-clause-none : goal.returns-clause-none
 returns-clause-none c =
-    none_known c.args.self.now.rows c.args.n end_told (λ (m : Mark). first_from (is_broken itself c.args.self.now.rows) c.args.n (m.end - c.args.n))
+    none_known c.args.self.now.rows c.args.n end_of_mark (λ (m : Mark). first_from (is_broken itself c.args.self.now.rows) c.args.n (m.end - c.args.n))
     c.if_below.result c.in_ok-end.end c.in_ok-end.ensures
 
 pub returns-clause-first : goal.returns-clause-first
 returns-clause-first c =
-    ap (λ (o : Option ℕ). Some o) (c.if_below.ensures ∙ ap (if_below c.in_ok-end.end) c.broken_from.ensures) ∙ broken_before c.args.self.now.rows c.args.n c.in_ok-end.end c.in_ok-end.ensures
+    ap (λ (o : Option ℕ). Some o) (c.if_below.ensures ∙ ap (if_below c.in_ok-end.end) c.broken_from.ensures)
+    ∙ broken_before c.args.self.now.rows c.args.n c.in_ok-end.end c.in_ok-end.ensures

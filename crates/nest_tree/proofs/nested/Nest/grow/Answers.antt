@@ -1,4 +1,4 @@
-use Rattle.nest_tree.proofs.Grown.{marks_behind}
+use Rattle.nest_tree.proofs.GrownNestings.{marks_behind}
 use Rattle.nest_tree.proofs.nested.Nest.grow.Goals as goal
 
 pub add-requires-clause-apart : goal.add-requires-clause-apart

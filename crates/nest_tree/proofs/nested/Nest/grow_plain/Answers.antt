@@ -5,9 +5,9 @@ use Rattle.nest_tree.specs.Linked.{plain_link}
 use Rattle.nest_tree.specs.Nested.{Nested, IsNest}
 use Rattle.nest_tree.specs.Places.{NestApart}
 use Rattle.nest_tree.specs.Plain.{kept_rows}
-use Rattle.nest_tree.proofs.Grown.{length-grown, length-kept_ends, marks_behind}
+use Rattle.nest_tree.proofs.GrownNestings.{length-grown, length-kept_ends, marks_behind}
 use Rattle.nest_tree.proofs.PlainRows.{plain_grown}
-use Rattle.nest_tree.proofs.Kept.{plain_kept, words_kept, length-kept, free_plain}
+use Rattle.nest_tree.proofs.PlainElements.{plain_kept, words_kept, length-kept, free_plain}
 use Rattle.nest_tree.proofs.nested.Nest.grow_plain.Goals as goal
 
 pub invariant_of-self : goal.invariant_of-self
@@ -22,7 +22,8 @@ invariant_of-self c =
     let plain = plain_kept c.args.places.now c.args.kinds.now c.args.end c.requires.plain in
     let words = words_kept c.args.places.now c.args.kinds.now c.args.end in
     let apart : NestApart c.self.inside.seen.list (kept_rows c.args.places.now c.args.kinds.now c.args.end) =
-    marks_behind c.self.inside.seen.list (kept_rows c.args.places.now c.args.kinds.now c.args.end) some (free_plain (kept_rows c.args.places.now c.args.kinds.now c.args.end) plain) in
+    marks_behind c.self.inside.seen.list (kept_rows c.args.places.now c.args.kinds.now c.args.end) some
+    (free_plain (kept_rows c.args.places.now c.args.kinds.now c.args.end) plain) in
     let same : c.self.inside.seen.list ≡ c.args.self.now.rows = ap (λ (t : Nested). t.rows) c.self.view_is in
     let is = c.then-self-inside.ensures in
     let many = length-kept c.args.places.now c.args.kinds.now c.args.end c.requires.each in

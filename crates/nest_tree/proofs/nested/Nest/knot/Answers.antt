@@ -4,25 +4,31 @@ use Rattle.dgn_drawing.specs.Nesting.{itself}
 use Rattle.dgn_drawing.specs.Numbering.{Mark, mark_of}
 use Rattle.nest_tree.specs.Linked.{Link}
 use Rattle.nest_tree.specs.declared.knot.Knot.{Knot}
-use Rattle.nest_tree.specs.Shapes.{knot_told}
+use Rattle.nest_tree.specs.Shapes.{code_knot}
 use Rattle.nest_tree.specs.Places.{link_of}
-use Rattle.nest_tree.proofs.Told.{told, untold, none_past, none_known}
+use Rattle.nest_tree.proofs.LookUps.{told, untold, none_past, none_known}
 use Rattle.nest_tree.proofs.nested.Nest.knot.Goals as goal
 
-twice : (o : Option Mark) → option_map (λ (m : Mark). knot_told m.knot) o ≡ option_map knot_told (option_map (λ (m : Mark). m.knot) o)
+twice : (o : Option Mark) → option_map (λ (m : Mark). code_knot m.knot) o ≡ option_map code_knot (option_map (λ (m : Mark). m.knot) o)
 twice None = refl
 twice (Some m) = refl
 
 pub returns-in_err-link-clause-none : goal.returns-in_err-link-clause-none
-returns-in_err-link-clause-none c = none_past c.args.self.now.rows c.args.n link_of (λ (m : Mark). knot_told m.knot) c.from_residual.result c.from_residual.ensures c.in_err-link.ensures.link
+returns-in_err-link-clause-none c =
+    none_past c.args.self.now.rows c.args.n link_of (λ (m : Mark). code_knot m.knot)
+    c.from_residual.result c.from_residual.ensures c.in_err-link.ensures.link
 
 pub returns-in_err-link-clause-knot : goal.returns-in_err-link-clause-knot
 returns-in_err-link-clause-knot c =
-    untold c.args.self.now.rows c.args.n link_of (λ (m : Mark). knot_told m.knot) c.from_residual.result c.from_residual.ensures c.in_err-link.ensures.link ∙ twice (mark_of itself c.args.self.now.rows c.args.n)
+    untold c.args.self.now.rows c.args.n link_of (λ (m : Mark). code_knot m.knot) c.from_residual.result c.from_residual.ensures c.in_err-link.ensures.link
+    ∙ twice (mark_of itself c.args.self.now.rows c.args.n)
 
 pub returns-clause-none : goal.returns-clause-none
-returns-clause-none c = none_known c.args.self.now.rows c.args.n link_of (λ (m : Mark). knot_told m.knot) c.in_ok-link.link.knot c.in_ok-link.link c.in_ok-link.ensures.link
+returns-clause-none c = none_known c.args.self.now.rows c.args.n link_of (λ (m : Mark). code_knot m.knot)
+    c.in_ok-link.link.knot c.in_ok-link.link c.in_ok-link.ensures.link
 
 pub returns-clause-knot : goal.returns-clause-knot
 returns-clause-knot c =
-    ap (λ (k : Knot). Some k) c.knot.ensures ∙ told c.args.self.now.rows c.args.n link_of (λ (m : Mark). knot_told m.knot) (λ (x : Link). x.knot) (λ m. refl) c.in_ok-link.link c.in_ok-link.ensures.link ∙ twice (mark_of itself c.args.self.now.rows c.args.n)
+    ap (λ (k : Knot). Some k) c.knot.ensures
+    ∙ told c.args.self.now.rows c.args.n link_of (λ (m : Mark). code_knot m.knot) (λ (x : Link). x.knot) (λ m. refl)
+    c.in_ok-link.link c.in_ok-link.ensures.link ∙ twice (mark_of itself c.args.self.now.rows c.args.n)

@@ -4,7 +4,7 @@ use Rattle.std.proofs.Common.{subst, ◌∙◌, ap}
 use Rattle.std.specs.Prelude.{slice_get, option_map}
 use Rattle.nest_tree.specs.Nested.{Nested}
 use Rattle.nest_tree.specs.Places.{marks_in, link_of}
-use Rattle.nest_tree.proofs.Begun.{links_kept}
+use Rattle.nest_tree.proofs.FirstLinks.{links_kept}
 use Rattle.nest_tree.proofs.nested.Nest.link.Goals as goal
 
 pub returns-clause-link : goal.returns-clause-link

@@ -1,6 +1,6 @@
 use Rattle.std.proofs.lemmas.Grind.{common_steps}
 use Rattle.std.proofs.Common.{ap, arith}
-use Rattle.undo_log.proofs.WritingBack.{entry_added}
+use Rattle.undo_log.proofs.EntriesBack.{entry_added}
 use Rattle.undo_log.proofs.log.Log.commit.Goals as goal
 
 -- the patches hold what stood there from the first, since no two of them share a byte

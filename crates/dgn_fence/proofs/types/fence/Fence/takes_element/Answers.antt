@@ -11,5 +11,6 @@ told_by_bounds-requires c = record { begins = begun_in (item_of c.args.dim 0 0 (
 pub returns-in-Some-told_by_bounds : goal.returns-in-Some-told_by_bounds
 returns-in-Some-told_by_bounds c = λ number depth.
     c.untouched_taken.ensures
-    ∙ sym (told_taken c.args.mode c.args.self.now (item_of c.args.dim 0 0 (element_at c.args.dim c.args.b.now)) c.in-Some.outline c.in-Some-told_by_bounds.begins (sym c.in-Some.ensures) (sym c.in-Some-told_by_bounds.ensures))
+    ∙ sym (told_taken c.args.mode c.args.self.now (item_of c.args.dim 0 0 (element_at c.args.dim c.args.b.now))
+    c.in-Some.outline c.in-Some-told_by_bounds.begins (sym c.in-Some.ensures) (sym c.in-Some-told_by_bounds.ensures))
     ∙ anywhere c.args.mode c.args.self.now c.args.dim number depth (element_at c.args.dim c.args.b.now)

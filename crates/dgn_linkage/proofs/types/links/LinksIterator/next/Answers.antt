@@ -1,6 +1,6 @@
 -- Each call gives the first of the linkages that are left.
 use Rattle.std.proofs.Common.{length, ap, arith, rules, eqb-true, sym, ◌∙◌}
-use Rattle.dgn_linkage.proofs.Enough.{slice-next, slice-none, slice_from}
+use Rattle.dgn_linkage.proofs.LinkageSteps.{slice-next, slice-none, slice_from}
 use Rattle.dgn_linkage.proofs.types.links.LinksIterator.next.Goals as goal
 
 pub returns-then-is_empty-clause-steps : goal.returns-then-is_empty-clause-steps

@@ -1,0 +1,125 @@
+-- Whether an edit is refused, in the order in which its causes are asked.
+use Rattle.std.proofs.Common.{◌≡◌, ℕ, ◌<◌, List, [], length, Bool, cond, Option, Some, None, Result, Ok, Err, refl, sym, ap, ◌∙◌, subst}
+use Rattle.std.specs.Prelude.{nat_lt, IfErr}
+use Rattle.std.specs.Option.{option_or}
+use Rattle.std.proofs.lemmas.Bool.{ltb-true, lt-ltb}
+use Rattle.dgn_drawing.specs.declared.edit.Edit.{Edit}
+use Rattle.dgn_drawing.specs.declared.edit.Edit.TheVariants as edit
+use Rattle.dgn_drawing.specs.Values.{Displacement}
+use Rattle.dgn_drawing.specs.Element.{Element}
+use Rattle.dgn_drawing.specs.Spelling.{spell, spelling}
+use Rattle.dgn_drawing.specs.NewElements.{NewElement, made}
+use Rattle.dgn_drawing.specs.Opening.{Opens}
+use Rattle.dgn_drawing.specs.Nesting.{flat}
+use Rattle.edit_ops.specs.declared.cause.Cause.{Cause}
+use Rattle.edit_ops.specs.declared.cause.Cause.TheVariants as causes
+use Rattle.edit_ops.specs.declared.edit_fault.EditFault.{EditFault}
+use Rattle.edit_ops.specs.declared.edit_fault.EditFault.TheVariants as faults
+use Rattle.edit_ops.specs.declared.types.plan.Plan.{Plan}
+use Rattle.edit_ops.specs.Causes.{unknown, part_cause, causes_of, first_of, target_of, target_cause, cause_of}
+use Rattle.edit_ops.specs.Applying.{Refused, unless, apply, changed_forest, copied, ChangesInPlace, IsEdit}
+use Rattle.edit_ops.specs.Written.{part_puts}
+use Rattle.edit_ops.specs.Planned.{IsPlan, IsRefused, IsStopped}
+use Rattle.edit_ops.proofs.ListedLive.{or_assoc}
+use Rattle.edit_ops.proofs.AcceptedEdit.{met}
+use Rattle.edit_ops.proofs.AppendedElements.{append_plan}
+use Rattle.edit_ops.proofs.CopiedPart.{copy_plan}
+use Rattle.edit_ops.proofs.EditInPlace.{in_place, plan_is}
+
+-- the element is there where it isn't unknown
+pub known_is : (n : ℕ) (es : List Element) → unknown n es ≡ None → n < length es
+known_is n es is = ltb-true n (length es) (met (nat_lt n (length es)) (causes.Unknown n) is)
+
+-- and then it isn't unknown
+not_unknown : (n : ℕ) (es : List Element) → n < length es → unknown n es ≡ None
+not_unknown n es known = ap (λ (t : Bool). cond t None (Some (causes.Unknown n))) (lt-ltb n (length es) known)
+
+-- the first cause of an edit of a part: there is no such element, or one of the later causes
+named_first : (dim : ℕ) (es : List Element) (rest : ℕ) (e : Edit) (n : ℕ) → target_of e ≡ Some n
+    → cause_of dim es rest e ≡ option_or (unknown n es) (option_or (part_cause dim es n) (first_of (causes_of dim es rest e)))
+named_first dim es rest e n named =
+    ap (λ (t : Option ℕ). option_or (target_cause dim es t) (first_of (causes_of dim es rest e))) named
+    ∙ or_assoc (unknown n es) (part_cause dim es n) (first_of (causes_of dim es rest e))
+
+-- with a cause it is refused
+with_cause : (dim : ℕ) (es : List Element) (rest : ℕ) (e : Edit) (c : Cause) → cause_of dim es rest e ≡ Some c → apply dim es rest e ≡ Refused c
+with_cause dim es rest e c is = ap (λ (o : Option Cause). unless o (flat (changed_forest dim es e))) is
+
+-- an edit of an unknown element is refused
+pub unknown_refused : (dim : ℕ) (es : List Element) (rest : ℕ) (e : Edit) (n : ℕ) (c : Cause) → target_of e ≡ Some n → unknown n es ≡ Some c
+    → apply dim es rest e ≡ Refused c
+unknown_refused dim es rest e n c named is =
+    with_cause dim es rest e c
+    (named_first dim es rest e n named ∙ ap (λ (o : Option Cause). option_or o (option_or (part_cause dim es n) (first_of (causes_of dim es rest e)))) is)
+
+-- the first cause of an edit of a part of a known element
+pub later_first : (dim : ℕ) (es : List Element) (rest : ℕ) (e : Edit) (n : ℕ) → target_of e ≡ Some n → n < length es
+    → cause_of dim es rest e ≡ option_or (part_cause dim es n) (first_of (causes_of dim es rest e))
+later_first dim es rest e n named known =
+    named_first dim es rest e n named
+    ∙ ap (λ (o : Option Cause). option_or o (option_or (part_cause dim es n) (first_of (causes_of dim es rest e)))) (not_unknown n es known)
+
+-- an edit of a part is refused with a later cause
+pub later_refused : (dim : ℕ) (es : List Element) (rest : ℕ) (e : Edit) (n : ℕ) (c : Cause) → target_of e ≡ Some n → n < length es
+    → option_or (part_cause dim es n) (first_of (causes_of dim es rest e)) ≡ Some c → apply dim es rest e ≡ Refused c
+later_refused dim es rest e n c named known is = with_cause dim es rest e c (later_first dim es rest e n named known ∙ is)
+
+-- the element that a copy names
+same_some : (n m : ℕ) → Some n ≡ Some m → n ≡ m
+same_some n m is = cc
+
+-- so it is the copy of that element
+pub copy_named : (e : Edit) (m n : ℕ) (by : Displacement) → e ≡ edit.Copy m by → target_of e ≡ Some n → e ≡ edit.Copy n by
+copy_named e m n by is named = is ∙ ap (λ (k : ℕ). edit.Copy k by) (same_some m n (sym (ap target_of is) ∙ named))
+
+-- a copy without a cause is planned by its bytes
+pub copied_plan : (dim : ℕ) (es : List Element) (rest : ℕ) (e : Edit) (n m : ℕ) (by : Displacement) (p : Plan) → target_of e ≡ Some n → e ≡ edit.Copy m by
+    → cause_of dim es rest e ≡ None
+    → p.patches ≡ [] → p.append ≡ spelling (flat (copied dim es e n)) → IsPlan dim es rest e p
+copied_plan dim es rest e n m by p named is none patches append =
+    let same : n ≡ m = same_some n m (sym named ∙ ap target_of is) in
+    let bytes : p.append ≡ spelling (flat (copied dim es (edit.Copy m by) m)) =
+    append ∙ ap (λ (x : Edit). spelling (flat (copied dim es x n))) is ∙ ap (λ (k : ℕ). spelling (flat (copied dim es (edit.Copy m by) k))) same in
+    let free : cause_of dim es rest (edit.Copy m by) ≡ None = ap (cause_of dim es rest) (sym is) ∙ none in
+    subst (λ (x : Edit). IsPlan dim es rest x p) (sym is) (copy_plan dim es rest m by p free patches bytes)
+
+-- an appended element without a cause is planned by its bytes
+pub made_plan : (dim : ℕ) (es : List Element) (rest : ℕ) (e : Edit) (new : NewElement) (p : Plan) → e ≡ edit.Append new
+    → first_of (causes_of dim es rest e) ≡ None
+    → p.patches ≡ [] → p.append ≡ spell (made new) → IsPlan dim es rest e p
+made_plan dim es rest e new p is none patches append =
+    let free : cause_of dim es rest (edit.Append new) ≡ None = ap (λ (x : Edit). first_of (causes_of dim es rest x)) (sym is) ∙ none in
+    subst (λ (x : Edit). IsPlan dim es rest x p) (sym is) (append_plan dim es rest new p free patches append)
+
+-- another edit of a part without a cause is planned by what it puts into the part and the headers above it
+pub changed_plan : (f : List ℕ) (dim : ℕ) (es : List Element) (t : List ℕ) (rest : ℕ) (e : Edit) (n : ℕ) (p : Plan) → IsEdit e → Opens f dim es t
+    → target_of e ≡ Some n
+    → ((m : ℕ) (by : Displacement) → e ≡ edit.Copy m by → ⊥) → cause_of dim es rest e ≡ None → p.patches ≡ part_puts dim es e n → p.append ≡ []
+    → IsPlan dim es rest e p
+changed_plan f dim es t rest e n p fits opens named other none patches append =
+    plan_is f dim es t rest e n fits opens (in_place dim es e n named other) p none patches append
+
+-- an edit that changes elements where they stand has the same causes, whatever else the file has
+pub causes_in_place : (dim : ℕ) (es : List Element) (rest : ℕ) (e : Edit) → ChangesInPlace e
+    → first_of (causes_of dim es rest e) ≡ first_of (causes_of dim es 0 e)
+causes_in_place dim es rest (edit.Move n by) here = refl
+causes_in_place dim es rest (edit.Copy n by) here = absurd here
+causes_in_place dim es rest (edit.Sym n change) here = refl
+causes_in_place dim es rest (edit.Delete n) here = refl
+causes_in_place dim es rest (edit.Append new) here = absurd here
+
+-- an edit of a part is one, where it isn't a copy
+pub is_in_place : (e : Edit) (n : ℕ) → target_of e ≡ Some n → ((m : ℕ) (by : Displacement) → e ≡ edit.Copy m by → ⊥) → ChangesInPlace e
+is_in_place (edit.Move m by) n named other = tt
+is_in_place (edit.Copy m by) n named other = other m by refl
+is_in_place (edit.Sym m change) n named other = tt
+is_in_place (edit.Delete m) n named other = tt
+is_in_place (edit.Append new) n named other = let x = named in cc
+
+-- a part's edit that is stopped by its first later cause is refused with it
+pub stopped_refused : (dim : ℕ) (es : List Element) (rest : ℕ) (e : Edit) (n : ℕ) (o : Option Cause) (r : Result Unit EditFault) → target_of e ≡ Some n
+    → n < length es
+    → option_or (part_cause dim es n) (first_of (causes_of dim es rest e)) ≡ o → IfErr r (IsStopped o) → IfErr r (IsRefused (apply dim es rest e))
+stopped_refused dim es rest e n o (Ok x) named known is stopped = tt
+stopped_refused dim es rest e n o (Err (faults.Refused c)) named known is stopped = later_refused dim es rest e n c named known (is ∙ stopped)
+stopped_refused dim es rest e n o (Err faults.Memory) named known is stopped = tt

@@ -1,0 +1,176 @@
+-- The fields of an edit are apart, and each lies in its element, and all in the tree that holds the edit's element.
+use Rattle.std.proofs.Common.{◌≡◌, ℕ, ◌+◌, ◌≤◌, List, [], ◌∷◌, length, map, refl, sym, ap, ◌∙◌, subst, arith}
+use Rattle.std.specs.Prelude.{All, Some, slice_get}
+use Rattle.std.specs.List.{AllByRecursion, flat_map}
+use Rattle.std.proofs.lemmas.List.Elements.{All-from_recursion}
+use Rattle.patch_bytes.specs.Puts.{Put, Span}
+use Rattle.patch_bytes.proofs.RisingPuts.{span_long}
+use Rattle.dgn_drawing.specs.declared.edit.Edit.{Edit}
+use Rattle.dgn_drawing.specs.declared.edit.Edit.TheVariants as edit
+use Rattle.dgn_drawing.specs.Element.{Element}
+use Rattle.dgn_drawing.specs.Spelling.{spell, spelling, size_of}
+use Rattle.dgn_drawing.specs.Rows.{row_of}
+use Rattle.dgn_drawing.specs.Nesting.{flat}
+use Rattle.dgn_drawing.specs.Numbering.{root_of, span_of}
+use Rattle.dgn_drawing.specs.Opening.{Opens}
+use Rattle.elem_index.specs.Offsets.{offset_of}
+use Rattle.edit_ops.specs.Trees.{Live, live_tree, above_tree}
+use Rattle.edit_ops.specs.Causes.{target_of}
+use Rattle.edit_ops.specs.Applying.{Done, apply, altered, above_change, change_of, IsEdit, ChangesInPlace}
+use Rattle.edit_ops.specs.Fields.{Field, Rise, fields_at, above_fields_at, above_fields, live_fields, part_fields, edited_fields}
+use Rattle.edit_ops.specs.Written.{puts_at, above_puts_at, part_puts}
+use Rattle.edit_ops.specs.Laws.{LieIn, FieldsLieApart, EditedFieldsAreApart}
+use Rattle.edit_ops.proofs.EachLive.{each_both}
+use Rattle.edit_ops.proofs.TextTurns.{Turns, whole_span}
+use Rattle.edit_ops.proofs.LivePuts.{field_of, IsPut}
+use Rattle.edit_ops.proofs.HeaderPuts.{IsAbovePut}
+use Rattle.edit_ops.proofs.EditedBytes.{IsWritten, all_so}
+use Rattle.edit_ops.proofs.AcceptedEdit.{done_is}
+use Rattle.edit_ops.proofs.EditInPlace.{IsInPlace, in_place, named_written}
+use Rattle.edit_ops.proofs.TreeSpread.{LiesBetween, LieInTree, lie_in_tree}
+
+-- the fields of puts that rise do so
+pub fields_rise : (m : ℕ) (ps : List Put) (n : ℕ) → Span n ps m → Rise n (map field_of ps) m
+fields_rise m [] n span = span
+fields_rise m (p ∷ ps) n span = (span.0, fields_rise m ps (p.at + length p.bytes) span.1)
+
+-- a field lies between two places
+abbrev LiesIn : ℕ → ℕ → Field → Type 0
+LiesIn n m f = (n ≤ f.at) × (f.at + f.len ≤ m)
+
+-- fields that rise lie between the places between which they rise
+fields_within : (low m : ℕ) (ps : List Put) (n : ℕ) → low ≤ n → Span n ps m → AllByRecursion (LiesIn low m) (map field_of ps)
+fields_within low m [] n from span = tt
+fields_within low m (p ∷ ps) n from span =
+    let first = span.0 in
+    let ends : p.at + length p.bytes ≤ m = span_long m ps (p.at + length p.bytes) span.1 in
+    ((omega arith, ends), fields_within low m ps (p.at + length p.bytes) (omega arith) span.1)
+
+-- fields that rise, and end by a place, rise to it
+rise_to : (low end m : ℕ) (fs : List Field) (n : ℕ) → n ≤ end → Rise n fs m → AllByRecursion (LiesIn low end) fs → Rise n fs end
+rise_to low end m [] n by rise all = by
+rise_to low end m (f ∷ fs) n by rise all = (rise.0, rise_to low end m fs (f.at + f.len) all.0.1 rise.1 all.1)
+
+-- and fields that rise, and lie between two places, rise between them
+rise_between : (low end m : ℕ) (fs : List Field) (n : ℕ) → low ≤ end → Rise n fs m → AllByRecursion (LiesIn low end) fs → Rise low fs end
+rise_between low end m [] n by rise all = by
+rise_between low end m (f ∷ fs) n by rise all = (all.0.0, rise_to low end m fs (f.at + f.len) all.0.1 rise.1 all.1)
+
+-- fields that lie in their element
+abbrev LieInside : (Live → List Field) → Live → Type 0
+LieInside fields v = AllByRecursion (LiesIn v.place (v.place + size_of v.element)) (fields v)
+
+-- those of puts that turn the element do
+turned_inside : (v : Live) (ps : List Put) (after : List ℕ) (fs : List Field) → Turns v.place (spell v.element) ps after → map field_of ps ≡ fs
+    → AllByRecursion (LiesIn v.place (v.place + size_of v.element)) fs
+turned_inside v ps after fs turns are =
+    subst (AllByRecursion (LiesIn v.place (v.place + size_of v.element))) are
+    (fields_within v.place (v.place + size_of v.element) ps v.place (omega arith) turns.span)
+
+-- fields that lie in elements lie between two places between which these lie
+fields_spread : (low end : ℕ) (fields : Live → List Field) (vs : List Live) → AllByRecursion (LiesBetween low end) vs → AllByRecursion (LieInside fields) vs
+    → AllByRecursion (LiesIn low end) (flat_map fields vs)
+fields_spread low end fields [] lie inside = tt
+fields_spread low end fields (v ∷ vs) lie inside =
+    each_both (LiesIn low end) (fields v) (flat_map fields vs)
+    (all_so (LiesIn v.place (v.place + size_of v.element)) (LiesIn low end)
+    (λ f is. (let a = lie.0.0 in let b = is.0 in omega arith, let a = lie.0.1 in let b = is.1 in omega arith)) (fields v) inside.0)
+    (fields_spread low end fields vs lie.1 inside.1)
+
+-- what lies inside, said of each by its place in the list
+lie_in : (fields : Live → List Field) (vs : List Live) → AllByRecursion (LieInside fields) vs → LieIn fields vs
+lie_in fields vs inside =
+    All-from_recursion (λ (v : Live). All (LiesIn v.place (v.place + size_of v.element)) (fields v)) vs
+    (all_so (LieInside fields) (λ (v : Live). All (LiesIn v.place (v.place + size_of v.element)) (fields v))
+    (λ v is. All-from_recursion (LiesIn v.place (v.place + size_of v.element)) (fields v) is) vs inside)
+
+-- no fields lie in each
+none_inside : (fields : Live → List Field) → ((v : Live) → fields v ≡ []) → (vs : List Live) → AllByRecursion (LieInside fields) vs
+none_inside fields none [] = tt
+none_inside fields none (v ∷ vs) =
+    (subst (AllByRecursion (LiesIn v.place (v.place + size_of v.element))) (sym (none v)) tt, none_inside fields none vs)
+
+-- the fields of the live elements of a part lie in these, and those of the headers above in those
+live_inside : (dim : ℕ) (es : List Element) (e : Edit) (n : ℕ) → ChangesInPlace e → IsWritten dim es e n
+    → AllByRecursion (LieInside (λ v. fields_at dim e v.place v.element)) (live_tree es n)
+live_inside dim es e n own wrote =
+    all_so (λ v. IsPut dim e v.element) (LieInside (λ v. fields_at dim e v.place v.element))
+    (λ v is. turned_inside v (puts_at dim e v.place v.element) (spell (change_of dim e v.element)) (fields_at dim e v.place v.element) (is.turned v.place)
+    (is.fields own v.place))
+    (live_tree es n) wrote.each
+
+above_inside : (dim : ℕ) (es : List Element) (e : Edit) (n : ℕ) → IsWritten dim es e n
+    → AllByRecursion (LieInside (λ v. above_fields_at dim e v.place)) (above_tree es n)
+above_inside dim es e n wrote =
+    all_so (λ v. IsAbovePut dim e (slice_get es n) v.element) (LieInside (λ v. above_fields_at dim e v.place))
+    (λ v is. turned_inside v (above_puts_at dim e (slice_get es n) v.place v.element) (spell (above_change dim e (slice_get es n) v.element))
+    (above_fields_at dim e v.place) (is.turned v.place) (is.fields v.place))
+    (above_tree es n) wrote.each_above
+
+-- the fields of a part rise in the drawing
+part_rises : (dim : ℕ) (es : List Element) (e : Edit) (n : ℕ) → ChangesInPlace e → IsWritten dim es e n → Rise 0 (part_fields dim es e n) (length (spelling es))
+part_rises dim es e n own wrote =
+    subst (λ (fs : List Field). Rise 0 fs (length (spelling es))) (wrote.fields own)
+    (fields_rise (length (spelling es)) (part_puts dim es e n) 0
+    (whole_span (spelling es) (spelling (flat (altered dim es e n))) (part_puts dim es e n) wrote.turned))
+
+-- and in the tree that holds the part
+part_in_tree : (dim : ℕ) (es : List Element) (e : Edit) (n root end : ℕ) → ChangesInPlace e → IsWritten dim es e n → LieInTree es n root end
+    → Rise (offset_of es root) (part_fields dim es e n) (offset_of es end)
+part_in_tree dim es e n root end own wrote lie =
+    rise_between (offset_of es root) (offset_of es end) (length (spelling es)) (part_fields dim es e n) 0 lie.rises (part_rises dim es e n own wrote)
+    (each_both (LiesIn (offset_of es root) (offset_of es end)) (above_fields dim e (above_tree es n)) (live_fields dim e (live_tree es n))
+    (fields_spread (offset_of es root) (offset_of es end) (λ v. above_fields_at dim e v.place) (above_tree es n) lie.above (above_inside dim es e n wrote))
+    (fields_spread (offset_of es root) (offset_of es end) (λ v. fields_at dim e v.place v.element) (live_tree es n) lie.live
+    (live_inside dim es e n own wrote)))
+
+-- an edit names one element
+one_target : (e : Edit) (n m : ℕ) → target_of e ≡ Some n → target_of e ≡ Some m → n ≡ m
+one_target e n m a b = cc
+
+module _ (f : List ℕ) (dim : ℕ) (es : List Element) (t : List ℕ) (rest : ℕ) (e : Edit) (made : List Element) (fits : IsEdit e) (opens : Opens f dim es t)
+    (done : apply dim es rest e ≡ Done made) where
+  wrote : (n : ℕ) → target_of e ≡ Some n → IsWritten dim es e n
+  wrote n named = (named_written f dim es t rest e n fits opens named (done_is dim es rest e made done).0).1
+
+  lies : (n root end : ℕ) → target_of e ≡ Some n → root_of row_of es n ≡ Some root → span_of row_of es root ≡ Some (root, end) → LieInTree es n root end
+  lies n root end named root_is span =
+      lie_in_tree es n root end (named_written f dim es t rest e n fits opens named (done_is dim es rest e made done).0).0.known root_is span
+
+  -- the fields of an edit in its place
+  apart_in_place : (n : ℕ) → IsInPlace dim es e n → FieldsLieApart dim es e
+  apart_in_place n here = record {
+    rise = subst (λ (fs : List Field). Rise 0 fs (length (spelling es))) (sym here.fields) (part_rises dim es e n here.own (wrote n here.named));
+    in_tree = λ m root end named root_is span.
+        let same : m ≡ n = one_target e m n named here.named in
+        subst (λ (fs : List Field). Rise (offset_of es root) fs (offset_of es end)) (ap (part_fields dim es e) same ∙ sym here.fields)
+        (part_in_tree dim es e m root end here.own (wrote m named) (lies m root end named root_is span));
+    within = λ m named. lie_in (λ v. fields_at dim e v.place v.element) (live_tree es m) (live_inside dim es e m here.own (wrote m named));
+    above = λ m named. lie_in (λ v. above_fields_at dim e v.place) (above_tree es m) (above_inside dim es e m (wrote m named));
+  }
+
+  -- those of one that writes none
+  apart_none : edited_fields dim es e ≡ [] → ((v : Live) → fields_at dim e v.place v.element ≡ []) → ((v : Live) → above_fields_at dim e v.place ≡ [])
+      → FieldsLieApart dim es e
+  apart_none none none_at none_above = record {
+    rise = subst (λ (fs : List Field). Rise 0 fs (length (spelling es))) (sym none) (omega arith);
+    in_tree = λ m root end named root_is span.
+        subst (λ (fs : List Field). Rise (offset_of es root) fs (offset_of es end)) (sym none) (lies m root end named root_is span).rises;
+    within = λ m named. lie_in (λ v. fields_at dim e v.place v.element) (live_tree es m)
+        (none_inside (λ v. fields_at dim e v.place v.element) none_at (live_tree es m));
+    above = λ m named. lie_in (λ v. above_fields_at dim e v.place) (above_tree es m)
+        (none_inside (λ v. above_fields_at dim e v.place) none_above (above_tree es m));
+  }
+
+-- the fields of an edit that is done rise, in the tree of its element too, and each lies in its element
+pub fields_apart : EditedFieldsAreApart
+fields_apart f dim es t rest (edit.Move n by) made fits opens done =
+    apart_in_place f dim es t rest (edit.Move n by) made fits opens done n (in_place dim es (edit.Move n by) n refl (λ m by is. let x = is in cc))
+fields_apart f dim es t rest (edit.Copy n by) made fits opens done =
+    apart_none f dim es t rest (edit.Copy n by) made fits opens done refl (λ v. refl) (λ v. refl)
+fields_apart f dim es t rest (edit.Sym n change) made fits opens done =
+    apart_in_place f dim es t rest (edit.Sym n change) made fits opens done n (in_place dim es (edit.Sym n change) n refl (λ m by is. let x = is in cc))
+fields_apart f dim es t rest (edit.Delete n) made fits opens done =
+    apart_in_place f dim es t rest (edit.Delete n) made fits opens done n (in_place dim es (edit.Delete n) n refl (λ m by is. let x = is in cc))
+fields_apart f dim es t rest (edit.Append new) made fits opens done =
+    apart_none f dim es t rest (edit.Append new) made fits opens done refl (λ v. refl) (λ v. refl)

@@ -1,0 +1,331 @@
+-- What an edit of several roots that isn't refused puts, appends and leaves.
+use Rattle.std.proofs.Common.{◌≡◌, ℕ, ◌+◌, ◌<◌, List, [], ◌∷◌, ◌++◌, length, map, Bool, false, cond, refl, sym, ap, ◌∙◌, subst, arith}
+use Rattle.std.specs.Prelude.{Some, None, slice_get}
+use Rattle.std.specs.List.{AllByRecursion, flat_map}
+use Rattle.std.proofs.lemmas.Grind.{flat_map-append}
+use Rattle.std.proofs.lemmas.List.{append-nil}
+use Rattle.patch_bytes.specs.Puts.{Put}
+use Rattle.dgn_drawing.specs.declared.edit.Edit.{Edit}
+use Rattle.dgn_drawing.specs.declared.edit.Edit.TheVariants as edit
+use Rattle.dgn_drawing.specs.declared.fence_edit.FenceEdit.{FenceEdit}
+use Rattle.dgn_drawing.specs.declared.fence_edit.FenceEdit.TheVariants as fence
+use Rattle.dgn_drawing.specs.Values.{Displacement, LookChange, IsShift}
+use Rattle.dgn_drawing.specs.Element.{Element}
+use Rattle.dgn_drawing.specs.Spelling.{spell, spelling}
+use Rattle.dgn_drawing.specs.WellFormed.{IsDimension, IsWellFormed}
+use Rattle.dgn_drawing.specs.Rows.{row_of}
+use Rattle.dgn_drawing.specs.NewElements.{made}
+use Rattle.dgn_drawing.specs.Nesting.{Leaf, Whole, Forest, NoTree, Tree, flat, nest, forest, forest_map, joined, itself, BeginsFree}
+use Rattle.dgn_drawing.specs.Shown.{roots}
+use Rattle.dgn_drawing.specs.Opening.{dimension, BeginsWithTcb, Opens}
+use Rattle.nest_tree.proofs.NestingSteps.{flat-forest}
+use Rattle.nest_tree.proofs.ByRows.{forest_rows, flat-map}
+use Rattle.nest_tree.proofs.SameTrees.{known}
+use Rattle.edit_ops.specs.Trees.{Live, live_map, live_tree, above_tree}
+use Rattle.edit_ops.specs.Causes.{target_of, cause_of, bytes_appended}
+use Rattle.edit_ops.specs.Applying.{change_of, copied, IsEdit, ChangesInPlace}
+use Rattle.edit_ops.specs.Fields.{above_fields_at, fields_at, live_fields, part_fields, edited_fields}
+use Rattle.edit_ops.specs.Written.{puts_at, above_puts, live_puts, part_puts, IsReady}
+use Rattle.edit_ops.specs.Fenced.{edit_at, edits_at, cause_of_all, chosen_map, roots_changed, copies, fenced_forest, fenced_fields, all_appended, AreRoots}
+use Rattle.edit_ops.specs.Fenced.{IsFenceEdit}
+use Rattle.edit_ops.proofs.PartPlace.{flat-joined}
+use Rattle.edit_ops.proofs.EachLive.{each_both, live_tree_each}
+use Rattle.edit_ops.proofs.TextTurns.{Turns, turns_none}
+use Rattle.edit_ops.proofs.LivePuts.{field_of, IsPut, element_put, turns_as, fields_put}
+use Rattle.elem_index.proofs.Places.{opened_axes}
+use Rattle.edit_ops.proofs.EditedBytes.{all_so, all_both}
+use Rattle.edit_ops.proofs.AcceptedEdit.{IsAccepted, accepted, none_both}
+use Rattle.edit_ops.proofs.EditInPlace.{BeginsWith, begins_as}
+use Rattle.edit_ops.proofs.ListMembers.{is_one_of, each_chosen, roots_among, zero_apart}
+use Rattle.edit_ops.proofs.RootsChanged.{chosen_live, chosen_looks, chosen_each, chosen_turned, roots_live, roots_above}
+use Rattle.edit_ops.proofs.RootCopies.{copies_free, copies_spelled, copies_good, copies_long, copies_nest}
+
+-- what an edit puts into the drawing, and what it appends
+abbrev pub own_puts : ℕ → List Element → Edit → List Put
+own_puts dim es (edit.Move n by) = part_puts dim es (edit.Move n by) n
+own_puts dim es (edit.Copy n by) = []
+own_puts dim es (edit.Sym n change) = part_puts dim es (edit.Sym n change) n
+own_puts dim es (edit.Delete n) = part_puts dim es (edit.Delete n) n
+own_puts dim es (edit.Append new) = []
+
+abbrev pub own_bytes : ℕ → List Element → Edit → List ℕ
+own_bytes dim es (edit.Move n by) = []
+own_bytes dim es (edit.Copy n by) = spelling (flat (copied dim es (edit.Copy n by) n))
+own_bytes dim es (edit.Sym n change) = []
+own_bytes dim es (edit.Delete n) = []
+own_bytes dim es (edit.Append new) = spell (made new)
+
+-- the edits of an edit of several roots put these, and append these
+abbrev pub all_puts : ℕ → List Element → List Edit → List Put
+all_puts dim es edits = flat_map (own_puts dim es) edits
+
+abbrev pub all_bytes : ℕ → List Element → List Edit → List ℕ
+all_bytes dim es edits = flat_map (own_bytes dim es) edits
+
+-- what it leaves: the elements as they are changed, and others behind them
+pub record IsFenced (dim : ℕ) (es : List Element) (e : FenceEdit) (ns : List ℕ) : Type 0 where
+  pub base : List Element
+  pub more : List Element
+  pub listed : flat (fenced_forest dim es e ns) ≡ base ++ more
+  pub turned : Turns 0 (spelling es) (all_puts dim es (edits_at e ns)) (spelling base)
+  pub fields : map field_of (all_puts dim es (edits_at e ns)) ≡ fenced_fields dim es e ns
+  pub rows : map row_of base ≡ map row_of es
+  pub nested : forest row_of (base ++ more) ≡ fenced_forest dim es e ns
+  pub good : AllByRecursion (IsWellFormed dim) base
+  pub good_more : AllByRecursion (IsWellFormed dim) more
+  pub begins : (t : List ℕ) → BeginsWithTcb base × (dimension (spelling base ++ t) ≡ dimension (spelling es ++ t))
+  pub free : BeginsFree row_of more
+  pub long : length (spelling more) ≡ all_appended es (edits_at e ns)
+  pub bytes : spelling more ≡ all_bytes dim es (edits_at e ns)
+
+-- the edit of a root names it, and has the values of the edit of all
+pub root_named : (e : FenceEdit) (n : ℕ) → target_of (edit_at e n) ≡ Some n
+root_named (fence.Move by) n = refl
+root_named (fence.Copy by) n = refl
+root_named (fence.Sym change) n = refl
+root_named fence.Delete n = refl
+
+pub root_fits : (e : FenceEdit) (n : ℕ) → IsFenceEdit e → IsEdit (edit_at e n)
+root_fits (fence.Move by) n fits = fits
+root_fits (fence.Copy by) n fits = fits
+root_fits (fence.Sym change) n fits = fits
+root_fits fence.Delete n fits = fits
+
+-- where nothing refuses all, nothing refuses each
+pub each_accepted : (dim : ℕ) (es : List Element) (e : FenceEdit) → AllByRecursion (IsWellFormed dim) es → BeginsWithTcb es → (rest : ℕ) (ns : List ℕ)
+    → cause_of_all dim es rest (edits_at e ns) ≡ None → AllByRecursion (λ n. IsAccepted dim es (edit_at e n) n) ns
+each_accepted dim es e each first rest [] none = tt
+each_accepted dim es e each first rest (n ∷ ns) none =
+    let both = none_both (cause_of dim es rest (edit_at e n)) (cause_of_all dim es (rest + bytes_appended es (edit_at e n)) (edits_at e ns)) none in (
+      accepted dim es rest (edit_at e n) n (root_named e n) each first both.0,
+      each_accepted dim es e each first (rest + bytes_appended es (edit_at e n)) ns both.1,
+    )
+
+-- what holds of each part of some that are joined
+each_part : {X : Type 0} (P : X → Type 0) (part : ℕ → List X) (ns : List ℕ) → AllByRecursion (λ n. AllByRecursion P (part n)) ns
+    → AllByRecursion P (flat_map part ns)
+each_part P part [] each = tt
+each_part P part (n ∷ ns) each = each_both P (part n) (flat_map part ns) each.0 (each_part P part ns each.1)
+
+-- what is listed of each edit, where it is listed of the parts of its root
+parts_listed : {X Y : Type 0} (e : FenceEdit) (of : Edit → List Y) (part : ℕ → List X) (list : X → List Y) (ns : List ℕ)
+    → AllByRecursion (λ n. of (edit_at e n) ≡ flat_map list (part n)) ns → flat_map of (edits_at e ns) ≡ flat_map list (flat_map part ns)
+parts_listed e of part list [] each = refl
+parts_listed {X} {Y} e of part list (n ∷ ns) each =
+    ap (λ (l : List Y). l ++ flat_map of (edits_at e ns)) each.0
+    ∙ ap (λ (l : List Y). flat_map list (part n) ++ l) (parts_listed e of part list ns each.1)
+    ∙ sym (flat_map-append list (part n) (flat_map part ns))
+
+-- nothing is listed where nothing is of each
+none_listed : {Y : Type 0} (e : FenceEdit) (of : Edit → List Y) (ns : List ℕ) → ((n : ℕ) → of (edit_at e n) ≡ []) → flat_map of (edits_at e ns) ≡ []
+none_listed e of [] none = refl
+none_listed {Y} e of (n ∷ ns) none = ap (λ (l : List Y). l ++ flat_map of (edits_at e ns)) (none n) ∙ none_listed e of ns none
+
+none_appended : (es : List Element) (e : FenceEdit) (ns : List ℕ) → ((n : ℕ) → bytes_appended es (edit_at e n) ≡ 0) → all_appended es (edits_at e ns) ≡ 0
+none_appended es e [] none = refl
+none_appended es e (n ∷ ns) none = let here = none n in let more = none_appended es e ns none in omega arith
+
+-- an edit of several roots changes them in their places, as this edit does that of one: a move, a change of the look
+-- or a deletion
+pub record AreInPlace (dim : ℕ) (es : List Element) (x : Edit) (e : FenceEdit) : Type 0 where
+  pub fits : IsFenceEdit e → IsEdit x
+  pub own : ChangesInPlace x
+  pub ready : (n : ℕ) → IsAccepted dim es (edit_at e n) n → AllByRecursion (λ v. IsReady dim x v.element) (live_tree es n)
+  pub puts : (n : ℕ) → above_tree es n ≡ [] → own_puts dim es (edit_at e n) ≡ live_puts dim x (live_tree es n)
+  pub fields : (n : ℕ) → above_tree es n ≡ [] → edited_fields dim es (edit_at e n) ≡ live_fields dim x (live_tree es n)
+  pub bytes : (n : ℕ) → own_bytes dim es (edit_at e n) ≡ []
+  pub appended : (n : ℕ) → bytes_appended es (edit_at e n) ≡ 0
+  pub trees : (ns : List ℕ) → fenced_forest dim es e ns ≡ roots_changed (change_of dim x) es ns
+
+-- without headers above it, a part has the puts and the fields of its live elements alone
+module _ (dim : ℕ) (es : List Element) (x : Edit) (n : ℕ) (none : above_tree es n ≡ []) where
+  puts_alone : part_puts dim es x n ≡ live_puts dim x (live_tree es n)
+  puts_alone = ap (λ (vs : List Live). above_puts dim x (slice_get es n) vs ++ live_puts dim x (live_tree es n)) none
+
+  fields_alone : part_fields dim es x n ≡ live_fields dim x (live_tree es n)
+  fields_alone = ap (λ (vs : List Live). flat_map (λ v. above_fields_at dim x v.place) vs ++ live_fields dim x (live_tree es n)) none
+
+moves_in_place : (dim : ℕ) (es : List Element) (by : Displacement) → AreInPlace dim es (edit.Move 0 by) (fence.Move by)
+moves_in_place dim es by = record {
+  fits = λ fits. fits;
+  own = tt;
+  ready = λ n able. able.able;
+  puts = λ n none. puts_alone dim es (edit.Move n by) n none;
+  fields = λ n none. fields_alone dim es (edit.Move n by) n none;
+  bytes = λ n. refl;
+  appended = λ n. refl;
+  trees = λ ns. refl;
+}
+
+looks_in_place : (dim : ℕ) (es : List Element) (change : LookChange) → AreInPlace dim es (edit.Sym 0 change) (fence.Sym change)
+looks_in_place dim es change = record {
+  fits = λ fits. fits;
+  own = tt;
+  ready = λ n able. able.able;
+  puts = λ n none. puts_alone dim es (edit.Sym n change) n none;
+  fields = λ n none. fields_alone dim es (edit.Sym n change) n none;
+  bytes = λ n. refl;
+  appended = λ n. refl;
+  trees = λ ns. refl;
+}
+
+marks_in_place : (dim : ℕ) (es : List Element) → AreInPlace dim es (edit.Delete 0) fence.Delete
+marks_in_place dim es = record {
+  fits = λ fits. fits;
+  own = tt;
+  ready = λ n able. able.able;
+  puts = λ n none. puts_alone dim es (edit.Delete n) n none;
+  fields = λ n none. fields_alone dim es (edit.Delete n) n none;
+  bytes = λ n. refl;
+  appended = λ n. refl;
+  trees = λ ns. refl;
+}
+
+-- trees of which the first isn't chosen begin as they did
+root_stays : (change : Element → Element) (chosen : ℕ → Bool) (x : Element) (xs : List Element) → chosen 0 ≡ false
+    → BeginsWith x (flat (chosen_map change chosen 0 (forest row_of (x ∷ xs))))
+root_stays change chosen x xs not = record {
+  behind = flat (chosen_map change chosen 1 (nest row_of Whole xs));
+  is = ap (λ (b : Bool). flat
+      (joined (cond b (live_map (λ e. e.deleted) change (Tree Leaf x NoTree NoTree)) (Tree Leaf x NoTree NoTree))
+      (chosen_map change chosen 1 (nest row_of Whole xs)))) not;
+}
+
+begins_so : (dim : ℕ) (es : List Element) (change : Element → Element) (chosen : ℕ → Bool) (t : List ℕ) → IsDimension dim
+    → AllByRecursion (IsWellFormed dim) es → BeginsWithTcb es → chosen 0 ≡ false
+    → BeginsWithTcb (flat (chosen_map change chosen 0 (forest row_of es)))
+    × (dimension (spelling (flat (chosen_map change chosen 0 (forest row_of es))) ++ t) ≡ dimension (spelling es ++ t))
+begins_so dim [] change chosen t axes each first not = absurd first
+begins_so dim (x ∷ xs) change chosen t axes each first not =
+    begins_as dim x xs (flat (chosen_map change chosen 0 (forest row_of (x ∷ xs)))) t axes each.0 first (root_stays change chosen x xs not)
+
+-- roots changed in their places
+module _ (dim : ℕ) (axes : IsDimension dim) (es : List Element) (each : AllByRecursion (IsWellFormed dim) es) (first : BeginsWithTcb es)
+    (x : Edit) (e : FenceEdit) (here : AreInPlace dim es x e) (fits : IsFenceEdit e) (ns : List ℕ) (some : AreRoots es ns)
+    (able : AllByRecursion (λ n. IsAccepted dim es (edit_at e n) n) ns) where
+  -- the live elements of their trees
+  abbrev vs : List Live
+  vs = chosen_live (is_one_of ns) 0 0 (forest row_of es)
+
+  live_are : flat_map (live_tree es) ns ≡ vs
+  live_are = ap (flat_map (live_tree es)) (roots_among es ns some) ∙ roots_live es (is_one_of ns)
+
+  -- hold what holds of those of each tree
+  each_live : (P : Live → Type 0) → AllByRecursion (λ n. AllByRecursion P (live_tree es n)) ns → AllByRecursion P vs
+  each_live P those = subst (AllByRecursion P) live_are (each_part P (live_tree es) ns those)
+
+  ready : AllByRecursion (λ v. IsReady dim x v.element) vs
+  ready = each_live (λ v. IsReady dim x v.element)
+      (all_so (λ n. IsAccepted dim es (edit_at e n) n) (λ n. AllByRecursion (λ v. IsReady dim x v.element) (live_tree es n)) here.ready ns able)
+
+  good_live : AllByRecursion (λ v. IsWellFormed dim v.element) vs
+  good_live = each_live (λ v. IsWellFormed dim v.element)
+      (all_so (λ n. IsAccepted dim es (edit_at e n) n) (λ n. AllByRecursion (λ v. IsWellFormed dim v.element) (live_tree es n))
+      (λ n is. live_tree_each (IsWellFormed dim) es n each) ns able)
+
+  is_put : AllByRecursion (λ v. IsPut dim x v.element) vs
+  is_put = all_both (λ v. IsWellFormed dim v.element) (λ v. IsReady dim x v.element) (λ v. IsPut dim x v.element)
+      (λ v good able. element_put dim axes x (here.fits fits) v.element good able) vs good_live ready
+
+  -- no header is above them
+  alone : AllByRecursion (λ n. above_tree es n ≡ []) ns
+  alone = subst (AllByRecursion (λ n. above_tree es n ≡ [])) (sym some.1)
+      (each_chosen (λ n. above_tree es n ≡ []) some.0 (roots 0 (forest row_of es)) (roots_above es))
+
+  puts_are : all_puts dim es (edits_at e ns) ≡ live_puts dim x vs
+  puts_are =
+      parts_listed e (own_puts dim es) (live_tree es) (λ v. puts_at dim x v.place v.element) ns
+      (all_so (λ n. above_tree es n ≡ []) (λ n. own_puts dim es (edit_at e n) ≡ live_puts dim x (live_tree es n)) here.puts ns alone)
+      ∙ ap (live_puts dim x) live_are
+
+  fields_are : fenced_fields dim es e ns ≡ live_fields dim x vs
+  fields_are =
+      parts_listed e (edited_fields dim es) (live_tree es) (λ v. fields_at dim x v.place v.element) ns
+      (all_so (λ n. above_tree es n ≡ []) (λ n. edited_fields dim es (edit_at e n) ≡ live_fields dim x (live_tree es n)) here.fields ns alone)
+      ∙ ap (live_fields dim x) live_are
+
+  -- the trees that it leaves, which have the rows of those that there were
+  abbrev changed : Forest Element
+  changed = roots_changed (change_of dim x) es ns
+
+  looks : forest_map row_of changed ≡ forest_map row_of (forest row_of es)
+  looks = chosen_looks (change_of dim x) (is_one_of ns) 0 0 (forest row_of es)
+      (all_so (λ v. IsPut dim x v.element) (λ v. row_of (change_of dim x v.element) ≡ row_of v.element) (λ v is. is.row) vs is_put)
+
+  rows_kept : map row_of (flat changed) ≡ map row_of es
+  rows_kept = sym (flat-map row_of changed) ∙ ap flat looks ∙ flat-map row_of (forest row_of es) ∙ ap (map row_of) (flat-forest row_of es)
+
+  nested_so : forest row_of (flat changed) ≡ changed
+  nested_so = sym (known row_of changed (looks ∙ forest_rows row_of es ∙ ap (forest itself) (sym rows_kept)))
+
+  good_trees : AllByRecursion (IsWellFormed dim) (flat (forest row_of es))
+  good_trees = subst (AllByRecursion (IsWellFormed dim)) (sym (flat-forest row_of es)) each
+
+  not_first : is_one_of ns 0 ≡ false
+  not_first = zero_apart ns (all_so (λ n. IsAccepted dim es (edit_at e n) n) (λ n. 0 < n) (λ n is. is.later) ns able)
+
+  pub in_place_fenced : IsFenced dim es e ns
+  in_place_fenced = record {
+    base = flat changed;
+    more = [];
+    listed = ap flat (here.trees ns) ∙ sym (append-nil (flat changed));
+    turned = turns_as 0 _ _ _ _ _ _ (ap spelling (flat-forest row_of es)) (sym puts_are) refl
+        (chosen_turned dim axes x (here.fits fits) (is_one_of ns) 0 0 (forest row_of es) good_trees ready);
+    fields = ap (map field_of) puts_are ∙ fields_put dim axes x (here.fits fits) here.own vs good_live ready ∙ sym fields_are;
+    rows = rows_kept;
+    nested = ap (forest row_of) (append-nil (flat changed)) ∙ nested_so ∙ sym (here.trees ns);
+    good = chosen_each (change_of dim x) (is_one_of ns) (IsWellFormed dim) 0 0 (forest row_of es) good_trees
+        (all_so (λ v. IsPut dim x v.element) (λ v. IsWellFormed dim (change_of dim x v.element)) (λ v is. is.good) vs is_put);
+    good_more = tt;
+    begins = λ t. begins_so dim es (change_of dim x) (is_one_of ns) t axes each first not_first;
+    free = tt;
+    long = sym (none_appended es e ns here.appended);
+    bytes = sym (none_listed e (own_bytes dim es) ns here.bytes);
+  }
+
+-- the bytes of copies are those of each
+copied_bytes : (dim : ℕ) (es : List Element) (by : Displacement) (ns : List ℕ)
+    → flat_map (λ n. spelling (flat (copied dim es (edit.Copy n by) n))) ns ≡ all_bytes dim es (edits_at (fence.Copy by) ns)
+copied_bytes dim es by [] = refl
+copied_bytes dim es by (n ∷ ns) = ap (λ (b : List ℕ). spelling (flat (copied dim es (edit.Copy n by) n)) ++ b) (copied_bytes dim es by ns)
+
+-- and roots copied
+pub copies_fenced : (dim : ℕ) (es : List Element) (by : Displacement) → IsDimension dim → AllByRecursion (IsWellFormed dim) es → BeginsWithTcb es → IsShift by
+    → (ns : List ℕ) → AllByRecursion (λ n. IsAccepted dim es (edit.Copy n by) n) ns → IsFenced dim es (fence.Copy by) ns
+copies_fenced dim es by axes each first fits ns able =
+    let none : all_puts dim es (edits_at (fence.Copy by) ns) ≡ [] = none_listed (fence.Copy by) (own_puts dim es) ns (λ n. refl) in
+    let no_field : fenced_fields dim es (fence.Copy by) ns ≡ [] = none_listed (fence.Copy by) (edited_fields dim es) ns (λ n. refl) in
+    record {
+      base = es;
+      more = flat (copies dim es (fence.Copy by) ns);
+      listed = flat-joined (forest row_of es) (copies dim es (fence.Copy by) ns)
+          ∙ ap (λ (l : List Element). l ++ flat (copies dim es (fence.Copy by) ns)) (flat-forest row_of es);
+      turned = subst (λ (ps : List Put). Turns 0 (spelling es) ps (spelling es)) (sym none) (turns_none 0 (spelling es));
+      fields = ap (map field_of) none ∙ sym no_field;
+      rows = refl;
+      nested = copies_nest dim es by axes fits each first ns able;
+      good = each;
+      good_more = copies_good dim es by axes fits each first ns able;
+      begins = λ t. (first, refl);
+      free = copies_free dim es by ns;
+      long = copies_long dim es by axes fits each first ns able;
+      bytes = copies_spelled dim es by ns ∙ copied_bytes dim es by ns;
+    }
+
+-- an edit of several roots that isn't refused
+pub fenced : (f : List ℕ) (dim : ℕ) (es : List Element) (t : List ℕ) (rest : ℕ) (e : FenceEdit) (ns : List ℕ) → IsFenceEdit e → AreRoots es ns
+    → Opens f dim es t
+    → cause_of_all dim es rest (edits_at e ns) ≡ None → IsFenced dim es e ns
+fenced f dim es t rest (fence.Move by) ns fits some opens none =
+    in_place_fenced dim (opened_axes f dim es t opens) es opens.each opens.first (edit.Move 0 by) (fence.Move by) (moves_in_place dim es by) fits ns some
+    (each_accepted dim es (fence.Move by) opens.each opens.first rest ns none)
+fenced f dim es t rest (fence.Copy by) ns fits some opens none =
+    copies_fenced dim es by (opened_axes f dim es t opens) opens.each opens.first fits ns
+    (each_accepted dim es (fence.Copy by) opens.each opens.first rest ns none)
+fenced f dim es t rest (fence.Sym change) ns fits some opens none =
+    in_place_fenced dim (opened_axes f dim es t opens) es opens.each opens.first (edit.Sym 0 change) (fence.Sym change) (looks_in_place dim es change)
+    fits ns some
+    (each_accepted dim es (fence.Sym change) opens.each opens.first rest ns none)
+fenced f dim es t rest fence.Delete ns fits some opens none =
+    in_place_fenced dim (opened_axes f dim es t opens) es opens.each opens.first (edit.Delete 0) fence.Delete (marks_in_place dim es) fits ns some
+    (each_accepted dim es fence.Delete opens.each opens.first rest ns none)

@@ -1,0 +1,178 @@
+-- How the walk through a file goes on and ends.
+use Rattle.std.proofs.Common.{◌≡◌, ℕ, ◌+◌, ◌*◌, ◌/◌, ◌%◌, ◌==◌, ◌<◌, take, map, length-append, ◌≤◌, List, [], ◌∷◌, ◌++◌, length, drop, get_or, refl, sym}
+use Rattle.std.proofs.Common.{ap, ◌∙◌, subst, arith, true, false}
+use Rattle.std.specs.Prelude.{Option, Some, None}
+use Rattle.std.specs.Option.{is_some}
+use Rattle.std.proofs.lemmas.List.{get_or_default, length-take-le, get_or-take, length-map}
+use Rattle.std.proofs.lemmas.Bool.Decides.{nat_tests}
+use Rattle.dgn_layout.specs.Classes.{class_of, is_silent}
+use Rattle.dgn_layout.specs.declared.types.Class.{Class}
+use Rattle.elem_head.specs.Head.{kind_of, size_of as size_said}
+use Rattle.dgn_drawing.specs.Faults.{element_fault}
+use Rattle.dgn_drawing.proofs.BodyEnds.{silent_sound}
+use Rattle.std.proofs.lemmas.Bool.{both_ways}
+use Rattle.dgn_drawing.specs.Element.{Element}
+use Rattle.dgn_drawing.specs.Spelling.{bit, spelling, size_of}
+use Rattle.dgn_drawing.specs.Rows.{row_of}
+use Rattle.dgn_drawing.specs.WellFormed.{IsBytes}
+use Rattle.dgn_drawing.specs.Reading.{element_at}
+use Rattle.dgn_drawing.specs.Opening.{NotDesign, Cut, Short, Attr, is_tcb, dimension, is_tail, Front, first_element, is_cut, StandsAt, HasFault}
+use Rattle.dgn_drawing.proofs.Fronts.{front_none, front_more, front_ends, four_each}
+use Rattle.dgn_drawing.proofs.FirstElements.{dimension_is}
+use Rattle.elem_index.specs.declared.open_fault.OpenFault.{OpenFault}
+use Rattle.elem_index.specs.Offsets.{offsets_of}
+use Rattle.elem_index.specs.Design.{kind_byte, kind_byte_at, kind_bytes}
+use Rattle.elem_index.proofs.KindBytes.{kind_bytes-more}
+use Rattle.elem_index.specs.Answers.{HasToldFault, TellsFault, BeginsSound, BeginsFaulty, BeginsBare, Steps, StandsSound, StandsFaulty, HasCount, IsRun}
+use Rattle.elem_index.specs.Opened.{opening}
+use Rattle.dgn_drawing.proofs.Offsets.{length-offsets_from, offsets_from-more}
+use Rattle.elem_index.proofs.OpeningAnswers.{opening-opens, opening-fault}
+
+-- the bytes of a slice
+pub are_bytes : (b : List ℕ) → ((i : ℕ) → get_or b i 0 < 256) → IsBytes b
+are_bytes b each k d within = let same = get_or_default b k d 0 within in omega (arith, each k)
+
+-- the fault of a file is the one that the program finds
+pub told : (f : List ℕ) → IsBytes f → (x : OpenFault) → HasToldFault f x → TellsFault (opening f) x
+told f bytes OpenFault.NotDesign has = opening-fault f NotDesign bytes has
+told f bytes (OpenFault.Cut at) has = opening-fault f (Cut at) bytes has
+told f bytes (OpenFault.Short at) has = opening-fault f (Short at) bytes has
+told f bytes (OpenFault.Attr at) has = opening-fault f (Attr at) bytes has
+told f bytes OpenFault.Memory has = tt
+
+-- elements stand before the place, and these are their offsets and bytes
+pub record Going (f kept kinds : List ℕ) (p : ℕ) : Type 0 where
+  pub elements : List Element
+  pub front : Front f elements p
+  pub offsets : kept ≡ offsets_of elements
+  pub bytes : kinds ≡ kind_bytes elements
+
+pub going_start : (f : List ℕ) → Going f [] [] 0
+going_start f = record { elements = []; front = front_none f; offsets = refl; bytes = refl }
+
+-- the byte of the first element of some bytes is read from these
+first_kind : (dim : ℕ) (b : List ℕ) → kind_byte_at b ≡ kind_byte (row_of (element_at dim (first_element b)))
+unfolding element_at
+first_kind dim b =
+    let zeroth : get_or (first_element b) 0 0 ≡ get_or b 0 0 = get_or-take (size_said b) b 0 0 (omega arith) in
+    let second : get_or (first_element b) 1 0 ≡ get_or b 1 0 = get_or-take (size_said b) b 1 0 (omega arith) in
+    ap (λ (x : ℕ). x % 128 + bit 128 (get_or b 0 0 / 128 % 2 == 1)) (sym second)
+    ∙ ap (λ (x : ℕ). get_or (first_element b) 1 0 % 128 + bit 128 (x / 128 % 2 == 1)) (sym zeroth)
+
+-- a step that gives a place is over an element, and one that gives none is where the elements end
+pub steps_over : (f : List ℕ) (p q : ℕ) (at : Option ℕ) → is_some at ≡ true → Steps f p q at → StandsSound f p q
+steps_over f p q (Some at) some step = step.1
+steps_over f p q None some step = absurd (both_ways false refl some)
+
+pub steps_end : (f : List ℕ) (p q : ℕ) (at : Option ℕ) → is_some at ≡ false → Steps f p q at → (is_tail (drop p f) ≡ true) × (q ≡ p)
+steps_end f p q None none step = step
+steps_end f p q (Some at) none step = absurd (both_ways true none refl)
+
+module _ (f : List ℕ) (bytes : IsBytes f) (tcb : is_tcb f ≡ true) (kept kinds : List ℕ) (p : ℕ) (going : Going f kept kinds p) where
+  -- behind an element without fault the walk goes on
+  pub going_more : (at q : ℕ) → (at ≡ p) × StandsSound f p q → Going f (kept ++ at ∷ []) (kinds ++ kind_byte_at (drop p f) ∷ []) q
+  going_more at q step =
+      let stands = step.1 in
+      let es = going.elements in
+      let begins = stands.sound in
+      let place : 0 + length (spelling es) ≡ p = omega (arith, ap (length {A = ℕ}) going.front.spelled, length-take-le p f going.front.within) in
+      let front = front_more f bytes tcb es p going.front stands.more begins.whole begins.sound in
+      record {
+        elements = es ++ element_at (dimension f) (first_element (drop p f)) ∷ [];
+        front = subst (λ (s : ℕ). Front f (es ++ element_at (dimension f) (first_element (drop p f)) ∷ []) s)
+            (ap (λ (s : ℕ). p + s) (sym begins.long) ∙ sym stands.ends) front;
+        offsets = ap (λ (x : List ℕ). x ++ at ∷ []) going.offsets ∙ ap (λ (k : ℕ). offsets_of es ++ k ∷ []) (step.0 ∙ sym place)
+            ∙ sym (offsets_from-more 0 es _);
+        bytes =
+            ap (λ (x : List ℕ). x ++ kind_byte_at (drop p f) ∷ []) going.bytes ∙ ap (λ (k : ℕ). kind_bytes es ++ k ∷ []) (first_kind (dimension f) (drop p f))
+            ∙ sym (kind_bytes-more es (element_at (dimension f) (first_element (drop p f))));
+      }
+
+  -- at a tail the elements end
+  pub run_ends : (q : ℕ) → (is_tail (drop p f) ≡ true) × (q ≡ p) → IsRun f kept kinds q
+  run_ends q ends = subst (IsRun f kept kinds) (sym ends.1) (record {
+    elements = going.elements;
+    opens = front_ends f bytes tcb going.elements p going.front ends.0;
+    front = going.front.spelled;
+    offsets = going.offsets;
+    bytes = going.bytes;
+    within = going.front.within;
+    found = opening-opens f (record { dim = dimension f; elements = going.elements; tail = drop p f }) bytes
+        (front_ends f bytes tcb going.elements p going.front ends.0);
+  })
+
+  -- an element with a fault is the fault of the file
+  stands : (Here : List ℕ → Type 0) → is_tail (drop p f) ≡ false → Here (drop p f) → StandsAt f p Here
+  stands Here more here = record { tcb = tcb; front = (going.elements, going.front); more = more; here = here }
+
+  run_faulty : (x : OpenFault) → is_tail (drop p f) ≡ false → BeginsFaulty (dimension f) p (drop p f) x → HasToldFault f x
+  run_faulty OpenFault.NotDesign more begins = absurd begins
+  run_faulty (OpenFault.Cut at) more begins = subst (λ (k : ℕ). HasFault f (Cut k)) (sym begins.0) (stands _ more begins.1)
+  run_faulty (OpenFault.Short at) more begins = subst (λ (k : ℕ). HasFault f (Short k)) (sym begins.0) (stands _ more begins.1)
+  run_faulty (OpenFault.Attr at) more begins = subst (λ (k : ℕ). HasFault f (Attr k)) (sym begins.0) (stands _ more begins.1)
+  run_faulty OpenFault.Memory more begins = absurd begins
+
+  pub faulty_here : (x : OpenFault) → StandsFaulty f p x → HasToldFault f x
+  faulty_here x stands = run_faulty x stands.more stands.faulty
+
+  pub told_here : (x : OpenFault) → StandsFaulty f p x → TellsFault (opening f) x
+  told_here x stands = told f bytes x (faulty_here x stands)
+
+-- a silent class is the one that says so
+silent_class : (c : Class) → is_silent c ≡ true → c ≡ Class.Silent
+silent_class Class.Silent is = refl
+silent_class Class.Vertices is = absurd (let x = is in cc)
+silent_class Class.Words is = absurd (let x = is in cc)
+silent_class Class.Counted is = absurd (let x = is in cc)
+silent_class Class.Run is = absurd (let x = is in cc)
+silent_class Class.Floating is = absurd (let x = is in cc)
+silent_class Class.Boxed is = absurd (let x = is in cc)
+
+-- an element of four bytes of which nothing is read is sound
+pub bare_sound : (dim : ℕ) (b : List ℕ) → BeginsBare b → BeginsSound dim b 4
+bare_sound dim b bare =
+    let said : size_said b ≡ 4 = omega (arith, bare.words) in
+    let long = bare.long in
+    let four : is_cut b ≡ false = grind (arith, nat_tests) in
+    let first : first_element b ≡ take 4 b = ap (λ (n : ℕ). take n b) said in
+    let first_long : length (take 4 b) ≡ 4 = length-take-le 4 b long in
+    let kind : kind_of (take 4 b) ≡ kind_of b = ap (λ (x : ℕ). x % 128) (get_or-take 4 b 1 0 (omega arith)) in
+    record {
+      whole = four;
+      sound = ap (element_fault dim) first
+          ∙ silent_sound dim (take 4 b) (ap class_of kind ∙ silent_class (class_of (kind_of b)) bare.silent) (omega (arith, first_long));
+      long = sym said;
+    }
+
+-- so many elements stand before the place
+pub record Counted (f : List ℕ) (count p : ℕ) : Type 0 where
+  pub kept : List ℕ
+  pub kinds : List ℕ
+  pub going : Going f kept kinds p
+  pub all : count ≡ length kept
+
+pub counted_start : (f : List ℕ) → Counted f 0 0
+counted_start f = record { kept = []; kinds = []; going = going_start f; all = refl }
+
+-- as many as there are offsets
+pub count_ends : (f kept kinds : List ℕ) (count p : ℕ) → count ≡ length kept → IsRun f kept kinds p → HasCount f count
+count_ends f kept kinds count p all run = record {
+  opened = record { dim = dimension f; elements = run.elements; tail = drop p f };
+  found = run.found;
+  counted = all ∙ ap (length {A = ℕ}) run.offsets ∙ length-offsets_from 0 (map size_of run.elements) ∙ length-map run.elements size_of;
+}
+
+pub counted_more : (f kept kinds : List ℕ) (count p q : ℕ) → count ≡ length kept → Going f (kept ++ p ∷ []) kinds q → Counted f (count + 1) q
+counted_more f kept kinds count p q all going =
+    record { kept = kept ++ p ∷ []; kinds = kinds; going = going; all = omega (arith, all, length-append kept (p ∷ [])) }
+
+-- there are no more elements than bytes before the place
+pub counted_small : (f : List ℕ) (count p : ℕ) → Counted f count p → 4 * count ≤ length f
+counted_small f count p counted =
+    let es = counted.going.elements in
+    let front = counted.going.front in
+    let four = four_each (dimension f) (dimension_is f) es front.each in
+    let offsets : count ≡ length es =
+    counted.all ∙ ap (length {A = ℕ}) counted.going.offsets ∙ length-offsets_from 0 (map size_of es) ∙ length-map es size_of in
+    let spelled : length (spelling es) ≡ p = sym (ap (length {A = ℕ}) front.spelled) ∙ length-take-le p f front.within in
+    omega (arith, four, offsets, spelled, front.within)

@@ -1,0 +1,50 @@
+-- The rows of the elements of a design, in blocks: each can be nested behind those before it.
+use Rattle.std.proofs.Common.{◌≡◌, ℕ, zero, suc, ◌+◌, List, [], ◌∷◌, ◌++◌, length, take, drop, map, refl, sym, ap, ◌∙◌, subst, arith}
+use Rattle.std.specs.Prelude.{IsFalse}
+use Rattle.std.specs.List.{AllByRecursion}
+use Rattle.std.proofs.lemmas.List.{take-map}
+use Rattle.dgn_drawing.specs.Element.{Element}
+use Rattle.dgn_drawing.specs.declared.row.Row.{Row}
+use Rattle.dgn_drawing.specs.Rows.{row_of}
+use Rattle.dgn_drawing.specs.Nesting.{BeginsFree, itself}
+use Rattle.elem_index.specs.declared.design.Design.{Design}
+use Rattle.elem_index.specs.Design.{elements, IsWhole, IsBlock}
+use Rattle.nest_tree.specs.Shapes.{IsRow}
+use Rattle.nest_tree.proofs.MemberBytes.{all_take}
+use Rattle.level_view.proofs.Rows.{rows_each}
+
+each_behind : {A : Type 0} (P : A → Type 0) (xs ys : List A) → AllByRecursion P (xs ++ ys) → AllByRecursion P ys
+each_behind P [] ys each = each
+each_behind P (x ∷ xs) ys each = each_behind P xs ys each.1
+
+-- each row of a block is one that can be nested
+pub block_each : (d : Design) → IsWhole d → (n : ℕ) (rows : List Row) → IsBlock (elements d) n rows → AllByRecursion IsRow rows
+block_each d whole n rows block =
+    let all = all_take IsRow (n + length rows) (map row_of (elements d)) (rows_each d whole (map row_of (elements d)) refl) in
+    each_behind IsRow (map row_of (take n (elements d))) rows
+    (subst (AllByRecursion IsRow) (take-map row_of (n + length rows) (elements d) ∙ sym block.are) all)
+
+-- its first one has no bit C, if the elements from there on begin without it
+first_free : (es : List Element) (n : ℕ) (r : Row) (rows : List Row) → map row_of (take n es) ++ (r ∷ rows) ≡ map row_of (take (n + suc (length rows)) es)
+    → BeginsFree row_of (drop n es) → IsFalse r.cbit
+first_free [] zero r rows are free =
+    let e : 0 + suc (length rows) ≡ suc (length rows) = omega arith in
+    absurd (let none : r ∷ rows ≡ [] = are ∙ ap (λ (k : ℕ). map row_of (take k [])) e in cc)
+first_free (x ∷ es) zero r rows are free =
+    let e : 0 + suc (length rows) ≡ suc (length rows) = omega arith in
+    let same : r ∷ rows ≡ row_of x ∷ map row_of (take (length rows) es) = are ∙ ap (λ (k : ℕ). map row_of (take k (x ∷ es))) e in
+    let first : r ≡ row_of x = cc in
+    subst (λ (q : Row). IsFalse q.cbit) (sym first) free
+first_free [] (suc n) r rows are free =
+    let e : suc n + suc (length rows) ≡ suc (n + suc (length rows)) = omega arith in
+    absurd (let none : r ∷ rows ≡ [] = are ∙ ap (λ (k : ℕ). map row_of (take k [])) e in cc)
+first_free (x ∷ es) (suc n) r rows are free =
+    let e : suc n + suc (length rows) ≡ suc (n + suc (length rows)) = omega arith in
+    let same : row_of x ∷ (map row_of (take n es) ++ (r ∷ rows)) ≡ row_of x ∷ map row_of (take (n + suc (length rows)) es) =
+    are ∙ ap (λ (k : ℕ). map row_of (take k (x ∷ es))) e in
+    let rest : map row_of (take n es) ++ (r ∷ rows) ≡ map row_of (take (n + suc (length rows)) es) = cc in
+    first_free es n r rows rest free
+
+pub block_free : (es : List Element) (n : ℕ) (rows : List Row) → IsBlock es n rows → BeginsFree row_of (drop n es) → BeginsFree itself rows
+block_free es n [] block free = tt
+block_free es n (r ∷ rows) block free = first_free es n r rows block.are free

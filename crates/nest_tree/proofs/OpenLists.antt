@@ -1,0 +1,145 @@
+-- What is kept of the first elements tells the lists that they stand in, and grows by one place at a time.
+use Rattle.std.proofs.Common.{◌≡◌, ℕ, ◌+◌, ◌-◌, ◌*◌, ◌≤◌, ◌<◌, List, [], ◌∷◌, ◌++◌, length, take, drop, map, get_or, sym, ap, ◌∙◌, arith}
+use Rattle.std.specs.Prelude.{Option, Some, None}
+use Rattle.std.specs.List.{AllByRecursion}
+use Rattle.std.proofs.lemmas.List.{get_or-map, get_or-take, length-map, length-take, map_push, append-nil, take_rest, drop-drop, length-drop}
+use Rattle.dgn_drawing.specs.declared.row.Row.{Row}
+use Rattle.dgn_drawing.specs.Nesting as nesting
+use Rattle.dgn_drawing.specs.Nesting.{Whole, itself, nest}
+use Rattle.dgn_drawing.specs.Numbering.{Mark, marks}
+use Rattle.nest_tree.specs.declared.knot.Knot.{Knot}
+use Rattle.nest_tree.specs.Linked.{Link}
+use Rattle.nest_tree.specs.declared.shape.Shape as told
+use Rattle.nest_tree.specs.declared.open_list.OpenList.{OpenList}
+use Rattle.nest_tree.specs.Sums.{weights, sums_from}
+use Rattle.nest_tree.specs.Shapes.{code_knot, code_shape, shape_in, rows_between, IsRow, IsBetween}
+use Rattle.nest_tree.specs.Places.{marks_in, link_of, ArePlaces, end_in, parent_in, depth_in, knot_in, kind_in, scope_below, list_in, resume, Going}
+use Rattle.nest_tree.proofs.MemberBytes.{no_row}
+use Rattle.nest_tree.proofs.ListStacks.{length-marks_in, take_marks, end_read, link_read, going_ends, count_read, mark_read}
+
+abbrev pub no_mark : Mark
+no_mark = record { knot = nesting.Leaf; depth = 0; parent = None; end = 0 }
+
+module _ (rows : List Row) (n : ℕ) (ends : List ℕ) (links : List Link) (places : ArePlaces rows n ends links) where
+  pub length-ends : length ends ≡ n
+  length-ends =
+      let within = places.within in
+      ap (length {A = ℕ}) places.ends_are ∙ length-map (take n (marks_in rows)) (λ (m : Mark). m.end)
+      ∙ omega (arith, length-take n (marks_in rows), length-marks_in rows)
+
+  pub length-links : length links ≡ n
+  length-links =
+      let within = places.within in
+      ap (length {A = Link}) places.links_are ∙ length-map (take n (marks_in rows)) link_of ∙ omega (arith, length-take n (marks_in rows), length-marks_in rows)
+
+  -- what is kept at one place is what the marks say there
+  kept_at : {B : Type 0} (f : Mark → B) (i : ℕ) (d e : B) → i < n → get_or (map f (take n (marks_in rows))) i d ≡ get_or (map f (marks_in rows)) i e
+  kept_at f i d e before =
+      let within = places.within in
+      let long = length-marks_in rows in
+      let inner : i < length (take n (marks_in rows)) = omega (arith, length-take n (marks_in rows)) in
+      get_or-map f (take n (marks_in rows)) i no_mark d inner ∙ ap f (get_or-take n (marks_in rows) i no_mark before)
+      ∙ sym (get_or-map f (marks_in rows) i no_mark e (omega arith))
+
+  pub end_at : (i : ℕ) (d : ℕ) → i < n → get_or ends i d ≡ end_in rows i
+  end_at i d before = ap (λ (l : List ℕ). get_or l i d) places.ends_are ∙ kept_at (λ (m : Mark). m.end) i d 0 before
+
+  mark_at : ℕ → Mark
+  mark_at i = get_or (marks_in rows) i no_mark
+
+  said_at : {B : Type 0} (f : Mark → B) (i : ℕ) (e : B) → i < n → get_or (map f (marks_in rows)) i e ≡ f (mark_at i)
+  unfolding mark_at
+  said_at f i e before = let within = places.within in get_or-map f (marks_in rows) i no_mark e (omega (arith, length-marks_in rows))
+
+  pub link_at : (i : ℕ) (d : Link) → i < n → get_or links i d ≡ record { parent = parent_in rows i; depth = depth_in rows i; knot = knot_in rows i }
+  link_at i d before =
+      ap (λ (l : List Link). get_or l i d) places.links_are ∙ kept_at link_of i d (link_of no_mark) before ∙ said_at link_of i (link_of no_mark) before
+      ∙ ap (λ (o : Option ℕ). record { parent = o; depth = (mark_at i).depth; knot = code_knot (mark_at i).knot })
+      (sym (said_at (λ (m : Mark). m.parent) i None before))
+      ∙ ap (λ (k : ℕ). record { parent = parent_in rows i; depth = k; knot = code_knot (mark_at i).knot }) (sym (said_at (λ (m : Mark). m.depth) i 0 before))
+      ∙ ap (λ (k : Knot). record { parent = parent_in rows i; depth = depth_in rows i; knot = k })
+      (sym (said_at (λ (m : Mark). code_knot m.knot) i Knot.Leaf before))
+
+pub kind_at : (rows : List Row) (i : ℕ) → i < length rows → (get_or rows i no_row).kind ≡ kind_in rows i
+kind_at rows i within = sym (get_or-map (λ (r : Row). r.kind) rows i no_row 0 within)
+
+-- reading begins where what is left nests apart
+pub begins : (rows : List Row) (n : ℕ) (f : OpenList) → n ≤ length rows → f ≡ list_in rows None 0
+    → drop n (marks_in rows) ≡ marks (nest itself Whole (drop n rows)) n 0 None → Going rows n f
+begins rows n f within is apart = record {
+  stack = [];
+  stands = is;
+  left = apart ∙ ap (λ (l : List Row). marks (nest itself Whole l) n 0 None) (sym (take_rest rows n))
+      ∙ sym (append-nil (marks (nest itself Whole (take (length rows - n) (drop n rows))) n 0 None))
+      ∙ ap (λ (x : OpenList). resume (x ∷ []) n (drop n rows)) (sym is);
+}
+
+-- one element more has its place
+module _ (rows : List Row) (at : ℕ) (f : OpenList) (going : Going rows at f) (inside : at < f.end) (s : told.Shape)
+    (is : s ≡ code_shape (shape_in f.scope (rows_between rows at f.end))) (ends : List ℕ) (links : List Link) (places : ArePlaces rows at ends links) where
+  pub one_more : ArePlaces rows (at + 1) (ends ++ (at + 1 + s.count) ∷ []) (links ++ record { parent = f.parent; depth = f.depth; knot = s.knot } ∷ [])
+  one_more =
+      let bound = going_ends rows at f going in
+      record {
+        within = omega arith;
+        ends_are = ap (λ (l : List ℕ). l ++ (at + 1 + s.count) ∷ []) places.ends_are
+            ∙ ap (λ (n : ℕ). map (λ (m : Mark). m.end) (take at (marks_in rows)) ++ n ∷ []) (sym (end_read rows at f going inside s is))
+            ∙ sym (map_push (λ (m : Mark). m.end) (take at (marks_in rows)) (mark_read rows at f going inside))
+            ∙ ap (map (λ (m : Mark). m.end)) (sym (take_marks rows at f going inside));
+        links_are = ap (λ (l : List Link). l ++ record { parent = f.parent; depth = f.depth; knot = s.knot } ∷ []) places.links_are
+            ∙ ap (λ (x : Link). map link_of (take at (marks_in rows)) ++ x ∷ []) (sym (link_read rows at f going inside s is))
+            ∙ sym (map_push link_of (take at (marks_in rows)) (mark_read rows at f going inside))
+            ∙ ap (map link_of) (sym (take_marks rows at f going inside));
+      }
+
+-- what stands for a link past the end
+abbrev pub no_link : Link
+no_link = record { parent = None; depth = 0; knot = Knot.Leaf }
+
+-- the list below a header, by what is kept of it
+module _ (rows : List Row) (n : ℕ) (ends : List ℕ) (links : List Link) (places : ArePlaces rows n ends links) (i : ℕ) (before : i < n) where
+  pub list_below_is : (depth : ℕ)
+      → record { scope = scope_below (get_or links i no_link).knot (get_or rows i no_row).kind; end = get_or ends i 0; depth = depth; parent = Some i }
+      ≡ list_in rows (Some i) depth
+  list_below_is depth =
+      let within = places.within in
+      ap (λ (x : Link). record { scope = scope_below x.knot (get_or rows i no_row).kind; end = get_or ends i 0; depth = depth; parent = Some i })
+      (link_at rows n ends links places i no_link before)
+      ∙ ap (λ (k : ℕ). record { scope = scope_below (knot_in rows i) k; end = get_or ends i 0; depth = depth; parent = Some i }) (kind_at rows i (omega arith))
+      ∙ ap (λ (k : ℕ). record { scope = scope_below (knot_in rows i) (kind_in rows i); end = k; depth = depth; parent = Some i })
+      (end_at rows n ends links places i 0 before)
+
+  pub parent_is : (get_or links i no_link).parent ≡ parent_in rows i
+  parent_is = ap (λ (x : Link). x.parent) (link_at rows n ends links places i no_link before)
+
+  pub depth_is : (get_or links i no_link).depth ≡ depth_in rows i
+  depth_is = ap (λ (x : Link). x.depth) (link_at rows n ends links places i no_link before)
+
+-- one element is read on, by the rows from number `first` on
+module _ (rows new : List Row) (first : ℕ) (are : new ≡ drop first rows) (at : ℕ) (f : OpenList) (going : Going rows at f) (inside : at < f.end)
+    (few : length rows < 4294967295) (from : first ≤ at) where
+  pub between : (sums : List ℕ) → AllByRecursion IsRow new → weights new ≤ 4294967295 * length new → sums ≡ sums_from 0 new
+      → IsBetween new sums (at - first) (f.end - first)
+  between sums each light sums_are =
+      let bound = going_ends rows at f going in
+      let long : length new ≡ length rows - first = ap (length {A = Row}) are ∙ length-drop first rows in
+      record { some = omega arith; bounds = omega arith; few = omega arith; each = each; light = light; are_sums = sums_are }
+
+  same_between : rows_between new (at - first) (f.end - first) ≡ rows_between rows at f.end
+  same_between =
+      let count : f.end - first - (at - first) ≡ f.end - at = omega arith in
+      let place : first + (at - first) ≡ at = omega arith in
+      ap (λ (l : List Row). take (f.end - first - (at - first)) (drop (at - first) l)) are
+      ∙ ap (take (f.end - first - (at - first))) (drop-drop (at - first) first rows ∙ ap (λ (k : ℕ). drop k rows) place)
+      ∙ ap (λ (k : ℕ). take k (drop at rows)) count
+
+  -- so the shape that they tell is the one of all rows
+  pub shaped : (s : told.Shape) → s ≡ code_shape (shape_in f.scope (rows_between new (at - first) (f.end - first)))
+      → s ≡ code_shape (shape_in f.scope (rows_between rows at f.end))
+  shaped s is = is ∙ ap (λ (l : List Row). code_shape (shape_in f.scope l)) same_between
+
+  pub end_fits : (s : told.Shape) → s ≡ code_shape (shape_in f.scope (rows_between rows at f.end)) → at + 1 + s.count < 4294967295
+  end_fits s is =
+      let bound = going_ends rows at f going in
+      let most = count_read rows at f going inside in
+      omega (arith, end_read rows at f going inside s is)
