@@ -2,7 +2,7 @@
 use Rattle.std.specs.Prelude.{ℕ, List, ◌++◌, codes, decimal}
 use Rattle.edit_ops.specs.declared.cause.Cause.{Cause}
 use Rattle.edit_ops.specs.declared.cause.Cause.TheVariants as causes
-use Rattle.dgn_listing.specs.Lines.{line_feed}
+use Rattle.listing_texts.specs.Lines.{line_feed}
 
 -- words, the number of an element and the end of the line
 abbrev pub refused_text : List ℕ → ℕ → List ℕ

@@ -1,11 +1,2 @@
-pub mod ItemTexts
-pub mod Lines
-pub mod TreeTexts
 pub mod CauseTexts
-pub mod SelectedTexts
-pub mod Counts
-pub mod ElementTexts
-pub mod RefTexts
-pub mod LinkTexts
-pub mod Laws
 pub mod FindingTexts

@@ -1,7 +1,7 @@
 // What a session answers to the commands on its fence.
 
 ghost use Rattle.std.specs.Prelude.{◌≡◌, ◌+◌, ◌≤◌, ◌++◌, codes, false, None, vec_len, vec_capacity, IfOk, OnOk, OnErr};
-ghost use Rattle.dgn_listing.specs.Lines.{AppendsFrontOf};
+ghost use Rattle.listing_texts.specs.Lines.{AppendsFrontOf};
 ghost use Rattle.dgn_session.specs.State.{state_of, selection, fence_applied, fence_edited, with_fence};
 ghost use Rattle.dgn_tool.specs.Lines.{numbered};
 ghost use Rattle.dgn_tool.specs.Commands.{fenced_said, fenced_refused, trees_edited, selection_said, selection_refused, fence_said, fence_refused, fence_set};

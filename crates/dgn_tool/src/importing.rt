@@ -5,7 +5,7 @@ ghost use Rattle.dgn_drawing.specs.Spelling.{spelling};
 ghost use Rattle.dgn_import.specs.Gathering.{AreTrees, Trees};
 ghost use Rattle.dgn_import.specs.Laws.{IsOfATree};
 ghost use Rattle.dgn_import.specs.Seconds.{value_of, IsSound};
-ghost use Rattle.dgn_listing.specs.Lines.{AppendsFrontOf};
+ghost use Rattle.listing_texts.specs.Lines.{AppendsFrontOf};
 ghost use Rattle.dgn_session.specs.State.{state_of};
 ghost use Rattle.dgn_tool.specs.Lines.{numbered};
 ghost use Rattle.dgn_tool.specs.Imports.{fault_said, tree_cause_said, importing, importing_of, import_said, import_refused, import_left, gathering_of, FitsBehind};

@@ -31,7 +31,6 @@ pub mod CopyLength
 pub mod ElementAnswers
 pub mod WiderRanges
 pub mod WorkedEdits
-pub mod MadeBytes
 pub mod ListedLive
 pub mod LoneEdit
 pub mod LoneCopy

@@ -21,7 +21,6 @@ mod lone;
 mod lone_copy;
 mod lone_edit;
 mod lone_move;
-mod making;
 mod numbers;
 mod patches;
 mod planning;

@@ -22,13 +22,13 @@ use crate::importing::copy_tree;
 use crate::live::put_live_numbers;
 use crate::lone::lone_root;
 use crate::lone_edit::plan_lone;
-use crate::making::spelled;
 use crate::numbers::{Numbers, no_numbers};
 use crate::patches::push_part;
 use crate::types::Plan;
 use dgn_drawing::{Edit, MOST_DESIGN, Shift};
 use elem_index::Design;
 use nest_tree::types::Nest;
+use new_elements::spelled;
 use patch_bytes::{ByteList, PatchList};
 use std::alloc::Global;
 

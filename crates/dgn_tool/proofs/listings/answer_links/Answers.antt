@@ -1,5 +1,5 @@
 use Rattle.std.proofs.Common.{◌++◌, List, ℕ, ap, ◌∙◌, subst}
-use Rattle.dgn_listing.specs.Lines.{AppendsFrontOf}
+use Rattle.listing_texts.specs.Lines.{AppendsFrontOf}
 use Rattle.elem_index.proofs.Places.{sound_here}
 use Rattle.dgn_tool.proofs.Links.{said_so, errs}
 use Rattle.dgn_tool.proofs.listings.answer_links.Goals as goal

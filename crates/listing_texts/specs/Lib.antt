@@ -1,0 +1,9 @@
+pub mod ItemTexts
+pub mod Lines
+pub mod TreeTexts
+pub mod SelectedTexts
+pub mod Counts
+pub mod ElementTexts
+pub mod RefTexts
+pub mod LinkTexts
+pub mod Laws

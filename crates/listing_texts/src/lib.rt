@@ -1,0 +1,25 @@
+//! Prints the listings of what a drawing holds: items, trees, elements, references, linkages, and the trees that a fence
+//! chooses.
+//!
+//! Each call appends its lines to the bytes that it is given. A line's words stand one blank apart, and
+//! a line ends with a line feed.
+#![tactic(auto)]
+
+mod counts;
+mod elements;
+mod items;
+pub mod laws;
+mod links;
+mod listed;
+pub mod pieces;
+mod refs;
+mod selected;
+mod tree;
+mod tree_line;
+
+pub use elements::write_elements;
+pub use items::{put_point, write_items};
+pub use links::write_links;
+pub use refs::write_refs;
+pub use selected::write_selected;
+pub use tree::write_tree;
