@@ -33,7 +33,7 @@ pub mod WiderRanges
 pub mod WorkedEdits
 pub mod MadeBytes
 pub mod ListedLive
-pub mod LoneEdit
+pub mod ElementMoves
 pub mod LoneCopy
 pub mod ListMembers
 pub mod RootsChanged
