@@ -58,33 +58,25 @@ IsOnAxes dim (Some r) = on_axes dim r ≡ r
 abbrev flat : ℕ → List ℤ → List ℤ
 flat dim corner = in_space (take dim corner)
 
-least_flat : (dim : ℕ) → IsDimension dim → (a b : List ℤ) → flat dim (least_corner (flat dim a) (flat dim b)) ≡ least_corner (flat dim a) (flat dim b)
-least_flat dim axes a b = in_both (λ (d : ℕ). flat d (least_corner (flat d a) (flat d b)) ≡ least_corner (flat d a) (flat d b)) (two a b) (refl) axes
-  where
-    two : (a b : List ℤ) → flat 2 (least_corner (flat 2 a) (flat 2 b)) ≡ least_corner (flat 2 a) (flat 2 b)
-    two [] [] = refl
-    two [] (u ∷ []) = refl
-    two [] (u ∷ v ∷ w) = refl
-    two (x ∷ []) [] = refl
-    two (x ∷ []) (u ∷ []) = refl
-    two (x ∷ []) (u ∷ v ∷ w) = refl
-    two (x ∷ y ∷ z) [] = refl
-    two (x ∷ y ∷ z) (u ∷ []) = refl
-    two (x ∷ y ∷ z) (u ∷ v ∷ w) = refl
+-- the least and the greatest corner of two that are on the axes are so
+abbrev AreFlat : ℕ → List ℤ → List ℤ → Type 0
+AreFlat dim a b =
+    (flat dim (least_corner (flat dim a) (flat dim b)) ≡ least_corner (flat dim a) (flat dim b))
+    × (flat dim (greatest_corner (flat dim a) (flat dim b)) ≡ greatest_corner (flat dim a) (flat dim b))
 
-greatest_flat : (dim : ℕ) → IsDimension dim → (a b : List ℤ) → flat dim (greatest_corner (flat dim a) (flat dim b)) ≡ greatest_corner (flat dim a) (flat dim b)
-greatest_flat dim axes a b = in_both (λ (d : ℕ). flat d (greatest_corner (flat d a) (flat d b)) ≡ greatest_corner (flat d a) (flat d b)) (two a b) (refl) axes
+both_flat : (dim : ℕ) → IsDimension dim → (a b : List ℤ) → AreFlat dim a b
+both_flat dim axes a b = in_both (λ (d : ℕ). AreFlat d a b) (two a b) (refl, refl) axes
   where
-    two : (a b : List ℤ) → flat 2 (greatest_corner (flat 2 a) (flat 2 b)) ≡ greatest_corner (flat 2 a) (flat 2 b)
-    two [] [] = refl
-    two [] (u ∷ []) = refl
-    two [] (u ∷ v ∷ w) = refl
-    two (x ∷ []) [] = refl
-    two (x ∷ []) (u ∷ []) = refl
-    two (x ∷ []) (u ∷ v ∷ w) = refl
-    two (x ∷ y ∷ z) [] = refl
-    two (x ∷ y ∷ z) (u ∷ []) = refl
-    two (x ∷ y ∷ z) (u ∷ v ∷ w) = refl
+    two : (a b : List ℤ) → AreFlat 2 a b
+    two [] [] = (refl, refl)
+    two [] (u ∷ []) = (refl, refl)
+    two [] (u ∷ v ∷ w) = (refl, refl)
+    two (x ∷ []) [] = (refl, refl)
+    two (x ∷ []) (u ∷ []) = (refl, refl)
+    two (x ∷ []) (u ∷ v ∷ w) = (refl, refl)
+    two (x ∷ y ∷ z) [] = (refl, refl)
+    two (x ∷ y ∷ z) (u ∷ []) = (refl, refl)
+    two (x ∷ y ∷ z) (u ∷ v ∷ w) = (refl, refl)
 
 -- what is put on the axes is there
 flat_twice : (dim : ℕ) → IsDimension dim → (a : List ℤ) → flat dim (flat dim a) ≡ flat dim a
@@ -105,7 +97,7 @@ point_on_axes dim p axes = box_same _ _ _ _ (flat_twice dim axes p) (flat_twice 
 join_on_axes : (dim : ℕ) (a b : Box3) → IsDimension dim → on_axes dim a ≡ a → on_axes dim b ≡ b → on_axes dim (join_of a b) ≡ join_of a b
 join_on_axes dim a b axes one two =
     ap (λ (x : Box3). on_axes dim (join_of x b)) (sym one) ∙ ap (λ (x : Box3). on_axes dim (join_of (on_axes dim a) x)) (sym two)
-    ∙ box_same _ _ _ _ (least_flat dim axes a.lo b.lo) (greatest_flat dim axes a.hi b.hi)
+    ∙ box_same _ _ _ _ (both_flat dim axes a.lo b.lo).0 (both_flat dim axes a.hi b.hi).1
     ∙ ap (λ (x : Box3). join_of x (on_axes dim b)) one ∙ ap (join_of a) two
 
 pub hulls_on_axes : (dim : ℕ) (a b : Option Box3) → IsDimension dim → IsOnAxes dim a → IsOnAxes dim b → IsOnAxes dim (hull_join a b)

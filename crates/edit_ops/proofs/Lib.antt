@@ -32,7 +32,7 @@ pub mod ElementAnswers
 pub mod WiderRanges
 pub mod WorkedEdits
 pub mod ListedLive
-pub mod LoneEdit
+pub mod ElementMoves
 pub mod LoneCopy
 pub mod ListMembers
 pub mod RootsChanged

@@ -31,7 +31,7 @@ use Rattle.edit_ops.specs.Found.{IsFound}
 use Rattle.edit_ops.proofs.AcceptedEdit.{copy_ready}
 use Rattle.edit_ops.proofs.CopiedPart.{bytes_copied}
 use Rattle.edit_ops.proofs.ListedLive.{cause_alone}
-use Rattle.edit_ops.proofs.LoneEdit.{moves_found, some_spots}
+use Rattle.edit_ops.proofs.ElementMoves.{moves_found, some_spots}
 use Rattle.edit_ops.proofs.ElementAnswers.{holds_found, plane_cause, stays_found}
 
 module _ (d : Design) (whole : IsWhole d) (n : ℕ) (f : Found) (found : IsFound d n f)

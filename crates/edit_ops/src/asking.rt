@@ -149,7 +149,7 @@ fn deleted(m: u32, deleted: bool) -> Option<Cause>
 }
 
 // Element m, of that type and with the bytes b, is locked.
-pub fn locked_at(m: u32, kind: u8, b: &[u8]) -> Option<Cause>
+fn locked_at(m: u32, kind: u8, b: &[u8]) -> Option<Cause>
     requires kind { kind < 128 }
     requires long { IsFalse (is_silent (class_of kind)) → 36 ≤ length b.now }
     ensures { result ≡ (if locked_in kind b.now then Some (Cause.Locked m) else None) }
@@ -183,7 +183,7 @@ pub fn unmovable(m: u32, class: Class) -> Option<Cause>
 }
 
 // Element m has no look that can be changed, by its class.
-pub fn lookless(m: u32, class: Class) -> Option<Cause>
+fn lookless(m: u32, class: Class) -> Option<Cause>
     ensures { result ≡ lookless m class }
 {
     match class {
@@ -193,7 +193,7 @@ pub fn lookless(m: u32, class: Class) -> Option<Cause>
 }
 
 // Element m can't be marked deleted, by its type.
-pub fn unmarkable(m: u32, kind: u8) -> Option<Cause>
+fn unmarkable(m: u32, kind: u8) -> Option<Cause>
     ensures { result ≡ unmarkable m kind }
 {
     if kind == END_MARK {

@@ -74,7 +74,7 @@ pub fn silent(d: &Design, n: u32) -> Option<Cause>
 }
 
 // Nothing is read of element n, by its type.
-pub fn silent_at(n: u32, kind: u8) -> Option<Cause>
+fn silent_at(n: u32, kind: u8) -> Option<Cause>
     requires { kind < 128 }
     ensures { result ≡ (if is_silent (class_of kind) then Some (Cause.Opaque n) else None) }
 {

@@ -19,8 +19,6 @@ pub mod laws;
 mod live;
 mod lone;
 mod lone_copy;
-mod lone_edit;
-mod lone_move;
 mod numbers;
 mod patches;
 mod planning;

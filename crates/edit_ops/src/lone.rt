@@ -36,19 +36,15 @@ pub fn lone_at<'a>(d: &'a Design, t: &Nest, n: u32) -> Option<Found<'a>>
     Some(found)
 }
 
-// Such an element, where it also stands below no header and isn't broken, so that nothing keeps it from any edit.
-pub fn lone_root<'a>(d: &'a Design, t: &Nest, n: u32) -> Option<Found<'a>>
+// Whether element n, which there is, is such a part, stands below no header and isn't broken, so that nothing keeps it from
+// any edit.
+pub fn is_lone_root(d: &Design, t: &Nest, n: u32) -> bool
     requires whole { IsWhole d.now }
     requires nesting { t.now.rows ≡ map row_of (elements d.now) }
     requires known { n < length (elements d.now) }
-    ensures found { IfSome result (IsFound d.now n) }
-    ensures lone { IfSome result (λ _. IsLone d.now n) }
+    ensures { IsTrue result → IsLone d.now n }
 {
-    if is_sound_root(t, n) {
-        lone_at(d, t, n)
-    } else {
-        None
-    }
+    is_sound_root(t, n) && matches!(lone_at(d, t, n), Some(_))
 }
 
 // Whether element n is a root in whose tree no number is broken.

@@ -287,7 +287,7 @@ fn sum_patch(found: Found, spot: Spot, by: &Shift) -> Patch
 }
 
 // The two bytes of an element's look with what is given of another.
-pub fn look_patch(found: Found, change: &SymbChange) -> Patch
+fn look_patch(found: Found, change: &SymbChange) -> Patch
     requires long { 36 ≤ length found.bytes.now }
     requires few { found.place + length found.bytes.now ≤ MOST_DESIGN }
     ensures { put_of result ≡ record {
@@ -307,7 +307,7 @@ pub fn look_patch(found: Found, change: &SymbChange) -> Patch
 }
 
 // The type and the deleted bit of an element, with the bit set.
-pub fn mark_patch(found: Found) -> Patch
+fn mark_patch(found: Found) -> Patch
     requires kind { found.kind < 128 }
     requires long { 4 ≤ length found.bytes.now }
     requires few { found.place + length found.bytes.now ≤ MOST_DESIGN }

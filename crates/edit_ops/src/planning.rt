@@ -20,8 +20,7 @@ use crate::copying::part_len;
 use crate::edit_fault::EditFault;
 use crate::importing::copy_tree;
 use crate::live::put_live_numbers;
-use crate::lone::lone_root;
-use crate::lone_edit::plan_lone;
+use crate::lone::is_lone_root;
 use crate::numbers::{Numbers, no_numbers};
 use crate::patches::push_part;
 use crate::types::Plan;
@@ -172,7 +171,8 @@ fn plan_copy(
 }
 
 // Appends what another edit puts into the part of element n, which there is, and into the headers above it, or says what
-// stands against it. Of a part that is one element by itself below no header no numbers are put.
+// stands against it. Of a part that is one element by itself below no header no numbers are put: no header stands above it,
+// and its one live element is itself.
 fn plan_in_place(
     d: &Design,
     t: &Nest,
@@ -194,19 +194,21 @@ fn plan_in_place(
     ensures refused { IfErr result (IsStopped (option_or (part_cause d.now.dim (elements d.now) n)
         (first_of (causes_of d.now.dim (elements d.now) 0 edit.now)))) }
 {
-    if let Some(found) = lone_root(d, t, n) {
-        return plan_lone(d, n, found, edit, patches);
+    if is_lone_root(d, t, n) {
+        return plan_found(d, n, edit, &[], &[n], patches);
     }
     put_numbers_above(d, t, n, &mut numbers.above)?;
     put_live_numbers(d, t, n, &mut numbers.live)?;
-    plan_found(d, t, n, edit, &numbers.above, &numbers.live, patches)
+    if let Some(cause) = part_cause(d, t, n, &numbers.above) {
+        return Err(EditFault::Refused(cause));
+    }
+    plan_found(d, n, edit, &numbers.above, &numbers.live, patches)
 }
 
-// Appends what such an edit puts into the part, whatever part it is, or says what stands against it. `above` has the
-// numbers of the headers above it, and `live` those of its live elements.
+// Appends what such an edit puts into a part that nothing keeps from any edit, and into the headers above it, or says what
+// stands against it. `above` has the numbers of these headers, and `live` those of the part's live elements.
 fn plan_found(
     d: &Design,
-    t: &Nest,
     n: u32,
     edit: &Edit,
     above: &[u32],
@@ -214,46 +216,23 @@ fn plan_found(
     patches: &mut PatchList,
 ) -> Result<(), EditFault>
     requires whole { IsWhole d.now }
-    requires nesting { t.now.rows ≡ map row_of (elements d.now) }
     requires known { n < length (elements d.now) }
     requires target { target_of edit.now ≡ Some n }
     requires in_place { ChangesInPlace edit.now }
     requires fits { IsEdit edit.now }
+    requires unkept { part_cause d.now.dim (elements d.now) n ≡ None }
     requires above { found (elements d.now) above.now ≡ above_tree (elements d.now) n }
     requires live { found (elements d.now) live.now ≡ live_tree (elements d.now) n }
     ensures planned { OnOk result
         (patches.new ≡ patches.old ++ part_puts d.now.dim (elements d.now) edit.now n) }
-    ensures free { IfOk result (λ _. option_or (part_cause d.now.dim (elements d.now) n)
-        (first_of (causes_of d.now.dim (elements d.now) 0 edit.now)) ≡ None) }
-    ensures refused { IfErr result (IsStopped (option_or (part_cause d.now.dim (elements d.now) n)
-        (first_of (causes_of d.now.dim (elements d.now) 0 edit.now)))) }
+    ensures free { IfOk result (λ _. first_of (causes_of d.now.dim (elements d.now) 0 edit.now) ≡ None) }
+    ensures refused { IfErr result (IsStopped (first_of (causes_of d.now.dim (elements d.now) 0 edit.now))) }
 {
-    if let Some(cause) = later_cause(d, t, n, edit, above, live) {
+    if let Some(cause) = edit_cause(d, edit, above, live) {
         return Err(EditFault::Refused(cause));
     }
     push_part(patches, d, n, above, live, edit)?;
     Ok(())
-}
-
-// What refuses such an edit.
-fn later_cause(
-    d: &Design,
-    t: &Nest,
-    n: u32,
-    edit: &Edit,
-    above: &[u32],
-    live: &[u32],
-) -> Option<Cause>
-    requires whole { IsWhole d.now }
-    requires nesting { t.now.rows ≡ map row_of (elements d.now) }
-    requires target { target_of edit.now ≡ Some n }
-    requires in_place { ChangesInPlace edit.now }
-    requires above { found (elements d.now) above.now ≡ above_tree (elements d.now) n }
-    requires live { found (elements d.now) live.now ≡ live_tree (elements d.now) n }
-    ensures { result ≡ option_or (part_cause d.now.dim (elements d.now) n)
-        (first_of (causes_of d.now.dim (elements d.now) 0 edit.now)) }
-{
-    part_cause(d, t, n, above).or(edit_cause(d, edit, above, live))
 }
 
 // What an appended element comes to.

@@ -10,7 +10,7 @@ use Rattle.edit_ops.specs.Causes.{other_axes, first_cause, part_cause}
 use Rattle.edit_ops.specs.Copying.{copy_cause}
 use Rattle.edit_ops.specs.Written.{found}
 use Rattle.edit_ops.proofs.CopyLength.{long_copy, short_copy}
-use Rattle.edit_ops.proofs.LoneEdit.{ok_so}
+use Rattle.edit_ops.proofs.ElementMoves.{ok_so}
 use Rattle.edit_ops.proofs.planning.plan_copy.Goals as goal
 
 pub returns-in-Some-growth_cause-clause-refused : goal.returns-in-Some-growth_cause-clause-refused

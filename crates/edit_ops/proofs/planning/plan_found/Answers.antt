@@ -1,6 +1,8 @@
-use Rattle.std.proofs.Common.{◌≡◌, None, sym, ◌∙◌}
+use Rattle.std.proofs.Common.{◌≡◌, None, Option, sym, ap, ◌∙◌}
+use Rattle.std.specs.Option.{option_or}
 use Rattle.elem_index.specs.Design.{elements}
-use Rattle.edit_ops.specs.Causes.{cause_of}
+use Rattle.edit_ops.specs.declared.cause.Cause.{Cause}
+use Rattle.edit_ops.specs.Causes.{cause_of, causes_of, first_of}
 use Rattle.edit_ops.proofs.AcceptedEdit.{accepted, may_widen, some_ready}
 use Rattle.edit_ops.proofs.CauseOrder.{later_first}
 use Rattle.edit_ops.proofs.planning.plan_found.Goals as goal
@@ -9,7 +11,9 @@ pub push_part-requires : goal.push_part-requires
 push_part-requires c =
     let d = c.args.d.now in
     let none : cause_of d.dim (elements d) 0 c.args.edit.now ≡ None =
-    later_first d.dim (elements d) 0 c.args.edit.now c.args.n c.requires.target c.requires.known ∙ sym c.later_cause.ensures ∙ c.in_default.is in
+    later_first d.dim (elements d) 0 c.args.edit.now c.args.n c.requires.target c.requires.known
+    ∙ ap (λ (o : Option Cause). option_or o (first_of (causes_of d.dim (elements d) 0 c.args.edit.now))) c.requires.unkept
+    ∙ sym c.edit_cause.ensures ∙ c.in_default.is in
     let able = accepted d.dim (elements d)
     0 c.args.edit.now c.args.n c.requires.target c.requires.whole.is_open.opens.each c.requires.whole.is_open.opens.first none in
     record {

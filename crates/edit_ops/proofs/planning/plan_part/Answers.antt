@@ -14,7 +14,7 @@ use Rattle.edit_ops.specs.Written.{part_puts}
 use Rattle.edit_ops.proofs.PlanBehind.{appends_behind, writes_behind}
 use Rattle.edit_ops.proofs.CauseOrder.{known_is, unknown_refused, later_first, stopped_refused, copied_plan, changed_plan, causes_in_place, is_in_place}
 use Rattle.edit_ops.proofs.CauseOrder.{copy_named}
-use Rattle.edit_ops.proofs.LoneEdit.{both_ok}
+use Rattle.edit_ops.proofs.ElementMoves.{both_ok}
 use Rattle.edit_ops.proofs.planning.plan_part.Goals as goal
 
 pub returns-in-Some : goal.returns-in-Some
