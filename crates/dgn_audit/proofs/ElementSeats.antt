@@ -17,7 +17,7 @@ use Rattle.elem_index.specs.declared.design.Design.{Design}
 use Rattle.elem_index.specs.Design.{elements, IsWhole}
 use Rattle.nest_tree.specs.declared.knot.Knot as code
 use Rattle.nest_tree.specs.Shapes.{code_knot}
-use Rattle.level_view.proofs.Places.{mark-rows, mark_told, some_mark}
+use Rattle.level_view.proofs.Places.{mark-rows, mark_part, some_mark}
 use Rattle.elem_index.proofs.Places.{axes_of}
 use Rattle.dgn_audit.specs.declared.seat.Seat.{Seat}
 use Rattle.dgn_audit.specs.declared.keep.Keep.{Keep}
@@ -58,10 +58,10 @@ module _ (es : List Element) (rows : List Row) (are : rows ≡ map row_of es) (n
   by_rows = mark-rows es rows n are ∙ seat_marked
 
   pub seat_end : end ≡ seat_mark.end
-  seat_end = ap (λ (x : ℕ × ℕ). x.1) (mark_told (λ (m : Mark). (n, m.end)) seat_mark (mark_of row_of es n) (first, end) span_here seat_marked)
+  seat_end = ap (λ (x : ℕ × ℕ). x.1) (mark_part (λ (m : Mark). (n, m.end)) seat_mark (mark_of row_of es n) (first, end) span_here seat_marked)
 
   pub seat_parent : parent ≡ seat_mark.parent
-  seat_parent = mark_told (λ (m : Mark). m.parent) seat_mark (mark_of itself rows n) parent up by_rows
+  seat_parent = mark_part (λ (m : Mark). m.parent) seat_mark (mark_of itself rows n) parent up by_rows
 
   pub seat_knot : knot ≡ code_knot seat_mark.knot
   seat_knot = some_same knot (code_knot seat_mark.knot) (known ∙ ap (λ (o : Option Mark). option_map code_knot (option_map (λ (m : Mark). m.knot) o)) by_rows)

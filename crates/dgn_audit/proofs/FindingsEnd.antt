@@ -19,7 +19,7 @@ use Rattle.dgn_drawing.specs.Nesting.{Knot, Leaf, Group, Run, Loose, Forest, NoT
 use Rattle.dgn_drawing.specs.Numbering.{Mark, end_of, mark_of, span_of}
 use Rattle.dgn_drawing.proofs.Places.{in_both}
 use Rattle.nest_tree.proofs.NestingSteps.{flat-forest}
-use Rattle.level_view.proofs.Places.{mark_told}
+use Rattle.level_view.proofs.Places.{mark_part}
 use Rattle.edit_ops.specs.Trees.{count_in, tree_at, exchange}
 use Rattle.dgn_audit.specs.declared.keep.Keep.TheVariants as keeps
 use Rattle.dgn_audit.specs.declared.finding.Finding.{Finding}
@@ -421,7 +421,7 @@ module _ (dim : ℕ) (axes : IsDimension dim) where
 -- the end of a span
 span_end : (es : List Element) (n end : ℕ) (m : Mark) → mark_of row_of es n ≡ Some m → span_of row_of es n ≡ Some (n, end) → end ≡ m.end
 span_end es n end m marked is =
-    ap (λ (x : ℕ × ℕ). x.1) (mark_told (λ (x : Mark). (n, x.end)) m (mark_of row_of es n) (n, end) (sym is) marked)
+    ap (λ (x : ℕ × ℕ). x.1) (mark_part (λ (x : Mark). (n, x.end)) m (mark_of row_of es n) (n, end) (sym is) marked)
 
 -- a fit ends the findings of its tree, and leaves all others
 pub ends_findings : FitsEndFindings

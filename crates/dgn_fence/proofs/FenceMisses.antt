@@ -77,8 +77,8 @@ far_outside item fence a b e f far = starts_apart a b fence (segments_of item) f
 
 -- ---- a first point outside of the bounds
 
-held_told : (b : Bounds) (p : Pt) → IsIn b p → is_held b p ≡ true
-held_told b p i =
+held_so : (b : Bounds) (p : Pt) → IsIn b p → is_held b p ≡ true
+held_so b p i =
     and_from (int_le b.low.x p.x && int_le p.x b.high.x) _
     (and_from (int_le b.low.x p.x) _ ((compared _ _).1 i.left) ((compared _ _).1 i.right))
     (and_from (int_le b.low.y p.y) _ ((compared _ _).1 i.below) ((compared _ _).1 i.above))
@@ -86,7 +86,7 @@ held_told b p i =
 pub start_outside : (fence : List Pt) (b : Bounds) (segments : List (Pt × Pt)) (p : Pt) → bounds_of fence ≡ Some b → first_point_of segments ≡ Some p
     → is_held b p ≡ false → begins_within fence segments ≡ false
 unfolding begins_within
-start_outside fence b segments p e f out = rw f (outside fence b p e (λ i. both_ways _ out (held_told b p i)))
+start_outside fence b segments p e f out = rw f (outside fence b p e (λ i. both_ways _ out (held_so b p i)))
 
 -- ---- an item without segments
 

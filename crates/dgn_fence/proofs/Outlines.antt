@@ -20,7 +20,7 @@ use Rattle.dgn_fence.specs.declared.outline.Outline.{Outline}
 use Rattle.dgn_fence.specs.Segments.{flat, path_segments, body_segments, segments_of}
 use Rattle.dgn_fence.specs.Taken.{any_touches, touches_fence, first_point_of, begins_within, is_inside, overlaps, has_some, takes}
 use Rattle.dgn_fence.specs.Limits.{at, grown, bounds_of, body_bounds, extent_of, is_apart, misses}
-use Rattle.dgn_fence.specs.Outlines.{path_outline, body_outline, outline_of, misses_all, told_by_bounds, untouched_taken}
+use Rattle.dgn_fence.specs.Outlines.{path_outline, body_outline, outline_of, misses_all, begins_by_bounds, untouched_taken}
 use Rattle.dgn_fence.proofs.BoundsHold.{IsIn, itself, kept, all_kept, same_some, item_bare}
 use Rattle.dgn_fence.proofs.Segments.{path_begins}
 use Rattle.dgn_fence.proofs.FenceMisses.{neither, edge_missed, far_outside, far_untouched}
@@ -134,12 +134,12 @@ unfolding begins_within
 begun_at fence [] p is = absurd cc
 begun_at fence (s ∷ segments) p is = let same : s.0 ≡ p = cc in ap (λ (q : Pt). is_within q fence) same
 
-told : (item : Item) (fence : List Pt) (o : Outline) (begins : Bool) (bounds : Option Bounds) → bounds_of fence ≡ bounds → outline_of (Some item) ≡ Some o
-    → told_by_bounds bounds fence o ≡ Some begins
+begins_so : (item : Item) (fence : List Pt) (o : Outline) (begins : Bool) (bounds : Option Bounds) → bounds_of fence ≡ bounds → outline_of (Some item) ≡ Some o
+    → begins_by_bounds bounds fence o ≡ Some begins
     → IsTold fence (segments_of item) begins
 unfolding around_of first_in touches_fence
-told item fence o begins None is has says = absurd cc
-told item fence o begins (Some b) is has says =
+begins_so item fence o begins None is has says = absurd cc
+begins_so item fence o begins (Some b) is has says =
     let extent : extent_of item ≡ Some o.around = body_extent item.range item.body ∙ ap around_of has in
     let start : first_point_of (segments_of item) ≡ Some o.first = body_first item.kind item.range item.body ∙ ap first_in has in
     elim (cases_Bool (is_apart o.around b)) [
@@ -172,11 +172,11 @@ alone Mode.Overlap fence item false t = rw (t.first, t.begun, t.untouched) refl
 alone Mode.Void fence item true t = rw (t.first, t.begun) refl
 alone Mode.Void fence item false t = rw (t.first, t.begun, t.untouched) refl
 
-pub told_taken : (mode : Mode) (fence : List Pt) (item : Option Item) (o : Outline) (begins : Bool) → outline_of item ≡ Some o
-    → told_by_bounds (bounds_of fence) fence o ≡ Some begins
+pub begins_taken : (mode : Mode) (fence : List Pt) (item : Option Item) (o : Outline) (begins : Bool) → outline_of item ≡ Some o
+    → begins_by_bounds (bounds_of fence) fence o ≡ Some begins
     → takes mode fence (option_to_list item) ≡ untouched_taken mode begins
-told_taken mode fence None o begins has says = absurd cc
-told_taken mode fence (Some item) o begins has says = alone mode fence item begins (told item fence o begins (bounds_of fence) refl has says)
+begins_taken mode fence None o begins has says = absurd cc
+begins_taken mode fence (Some item) o begins has says = alone mode fence item begins (begins_so item fence o begins (bounds_of fence) refl has says)
 
 bare : (mode : Mode) (fence : List Pt) (item : Item) → segments_of item ≡ [] → takes mode fence (item ∷ []) ≡ false
 bare Mode.Inside fence item e = rw e refl

@@ -18,7 +18,7 @@ use Rattle.plane_geom.proofs.TestOfTouch.{below}
 use Rattle.dgn_fence.specs.declared.bounds.Bounds.{Bounds}
 use Rattle.dgn_fence.specs.declared.outline.Outline.{Outline}
 use Rattle.dgn_fence.specs.Limits.{at, grown, bounds_of, is_apart, is_enclosed, misses, stands, is_upright}
-use Rattle.dgn_fence.specs.Outlines.{misses_all, told_by_bounds}
+use Rattle.dgn_fence.specs.Outlines.{misses_all, begins_by_bounds}
 use Rattle.dgn_fence.proofs.BoundsHold.{IsIn, same_some}
 
 -- ---- the sides of a rectangle
@@ -298,9 +298,9 @@ inside o (p ∷ q ∷ r ∷ s ∷ []) b is up' e begun =
 inside o other b is up' e begun = absurd cc
 
 -- so it is told, where it doesn't lie apart, that it begins within
-pub told_inside : (o : Outline) (fence : List Pt) (b : Bounds) → bounds_of fence ≡ Some b → is_upright fence ≡ true → is_enclosed o.around b ≡ true
+pub begins_inside : (o : Outline) (fence : List Pt) (b : Bounds) → bounds_of fence ≡ Some b → is_upright fence ≡ true → is_enclosed o.around b ≡ true
     → IsIn o.around o.first → is_apart o.around b ≡ false
-    → told_by_bounds (bounds_of fence) fence o ≡ Some true
-told_inside o fence b is up' e begun near =
+    → begins_by_bounds (bounds_of fence) fence o ≡ Some true
+begins_inside o fence b is up' e begun near =
     let i = inside o fence b is up' e begun in
-    ap (λ (x : Option Bounds). told_by_bounds x fence o) is ∙ rw (near, i.missed, i.within) refl
+    ap (λ (x : Option Bounds). begins_by_bounds x fence o) is ∙ rw (near, i.missed, i.within) refl

@@ -39,14 +39,14 @@ abbrev pub misses_all : Bounds → List Pt → Bool
 misses_all b fence = list_all (λ e. misses b e.0 e.1) (edges fence)
 
 -- whether what has that outline begins within a fence, where its bounds miss all edges
-abbrev pub told_by_edges : List Pt → Outline → Option Bool
-told_by_edges fence o = if misses_all o.around fence then Some (is_within o.first fence) else None
+abbrev pub begins_by_edges : List Pt → Outline → Option Bool
+begins_by_edges fence o = if misses_all o.around fence then Some (is_within o.first fence) else None
 
 -- the same, where bounds alone say that it touches no edge
-abbrev pub told_by_bounds : Option Bounds → List Pt → Outline → Option Bool
-told_by_bounds None fence o = None
-told_by_bounds (Some bounds) fence o =
-    if is_apart o.around bounds then Some false else told_by_edges fence o
+abbrev pub begins_by_bounds : Option Bounds → List Pt → Outline → Option Bool
+begins_by_bounds None fence o = None
+begins_by_bounds (Some bounds) fence o =
+    if is_apart o.around bounds then Some false else begins_by_edges fence o
 
 -- whether a part that touches no edge is taken, by whether it begins within the fence
 abbrev pub untouched_taken : Mode → Bool → Bool

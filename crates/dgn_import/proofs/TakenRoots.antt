@@ -12,7 +12,7 @@ use Rattle.dgn_drawing.specs.Numbering.{Mark, end_of, mark_of}
 use Rattle.dgn_drawing.specs.Shown.{roots, IsRoot}
 use Rattle.nest_tree.proofs.NestingSteps.{flat-forest}
 use Rattle.level_view.proofs.TreeItems.{parent_at}
-use Rattle.level_view.proofs.Places.{mark-rows, mark_told}
+use Rattle.level_view.proofs.Places.{mark-rows, mark_part}
 use Rattle.level_view.proofs.RootsOnward.{from_on, GoesOn, root_goes_on, zero_root, from_zero, from_end}
 
 -- the roots from number k on that pass
@@ -56,7 +56,7 @@ module _ (es : List Element) (rows : List Row) (nesting : rows ≡ map row_of es
     on = stands_on k found at known
 
     end_is : end ≡ on.mark.end
-    end_is = mark_told (λ (m : Mark). m.end) on.mark (mark_of row_of es k) end (ends ∙ ap (option_map (λ (m : Mark). m.end)) (mark-rows es rows k nesting))
+    end_is = mark_part (λ (m : Mark). m.end) on.mark (mark_of row_of es k) end (ends ∙ ap (option_map (λ (m : Mark). m.end)) (mark-rows es rows k nesting))
         on.marked
 
     count : length (flat (forest row_of es)) ≡ length es

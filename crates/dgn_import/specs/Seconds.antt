@@ -19,16 +19,16 @@ pub data SecondValue : Type 0 where
   Faulty : SecondFault → SecondValue
 
 -- a fault, as it is told
-abbrev pub told : Fault → SecondFault
-told NotDesign = faults.NotDesign
-told (Cut at) = faults.Cut at
-told (Short at) = faults.Short at
-told (Attr at) = faults.Attr at
+abbrev pub second_fault : Fault → SecondFault
+second_fault NotDesign = faults.NotDesign
+second_fault (Cut at) = faults.Cut at
+second_fault (Short at) = faults.Short at
+second_fault (Attr at) = faults.Attr at
 
 -- what a file opens as, or its fault
 abbrev pub as_second : Result Opened Fault → SecondValue
 as_second (Ok o) = Drawing o.dim (spelling o.elements) o.tail
-as_second (Err fault) = Faulty (told fault)
+as_second (Err fault) = Faulty (second_fault fault)
 
 -- what a second file comes to
 abbrev pub second_of : List ℕ → SecondValue

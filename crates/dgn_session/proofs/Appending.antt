@@ -81,7 +81,8 @@ module _ (d : Design) (l : LogState) (mask : Mask) (fence : Option (List Pt)) (k
   elements_are : elements_of d.dim b ≡ trees.elements
   elements_are = ap (elements_of d.dim) trees.text ∙ elements-spelling d.dim trees.axes trees.elements trees.each
 
-  module _ (ps : List Put) (none : ps ≡ []) (g : Design) (m : LogState) (axes : g.dim ≡ d.dim) (text : g.body.items ≡ write d.body.items ps ++ b) (tail : g.tail.items ≡ d.tail.items)
+  module _ (ps : List Put) (none : ps ≡ []) (g : Design) (m : LogState) (axes : g.dim ≡ d.dim) (text : g.body.items ≡ write d.body.items ps ++ b)
+      (tail : g.tail.items ≡ d.tail.items)
       (entries : m.entries ≡ l.entries ++ entry_of d.body.items ps ∷ []) where
     -- it stands for the state with them behind the top
     pub imported_state : state_of (value_of g m mask fence) ≡ imported (elements_of d.dim b) (state_of (value_of d l mask fence))
@@ -92,7 +93,8 @@ module _ (d : Design) (l : LogState) (mask : Mask) (fence : Option (List Pt)) (k
     -- and has one entry more, without patches
     pub imported_value : value_of g m mask fence ≡ value_with (d.body.items ++ b) (l.entries ++ import_entry (elements d) ∷ []) (value_of d l mask fence)
     imported_value =
-        let here : elements_of g.dim g.body.items ≡ made = made_here d l mask fence kept [] made becomes (plan_of ps b) none append g m axes text tail entries in
+        let here : elements_of g.dim g.body.items ≡ made =
+        made_here d l mask fence kept [] made becomes (plan_of ps b) none append g m axes text tail entries in
         let all : spelling (elements_of g.dim g.body.items) ≡ d.body.items ++ b =
         ap spelling here ∙ whole ∙ ap (λ (x : List ℕ). x ++ spelling trees.elements) body ∙ ap (λ (x : List ℕ). d.body.items ++ x) (sym trees.text) in
         value_after d l mask fence kept [] made becomes (plan_of ps b) none append g m axes text tail entries

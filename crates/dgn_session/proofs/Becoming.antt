@@ -44,7 +44,8 @@ edit_becomes f dim es tail e made fits opens few done =
     }
 
 -- and by an edit of some roots that is done
-pub fence_becomes : (f : List ℕ) (dim : ℕ) (es : List Element) (tail : List ℕ) (e : FenceEdit) (ns : List ℕ) (made : List Element) → IsFenceEdit e → AreRoots es ns → Opens f dim es tail
+pub fence_becomes : (f : List ℕ) (dim : ℕ) (es : List Element) (tail : List ℕ) (e : FenceEdit) (ns : List ℕ) (made : List Element) → IsFenceEdit e
+    → AreRoots es ns → Opens f dim es tail
     → length (spelling es) + length tail ≤ MOST_DESIGN → apply_all dim es (length tail) e ns ≡ Done made → Become dim tail es (fenced_fields dim es e ns) made
 fence_becomes f dim es tail e ns made fits roots opens few done =
     let changed = fenced_changes f dim es tail (length tail) e ns made fits roots opens done in

@@ -1,5 +1,6 @@
 -- What a session keeps when its last edit is taken back.
-use Rattle.std.proofs.Common.{◌≡◌, ◌↔◌, ℕ, zero, suc, ◌-◌, ◌≤◌, ◌<◌, List, [], ◌∷◌, length, take, drop, map, get_or, reverse, sym, ap, ◌∙◌, subst, arith, length-append, inl, inr, Bool, true}
+use Rattle.std.proofs.Common.{◌≡◌, ◌↔◌, ℕ, zero, suc, ◌-◌, ◌≤◌, ◌<◌, List, [], ◌∷◌, length, take, drop, map, get_or, reverse, sym, ap, ◌∙◌, subst, arith}
+use Rattle.std.proofs.Common.{length-append, inl, inr, Bool, true}
 use Rattle.std.specs.Prelude.{IsFalse}
 use Rattle.std.proofs.lemmas.List.{take-map, length-map, length-take, reverse-append, same_from_push}
 use Rattle.std.proofs.lemmas.Bool.{cases_lt}
@@ -34,7 +35,12 @@ offset_less [] k n less within = absurd (omega (arith, less, within))
 offset_less (e ∷ es) k zero less within = absurd (omega (arith, less))
 offset_less (e ∷ es) zero (suc n) less within = omega (arith, length-append (spell e) (spelling (take n es)), four_bytes e)
 offset_less (e ∷ es) (suc k) (suc n) less within =
-    omega (arith, length-append (spell e) (spelling (take n es)), length-append (spell e) (spelling (take k es)), offset_less es k n (omega arith) (omega arith))
+    omega (
+      arith,
+      length-append (spell e) (spelling (take n es)),
+      length-append (spell e) (spelling (take k es)),
+      offset_less es k n (omega arith) (omega arith),
+    )
 
 -- the entry that leads fits
 pub leads_fit : (dim : ℕ) (b : List ℕ) (e : Entry) → Leads dim b e → Fits (length b) e
@@ -55,14 +61,16 @@ some_elements [] first = absurd first
 some_elements (e ∷ es) first = omega arith
 
 -- where elements have the first rows of others, the places are cut where these end
-cut_there : (cs es : List Element) (places : List ℕ) (len count : ℕ) → map row_of cs ≡ take (length (map row_of cs)) (map row_of es) → places ≡ offsets_of es → len ≡ length (spelling cs) → IsCutAt places len count → count ≡ length cs
+cut_there : (cs es : List Element) (places : List ℕ) (len count : ℕ) → map row_of cs ≡ take (length (map row_of cs)) (map row_of es)
+    → places ≡ offsets_of es → len ≡ length (spelling cs) → IsCutAt places len count → count ≡ length cs
 cut_there cs es places len count front are long cut =
     let n : ℕ = length cs in
     let rows : length (map row_of cs) ≡ length cs = length-map cs row_of in
     let first : map row_of (take (length cs) es) ≡ map row_of cs =
     sym (take-map row_of (length cs) es) ∙ ap (λ (k : ℕ). take k (map row_of es)) (sym rows) ∙ sym front in
     let at_end : length (spelling (take (length cs) es)) ≡ length (spelling cs) = front_long es cs (length cs) first in
-    let some : length cs ≤ length es = omega (arith, ap (length {A = Row}) front, length-take (length (map row_of cs)) (map row_of es), length-map es row_of, rows) in
+    let some : length cs ≤ length es =
+    omega (arith, ap (length {A = Row}) front, length-take (length (map row_of cs)) (map row_of es), length-map es row_of, rows) in
     let all : length places ≡ length es = ap (length {A = ℕ}) are ∙ length-offsets es in
     let within = cut.within in
     elim (cases_lt count (length cs)) [
@@ -71,7 +79,8 @@ cut_there cs es places len count front are long cut =
           absurd (omega (arith, cut.behind count (omega arith) (omega arith), place, offset_less es count (length cs) before some))
       | inr past ↦ elim (cases_lt (length cs) count) [
         | inl behind ↦
-            let place : get_or places (count - 1) 0 ≡ offset_of es (count - 1) = ap (λ (l : List ℕ). get_or l (count - 1) 0) are ∙ get_or-offsets es (count - 1) (omega arith) in
+            let place : get_or places (count - 1) 0 ≡ offset_of es (count - 1) =
+            ap (λ (l : List ℕ). get_or l (count - 1) 0) are ∙ get_or-offsets es (count - 1) (omega arith) in
             let less = cut.before (count - 1) (omega arith) in
             absurd (elim (cases_lt (length cs) (count - 1)) [
               | inl more ↦ omega (arith, less, place, offset_less es (length cs) (count - 1) more (omega arith))
@@ -96,7 +105,8 @@ module _ (d : Design) (t : Nested) (l : LogState) (kept : IsKept d t l) (len : �
   can_undo = newest_fits d.dim d.tail.items d.body.items (reverse l.entries) kept.back
 
   -- and is
-  pub is_undone : (r : Bool) (m : LogState) (c : List ℕ) → (IsFalse r ↔ (l.entries ≡ [])) → (r ≡ true → IsUndone l.entries d.body.items m.entries c) → IsUndone l.entries d.body.items m.entries c
+  pub is_undone : (r : Bool) (m : LogState) (c : List ℕ) → (IsFalse r ↔ (l.entries ≡ [])) → (r ≡ true → IsUndone l.entries d.body.items m.entries c)
+      → IsUndone l.entries d.body.items m.entries c
   is_undone r m c exactly undone =
       subst (λ (es : List Entry). IsUndone es d.body.items m.entries c) (sym last.are)
       (undone_where_kept r last.before last.last d.body.items m.entries c
@@ -113,7 +123,8 @@ module _ (d : Design) (t : Nested) (l : LogState) (kept : IsKept d t l) (len : �
   long_before : len ≡ length (spelling (elements_of d.dim (back d.body.items last.last)))
   long_before =
       last.long ∙ sym (length-back d.body.items last.last (leads_fit d.dim d.body.items last.last kept_newest.1))
-      ∙ ap (length {A = ℕ}) (sym (body_spelled (back d.body.items last.last) d.tail.items d.dim (elements_of d.dim (back d.body.items last.last)) opens_before.opens))
+      ∙ ap (length {A = ℕ}) (sym
+      (body_spelled (back d.body.items last.last) d.tail.items d.dim (elements_of d.dim (back d.body.items last.last)) opens_before.opens))
 
   module _ (places : List ℕ) (count : ℕ) (are : places ≡ offsets_of (elements d)) (cut : IsCutAt places len count) where
     count_is : count ≡ length (elements_of d.dim (back d.body.items last.last))
@@ -142,13 +153,15 @@ module _ (d : Design) (t : Nested) (l : LogState) (kept : IsKept d t l) (len : �
       body_before = undone.body ∙ ap (back d.body.items) same_last.1
 
       -- a design that has the body before, but all the offsets and bytes
-      module _ (e : Design) (axes : e.dim ≡ d.dim) (body : e.body.items ≡ c) (tail : e.tail.items ≡ d.tail.items) (offsets : kept_of e ≡ kept_of d) (kinds : kinds_of e ≡ kinds_of d) where
+      module _ (e : Design) (axes : e.dim ≡ d.dim) (body : e.body.items ≡ c) (tail : e.tail.items ≡ d.tail.items) (offsets : kept_of e ≡ kept_of d)
+          (kinds : kinds_of e ≡ kinds_of d) where
         elements_before : elements e ≡ elements_of d.dim (back d.body.items last.last)
         elements_before = ap (λ (n : ℕ). elements_of n e.body.items) axes ∙ ap (elements_of d.dim) (body ∙ body_before)
 
         pub behind_after : IsBehind count e
         behind_after = record {
-          is_open = open_of e (opens_same d.dim d.tail.items (back d.body.items last.last) e.dim e.tail.items e.body.items axes tail (body ∙ body_before) opens_before);
+          is_open = open_of e (opens_same d.dim d.tail.items (back d.body.items last.last) e.dim e.tail.items e.body.items axes tail (body ∙ body_before)
+              opens_before);
           many = ap (length {A = Element}) elements_before ∙ sym count_is;
           first =
               ap (take count) (offsets ∙ kept.whole.kept)

@@ -50,7 +50,8 @@ none_behind dim [] rest spells none = refl
 none_behind dim (e ∷ others) rest spells none =
     absurd (omega (arith, four dim e spells.axes spells.each.0, ap (length {A = ℕ}) spells.text, length-append (spell e) (spelling others)))
 
-module _ (b rest : List ℕ) (old new : List Row) (count : ℕ) (has : HasFollowed b rest old new count) (rows : List Row) (size : ℕ) (block : IsBlock rest rows size) where
+module _ (b rest : List ℕ) (old new : List Row) (count : ℕ) (has : HasFollowed b rest old new count) (rows : List Row) (size : ℕ)
+    (block : IsBlock rest rows size) where
   -- a block of what is left may be nested behind the others
   pub block_each : AllByRecursion IsRow rows
   block_each =
@@ -66,7 +67,8 @@ module _ (b rest : List ℕ) (old new : List Row) (count : ℕ) (has : HasFollow
       free_front rows begins.others has.spelled.1 begins.are has.spelled.3
 
   -- and then the nesting has followed the block too
-  pub followed_more : (grown : List Row) (behind : List ℕ) (many : ℕ) → grown ≡ new ++ rows → behind ≡ drop size rest → many ≡ length rows → HasFollowed b behind old grown (count + many)
+  pub followed_more : (grown : List Row) (behind : List ℕ) (many : ℕ) → grown ≡ new ++ rows → behind ≡ drop size rest → many ≡ length rows
+      → HasFollowed b behind old grown (count + many)
   followed_more grown behind many are left long =
       let more = has.behind in
       let first = block.begins has.spelled.0 has.spelled.1 has.spelled.2 in

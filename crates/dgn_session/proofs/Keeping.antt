@@ -46,7 +46,8 @@ pub open_of : (d : Design) → OpensAt d.dim d.tail.items d.body.items → IsOpe
 open_of d opens = record { few = opens.few; opens = opens.opens }
 
 -- and what is kept is
-pub kept_same : (dim : ℕ) (tail b : List ℕ) (dim' : ℕ) (tail' b' : List ℕ) (es es' : List Entry) → dim' ≡ dim → tail' ≡ tail → b' ≡ b → es' ≡ es → AreKept dim tail b es → AreKept dim' tail' b' es'
+pub kept_same : (dim : ℕ) (tail b : List ℕ) (dim' : ℕ) (tail' b' : List ℕ) (es es' : List Entry) → dim' ≡ dim → tail' ≡ tail → b' ≡ b → es' ≡ es
+    → AreKept dim tail b es → AreKept dim' tail' b' es'
 kept_same dim tail b dim' tail' b' es es' axes behind body entries kept =
     subst (λ (n : ℕ). AreKept n tail' b' es') (sym axes)
     (subst (λ (x : List ℕ). AreKept dim x b' es') (sym behind)
@@ -58,7 +59,8 @@ module _ (dim : ℕ) (tail b : List ℕ) (ps : List Put) (append : List ℕ) (ro
   under : IsUnder dim b (write b ps ++ append)
   under = record {
     front = sym (ap (take (length (rows_of dim b))) change.behind ∙ take_at (rows_of dim b) rows (length (rows_of dim b)) refl);
-    free = subst (BeginsFree itself) (sym (ap (drop (length (rows_of dim b))) change.behind ∙ drop_at (rows_of dim b) rows (length (rows_of dim b)) refl)) change.free;
+    free = subst (BeginsFree itself) (sym (ap (drop (length (rows_of dim b))) change.behind ∙ drop_at (rows_of dim b) rows (length (rows_of dim b)) refl))
+        change.free;
   }
 
   leads : Leads dim (write b ps ++ append) (entry_of b ps)
@@ -77,7 +79,8 @@ module _ (dim : ℕ) (tail b : List ℕ) (ps : List Put) (append : List ℕ) (ro
 module _ (d : Design) (t : Nested) (l : LogState) (kept : IsKept d t l) (ps : List Put) (append : List ℕ) (rows : List Row)
     (room : HasRoom (length append) (length rows) d l) (change : IsChange d.dim d.tail.items d.body.items ps append rows) where
   -- a design that has the new body, but the offsets and bytes of the old one
-  module _ (e : Design) (axes : e.dim ≡ d.dim) (body : e.body.items ≡ write d.body.items ps ++ append) (tail : e.tail.items ≡ d.tail.items) (offsets : kept_of e ≡ kept_of d) (kinds : kinds_of e ≡ kinds_of d) (spare : spare_of e ≡ spare_of d) where
+  module _ (e : Design) (axes : e.dim ≡ d.dim) (body : e.body.items ≡ write d.body.items ps ++ append) (tail : e.tail.items ≡ d.tail.items)
+      (offsets : kept_of e ≡ kept_of d) (kinds : kinds_of e ≡ kinds_of d) (spare : spare_of e ≡ spare_of d) where
     opens_new : OpensAt e.dim e.tail.items e.body.items
     opens_new = opens_same d.dim d.tail.items (write d.body.items ps ++ append) e.dim e.tail.items e.body.items axes tail body change.opens
 
@@ -86,12 +89,19 @@ module _ (d : Design) (t : Nested) (l : LogState) (kept : IsKept d t l) (ps : Li
 
     many : length (elements e) ≡ length (elements d) + length rows
     many =
-        omega (arith, length-map (elements e) row_of, length-map (elements d) row_of, ap (length {A = Row}) rows_new, length-append (map row_of (elements d)) rows)
+        omega (
+          arith,
+          length-map (elements e) row_of,
+          length-map (elements d) row_of,
+          ap (length {A = Row}) rows_new,
+          length-append (map row_of (elements d)) rows,
+        )
 
     pub front_after : IsFront e
     front_after =
         let n : ℕ = length (map row_of (elements d)) in
-        let old : length (kept_of e) ≡ length (map row_of (elements d)) = ap (length {A = ℕ}) offsets ∙ length-kept d kept.whole ∙ sym (length-map (elements d) row_of) in
+        let old : length (kept_of e) ≡ length (map row_of (elements d)) =
+        ap (length {A = ℕ}) offsets ∙ length-kept d kept.whole ∙ sym (length-map (elements d) row_of) in
         let front : map row_of (elements d) ≡ take n (map row_of (elements e)) = sym (ap (take n) rows_new ∙ take_at (map row_of (elements d)) rows n refl) in
         record {
           is_open = open_of e opens_new;
@@ -119,14 +129,16 @@ module _ (d : Design) (t : Nested) (l : LogState) (kept : IsKept d t l) (ps : Li
       }
 
 -- a change of a body is one of a body that is the same
-pub change_same : (dim : ℕ) (tail b : List ℕ) (ps : List Put) (append : List ℕ) (rows : List Row) (dim' : ℕ) (tail' b' : List ℕ) → dim' ≡ dim → tail' ≡ tail → b' ≡ b → IsChange dim tail b ps append rows → IsChange dim' tail' b' ps append rows
+pub change_same : (dim : ℕ) (tail b : List ℕ) (ps : List Put) (append : List ℕ) (rows : List Row) (dim' : ℕ) (tail' b' : List ℕ) → dim' ≡ dim → tail' ≡ tail
+    → b' ≡ b → IsChange dim tail b ps append rows → IsChange dim' tail' b' ps append rows
 change_same dim tail b ps append rows dim' tail' b' axes behind body change =
     subst (λ (n : ℕ). IsChange n tail' b' ps append rows) (sym axes)
     (subst (λ (x : List ℕ). IsChange dim x b' ps append rows) (sym behind)
     (subst (λ (x : List ℕ). IsChange dim tail x ps append rows) (sym body) change))
 
 -- there is room for those
-pub room_for : (b : List ℕ) (old new : List Row) (d : Design) (l : LogState) (rows : List Row) → IsFollowed b old new d l → new ≡ old ++ rows → HasRoom (length b) (length rows) d l
+pub room_for : (b : List ℕ) (old new : List Row) (d : Design) (l : LogState) (rows : List Row) → IsFollowed b old new d l → new ≡ old ++ rows
+    → HasRoom (length b) (length rows) d l
 room_for b old new d l rows followed are =
     let many : followed.count ≡ length rows = omega (arith, followed.grown.many, ap (length {A = Row}) are, length-append old rows) in
     subst (λ (n : ℕ). HasRoom (length b) n d l) many followed.room

@@ -1,5 +1,6 @@
 -- Items of which none overlaps a fence.
-use Rattle.std.proofs.Common.{◌≡◌, ℕ, ◌+◌, ◌-◌, ◌<◌, ◌≤◌, ◌&&◌, ◌||◌, Bool, true, false, Option, Some, None, List, [], ◌∷◌, length, map, refl, sym, ap, ◌∙◌, subst, arith, inl, inr}
+use Rattle.std.proofs.Common.{◌≡◌, ℕ, ◌+◌, ◌-◌, ◌<◌, ◌≤◌, ◌&&◌, ◌||◌, Bool, true, false, Option, Some, None, List, [], ◌∷◌, length, map, refl, sym, ap, ◌∙◌}
+use Rattle.std.proofs.Common.{subst, arith, inl, inr}
 use Rattle.std.specs.Prelude.{not, slice_get, option_map}
 use Rattle.std.specs.List.{AllByRecursion, list_any, list_all}
 use Rattle.std.specs.Option.{option_to_list}
@@ -20,7 +21,7 @@ use Rattle.dgn_fence.specs.Segments.{segments_of}
 use Rattle.dgn_fence.specs.Taken.{takes, parts, has_some, overlaps, is_inside, begins_within, touches_fence}
 use Rattle.nest_tree.proofs.NestingSteps.{flat-forest}
 use Rattle.level_view.proofs.Numbers.{back_all}
-use Rattle.level_view.proofs.Places.{mark-rows, mark_told}
+use Rattle.level_view.proofs.Places.{mark-rows, mark_part}
 use Rattle.level_view.proofs.RootsOnward.{GoesOn, root_goes_on}
 use Rattle.level_view.proofs.TreeItems.{IsTree, parent_at, root_known, root_found}
 use Rattle.dgn_session.specs.Selecting.{HasNone}
@@ -39,7 +40,9 @@ module _ (es : List Element) (rows : List Row) (nesting : rows ≡ map row_of es
   pub tree_within : (end : ℕ) → Some end ≡ option_map (λ (m : Mark). m.end) (mark_of itself rows root) → end ≤ length es
   tree_within end ends =
       let on : GoesOn es (forest row_of es) 0 root = root_goes_on es root (root_known es root at) at in
-      let last : end ≡ on.mark.end = mark_told (λ (m : Mark). m.end) on.mark (mark_of row_of es root) end (ends ∙ ap (option_map (λ (m : Mark). m.end)) (mark-rows es rows root nesting)) on.marked in
+      let last : end ≡ on.mark.end =
+      mark_part (λ (m : Mark). m.end) on.mark (mark_of row_of es root) end (ends ∙ ap (option_map (λ (m : Mark). m.end)) (mark-rows es rows root nesting))
+      on.marked in
       let within = on.within in
       omega (arith, last, ap (length {A = Element}) (flat-forest row_of es))
 
@@ -48,7 +51,8 @@ module _ (es : List Element) (rows : List Row) (nesting : rows ≡ map row_of es
     tree = root_found dim mask es root at (root_known es root at)
 
     end_is : end ≡ tree.mark.end
-    end_is = mark_told (λ (m : Mark). m.end) tree.mark (mark_of row_of es root) end (ends ∙ ap (option_map (λ (m : Mark). m.end)) (mark-rows es rows root nesting)) tree.marked
+    end_is = mark_part (λ (m : Mark). m.end) tree.mark (mark_of row_of es root) end
+        (ends ∙ ap (option_map (λ (m : Mark). m.end)) (mark-rows es rows root nesting)) tree.marked
 
 module _ (fence : List Pt) where
   -- an item of which no part overlaps
@@ -92,7 +96,8 @@ module _ (fence : List Pt) where
 
   inside_none : (ps : List (List (Pt × Pt))) → list_any (overlaps fence) ps ≡ false → (has_some ps && list_all (is_inside fence) ps) ≡ false
   inside_none [] none = refl
-  inside_none (p ∷ ps) none = ap (λ (b : Bool). b && list_all (is_inside fence) ps) (not_inside p (or_parts (overlaps fence p) (list_any (overlaps fence) ps) none).0)
+  inside_none (p ∷ ps) none =
+      ap (λ (b : Bool). b && list_all (is_inside fence) ps) (not_inside p (or_parts (overlaps fence p) (list_any (overlaps fence) ps) none).0)
 
   overlap_none : (ps : List (List (Pt × Pt))) → list_any (overlaps fence) ps ≡ false → (has_some ps && list_any (overlaps fence) ps) ≡ false
   overlap_none [] none = refl
@@ -110,7 +115,8 @@ module _ (fence : List Pt) where
     abbrev pub ClearTo : ℕ → ℕ → Type 0
     ClearTo n end = (k depth : ℕ) (e : Element) → n ≤ k → k < end → slice_get es k ≡ Some e → takes Mode.Overlap fence (its_item dim k depth e) ≡ false
 
-    pub next_clear : (n m : ℕ) (e : Element) → ClearTo n m → slice_get es m ≡ Some e → ((k depth : ℕ) → false ≡ takes Mode.Overlap fence (its_item dim k depth e)) → ClearTo n (m + 1)
+    pub next_clear : (n m : ℕ) (e : Element) → ClearTo n m → slice_get es m ≡ Some e
+        → ((k depth : ℕ) → false ≡ takes Mode.Overlap fence (its_item dim k depth e)) → ClearTo n (m + 1)
     next_clear n m e before here clear = λ k depth x low high there. elim (cases_lt k m) [
       | inl less ↦ before k depth x low less there
       | inr past ↦
@@ -120,7 +126,8 @@ module _ (fence : List Pt) where
     ]
 
     -- so none of what the tree of a root shows
-    pub tree_clear : (rows : List Row) → rows ≡ map row_of es → (root end : ℕ) → IsRoot itself rows root → Some end ≡ option_map (λ (m : Mark). m.end) (mark_of itself rows root) → ClearTo root end
+    pub tree_clear : (rows : List Row) → rows ≡ map row_of es → (root end : ℕ) → IsRoot itself rows root
+        → Some end ≡ option_map (λ (m : Mark). m.end) (mark_of itself rows root) → ClearTo root end
         → (mask : Mask) → HasNone fence (tree_shown dim mask es root)
     tree_clear rows nesting root end is_root ends clear mask =
         let t = tree es rows nesting root is_root dim mask end ends in

@@ -55,7 +55,8 @@ abbrev entry_as : List Put → ℕ → Entry
 entry_as ps n = record { patches = ps; len = n }
 
 -- the plan for a body that opens with the tail, of which the elements become others
-module _ (dim : ℕ) (tail b : List ℕ) (opens_at : OpensAt dim tail b) (fields : List Field) (made : List Element) (becomes : Become dim tail (elements_of dim b) fields made)
+module _ (dim : ℕ) (tail b : List ℕ) (opens_at : OpensAt dim tail b) (fields : List Field) (made : List Element)
+    (becomes : Become dim tail (elements_of dim b) fields made)
     (p : Plan) (patches : p.patches ≡ filled (spelling made) fields) (append : p.append ≡ drop (length (spelling (elements_of dim b))) (spelling made)) where
   pub body_is : spelling (elements_of dim b) ≡ b
   body_is = body_spelled b tail dim (elements_of dim b) opens_at.opens

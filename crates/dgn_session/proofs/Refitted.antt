@@ -54,10 +54,12 @@ module _ (d : Design) (l : LogState) (mask : Mask) (fence : Option (List Pt)) (k
     pub fit_here : Become d.dim d.tail.items (elements d) (fit_fields d.dim (elements d) n) plan.made
     fit_here =
         let body : spelling (elements d) ≡ d.body.items = body_spelled d.body.items d.tail.items d.dim (elements d) opens.opens in
-        fit_becomes (d.body.items ++ d.tail.items) d.dim (elements d) d.tail.items n plan.made opens.opens (omega (arith, opens.few, ap (length {A = ℕ}) body)) plan.done
+        fit_becomes (d.body.items ++ d.tail.items) d.dim (elements d) d.tail.items n plan.made opens.opens
+        (omega (arith, opens.few, ap (length {A = ℕ}) body)) plan.done
 
     pub none_behind : [] ≡ drop (length (spelling (elements d))) (spelling plan.made)
-    none_behind = sym (drop_all (length (spelling (elements d))) (spelling plan.made) (omega (arith, (fits_change (d.body.items ++ d.tail.items) d.dim (elements d) d.tail.items n plan.made opens.opens plan.done).long)))
+    none_behind = sym (drop_all (length (spelling (elements d))) (spelling plan.made)
+        (omega (arith, (fits_change (d.body.items ++ d.tail.items) d.dim (elements d) d.tail.items n plan.made opens.opens plan.done).long)))
 
     -- it is done
     pub fit_done : apply_fit d.dim (elements d) n ≡ Done plan.made
@@ -66,7 +68,8 @@ module _ (d : Design) (l : LogState) (mask : Mask) (fence : Option (List Pt)) (k
     -- and ends the findings of its tree
     pub fit_is : IsFit d.dim (elements d) n plan.made
     fit_is = record {
-      ended = λ root end at spanned. ends_findings (d.body.items ++ d.tail.items) d.dim (elements d) d.tail.items n plan.made root end opens.opens plan.done at spanned;
+      ended = λ root end at spanned. ends_findings (d.body.items ++ d.tail.items) d.dim (elements d)
+          d.tail.items n plan.made root end opens.opens plan.done at spanned;
       stays = (fits_change (d.body.items ++ d.tail.items) d.dim (elements d) d.tail.items n plan.made opens.opens plan.done).stays;
     }
 

@@ -1,5 +1,6 @@
 -- What the entries of a session lead back to, and what stands still.
-use Rattle.std.proofs.Common.{◌≡◌, ℕ, zero, suc, ◌≤◌, ◌<◌, List, [], ◌∷◌, length, take, map, drop, get_or, reverse, Option, Some, None, refl, sym, ap, ◌∙◌, subst, arith}
+use Rattle.std.proofs.Common.{◌≡◌, ℕ, zero, suc, ◌≤◌, ◌<◌, List, [], ◌∷◌, length, take, map, drop, get_or, reverse, Option, Some, None, refl, sym, ap, ◌∙◌}
+use Rattle.std.proofs.Common.{subst, arith}
 use Rattle.std.specs.Prelude.{slice_get}
 use Rattle.std.specs.List.{AllByRecursion}
 use Rattle.std.proofs.lemmas.List.{take-take, take_all, take-map, length-map, length-take, length-take-le, length-reverse, get_or-take}
@@ -18,7 +19,8 @@ use Rattle.elem_index.specs.Offsets.{offset_of}
 use Rattle.edit_ops.specs.Applying.{Applied, Done, Refused}
 use Rattle.dgn_session.specs.State.{State, pushed, pushed_if, dropped, undone, applied, fence_applied, undo_refused, earlier_of}
 use Rattle.dgn_session.specs.Kept.{rows_of, AreKept}
-use Rattle.dgn_session.specs.Laws.{EditsAreUndone, FenceEditsAreUndone, ImportsAreUndone, last_of, opened_in, OpenedStay, EntriesAreCounted, EntriesLeadBack, IsUnheld, OpenedStandsStill}
+use Rattle.dgn_session.specs.Laws.{EditsAreUndone, FenceEditsAreUndone, ImportsAreUndone, last_of, opened_in, OpenedStay, EntriesAreCounted}
+use Rattle.dgn_session.specs.Laws.{EntriesLeadBack, IsUnheld, OpenedStandsStill}
 use Rattle.dgn_session.proofs.Planned.{front_long}
 use Rattle.dgn_session.proofs.Cutting.{leads_fit, opens_kept}
 use Rattle.dgn_session.proofs.Steps.{bodies_first}
@@ -63,7 +65,8 @@ length-earlier dim b (e ∷ es) = length-map (bodies (back b e) es) (elements_of
 pub entries_are_counted : EntriesAreCounted
 entries_are_counted v = length-earlier v.dim v.body (reverse v.entries) ∙ length-reverse v.entries
 
-lead_back : (dim : ℕ) (tail b : List ℕ) (entries : List Entry) → AreKept dim tail b entries → (k : ℕ) (es : List Element) → slice_get (elements_of dim b ∷ earlier_of dim b entries) k ≡ Some es → back_by k b entries ≡ spelling es
+lead_back : (dim : ℕ) (tail b : List ℕ) (entries : List Entry) → AreKept dim tail b entries → (k : ℕ) (es : List Element)
+    → slice_get (elements_of dim b ∷ earlier_of dim b entries) k ≡ Some es → back_by k b entries ≡ spelling es
 lead_back dim tail b entries kept zero es is =
     let opens = opens_kept dim tail b entries kept in
     let same : elements_of dim b ≡ es = cc in
@@ -76,7 +79,8 @@ pub entries_lead_back : EntriesLeadBack
 entries_lead_back v kept k es is = lead_back v.dim v.tail v.body (reverse v.entries) kept k es is
 
 -- a byte that no put holds stays where they are written back
-write_back_other : (b : List ℕ) (ps : List Put) (k d : ℕ) → AreWithin (length b) ps → AllByRecursion (λ (p : Put). Holds p k → ⊥) ps → get_or (write_back b ps) k d ≡ get_or b k d
+write_back_other : (b : List ℕ) (ps : List Put) (k d : ℕ) → AreWithin (length b) ps → AllByRecursion (λ (p : Put). Holds p k → ⊥) ps
+    → get_or (write_back b ps) k d ≡ get_or b k d
 write_back_other b [] k d within free = refl
 write_back_other b (p ∷ ps) k d within free =
     lay_other (write_back b ps) p k d (subst (λ (n : ℕ). IsWithin n p) (sym (length-write_back b ps within.1)) within.0) free.0
@@ -89,7 +93,8 @@ pub record Stands (dim : ℕ) (opened b : List ℕ) (entries : List Entry) : Typ
   pub bytes : (k : ℕ) → k < length opened → IsUnheld k entries → get_or b k 0 ≡ get_or opened k 0
 
 stands : (dim : ℕ) (tail b : List ℕ) (entries : List Entry) → AreKept dim tail b entries → Stands dim (back_by (length entries) b entries) b entries
-stands dim tail b [] kept = record { rows = sym (take_all (length (rows_of dim b)) (rows_of dim b) (omega arith)); long = omega arith; bytes = λ k within free. refl }
+stands dim tail b [] kept =
+    record { rows = sym (take_all (length (rows_of dim b)) (rows_of dim b) (omega arith)); long = omega arith; bytes = λ k within free. refl }
 stands dim tail b (e ∷ entries) kept =
     let before = stands dim tail (back b e) entries kept.2 in
     let opened : List ℕ = back_by (length entries) (back b e) entries in
@@ -112,12 +117,14 @@ stands dim tail b (e ∷ entries) kept =
     }
 
 -- the same rows give the same offsets
-offsets_stay : (dim : ℕ) (opened b : List ℕ) → rows_of dim opened ≡ take (length (rows_of dim opened)) (rows_of dim b) → (n : ℕ) → n < length (elements_of dim opened) → offset_of (elements_of dim b) n ≡ offset_of (elements_of dim opened) n
+offsets_stay : (dim : ℕ) (opened b : List ℕ) → rows_of dim opened ≡ take (length (rows_of dim opened)) (rows_of dim b) → (n : ℕ)
+    → n < length (elements_of dim opened) → offset_of (elements_of dim b) n ≡ offset_of (elements_of dim opened) n
 offsets_stay dim opened b front n within =
     let m : ℕ = length (rows_of dim opened) in
     let few : n ≤ length (rows_of dim opened) = omega (arith, length-map (elements_of dim opened) row_of) in
     let rows : map row_of (take n (elements_of dim b)) ≡ map row_of (take n (elements_of dim opened)) =
-    sym (take-map row_of n (elements_of dim b)) ∙ sym (take-take n (length (rows_of dim opened)) (rows_of dim b) few) ∙ ap (take n) (sym front) ∙ take-map row_of n (elements_of dim opened) in
+    sym (take-map row_of n (elements_of dim b)) ∙ sym (take-take n (length (rows_of dim opened)) (rows_of dim b) few) ∙ ap (take n) (sym front)
+    ∙ take-map row_of n (elements_of dim opened) in
     front_long (elements_of dim b) (take n (elements_of dim opened)) n rows
 
 pub opened_stands_still : OpenedStandsStill

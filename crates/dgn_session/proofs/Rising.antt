@@ -42,5 +42,6 @@ unfolding old_of
 olds_rise b m [] n long rise = rise
 olds_rise b m (p ∷ ps) n long rise =
     let ends = span_long m ps (p.at + length p.bytes) rise.1 in
-    let same : length (take (length p.bytes) (drop p.at b)) ≡ length p.bytes = length-take-le (length p.bytes) (drop p.at b) (omega (arith, length-drop p.at b)) in
+    let same : length (take (length p.bytes) (drop p.at b)) ≡ length p.bytes =
+    length-take-le (length p.bytes) (drop p.at b) (omega (arith, length-drop p.at b)) in
     (rise.0, subst (λ (k : ℕ). Span (p.at + k) (map (old_of b) ps) m) (sym same) (olds_rise b m ps (p.at + length p.bytes) long rise.1))

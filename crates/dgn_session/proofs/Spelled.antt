@@ -1,5 +1,6 @@
 -- The rows of elements, read from their spellings one after the other.
-use Rattle.std.proofs.Common.{◌≡◌, ℕ, ◌+◌, ◌<◌, ◌≤◌, List, [], ◌∷◌, ◌++◌, length, take, drop, map, refl, sym, ap, ◌∙◌, subst, arith, length-append, append_assoc}
+use Rattle.std.proofs.Common.{◌≡◌, ℕ, ◌+◌, ◌<◌, ◌≤◌, List, [], ◌∷◌, ◌++◌, length, take, drop, map, refl, sym, ap, ◌∙◌, subst, arith, length-append}
+use Rattle.std.proofs.Common.{append_assoc}
 use Rattle.std.specs.Prelude.{IsFalse}
 use Rattle.std.specs.List.{AllByRecursion}
 use Rattle.std.proofs.lemmas.List.{take_at, drop_at, drop-drop, length-drop}
@@ -44,7 +45,8 @@ pub record First (dim : ℕ) (es : List Element) (b : List ℕ) (rows : List Row
   pub read : rows ++ (row_of element ∷ map row_of behind) ≡ map row_of es
   pub long : at + length rest ≡ length b
 
-first_in : (dim : ℕ) (es : List Element) (b : List ℕ) (rows : List Row) (at : ℕ) (rest : List ℕ) → IsDimension dim → rest ≡ drop at b → at < length b → (left : List Element) → AllByRecursion (IsWellFormed dim) left → drop at b ≡ spelling left
+first_in : (dim : ℕ) (es : List Element) (b : List ℕ) (rows : List Row) (at : ℕ) (rest : List ℕ) → IsDimension dim → rest ≡ drop at b → at < length b
+    → (left : List Element) → AllByRecursion (IsWellFormed dim) left → drop at b ≡ spelling left
     → rows ++ map row_of left ≡ map row_of es → First dim es b rows at rest
 first_in dim es b rows at rest axes is within [] each text read = absurd (omega (arith, ap (length {A = ℕ}) text, length-drop at b))
 first_in dim es b rows at rest axes is within (e ∷ left) each text read = record {
@@ -59,7 +61,8 @@ first_in dim es b rows at rest axes is within (e ∷ left) each text read = reco
   long = omega (arith, ap (length {A = ℕ}) is, length-drop at b);
 }
 
-pub first_of_left : (b : List ℕ) (rows : List Row) (at : ℕ) (rest : List ℕ) → AreLeft b rows at → rest ≡ drop at b → at < length b → (dim : ℕ) (es : List Element) → Spells dim es b → First dim es b rows at rest
+pub first_of_left : (b : List ℕ) (rows : List Row) (at : ℕ) (rest : List ℕ) → AreLeft b rows at → rest ≡ drop at b → at < length b
+    → (dim : ℕ) (es : List Element) → Spells dim es b → First dim es b rows at rest
 first_of_left b rows at rest are is within dim es spells =
     let l = are dim es spells in
     first_in dim es b rows at rest spells.axes is within l.left l.each l.rest l.read
@@ -91,7 +94,8 @@ module _ (b : List ℕ) (rows : List Row) (at : ℕ) (rest : List ℕ) (are : Ar
       → first ≡ spell (first_of_left b rows at rest are is within dim es spells).element
   first_is dim es spells size first said front =
       let f = first_of_left b rows at rest are is within dim es spells in
-      front ∙ ap (λ (n : ℕ). take n rest) (said ∙ f.said) ∙ ap (take (size_of f.element)) f.text ∙ take_at (spell f.element) (spelling f.behind) (size_of f.element) refl
+      front ∙ ap (λ (n : ℕ). take n rest) (said ∙ f.said) ∙ ap (take (size_of f.element)) f.text
+      ∙ take_at (spell f.element) (spelling f.behind) (size_of f.element) refl
 
   -- it is sound
   pub sound_first : IsSpelling b → (size : ℕ) (first : List ℕ) → size ≡ size_said rest → first ≡ take size rest → IsSound first
@@ -101,23 +105,28 @@ module _ (b : List ℕ) (rows : List Row) (at : ℕ) (rest : List ℕ) (are : Ar
       subst IsSound (sym (first_is some.0 some.1 some.2 size first said front)) (sound_spell some.0 f.element axes f.good)
 
   -- with its row, one less is left
-  pub left_more : (size : ℕ) (first : List ℕ) (row : Row) (more : List Row) → size ≡ size_said rest → first ≡ take size rest → row ≡ row_at first → more ≡ rows ++ row ∷ [] → AreLeft b more (at + size)
+  pub left_more : (size : ℕ) (first : List ℕ) (row : Row) (more : List Row) → size ≡ size_said rest → first ≡ take size rest → row ≡ row_at first
+      → more ≡ rows ++ row ∷ [] → AreLeft b more (at + size)
   left_more size first row more said front reads grown dim es spells =
       let f = first_of_left b rows at rest are is within dim es spells in
       let one : row ≡ row_of f.element = reads ∙ ap row_at (first_is dim es spells size first said front) ∙ row_at-spell dim f.element spells.axes f.good in
-      let long : length rest ≡ length (spell f.element) + length (spelling f.behind) = ap (length {A = ℕ}) f.text ∙ length-append (spell f.element) (spelling f.behind) in
+      let long : length rest ≡ length (spell f.element) + length (spelling f.behind) =
+      ap (length {A = ℕ}) f.text ∙ length-append (spell f.element) (spelling f.behind) in
       let place = f.long in
       let size_is : size ≡ size_of f.element = said ∙ f.said in
       record {
         left = f.behind;
         each = f.each;
-        rest = ap (λ (n : ℕ). drop n b) (omega arith) ∙ sym (drop-drop size at b) ∙ ap (drop size) (sym is ∙ f.text) ∙ drop_at (spell f.element) (spelling f.behind) size (sym size_is);
-        read = ap (λ (l : List Row). l ++ map row_of f.behind) (grown ∙ ap (λ (r : Row). rows ++ r ∷ []) one) ∙ append_assoc rows (row_of f.element ∷ []) (map row_of f.behind) ∙ f.read;
+        rest = ap (λ (n : ℕ). drop n b) (omega arith) ∙ sym (drop-drop size at b) ∙ ap (drop size) (sym is ∙ f.text)
+            ∙ drop_at (spell f.element) (spelling f.behind) size (sym size_is);
+        read = ap (λ (l : List Row). l ++ map row_of f.behind) (grown ∙ ap (λ (r : Row). rows ++ r ∷ []) one)
+            ∙ append_assoc rows (row_of f.element ∷ []) (map row_of f.behind) ∙ f.read;
         within = omega arith;
       }
 
   -- where it has no bit C, what is read is a block
-  pub block_before : (size : ℕ) (first : List ℕ) (row : Row) → size ≡ size_said rest → first ≡ take size rest → row ≡ row_at first → IsFalse row.cbit → (dim : ℕ) (es : List Element) → Spells dim es b → Begins dim es b rows at
+  pub block_before : (size : ℕ) (first : List ℕ) (row : Row) → size ≡ size_said rest → first ≡ take size rest → row ≡ row_at first → IsFalse row.cbit
+      → (dim : ℕ) (es : List Element) → Spells dim es b → Begins dim es b rows at
   block_before size first row said front reads free dim es spells =
       let f = first_of_left b rows at rest are is within dim es spells in
       let one : row ≡ row_of f.element = reads ∙ ap row_at (first_is dim es spells size first said front) ∙ row_at-spell dim f.element spells.axes f.good in
@@ -129,13 +138,15 @@ module _ (b : List ℕ) (rows : List Row) (at : ℕ) (rest : List ℕ) (are : Ar
       }
 
 -- at the end of the bytes nothing is left
-none_left : (dim : ℕ) (b : List ℕ) (at : ℕ) → IsDimension dim → length b ≤ at → (left : List Element) → AllByRecursion (IsWellFormed dim) left → drop at b ≡ spelling left → BeginsFree row_of left
+none_left : (dim : ℕ) (b : List ℕ) (at : ℕ) → IsDimension dim → length b ≤ at → (left : List Element) → AllByRecursion (IsWellFormed dim) left
+    → drop at b ≡ spelling left → BeginsFree row_of left
 none_left dim b at axes past [] each text = tt
 none_left dim b at axes past (e ∷ left) each text =
     absurd (omega (arith, four dim e axes each.0, ap (length {A = ℕ}) text, length-append (spell e) (spelling left), length-drop at b))
 
 -- so all that is read is a block
-pub block_at_end : (b : List ℕ) (rows : List Row) (at : ℕ) → AreLeft b rows at → length b ≤ at → (dim : ℕ) (es : List Element) → Spells dim es b → Begins dim es b rows at
+pub block_at_end : (b : List ℕ) (rows : List Row) (at : ℕ) → AreLeft b rows at → length b ≤ at → (dim : ℕ) (es : List Element) → Spells dim es b
+    → Begins dim es b rows at
 block_at_end b rows at are past dim es spells =
     let l = are dim es spells in
     record {

@@ -14,7 +14,8 @@ bodies_first dim b [] = refl
 bodies_first dim b (e ∷ es) = refl
 
 -- one more entry puts one more list below the top
-earlier_more : (dim : ℕ) (b new : List ℕ) (e : Entry) (es : List Entry) → back new e ≡ b → earlier_of dim new (reverse (es ++ e ∷ [])) ≡ elements_of dim b ∷ earlier_of dim b (reverse es)
+earlier_more : (dim : ℕ) (b new : List ℕ) (e : Entry) (es : List Entry) → back new e ≡ b
+    → earlier_of dim new (reverse (es ++ e ∷ [])) ≡ elements_of dim b ∷ earlier_of dim b (reverse es)
 earlier_more dim b new e es leads =
     ap (earlier_of dim new) (reverse-append es (e ∷ []))
     ∙ ap (λ (x : List ℕ). map (elements_of dim) (bodies x (reverse es))) leads
@@ -28,7 +29,8 @@ pushed_state v new e made leads are =
     ∙ ap (λ (earlier : List (List Element)). with_stack made earlier (state_of v)) (earlier_more v.dim v.body new e v.entries leads)
 
 -- an undo drops
-pub undone_state : (v : SessionValue) (new : List ℕ) (entries : List Entry) → IsUndone v.entries v.body entries new → state_of (value_with new entries v) ≡ undone (state_of v)
+pub undone_state : (v : SessionValue) (new : List ℕ) (entries : List Entry) → IsUndone v.entries v.body entries new
+    → state_of (value_with new entries v) ≡ undone (state_of v)
 undone_state v new entries is =
     let newest : reverse v.entries ≡ is.last ∷ reverse entries = ap (reverse {A = Entry}) is.dropped ∙ reverse-append entries (is.last ∷ []) in
     let below : earlier_of v.dim v.body (reverse v.entries) ≡ elements_of v.dim new ∷ earlier_of v.dim new (reverse entries) =

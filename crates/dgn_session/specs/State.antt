@@ -113,7 +113,15 @@ earlier_of dim b entries = drop 1 (map (elements_of dim) (bodies b entries))
 -- the state that it stands for: the elements of its body on top, and below them those of each body that its entries
 -- lead back to
 abbrev pub state_of : SessionValue → State
-state_of v = record { dim = v.dim; rest = length v.tail; top = elements_of v.dim v.body; earlier = earlier_of v.dim v.body (reverse v.entries); mask = v.mask; fence = v.fence }
+state_of v = record {
+  dim = v.dim;
+  rest = length v.tail;
+  top = elements_of v.dim v.body;
+  earlier = earlier_of v.dim v.body (reverse v.entries);
+  mask =
+      v.mask;
+  fence = v.fence;
+}
 
 -- the entry of what writes these fields of elements: the fields with the bytes that stand there, and how many bytes
 -- there are

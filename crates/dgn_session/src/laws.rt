@@ -1,6 +1,7 @@
 //! What holds of all sessions. Each call does nothing; its contract is the law.
 
-ghost use Rattle.dgn_session.specs.Laws.{EditsAreUndone, FenceEditsAreUndone, ImportsAreUndone, OpenedStay, EntriesAreCounted, EntriesLeadBack, OpenedStandsStill};
+ghost use Rattle.dgn_session.specs.Laws.{EditsAreUndone, FenceEditsAreUndone, ImportsAreUndone, OpenedStay, EntriesAreCounted, EntriesLeadBack};
+ghost use Rattle.dgn_session.specs.Laws.{OpenedStandsStill};
 ghost use Rattle.dgn_session.specs.Fits.{FitsAreUndone, OpenedStayFitted};
 
 /// Edits are undone: after an edit that is done, of one part or of all that a fence chooses, and after an import, an undo

@@ -34,9 +34,9 @@ copy_first dim es rest n by =
     (too_long (length (spelling es) + rest + bytes_appended es (edit.Copy n by)))
 
 -- what stands against it and is told, else what is told of the length
-told_first : (o : Option Cause) (c : Cause) → option_or o (Some c) ≡ Some (unwrap_or o c)
-told_first None c = refl
-told_first (Some x) c = refl
+first_or_else : (o : Option Cause) (c : Cause) → option_or o (Some c) ≡ Some (unwrap_or o c)
+first_or_else None c = refl
+first_or_else (Some x) c = refl
 
 -- a copy against the part of which, and against the axes of which, nothing stands; it has as many bytes as the part
 module _ (d : Design) (whole : IsWhole d) (n pending appended : ℕ) (by : Displacement)
@@ -62,7 +62,7 @@ module _ (d : Design) (whole : IsWhole d) (n pending appended : ℕ) (by : Displ
   -- it would be too long, which is told where nothing else is
   pub long_copy : (o : Option Cause) (c : Cause) → o ≡ copy_cause d.dim (elements d) by n → asked ≡ Some c → stands ≡ Some (unwrap_or o c)
   long_copy o c is too =
-      copy_then_long ∙ ap (λ (x : Option Cause). option_or x asked) (sym is) ∙ ap (option_or o) too ∙ told_first o c
+      copy_then_long ∙ ap (λ (x : Option Cause). option_or x asked) (sym is) ∙ ap (option_or o) too ∙ first_or_else o c
 
   -- it wouldn't, so what refuses it by itself is all
   pub short_copy : asked ≡ None → stands ≡ copy_cause d.dim (elements d) by n

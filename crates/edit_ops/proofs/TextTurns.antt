@@ -102,18 +102,18 @@ old_written b q (p ∷ ps) within apart =
     ∙ old_of-lay b p q within.0 (record { none = λ k held also. other.none k also held })
 
 -- what stands where puts were laid that are apart is what they put
-olds_told : (b : List ℕ) (ps : List Put) → AreWithin (length b) ps → AreApart ps → map (old_of (write b ps)) ps ≡ ps
-olds_told b [] within apart = refl
-olds_told b (p ∷ ps) within apart =
+olds_are_puts : (b : List ℕ) (ps : List Put) → AreWithin (length b) ps → AreApart ps → map (old_of (write b ps)) ps ≡ ps
+olds_are_puts b [] within apart = refl
+olds_are_puts b (p ∷ ps) within apart =
     let more = within_laid b p ps within.0 within.1 in
     ap (λ (q : Put). q ∷ map (old_of (write (lay b p) ps)) ps) (old_written (lay b p) p ps more apart.0 ∙ old_laid b p within.0)
-    ∙ ap (λ (qs : List Put). p ∷ qs) (olds_told (lay b p) ps more apart.1)
+    ∙ ap (λ (qs : List Put). p ∷ qs) (olds_are_puts (lay b p) ps more apart.1)
 
 -- where a whole text is turned, what stands in the other where the puts were laid is what they put
 pub turned_reads : (x y : List ℕ) (ps : List Put) → Span 0 ps (length x) → write x ps ≡ y → map (old_of y) ps ≡ ps
 turned_reads x y ps span is =
     ap (λ (z : List ℕ). map (old_of z) ps) (sym is)
-    ∙ olds_told x ps (span_within (length x) ps 0 span) (span_apart (length x) ps 0 span)
+    ∙ olds_are_puts x ps (span_within (length x) ps 0 span) (span_apart (length x) ps 0 span)
 
 -- a whole text with the puts is the other text
 pub whole_turned : (x y : List ℕ) (ps : List Put) → Turns 0 x ps y → write x ps ≡ y

@@ -69,30 +69,9 @@ fn push_tree_copy(
     ensures refused { IfErr result (IsCopyRefused (copy_cause d.now.dim (elements d.now) by.now n)) }
     ensures kept { OnErr result (out.new.items ≡ out.old.items) }
 {
-    match lone_at(d, t, n) {
-        Some(found) => push_lone_copy(d, n, found, by, out),
-        None => push_listed_copy(alloc, d, t, n, by, out),
+    if let Some(found) = lone_at(d, t, n) {
+        return push_lone_copy(d, n, found, by, out);
     }
-}
-
-// Appends the bytes of a copy of any part to a vector, or says what refuses it.
-fn push_listed_copy(
-    alloc: Global,
-    d: &Design,
-    t: &Nest,
-    n: u32,
-    by: &Shift,
-    out: &mut Vec<u8>,
-) -> Result<(), EditFault>
-    requires whole { IsWhole d.now }
-    requires nesting { t.now.rows ≡ map row_of (elements d.now) }
-    requires known { n < length (elements d.now) }
-    ensures copied { OnOk result
-        (out.new.items ≡ out.old.items ++ spelling (flat (tree_copy d.now.dim (elements d.now) by.now n))) }
-    ensures accepted { OnOk result (copy_cause d.now.dim (elements d.now) by.now n ≡ None) }
-    ensures refused { IfErr result (IsCopyRefused (copy_cause d.now.dim (elements d.now) by.now n)) }
-    ensures kept { OnErr result (out.new.items ≡ out.old.items) }
-{
     let live = live_numbers(alloc, d, t, n)?;
     if let Some(cause) = move_cause(d, &live, by) {
         return Err(EditFault::Refused(cause));

@@ -33,12 +33,12 @@ pub are_bytes : (b : List ℕ) → ((i : ℕ) → get_or b i 0 < 256) → IsByte
 are_bytes b each k d within = let same = get_or_default b k d 0 within in omega (arith, each k)
 
 -- the fault of a file is the one that the program finds
-pub told : (f : List ℕ) → IsBytes f → (x : OpenFault) → HasToldFault f x → TellsFault (opening f) x
-told f bytes OpenFault.NotDesign has = opening-fault f NotDesign bytes has
-told f bytes (OpenFault.Cut at) has = opening-fault f (Cut at) bytes has
-told f bytes (OpenFault.Short at) has = opening-fault f (Short at) bytes has
-told f bytes (OpenFault.Attr at) has = opening-fault f (Attr at) bytes has
-told f bytes OpenFault.Memory has = tt
+pub fault_given : (f : List ℕ) → IsBytes f → (x : OpenFault) → HasToldFault f x → TellsFault (opening f) x
+fault_given f bytes OpenFault.NotDesign has = opening-fault f NotDesign bytes has
+fault_given f bytes (OpenFault.Cut at) has = opening-fault f (Cut at) bytes has
+fault_given f bytes (OpenFault.Short at) has = opening-fault f (Short at) bytes has
+fault_given f bytes (OpenFault.Attr at) has = opening-fault f (Attr at) bytes has
+fault_given f bytes OpenFault.Memory has = tt
 
 -- elements stand before the place, and these are their offsets and bytes
 pub record Going (f kept kinds : List ℕ) (p : ℕ) : Type 0 where
@@ -115,8 +115,8 @@ module _ (f : List ℕ) (bytes : IsBytes f) (tcb : is_tcb f ≡ true) (kept kind
   pub faulty_here : (x : OpenFault) → StandsFaulty f p x → HasToldFault f x
   faulty_here x stands = run_faulty x stands.more stands.faulty
 
-  pub told_here : (x : OpenFault) → StandsFaulty f p x → TellsFault (opening f) x
-  told_here x stands = told f bytes x (faulty_here x stands)
+  pub fault_here : (x : OpenFault) → StandsFaulty f p x → TellsFault (opening f) x
+  fault_here x stands = fault_given f bytes x (faulty_here x stands)
 
 -- a silent class is the one that says so
 silent_class : (c : Class) → is_silent c ≡ true → c ≡ Class.Silent

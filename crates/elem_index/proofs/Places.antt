@@ -52,8 +52,8 @@ module _ (d : Design) (f : List ℕ) (p : ℕ) (run : IsRun f d.kept.items d.kin
     kinds = run.bytes ∙ ap kind_bytes (sym same_elements);
   }
 
-  pub run_told : opening f ≡ Ok (opened_of d)
-  run_told =
+  pub run_opens : opening f ≡ Ok (opened_of d)
+  run_opens =
       run.found
       ∙ ap (λ (n : ℕ). Ok (record { dim = n; elements = run.elements; tail = drop p f })) (sym axes)
       ∙ ap (λ (es : List Element). Ok (record { dim = d.dim; elements = es; tail = drop p f })) (sym same_elements)

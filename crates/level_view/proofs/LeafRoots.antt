@@ -9,19 +9,19 @@ use Rattle.dgn_drawing.specs.Rows.{row_of}
 use Rattle.dgn_drawing.specs.Nesting.{Knot, Leaf, Group, Run, Loose, forest, itself}
 use Rattle.dgn_drawing.specs.Numbering.{Mark, mark_of, knot_of}
 use Rattle.dgn_drawing.specs.Shown.{tree_shown, shown_alone, IsRoot}
-use Rattle.nest_tree.specs.declared.knot.Knot as told
+use Rattle.nest_tree.specs.declared.knot.Knot as code
 use Rattle.nest_tree.specs.Shapes.{code_knot}
 use Rattle.level_view.specs.Back.{with_marked, read_back}
 use Rattle.level_view.proofs.Places.{mark-rows}
 use Rattle.level_view.proofs.TreeItems.{IsTree, parent_at, root_known, root_found}
 
 -- what is told to be a leaf is one
-pub leaf_told : (o : Option Knot) → Some told.Knot.Leaf ≡ option_map code_knot o → o ≡ Some Leaf
-leaf_told None is = absurd cc
-leaf_told (Some Leaf) is = refl
-leaf_told (Some Group) is = absurd cc
-leaf_told (Some Run) is = absurd cc
-leaf_told (Some Loose) is = absurd cc
+pub leaf_knot : (o : Option Knot) → Some code.Knot.Leaf ≡ option_map code_knot o → o ≡ Some Leaf
+leaf_knot None is = absurd cc
+leaf_knot (Some Leaf) is = refl
+leaf_knot (Some Group) is = absurd cc
+leaf_knot (Some Run) is = absurd cc
+leaf_knot (Some Loose) is = absurd cc
 
 same_some : {A : Type 0} (a b : A) → Some a ≡ Some b → a ≡ b
 same_some a b e = cc
@@ -47,7 +47,7 @@ module _ (es : List Element) (rows : List Row) (nesting : rows ≡ map row_of es
       ∙ leaf_marked tree.mark e dim mask n knot tree.depth
 
 -- what holds of all that is told holds of what is answered
-pub if_told : {A B : Type 0} (f : A → B) (o : Option B) (r : Option A) (P : B → Type 0) → option_map f r ≡ o → ((x : B) → Some x ≡ o → P x)
+pub if_mapped : {A B : Type 0} (f : A → B) (o : Option B) (r : Option A) (P : B → Type 0) → option_map f r ≡ o → ((x : B) → Some x ≡ o → P x)
     → IfSome r (λ a. P (f a))
-if_told f o None P is each = tt
-if_told f o (Some a) P is each = each (f a) is
+if_mapped f o None P is each = tt
+if_mapped f o (Some a) P is each = each (f a) is

@@ -14,7 +14,7 @@ use Rattle.dgn_drawing.specs.Forms.{form_in, form_of}
 use Rattle.dgn_drawing.specs.Items.{item_in}
 use Rattle.dgn_drawing.specs.Reading.{body_in, element_at}
 use Rattle.dgn_drawing.specs.Shown.{shows, its_item, shown_alone}
-use Rattle.nest_tree.specs.declared.knot.Knot as told
+use Rattle.nest_tree.specs.declared.knot.Knot as code
 use Rattle.level_view.specs.declared.place.Place.{Place}
 use Rattle.level_view.specs.Back.{begins_below, past, with_group, with_element, read_back, IsPlace}
 use Rattle.level_view.specs.Numbers.{numbers_of, alone_if, has_item, is_alone, first_below, numbers_past, with_group_number, with_number}
@@ -117,14 +117,14 @@ module _ (dim : ℕ) (b : List ℕ) (mask : Mask) (number depth end : ℕ) (foun
       ∙ ap (λ (ns : List ℕ). alone_if (is_alone mask (element_at dim b)) number ++ ns) (past_numbers end found)
 
   -- an element before what is shown behind it
-  pub element_number : (knot : told.Knot)
+  pub element_number : (knot : code.Knot)
       → numbers_of (with_element dim mask knot number depth end (element_at dim b) found)
       ≡ with_number mask knot number end (element_at dim b) (numbers_of found)
-  element_number told.Knot.Leaf =
+  element_number code.Knot.Leaf =
       numbers_join (shown_alone dim mask number depth (element_at dim b)) found ∙ ap (λ (ns : List ℕ). ns ++ numbers_of found) alone_number
-  element_number told.Knot.Group = group_number
-  element_number told.Knot.Run = run_number
-  element_number told.Knot.Loose = refl
+  element_number code.Knot.Group = group_number
+  element_number code.Knot.Run = run_number
+  element_number code.Knot.Loose = refl
 
 -- the step from what is shown behind an element, by their numbers
 pub number_step : (dim : ℕ) (mask : Mask) (es : List Element) (n : ℕ) (p : Place) → IsPlace dim es n p → (next end : ℕ) (found : List ℕ) → next ≡ n + 1

@@ -14,7 +14,7 @@ use Rattle.dgn_drawing.proofs.RecordsRead.{element_at-spell}
 use Rattle.elem_index.specs.declared.design.Design.{Design}
 use Rattle.elem_index.specs.Design.{elements, IsWhole}
 use Rattle.elem_index.proofs.Places.{axes_of, each_at, sound_in}
-use Rattle.nest_tree.specs.declared.knot.Knot as told
+use Rattle.nest_tree.specs.declared.knot.Knot as code
 use Rattle.level_view.specs.declared.place.Place.{Place}
 use Rattle.level_view.specs.Back.{with_element, with_marked, read_back, IsPlace}
 use Rattle.dgn_drawing.specs.declared.types.item.Item.{Item}
@@ -30,8 +30,8 @@ pub mark-rows : (es : List Element) (rows : List Row) (n : ℕ) → rows ≡ map
 mark-rows es rows n are = ap (λ (r : List Row). mark_of itself r n) are ∙ ap (λ (ms : List Mark). slice_get ms n) (marks-rows es)
 
 -- what is told of an element's mark is so
-pub mark_told : {A : Type 0} (f : Mark → A) (m : Mark) (o : Option Mark) (x : A) → Some x ≡ option_map f o → o ≡ Some m → x ≡ f m
-mark_told {A} f m o x is same = let e : Some x ≡ Some (f m) = is ∙ ap (option_map f) same in cc
+pub mark_part : {A : Type 0} (f : Mark → A) (m : Mark) (o : Option Mark) (x : A) → Some x ≡ option_map f o → o ≡ Some m → x ≡ f m
+mark_part {A} f m o x is same = let e : Some x ≡ Some (f m) = is ∙ ap (option_map f) same in cc
 
 pub some_mark : {A : Type 0} (f : Mark → A) (o : Option Mark) (x : A) → Some x ≡ option_map f o → (m : Mark) × (o ≡ Some m)
 some_mark f None x is = absurd (let e = is in cc)
@@ -59,7 +59,7 @@ same_some : {A : Type 0} (x y : A) → Some x ≡ Some y → x ≡ y
 same_some x y is = cc
 
 -- an element's mark, by what is told of it
-module _ (es : List Element) (rows : List Row) (are : rows ≡ map row_of es) (n number end depth : ℕ) (knot : told.Knot)
+module _ (es : List Element) (rows : List Row) (are : rows ≡ map row_of es) (n number end depth : ℕ) (knot : code.Knot)
     (spanned : ◌≡◌ {A = Option (ℕ × ℕ)} (Some (number, end)) (span_of itself rows n))
     (deep : Some depth ≡ depth_of itself rows n) (known : Some knot ≡ option_map code_knot (knot_of itself rows n)) where
   span_here : ◌≡◌ {A = Option (ℕ × ℕ)} (Some (number, end)) (option_map (λ (m : Mark). (n, m.end)) (mark_of row_of es n))
@@ -76,7 +76,7 @@ module _ (es : List Element) (rows : List Row) (are : rows ≡ map row_of es) (n
   place_marked = has_mark.1
 
   pair_here : ◌≡◌ {A = ℕ × ℕ} (number, end) (n, place_mark.end)
-  pair_here = mark_told (λ (m : Mark). (n, m.end)) place_mark (mark_of row_of es n) (number, end) span_here place_marked
+  pair_here = mark_part (λ (m : Mark). (n, m.end)) place_mark (mark_of row_of es n) (number, end) span_here place_marked
 
   pub place_number : number ≡ n
   place_number = ap (λ (x : ℕ × ℕ). x.0) pair_here
@@ -85,7 +85,7 @@ module _ (es : List Element) (rows : List Row) (are : rows ≡ map row_of es) (n
   place_end = ap (λ (x : ℕ × ℕ). x.1) pair_here
 
   pub place_depth : depth ≡ place_mark.depth
-  place_depth = mark_told (λ (m : Mark). m.depth) place_mark (mark_of itself rows n) depth deep (mark-rows es rows n are ∙ place_marked)
+  place_depth = mark_part (λ (m : Mark). m.depth) place_mark (mark_of itself rows n) depth deep (mark-rows es rows n are ∙ place_marked)
 
   pub place_knot : knot ≡ code_knot place_mark.knot
   place_knot = same_some knot (code_knot place_mark.knot)
@@ -97,7 +97,7 @@ module _ (dim : ℕ) (mask : Mask) (es : List Element) (n : ℕ) (p : Place) (is
       → with_element dim mask p.knot p.number p.depth p.end (element_at dim p.bytes.now) found
       ≡ with_marked dim mask n (mark_of row_of es n) (slice_get es n) found
   place_step found =
-      ap (λ (k : told.Knot). with_element dim mask k p.number p.depth p.end (element_at dim p.bytes.now) found) is.knot
+      ap (λ (k : code.Knot). with_element dim mask k p.number p.depth p.end (element_at dim p.bytes.now) found) is.knot
       ∙ ap (λ (k : ℕ). with_element dim mask (code_knot is.mark.knot) k p.depth p.end (element_at dim p.bytes.now) found) is.number
       ∙ ap (λ (k : ℕ). with_element dim mask (code_knot is.mark.knot) n k p.end (element_at dim p.bytes.now) found) is.depth
       ∙ ap (λ (k : ℕ). with_element dim mask (code_knot is.mark.knot) n is.mark.depth k (element_at dim p.bytes.now) found) is.end

@@ -81,10 +81,10 @@ loud b (inr sound) heard = loud_in 3 b (inr refl) sound (shown_at b ∙ ap not h
 pub start_none : (b : List ℕ) → is_silent (class_of (kind_of b)) ≡ true → None ≡ data_start_in b
 start_none b silent = rw silent refl
 
-pub start_told : (b : List ℕ) (r : Option ℕ) → is_silent (class_of (kind_of b)) ≡ false → OnSome r (IsTrue (has_attributes b))
+pub start_found : (b : List ℕ) (r : Option ℕ) → is_silent (class_of (kind_of b)) ≡ false → OnSome r (IsTrue (has_attributes b))
     → IfNone r (IsFalse (has_attributes b)) → IfSome r (λ at. at ≡ attributes_start b) → r ≡ data_start_in b
-start_told b None heard set clear at = rw (heard, clear) refl
-start_told b (Some start) heard set clear at = rw (heard, set) (ap (λ (k : ℕ). Some k) at)
+start_found b None heard set clear at = rw (heard, clear) refl
+start_found b (Some start) heard set clear at = rw (heard, set) (ap (λ (k : ℕ). Some k) at)
 
 pub start_within : (b : List ℕ) (r : Option ℕ) → IsLoud b → OnSome r (IsTrue (has_attributes b)) → IfSome r (λ at. at ≡ attributes_start b)
     → IfSome r (λ at. at ≤ length b)

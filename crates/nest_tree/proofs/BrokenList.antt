@@ -18,7 +18,7 @@ use Rattle.nest_tree.proofs.NestingSteps.{flat-forest}
 use Rattle.nest_tree.proofs.ListStacks.{length-marks, length-marks_in}
 use Rattle.nest_tree.proofs.HeaderChains.{get_first, get_behind}
 use Rattle.nest_tree.proofs.LeastNumber.{first_is}
-use Rattle.nest_tree.proofs.LookUps.{found_of, told, broken_is}
+use Rattle.nest_tree.proofs.LookUps.{found_of, known_of, broken_is}
 
 -- numbers rise from one on
 abbrev Rise : ℕ → List ℕ → Type 0
@@ -193,7 +193,7 @@ module _ (rows : List Row) where
       let last = m.2 in
       let within : end ≤ length rows = omega (arith, end_within n m.0 m.1) in
       ap (λ (o : Option ℕ). Some o) (sym (first_in_span (is_broken itself rows) n end (length rows) within))
-      ∙ told rows n end_of_mark (λ (m : Mark). first_from (is_broken itself rows) n (m.end - n)) (λ (e : ℕ). first_from (is_broken itself rows) n (e - n))
+      ∙ known_of rows n end_of_mark (λ (m : Mark). first_from (is_broken itself rows) n (m.end - n)) (λ (e : ℕ). first_from (is_broken itself rows) n (e - n))
       (λ m. refl) end is
 
   -- a broken number that is found by where the list is parted

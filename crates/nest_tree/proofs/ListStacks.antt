@@ -8,7 +8,7 @@ use Rattle.dgn_drawing.specs.Nesting.{shape, member_count, front_count, is_splin
 use Rattle.dgn_drawing.specs.Numbering.{Mark, end_of, marks}
 use Rattle.nest_tree.specs.declared.knot.Knot.{Knot}
 use Rattle.nest_tree.specs.declared.shape.Scope.{Scope}
-use Rattle.nest_tree.specs.declared.shape.Shape as told
+use Rattle.nest_tree.specs.declared.shape.Shape as code
 use Rattle.nest_tree.specs.declared.open_list.OpenList.{OpenList}
 use Rattle.nest_tree.specs.Shapes.{code_knot, defined_scope, code_shape, rows_between, shape_in}
 use Rattle.nest_tree.specs.Places.{marks_in, link_of, parent_in, depth_in, knot_in, kind_in, scope_below, list_in, list_around, resume, IsInside, IsStack}
@@ -171,18 +171,18 @@ module _ (rows : List Row) (at : ℕ) (f : OpenList) (going : Going rows at f) (
   shape_is : shape_in f.scope (rows_between rows at f.end) ≡ shape itself (defined_scope f.scope) h (take (f.end - at - 1) r)
   shape_is = let e = ends in ap (shape_in f.scope) (between_cons rows at f.end no_row inside (omega arith))
 
-  module _ (s : told.Shape) (is : s ≡ code_shape (shape_in f.scope (rows_between rows at f.end))) where
+  module _ (s : code.Shape) (is : s ≡ code_shape (shape_in f.scope (rows_between rows at f.end))) where
     said : s ≡ code_shape (shape itself (defined_scope f.scope) h (take (f.end - at - 1) r))
     said = is ∙ ap code_shape shape_is
 
     pub end_read : mark_read.end ≡ at + 1 + s.count
-    end_read = sym (ap (λ (x : told.Shape). at + 1 + x.count) said)
+    end_read = sym (ap (λ (x : code.Shape). at + 1 + x.count) said)
 
     pub link_read : link_of mark_read ≡ record { parent = f.parent; depth = f.depth; knot = s.knot }
-    link_read = sym (ap (λ (x : told.Shape). record { parent = f.parent; depth = f.depth; knot = x.knot }) said)
+    link_read = sym (ap (λ (x : code.Shape). record { parent = f.parent; depth = f.depth; knot = x.knot }) said)
 
     list_said : list_read ≡ record { scope = s.inside; end = at + 1 + s.count; depth = f.depth + 1; parent = Some at }
-    list_said = sym (ap (λ (x : told.Shape). record { scope = x.inside; end = at + 1 + x.count; depth = f.depth + 1; parent = Some at }) said)
+    list_said = sym (ap (λ (x : code.Shape). record { scope = x.inside; end = at + 1 + x.count; depth = f.depth + 1; parent = Some at }) said)
 
     list_below : list_read ≡ list_in rows (Some at) (f.depth + 1)
     list_below =

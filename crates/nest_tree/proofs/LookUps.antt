@@ -40,17 +40,17 @@ module _ (rows : List Row) (n : ℕ) {B : Type 0} (f : Mark → B) where
   ]
 
   module _ {C : Type 0} (g : Mark → C) where
-    pub told : (t : B → C) → ((m : Mark) → t (f m) ≡ g m) → (b : B) → Some b ≡ option_map f (slice_get (marks_in rows) n)
+    pub known_of : (t : B → C) → ((m : Mark) → t (f m) ≡ g m) → (b : B) → Some b ≡ option_map f (slice_get (marks_in rows) n)
         → Some (t b) ≡ option_map g (mark_of itself rows n)
     unfolding marks_in
-    told t same b is =
+    known_of t same b is =
         let m = found_of f (slice_get (marks_in rows) n) b is in
         let place : slice_get (marks_in rows) n ≡ Some m.0 = m.1 in
         ap (λ (x : B). Some (t x)) m.2 ∙ ap Some (same m.0) ∙ ap (option_map g) (sym place)
 
-    pub untold : (r : Option C) → r ≡ None → None ≡ option_map f (slice_get (marks_in rows) n) → r ≡ option_map g (mark_of itself rows n)
+    pub none_found : (r : Option C) → r ≡ None → None ≡ option_map f (slice_get (marks_in rows) n) → r ≡ option_map g (mark_of itself rows n)
     unfolding marks_in
-    untold r none is = none ∙ ap (option_map g) (sym (gone_of f (slice_get (marks_in rows) n) is))
+    none_found r none is = none ∙ ap (option_map g) (sym (gone_of f (slice_get (marks_in rows) n) is))
 
     pub none_past : (r : Option C) → r ≡ None → None ≡ option_map f (slice_get (marks_in rows) n) → IsNone r ↔ (length rows ≤ n)
     none_past r none is = let beyond = past is in subst (λ (x : Option C). IsNone x ↔ (length rows ≤ n)) (sym none) (λ _. beyond, λ _. refl)
@@ -83,9 +83,9 @@ low_at [] n m low is = absurd (let e = is in cc)
 low_at (x ∷ l) zero m low is = let same : x ≡ m = cc in subst (λ (y : Mark). y.depth ≤ 3278) same low.0
 low_at (x ∷ l) (suc n) m low is = low_at l n m low.1 is
 
-pub low_told : (rows : List Row) (n : ℕ) → AllByRecursion IsSized rows → AllByRecursion IsWordTotal rows → (link : Link)
+pub low_depth : (rows : List Row) (n : ℕ) → AllByRecursion IsSized rows → AllByRecursion IsWordTotal rows → (link : Link)
     → Some link ≡ option_map link_of (slice_get (marks_in rows) n) → link.depth ≤ 3278
 unfolding marks_in
-low_told rows n sized words link is =
+low_depth rows n sized words link is =
     let m = found_of link_of (slice_get (marks_in rows) n) link is in
     subst (λ (x : Link). x.depth ≤ 3278) (sym m.2) (low_at (marks_in rows) n m.0 (depths_low rows sized words) m.1)

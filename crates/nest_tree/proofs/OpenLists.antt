@@ -9,7 +9,7 @@ use Rattle.dgn_drawing.specs.Nesting.{Whole, itself, nest}
 use Rattle.dgn_drawing.specs.Numbering.{Mark, marks}
 use Rattle.nest_tree.specs.declared.knot.Knot.{Knot}
 use Rattle.nest_tree.specs.Linked.{Link}
-use Rattle.nest_tree.specs.declared.shape.Shape as told
+use Rattle.nest_tree.specs.declared.shape.Shape as code
 use Rattle.nest_tree.specs.declared.open_list.OpenList.{OpenList}
 use Rattle.nest_tree.specs.Sums.{weights, sums_from}
 use Rattle.nest_tree.specs.Shapes.{code_knot, code_shape, shape_in, rows_between, IsRow, IsBetween}
@@ -75,7 +75,7 @@ begins rows n f within is apart = record {
 }
 
 -- one element more has its place
-module _ (rows : List Row) (at : ℕ) (f : OpenList) (going : Going rows at f) (inside : at < f.end) (s : told.Shape)
+module _ (rows : List Row) (at : ℕ) (f : OpenList) (going : Going rows at f) (inside : at < f.end) (s : code.Shape)
     (is : s ≡ code_shape (shape_in f.scope (rows_between rows at f.end))) (ends : List ℕ) (links : List Link) (places : ArePlaces rows at ends links) where
   pub one_more : ArePlaces rows (at + 1) (ends ++ (at + 1 + s.count) ∷ []) (links ++ record { parent = f.parent; depth = f.depth; knot = s.knot } ∷ [])
   one_more =
@@ -134,11 +134,11 @@ module _ (rows new : List Row) (first : ℕ) (are : new ≡ drop first rows) (at
       ∙ ap (λ (k : ℕ). take k (drop at rows)) count
 
   -- so the shape that they tell is the one of all rows
-  pub shaped : (s : told.Shape) → s ≡ code_shape (shape_in f.scope (rows_between new (at - first) (f.end - first)))
+  pub shaped : (s : code.Shape) → s ≡ code_shape (shape_in f.scope (rows_between new (at - first) (f.end - first)))
       → s ≡ code_shape (shape_in f.scope (rows_between rows at f.end))
   shaped s is = is ∙ ap (λ (l : List Row). code_shape (shape_in f.scope l)) same_between
 
-  pub end_fits : (s : told.Shape) → s ≡ code_shape (shape_in f.scope (rows_between rows at f.end)) → at + 1 + s.count < 4294967295
+  pub end_fits : (s : code.Shape) → s ≡ code_shape (shape_in f.scope (rows_between rows at f.end)) → at + 1 + s.count < 4294967295
   end_fits s is =
       let bound = going_ends rows at f going in
       let most = count_read rows at f going inside in

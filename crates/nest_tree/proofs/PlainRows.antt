@@ -107,8 +107,8 @@ and_last true = refl
 and_last false = refl
 
 -- and none is broken
-plain_told : (n : ℕ) (r : Row) → r.cbit ≡ false → broken_by_link n plain_link r ≡ false
-plain_told n r none = ap (λ (b : Bool). not (n == 0) && true && b) none ∙ and_last (not (n == 0))
+plain_unbroken : (n : ℕ) (r : Row) → r.cbit ≡ false → broken_by_link n plain_link r ≡ false
+plain_unbroken n r none = ap (λ (b : Bool). not (n == 0) && true && b) none ∙ and_last (not (n == 0))
 
 plain_at : (rows : List Row) (i : ℕ) → AllByRecursion IsPlain rows → i < length rows → (get_or rows i no_row).cbit ≡ false
 plain_at [] i plain inside = absurd (omega arith)
@@ -152,7 +152,7 @@ module _ (rows new all : List Row) (ends : List ℕ) (links : List Link) (broken
       sym (said all (links ++ replicate (length new) plain_link) links_are (length rows + k) plain_link no_row
       (omega (arith, ap (length {A = Row}) is, length-append rows new)))
       ∙ ap (λ (l : Link). broken_by_link (length rows + k) l (get_or all (length rows + k) no_row)) link
-      ∙ plain_told (length rows + k) (get_or all (length rows + k) no_row) row
+      ∙ plain_unbroken (length rows + k) (get_or all (length rows + k) no_row) row
 
   broken_yet : (k : ℕ) → k ≤ length new → broken ≡ passing (is_broken itself all) 0 (length rows + k)
   broken_yet zero within =

@@ -12,7 +12,7 @@ ghost use Rattle.plane_geom.specs.Boxes.{IsInBox};
 ghost use Rattle.dgn_fence.specs.Segments.{segments_of};
 ghost use Rattle.dgn_fence.specs.Taken.{begins_within, is_inside, overlaps, parts, takes};
 ghost use Rattle.dgn_fence.specs.Limits.{IsFence, bounds_of, extent_of, near_bounds};
-ghost use Rattle.dgn_fence.specs.Outlines.{told_by_bounds, told_by_edges, untouched_taken};
+ghost use Rattle.dgn_fence.specs.Outlines.{begins_by_bounds, begins_by_edges, untouched_taken};
 
 use crate::bounds::{Bounds, bounds_of};
 use crate::edges::{misses_all, touches_fence};
@@ -96,7 +96,7 @@ impl Fence {
         let Some(outline) = read_outline(dim, b) else {
             return Ok(false);
         };
-        if let Some(begins) = self.told_by_bounds(outline) {
+        if let Some(begins) = self.begins_by_bounds(outline) {
             return Ok(untouched_taken(mode, begins));
         }
         self.takes_made(alloc, mode, dim, b)
@@ -119,9 +119,9 @@ impl Fence {
 
     // Whether what has that outline begins within the fence, where bounds tell that it touches no edge. Of an
     // upright rectangle they tell it by themselves where they lie strictly inside.
-    fn told_by_bounds(&self, outline: Outline) -> Option<bool>
+    fn begins_by_bounds(&self, outline: Outline) -> Option<bool>
         requires begins { IsInBox outline.around.low outline.around.high outline.first }
-        ensures { result ≡ told_by_bounds (bounds_of self.now) self.now outline }
+        ensures { result ≡ begins_by_bounds (bounds_of self.now) self.now outline }
     {
         if outline.around.is_apart(self.bounds) {
             return Some(false);
@@ -129,13 +129,13 @@ impl Fence {
         if self.upright && outline.around.is_enclosed(self.bounds) {
             return Some(true);
         }
-        self.told_by_edges(outline)
+        self.begins_by_edges(outline)
     }
 
     // Whether what has that outline begins within the fence, where its bounds miss all edges.
     #[inline(never)]
-    fn told_by_edges(&self, outline: Outline) -> Option<bool>
-        ensures { result ≡ told_by_edges self.now outline }
+    fn begins_by_edges(&self, outline: Outline) -> Option<bool>
+        ensures { result ≡ begins_by_edges self.now outline }
     {
         if misses_all(self.corners.as_slice(), outline.around) {
             return Some(within(outline.first, self.corners.as_slice()));

@@ -4,7 +4,7 @@ use Rattle.elem_index.specs.Design.{elements}
 use Rattle.dgn_drawing.specs.Numbering.{Mark, mark_of}
 use Rattle.dgn_drawing.specs.Rows.{row_of}
 use Rattle.std.specs.Prelude.{option_map}
-use Rattle.level_view.proofs.Places.{mark-rows, mark_told}
+use Rattle.level_view.proofs.Places.{mark-rows, mark_part}
 use Rattle.dgn_audit.specs.Planned.{IsSpotted}
 use Rattle.dgn_audit.proofs.FitQuestions.{ok_as}
 use Rattle.dgn_audit.proofs.TreePlaces.{part_mark, part_marked, part_after, part_within, part_found, part_spotted}
@@ -14,7 +14,7 @@ use Rattle.dgn_audit.proofs.fitting.fitted_in.Goals.{In-Some}
 span_is : (c : goal.In-Some)
     → ◌≡◌ {A = ℕ × ℕ} (c.in-Some.first, c.in-Some.end) (c.args.n, (part_mark c.args.d.now.dim (elements c.args.d.now) c.args.n c.requires.known).end)
 span_is c =
-    mark_told (λ (m : Mark). (c.args.n, m.end)) (part_mark c.args.d.now.dim (elements c.args.d.now) c.args.n c.requires.known)
+    mark_part (λ (m : Mark). (c.args.n, m.end)) (part_mark c.args.d.now.dim (elements c.args.d.now) c.args.n c.requires.known)
     (mark_of row_of (elements c.args.d.now) c.args.n) (c.in-Some.first, c.in-Some.end)
     (c.in-Some.ensures.span ∙ ap (option_map (λ (m : Mark). (c.args.n, m.end)))
     (mark-rows (elements c.args.d.now) c.args.t.now.rows c.args.n c.requires.nesting))

@@ -8,4 +8,9 @@ use Rattle.dgn_session.proofs.carrying.follow.Goals as goal
 
 pub nest_appended-requires-clause-few : goal.nest_appended-requires-clause-few
 nest_appended-requires-clause-few c =
-    omega (arith, few_elements c.args.design.now c.requires.kept.whole, ap (length {A = Row}) c.requires.kept.nesting, length-map (elements c.args.design.now) row_of)
+    omega (
+      arith,
+      few_elements c.args.design.now c.requires.kept.whole,
+      ap (length {A = Row}) c.requires.kept.nesting,
+      length-map (elements c.args.design.now) row_of,
+    )

@@ -6,7 +6,8 @@ use Rattle.dgn_import.proofs.TakenRoots.{StandsAt}
 use Rattle.dgn_session.proofs.selecting.select.Given as goal
 
 abbrev pub invariant-roots : goal.invariant-roots
-invariant-roots l = StandsAt (elements l.design) l.nest.rows (λ n. takes l.mode l.fence (tree_shown l.design.dim l.mask (elements l.design) n)) l.root l.found.items
+invariant-roots l = StandsAt (elements l.design) l.nest.rows (λ n. takes l.mode l.fence (tree_shown l.design.dim l.mask (elements l.design) n))
+    l.root l.found.items
 
 abbrev pub decreases-roots : goal.decreases-roots
 decreases-roots l = l.count - l.root

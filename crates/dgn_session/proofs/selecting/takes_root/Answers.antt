@@ -16,7 +16,8 @@ found_alone (Err e) test alone tree n is each = tt
 pub returns-in-Some : goal.returns-in-Some
 returns-in-Some c =
     let dim = c.args.design.now.dim in
-    found_alone c.takes_lone.result (takes c.args.mode c.args.fence.now) (λ (number : ℕ) (depth : ℕ). shown_alone dim c.args.mask number depth (element_at dim c.in-Some.b.now))
+    found_alone c.takes_lone.result (takes c.args.mode c.args.fence.now)
+    (λ (number : ℕ) (depth : ℕ). shown_alone dim c.args.mask number depth (element_at dim c.in-Some.b.now))
     (tree_shown dim c.args.mask (elements c.args.design.now) c.args.root) c.args.root (c.in-Some.ensures.shown c.args.mask) c.takes_lone.ensures
 
 pub returns : goal.returns

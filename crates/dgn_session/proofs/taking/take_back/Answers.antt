@@ -16,23 +16,48 @@ undo-requires c = can_undo c.args.design.now c.args.nest.now c.args.log.now c.re
 
 pub shrink-requires : goal.shrink-requires
 shrink-requires c =
-    let undone = is_undone c.args.design.now c.args.nest.now c.args.log.now c.requires.kept c.args.len c.requires.last c.undo.result c.undo.new.self c.undo.new.buf.items c.undo.ensures.exactly c.undo.ensures.undone in
-    let e : Design = record { dim = c.args.design.now.dim; body = c.undo.new.buf; tail = c.args.design.now.tail; kept = c.args.design.now.kept; kinds = c.args.design.now.kinds } in
-    behind_after c.args.design.now c.args.nest.now c.args.log.now c.requires.kept c.args.len c.requires.last c.offsets.result.now c.count_below-count.result c.offsets.ensures c.count_below-count.ensures c.undo.new.self c.undo.new.buf.items undone e refl refl refl refl refl
+    let undone = is_undone c.args.design.now c.args.nest.now c.args.log.now c.requires.kept c.args.len c.requires.last c.undo.result c.undo.new.self
+    c.undo.new.buf.items c.undo.ensures.exactly c.undo.ensures.undone in
+    let e : Design = record {
+      dim = c.args.design.now.dim;
+      body = c.undo.new.buf;
+      tail = c.args.design.now.tail;
+      kept = c.args.design.now.kept;
+      kinds =
+          c.args.design.now.kinds;
+    } in
+    behind_after c.args.design.now c.args.nest.now c.args.log.now c.requires.kept c.args.len c.requires.last c.offsets.result.now c.count_below-count.result
+    c.offsets.ensures c.count_below-count.ensures c.undo.new.self c.undo.new.buf.items undone e refl refl refl refl refl
 
 pub shrink-requires-2-clause-some : goal.shrink-requires-2-clause-some
-shrink-requires-2-clause-some c = some_left c.args.design.now c.args.nest.now c.args.log.now c.requires.kept c.args.len c.requires.last c.offsets.result.now c.count_below-count.result c.offsets.ensures c.count_below-count.ensures
+shrink-requires-2-clause-some c =
+    some_left c.args.design.now c.args.nest.now c.args.log.now c.requires.kept c.args.len c.requires.last c.offsets.result.now c.count_below-count.result
+    c.offsets.ensures c.count_below-count.ensures
 
 pub shrink-requires-2-clause-free : goal.shrink-requires-2-clause-free
-shrink-requires-2-clause-free c = free_behind c.args.design.now c.args.nest.now c.args.log.now c.requires.kept c.args.len c.requires.last c.offsets.result.now c.count_below-count.result c.offsets.ensures c.count_below-count.ensures
+shrink-requires-2-clause-free c =
+    free_behind c.args.design.now c.args.nest.now c.args.log.now c.requires.kept c.args.len c.requires.last c.offsets.result.now c.count_below-count.result
+    c.offsets.ensures c.count_below-count.ensures
 
 pub returns-clause-kept : goal.returns-clause-kept
 returns-clause-kept c =
-    let undone = is_undone c.args.design.now c.args.nest.now c.args.log.now c.requires.kept c.args.len c.requires.last c.undo.result c.undo.new.self c.undo.new.buf.items c.undo.ensures.exactly c.undo.ensures.undone in
-    let e : Design = record { dim = c.args.design.now.dim; body = c.undo.new.buf; tail = c.args.design.now.tail; kept = c.args.design.now.kept; kinds = c.args.design.now.kinds } in
-    kept_before c.args.design.now c.args.nest.now c.args.log.now c.requires.kept c.args.len c.requires.last c.offsets.result.now c.count_below-count.result c.offsets.ensures c.count_below-count.ensures c.undo.new.self c.undo.new.buf.items undone e refl refl refl refl refl c.shrink.new.self c.shrink.ensures.text c.shrink.ensures.whole c.shrink-2.new.self c.shrink-2.ensures
+    let undone = is_undone c.args.design.now c.args.nest.now c.args.log.now c.requires.kept c.args.len c.requires.last c.undo.result c.undo.new.self
+    c.undo.new.buf.items c.undo.ensures.exactly c.undo.ensures.undone in
+    let e : Design = record {
+      dim = c.args.design.now.dim;
+      body = c.undo.new.buf;
+      tail = c.args.design.now.tail;
+      kept = c.args.design.now.kept;
+      kinds =
+          c.args.design.now.kinds;
+    } in
+    kept_before c.args.design.now c.args.nest.now c.args.log.now c.requires.kept c.args.len c.requires.last c.offsets.result.now c.count_below-count.result
+    c.offsets.ensures c.count_below-count.ensures c.undo.new.self c.undo.new.buf.items undone e refl refl refl refl refl c.shrink.new.self
+    c.shrink.ensures.text c.shrink.ensures.whole c.shrink-2.new.self c.shrink-2.ensures
 
 pub returns-clause-undone : goal.returns-clause-undone
 returns-clause-undone c =
-    let undone = is_undone c.args.design.now c.args.nest.now c.args.log.now c.requires.kept c.args.len c.requires.last c.undo.result c.undo.new.self c.undo.new.buf.items c.undo.ensures.exactly c.undo.ensures.undone in
-    subst (λ (x : List ℕ). IsUndone c.args.log.now.entries c.args.design.now.body.items c.undo.new.self.entries x) (sym (same_items c.shrink.ensures.text.body)) undone
+    let undone = is_undone c.args.design.now c.args.nest.now c.args.log.now c.requires.kept c.args.len c.requires.last c.undo.result c.undo.new.self
+    c.undo.new.buf.items c.undo.ensures.exactly c.undo.ensures.undone in
+    subst (λ (x : List ℕ). IsUndone c.args.log.now.entries c.args.design.now.body.items c.undo.new.self.entries x)
+    (sym (same_items c.shrink.ensures.text.body)) undone

@@ -4,7 +4,7 @@ use Rattle.dgn_drawing.specs.Opening.{is_tcb, dimension}
 use Rattle.elem_index.specs.Opened.{opening}
 use Rattle.elem_index.specs.Answers.{IsRun, TellsFault}
 use Rattle.elem_index.proofs.OpeningAnswers.{opening-other}
-use Rattle.elem_index.proofs.Places.{run_whole, run_told}
+use Rattle.elem_index.proofs.Places.{run_whole, run_opens}
 use Rattle.elem_index.proofs.design.read_design.Goals as goal
 use Rattle.dgn_drawing.specs.declared.limits.TheConstants.{MOST_DESIGN}
 
@@ -27,7 +27,7 @@ returns-in-Ok-clause-whole c =
 pub returns-in-Ok-clause-told : goal.returns-in-Ok-clause-told
 returns-in-Ok-clause-told c =
     let few : length c.args.bytes.items ≤ MOST_DESIGN = omega (arith, ap (length {A = ℕ}) c.deref.ensures.value, c.deref.ensures.len, c.requires) in
-    run_told (record {
+    run_opens (record {
       dim = c.dimension-dim.result;
       body = c.split_off.new.self;
       tail = c.in-Ok.tail;

@@ -1,6 +1,6 @@
 use Rattle.std.proofs.Common.{◌∙◌, ◌*◌, ◌≤◌, refl, sym, arith, length}
 use Rattle.std.proofs.lemmas.Result.{err_from_is_err_and}
-use Rattle.elem_index.proofs.FileWalk.{are_bytes, faulty_here, told_here, steps_over, steps_end, going_more, run_ends, counted_start, counted_more}
+use Rattle.elem_index.proofs.FileWalk.{are_bytes, faulty_here, fault_here, steps_over, steps_end, going_more, run_ends, counted_start, counted_more}
 use Rattle.elem_index.proofs.FileWalk.{counted_small, count_ends}
 use Rattle.elem_index.proofs.walk.count_in.Goals as goal
 
@@ -15,7 +15,7 @@ pub returns-in_err-next_place-clause-told : goal.returns-in_err-next_place-claus
 returns-in_err-next_place-clause-told c =
     let p = err_from_is_err_and c.from_residual.result c.from_residual.ensures.1 in
     let bytes = are_bytes c.args.f.now (λ i. omega (arith, c.type_inv.f i)) in
-    rw (p.1, p.2) (told_here c.args.f.now bytes c.requires.tcb c.elements.invariant.1.kept c.elements.invariant.1.kinds c.elements.walk.at
+    rw (p.1, p.2) (fault_here c.args.f.now bytes c.requires.tcb c.elements.invariant.1.kept c.elements.invariant.1.kinds c.elements.walk.at
     c.elements.invariant.1.going c.in_err-next_place.field-0.0 c.in_err-next_place.ensures.fault)
 
 pub overflow_add-count : goal.overflow_add-count

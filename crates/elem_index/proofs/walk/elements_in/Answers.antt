@@ -2,7 +2,7 @@ use Rattle.std.proofs.Common.{◌≡◌, ℕ, ◌∙◌, ◌++◌, ◌∷◌, []
 use Rattle.std.proofs.lemmas.Result.{err_from_is_err_and}
 use Rattle.elem_index.specs.Answers.{Steps}
 use Rattle.elem_index.specs.Design.{kind_byte_at}
-use Rattle.elem_index.proofs.FileWalk.{are_bytes, faulty_here, told_here, going_more, run_ends}
+use Rattle.elem_index.proofs.FileWalk.{are_bytes, faulty_here, fault_here, going_more, run_ends}
 use Rattle.elem_index.proofs.walk.elements_in.Goals as goal
 
 pub returns-in_err-at-clause-fault : goal.returns-in_err-at-clause-fault
@@ -16,7 +16,7 @@ pub returns-in_err-at-clause-told : goal.returns-in_err-at-clause-told
 returns-in_err-at-clause-told c =
     let p = err_from_is_err_and c.from_residual.result c.from_residual.ensures.1 in
     let bytes = are_bytes c.args.f.now (λ i. omega (arith, c.type_inv.f i)) in
-    rw (p.1, p.2) (told_here c.args.f.now bytes c.requires.tcb c.elements.kept.items c.elements.kinds.items c.elements.walk.at c.elements.invariant.1
+    rw (p.1, p.2) (fault_here c.args.f.now bytes c.requires.tcb c.elements.kept.items c.elements.kinds.items c.elements.walk.at c.elements.invariant.1
     c.in_err-at.field-0.0 c.in_err-at.ensures.fault)
 
 pub elements-preserved : goal.elements-preserved

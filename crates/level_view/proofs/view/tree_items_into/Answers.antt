@@ -6,7 +6,7 @@ use Rattle.dgn_drawing.specs.Numbering.{Mark, mark_of}
 use Rattle.elem_index.specs.Design.{elements}
 use Rattle.level_view.specs.Back.{read_back}
 use Rattle.level_view.proofs.Results.{ok_same}
-use Rattle.level_view.proofs.Places.{mark-rows, mark_told}
+use Rattle.level_view.proofs.Places.{mark-rows, mark_part}
 use Rattle.level_view.proofs.TreeItems.{IsTree, parent_at, root_known, root_found}
 use Rattle.level_view.proofs.view.tree_items_into.Goals as goal
 use Rattle.level_view.proofs.view.tree_items_into.Goals.{In-Some}
@@ -20,7 +20,7 @@ tree_of c =
 
 span_is : (c : goal.In-Some) → ◌≡◌ {A = ℕ × ℕ} (c.in-Some.first, c.in-Some.end) (c.args.n, (tree_of c).mark.end)
 span_is c =
-    mark_told (λ (m : Mark). (c.args.n, m.end)) (tree_of c).mark (mark_of row_of (elements c.args.d.now) c.args.n) (c.in-Some.first, c.in-Some.end)
+    mark_part (λ (m : Mark). (c.args.n, m.end)) (tree_of c).mark (mark_of row_of (elements c.args.d.now) c.args.n) (c.in-Some.first, c.in-Some.end)
     (c.in-Some.ensures.span ∙ ap (option_map (λ (m : Mark). (c.args.n, m.end)))
     (mark-rows (elements c.args.d.now) c.args.t.now.rows c.args.n c.requires.nesting)) (tree_of c).marked
 

@@ -2,7 +2,7 @@ use Rattle.std.proofs.Common.{◌≡◌, ap, sym, ◌∙◌, false}
 use Rattle.elem_head.specs.declared.types.Head.{Head}
 use Rattle.elem_head.specs.Head.{kind_of}
 use Rattle.dgn_layout.specs.Classes.{class_of, is_silent}
-use Rattle.listing_texts.proofs.AttributeData.{loud, start_none, start_told, start_within}
+use Rattle.listing_texts.proofs.AttributeData.{loud, start_none, start_found, start_within}
 use Rattle.listing_texts.proofs.links.data_start.Goals as goal
 
 pub attr_start-requires : goal.attr_start-requires
@@ -19,7 +19,7 @@ pub returns-else-is_silent-clause-start : goal.returns-else-is_silent-clause-sta
 returns-else-is_silent-clause-start c =
     let heard : is_silent (class_of (kind_of c.args.b.now)) ≡ false =
     ap (λ (h : Head). is_silent (class_of h.kind)) (sym c.head.ensures) ∙ (sym c.is_silent.ensures ∙ c.if-is_silent.false) in
-    start_told c.args.b.now c.attr_start.result heard c.attr_start.ensures.set c.attr_start.ensures.clear c.attr_start.ensures.start
+    start_found c.args.b.now c.attr_start.result heard c.attr_start.ensures.set c.attr_start.ensures.clear c.attr_start.ensures.start
 
 pub returns-else-is_silent-clause-within : goal.returns-else-is_silent-clause-within
 returns-else-is_silent-clause-within c =

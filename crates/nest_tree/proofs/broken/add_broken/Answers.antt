@@ -58,12 +58,12 @@ loop-n-preserved c =
     ∙ ap (λ (k : ℕ). get_or c.args._seen.now.list k no_row) place in
     let link = c.at.ensures in
     let linked = ap (λ (l : Link). broken_by_link c.loop-n.n l (get_or c.args.rows.now (c.loop-n.n - c.args.first) no_row)) link in
-    let told = ap (λ (r : Row). broken_by_link c.loop-n.n (get_or c.args.links.now.items c.loop-n.n no_link) r) row in
+    let known_of = ap (λ (r : Row). broken_by_link c.loop-n.n (get_or c.args.links.now.items c.loop-n.n no_link) r) row in
     elim c.if-is_broken_as.branch [
       | then-is_broken_as+in_ok-push w ↦ (
         broken_kept c.args._seen.now.list c.args.links.now.items c.requires.links c.loop-n.n no_link no_row c.loop-n.list.items c.if-is_broken_as.list.items
             inside c.loop-n.invariant.0
-            (sym told ∙ sym linked ∙ sym c.is_broken_as.ensures ∙ w.if-is_broken_as.true)
+            (sym known_of ∙ sym linked ∙ sym c.is_broken_as.ensures ∙ w.if-is_broken_as.true)
             (ap (λ (v : Vec ℕ Global). v.items) w.list-is ∙ w.in_ok-push.ensures.items),
         omega (arith, c.loop-n.invariant.1, ap (λ (v : Vec ℕ Global). vec_capacity v) w.list-is, w.in_ok-push.ensures.capacity),
         omega (arith, c.loop-n.invariant.2, ap (λ (v : Vec ℕ Global). vec_len v) w.list-is, w.in_ok-push.ensures.len),
@@ -71,7 +71,7 @@ loop-n-preserved c =
       | else-is_broken_as w ↦ (
         sound_passed c.args._seen.now.list c.args.links.now.items c.requires.links c.loop-n.n no_link no_row c.loop-n.list.items
             c.if-is_broken_as.list.items inside c.loop-n.invariant.0
-            (sym told ∙ sym linked ∙ sym c.is_broken_as.ensures ∙ w.if-is_broken_as.false) (ap (λ (v : Vec ℕ Global). v.items) w.list-is),
+            (sym known_of ∙ sym linked ∙ sym c.is_broken_as.ensures ∙ w.if-is_broken_as.false) (ap (λ (v : Vec ℕ Global). v.items) w.list-is),
         omega (arith, c.loop-n.invariant.1, ap (λ (v : Vec ℕ Global). vec_capacity v) w.list-is),
         omega (arith, c.loop-n.invariant.2, ap (λ (v : Vec ℕ Global). vec_len v) w.list-is),
       )

@@ -7,7 +7,7 @@ use Rattle.std.proofs.lemmas.List.{get_or-drop, length-drop}
 use Rattle.dgn_drawing.specs.declared.row.Row.{Row}
 use Rattle.nest_tree.specs.declared.knot.Knot.{Knot}
 use Rattle.nest_tree.specs.Linked.{Link}
-use Rattle.nest_tree.specs.Places as told
+use Rattle.nest_tree.specs.Places as code
 use Rattle.nest_tree.proofs.MemberBytes.{no_row}
 use Rattle.nest_tree.proofs.open_list.list_below.Goals as goal
 
@@ -32,14 +32,14 @@ returns c =
     ap (λ (s : Scope). made s (record { scope = s; end = get_or c.args.ends.now c.args.header 0; depth = c.args.depth; parent = Some c.args.header }))
     c.scope_below.ensures
     ∙ ap (λ (k : Knot). record {
-      scope = told.scope_below k (get_or c.args.rows.now (c.args.header - c.args.first) no_row).kind;
+      scope = code.scope_below k (get_or c.args.rows.now (c.args.header - c.args.first) no_row).kind;
       end =
           get_or c.args.ends.now c.args.header 0;
       depth = c.args.depth;
       parent = Some c.args.header;
     }) (c.knot.ensures ∙ ap (λ (x : Link). x.knot) link)
     ∙ ap (λ (r : Row). record {
-      scope = told.scope_below (get_or c.args.links.now.items c.args.header no_link).knot r.kind;
+      scope = code.scope_below (get_or c.args.links.now.items c.args.header no_link).knot r.kind;
       end =
           get_or c.args.ends.now c.args.header 0;
       depth = c.args.depth;

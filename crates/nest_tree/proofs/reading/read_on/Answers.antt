@@ -14,11 +14,11 @@ use Rattle.nest_tree.proofs.reading.read_on.Goals as goal
 -- an element whose place is still to be found is one of the list
 seen_at : (list rows : List Row) (kept len first at : ℕ) → rows ≡ drop kept list → kept ≤ length list → first ≡ len → len ≡ kept → at < first + length rows
     → at < length list
-seen_at list rows kept len first at are within told same before = omega (arith, length-drop kept list, ap (length {A = Row}) are)
+seen_at list rows kept len first at are within known_of same before = omega (arith, length-drop kept list, ap (length {A = Row}) are)
 
 all_seen : (list rows : List Row) (kept len first at : ℕ) → rows ≡ drop kept list → kept ≤ length list → first ≡ len → len ≡ kept → first + length rows ≤ at
     → at ≤ length list → at ≡ length list
-all_seen list rows kept len first at are within told same done most = omega (arith, length-drop kept list, ap (length {A = Row}) are)
+all_seen list rows kept len first at are within known_of same done most = omega (arith, length-drop kept list, ap (length {A = Row}) are)
 
 room_for_end : (list : List Row) (at : ℕ) (ends : List ℕ) (links : List Link) (len cap : ℕ) → ArePlaces list at ends links → len ≡ length ends
     → at < length list → length list ≤ cap → len < cap

@@ -6,5 +6,7 @@ use Rattle.dgn_session.proofs.session.Session.undo.Goals as goal
 
 pub returns-clause-done : goal.returns-clause-done
 returns-clause-done c =
-    subst (λ (v : SessionValue). state_of (value_of c.take_back.new.design c.take_back.new.log c.self.inside.mask c.self.inside.fence) ≡ undone (state_of v)) c.self.view_is
-    (undone_value c.self.inside.design c.take_back.new.design c.self.inside.log c.take_back.new.log c.self.inside.mask c.self.inside.fence c.take_back.ensures.dim c.take_back.ensures.tail c.take_back.ensures.undone)
+    subst (λ (v : SessionValue). state_of (value_of c.take_back.new.design c.take_back.new.log c.self.inside.mask c.self.inside.fence)
+    ≡ undone (state_of v)) c.self.view_is
+    (undone_value c.self.inside.design c.take_back.new.design c.self.inside.log c.take_back.new.log c.self.inside.mask c.self.inside.fence
+    c.take_back.ensures.dim c.take_back.ensures.tail c.take_back.ensures.undone)

@@ -22,7 +22,7 @@ few_grown : (new rows all : List Row) (t : Nested) (most : ℕ) → rows ≡ t.r
 few_grown new rows all t most same is few = omega (arith, length-append rows new, ap (length {A = Row}) is, ap (length {A = Row}) same)
 
 kept_within : (new rows all : List Row) (len first : ℕ) → len ≡ length rows → first ≡ len → all ≡ rows ++ new → first ≤ length all
-kept_within new rows all len first kept told is = omega (arith, length-append rows new, ap (length {A = Row}) is)
+kept_within new rows all len first kept known_of is = omega (arith, length-append rows new, ap (length {A = Row}) is)
 
 some_grown : (new rows all : List Row) → all ≡ rows ++ new → 0 < length rows → 0 < length all
 some_grown new rows all is some = omega (arith, length-append rows new, ap (length {A = Row}) is)

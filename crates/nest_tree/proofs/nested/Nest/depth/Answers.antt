@@ -3,7 +3,7 @@ use Rattle.std.specs.Prelude.{Some}
 use Rattle.dgn_drawing.specs.Numbering.{Mark}
 use Rattle.nest_tree.specs.Linked.{Link}
 use Rattle.nest_tree.specs.Places.{link_of}
-use Rattle.nest_tree.proofs.LookUps.{low_told, told, untold, none_past, none_known}
+use Rattle.nest_tree.proofs.LookUps.{low_depth, known_of, none_found, none_past, none_known}
 use Rattle.nest_tree.proofs.nested.Nest.depth.Goals as goal
 
 pub returns-in_err-link-clause-none : goal.returns-in_err-link-clause-none
@@ -12,7 +12,7 @@ returns-in_err-link-clause-none c =
 
 pub returns-in_err-link-clause-depth : goal.returns-in_err-link-clause-depth
 returns-in_err-link-clause-depth c =
-    untold c.args.self.now.rows c.args.n link_of (λ (m : Mark). m.depth) c.from_residual.result c.from_residual.ensures c.in_err-link.ensures.link
+    none_found c.args.self.now.rows c.args.n link_of (λ (m : Mark). m.depth) c.from_residual.result c.from_residual.ensures c.in_err-link.ensures.link
 
 pub returns-clause-none : goal.returns-clause-none
 returns-clause-none c = none_known c.args.self.now.rows c.args.n link_of (λ (m : Mark). m.depth)
@@ -21,8 +21,8 @@ returns-clause-none c = none_known c.args.self.now.rows c.args.n link_of (λ (m 
 pub returns-clause-depth : goal.returns-clause-depth
 returns-clause-depth c =
     ap (λ (n : ℕ). Some n) c.depth.ensures
-    ∙ told c.args.self.now.rows c.args.n link_of (λ (m : Mark). m.depth) (λ (x : Link). x.depth) (λ m. refl) c.in_ok-link.link c.in_ok-link.ensures.link
+    ∙ known_of c.args.self.now.rows c.args.n link_of (λ (m : Mark). m.depth) (λ (x : Link). x.depth) (λ m. refl) c.in_ok-link.link c.in_ok-link.ensures.link
 
 pub returns-clause-low : goal.returns-clause-low
 returns-clause-low c = λ sized. subst (λ (n : ℕ). n ≤ 3278) (sym c.depth.ensures)
-    (low_told c.args.self.now.rows c.args.n sized c.in_ok-link.ensures.words c.in_ok-link.link c.in_ok-link.ensures.link)
+    (low_depth c.args.self.now.rows c.args.n sized c.in_ok-link.ensures.words c.in_ok-link.link c.in_ok-link.ensures.link)

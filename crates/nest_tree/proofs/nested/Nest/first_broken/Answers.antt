@@ -4,7 +4,7 @@ use Rattle.dgn_drawing.specs.Nesting.{itself}
 use Rattle.dgn_drawing.specs.Numbering.{Mark, is_broken, first_from}
 use Rattle.nest_tree.specs.Places.{end_of_mark}
 use Rattle.nest_tree.specs.Passing.{if_below}
-use Rattle.nest_tree.proofs.LookUps.{untold, none_past, none_known}
+use Rattle.nest_tree.proofs.LookUps.{none_found, none_past, none_known}
 use Rattle.nest_tree.proofs.BrokenList.{broken_before}
 use Rattle.nest_tree.proofs.nested.Nest.first_broken.Goals as goal
 
@@ -15,7 +15,7 @@ returns-in_err-end-clause-none c =
 
 pub returns-in_err-end-clause-first : goal.returns-in_err-end-clause-first
 returns-in_err-end-clause-first c =
-    untold c.args.self.now.rows c.args.n end_of_mark (λ (m : Mark). first_from (is_broken itself c.args.self.now.rows) c.args.n (m.end - c.args.n))
+    none_found c.args.self.now.rows c.args.n end_of_mark (λ (m : Mark). first_from (is_broken itself c.args.self.now.rows) c.args.n (m.end - c.args.n))
     c.from_residual.result c.from_residual.ensures c.in_err-end.ensures
 
 pub returns-clause-none : goal.returns-clause-none

@@ -6,7 +6,7 @@ use Rattle.nest_tree.specs.Linked.{Link}
 use Rattle.nest_tree.specs.declared.knot.Knot.{Knot}
 use Rattle.nest_tree.specs.Shapes.{code_knot}
 use Rattle.nest_tree.specs.Places.{link_of}
-use Rattle.nest_tree.proofs.LookUps.{told, untold, none_past, none_known}
+use Rattle.nest_tree.proofs.LookUps.{known_of, none_found, none_past, none_known}
 use Rattle.nest_tree.proofs.nested.Nest.knot.Goals as goal
 
 twice : (o : Option Mark) → option_map (λ (m : Mark). code_knot m.knot) o ≡ option_map code_knot (option_map (λ (m : Mark). m.knot) o)
@@ -20,7 +20,7 @@ returns-in_err-link-clause-none c =
 
 pub returns-in_err-link-clause-knot : goal.returns-in_err-link-clause-knot
 returns-in_err-link-clause-knot c =
-    untold c.args.self.now.rows c.args.n link_of (λ (m : Mark). code_knot m.knot) c.from_residual.result c.from_residual.ensures c.in_err-link.ensures.link
+    none_found c.args.self.now.rows c.args.n link_of (λ (m : Mark). code_knot m.knot) c.from_residual.result c.from_residual.ensures c.in_err-link.ensures.link
     ∙ twice (mark_of itself c.args.self.now.rows c.args.n)
 
 pub returns-clause-none : goal.returns-clause-none
@@ -30,5 +30,5 @@ returns-clause-none c = none_known c.args.self.now.rows c.args.n link_of (λ (m 
 pub returns-clause-knot : goal.returns-clause-knot
 returns-clause-knot c =
     ap (λ (k : Knot). Some k) c.knot.ensures
-    ∙ told c.args.self.now.rows c.args.n link_of (λ (m : Mark). code_knot m.knot) (λ (x : Link). x.knot) (λ m. refl)
+    ∙ known_of c.args.self.now.rows c.args.n link_of (λ (m : Mark). code_knot m.knot) (λ (x : Link). x.knot) (λ m. refl)
     c.in_ok-link.link c.in_ok-link.ensures.link ∙ twice (mark_of itself c.args.self.now.rows c.args.n)

@@ -1,7 +1,7 @@
 use Rattle.std.proofs.Common.{refl, ℕ}
 use Rattle.dgn_drawing.specs.Numbering.{Mark}
 use Rattle.nest_tree.specs.Places.{end_of_mark}
-use Rattle.nest_tree.proofs.LookUps.{told, untold, none_past, none_known}
+use Rattle.nest_tree.proofs.LookUps.{known_of, none_found, none_past, none_known}
 use Rattle.nest_tree.proofs.nested.Nest.span.Goals as goal
 
 pub returns-in_err-end-clause-none : goal.returns-in_err-end-clause-none
@@ -11,7 +11,7 @@ returns-in_err-end-clause-none c =
 
 pub returns-in_err-end-clause-span : goal.returns-in_err-end-clause-span
 returns-in_err-end-clause-span c =
-    untold c.args.self.now.rows c.args.n end_of_mark (λ (m : Mark). (c.args.n, m.end)) c.from_residual.result c.from_residual.ensures c.in_err-end.ensures
+    none_found c.args.self.now.rows c.args.n end_of_mark (λ (m : Mark). (c.args.n, m.end)) c.from_residual.result c.from_residual.ensures c.in_err-end.ensures
 
 pub returns-clause-none : goal.returns-clause-none
 returns-clause-none c =
@@ -19,5 +19,5 @@ returns-clause-none c =
     none_known c.args.self.now.rows c.args.n end_of_mark (λ (m : Mark). (c.args.n, m.end)) pair c.in_ok-end.end c.in_ok-end.ensures
 
 pub returns-clause-span : goal.returns-clause-span
-returns-clause-span c = told c.args.self.now.rows c.args.n end_of_mark (λ (m : Mark). (c.args.n, m.end)) (λ (e : ℕ). (c.args.n, e)) (λ m. refl)
+returns-clause-span c = known_of c.args.self.now.rows c.args.n end_of_mark (λ (m : Mark). (c.args.n, m.end)) (λ (e : ℕ). (c.args.n, e)) (λ m. refl)
     c.in_ok-end.end c.in_ok-end.ensures

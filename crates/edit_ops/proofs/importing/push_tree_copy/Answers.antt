@@ -10,7 +10,7 @@ use Rattle.edit_ops.specs.Causes.{first_cause}
 use Rattle.edit_ops.specs.Copying.{copy_cause}
 use Rattle.edit_ops.specs.Written.{found, IsReady}
 use Rattle.edit_ops.proofs.AcceptedEdit.{copy_ready}
-use Rattle.edit_ops.proofs.importing.push_listed_copy.Goals as goal
+use Rattle.edit_ops.proofs.importing.push_tree_copy.Goals as goal
 
 pub push_copy-requires-clause-ready : goal.push_copy-requires-clause-ready
 push_copy-requires-clause-ready c =
@@ -20,6 +20,6 @@ push_copy-requires-clause-ready c =
     ap (found (elements c.args.d.now)) c.deref.ensures.value ∙ c.in_ok-live.ensures.found in
     let none : copy_cause d.dim es c.args.by.now c.args.n ≡ None =
     ap (λ (vs : List Live). option_or (first_cause d.dim tests.Moves vs) (first_cause d.dim (tests.Leaves c.args.by.now) vs)) (sym are)
-    ∙ sym c.move_cause.ensures ∙ c.in_default.is in
+    ∙ sym c.move_cause.ensures ∙ c.in_default-move_cause.is in
     subst (λ (by : Displacement). AllByRecursion (λ v. IsReady d.dim (edit.Copy c.args.n by) v.element) (live_tree es c.args.n)) (sym c.same_shift.ensures)
     (copy_ready d.dim c.args.by.now c.args.n (live_tree es c.args.n) none)
