@@ -1,7 +1,9 @@
 mod Untouched
 mod Fitted
 mod Joined
-mod Endings
+mod Telling
+mod Parts
+mod Whole
 mod Stepping
 mod Ran
 mod Tallied
@@ -26,6 +28,5 @@ mod Filed
 mod Patching
 mod PatchEndings
 mod SameFile
-mod Stops
 mod NamedValues
 mod ScriptEdits

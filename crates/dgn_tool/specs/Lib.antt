@@ -13,8 +13,9 @@ pub mod Generation
 pub mod Applied
 pub mod SecondFiles
 pub mod Outcome
-pub mod Ways
-pub mod Told
+pub mod Ends
+pub mod Readings
+pub mod Runs
 pub mod Laws
 pub mod PatchLaws
 pub mod FitLaws

@@ -1,5 +1,5 @@
 -- What `pack` comes to: the patch file of the edits that a run leaves.
-use Rattle.std.specs.Prelude.{ℕ, ◌≡◌, nat_lt, if◌then◌else◌, List, [], ◌∷◌, ◌++◌, length, map, reverse, codes, Some}
+use Rattle.std.specs.Prelude.{ℕ, ◌≡◌, nat_lt, if◌then◌else◌, List, [], ◌∷◌, ◌++◌, length, map, reverse, codes}
 use Rattle.dgn_drawing.specs.Spelling.{spelling}
 use Rattle.undo_log.specs.declared.entry.Entry.{Entry}
 use Rattle.undo_log.specs.Entries.{back}
@@ -11,7 +11,7 @@ use Rattle.edit_script.specs.declared.command.Command.{Command}
 use Rattle.dgn_tool.specs.Commands.{begun}
 use Rattle.dgn_tool.specs.Imports.{Importing}
 use Rattle.dgn_tool.specs.Given.{Given, refused_count}
-use Rattle.dgn_tool.specs.Ended.{Outcome, ended}
+use Rattle.dgn_tool.specs.Ended.{Outcome, ended, filed_then_said, status_with}
 use Rattle.dgn_tool.specs.Lines.{numbered}
 use Rattle.dgn_tool.specs.Remaining.{Made, with_command, with_import, with_step, with_steps, fields_made, remaining}
 use Rattle.dgn_tool.specs.declared.status.Status.TheVariants as statuses
@@ -30,11 +30,7 @@ packed_after gs s = map (packed_made s.dim) (remaining gs s)
 
 -- the patch file of entries is written, and it is said how many there are; so many steps were refused
 abbrev pub filed_patch : List Packed → ℕ → List ℕ → Outcome
-filed_patch es refused patch = record {
-  status = if nat_lt 0 refused then statuses.SomeRefused else statuses.Done;
-  text = numbered (codes "entries ") (length es);
-  file = Some (patch, patch_spelling es);
-}
+filed_patch es refused patch = filed_then_said (status_with refused) (numbered (codes "entries ") (length es)) patch (patch_spelling es)
 
 -- where it isn't too long; the texts of the steps aren't said
 abbrev pub packed_from : State → List Given → List ℕ → Outcome

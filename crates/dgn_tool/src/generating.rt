@@ -1,21 +1,18 @@
 // Generating a drawing, and trying it by a fixed script.
 
-ghost use Rattle.std.specs.Prelude.{◌≡◌, ◌≤◌, ◌++◌, length, slice_index, IfOk, OnOk, IsTrue};
-ghost use Rattle.dgn_desk.specs.Desk.{Rose};
+ghost use Rattle.std.specs.Prelude.{◌≡◌, ◌≤◌, ◌++◌, length, slice_index, IfOk, OnOk};
 ghost use Rattle.dgn_drawing.specs.Spelling.{spelling};
 ghost use Rattle.dgn_session.specs.State.{state_of};
 ghost use Rattle.dgn_tool.specs.Commands.{begun};
+ghost use Rattle.dgn_tool.specs.Ends.{DeskComes};
 ghost use Rattle.dgn_tool.specs.Given.{after_all};
 ghost use Rattle.dgn_tool.specs.Generation.{fixed_commands, fixed_steps, sizes_of, counts_of, summary, generated_from, drawing_of, generation};
-ghost use Rattle.dgn_tool.specs.Outcome.{IsEnding, ComesTo, IsFaultless};
 
-use crate::ending::stopped;
-use crate::filling::filling_len;
+use crate::ending::Ending;
 use crate::lines::push_numbered;
-use crate::status::Status;
 use crate::tally::{Tally, run_unsaid};
-use crate::top::write_drawing;
-use dgn_desk::{Desk, say_all};
+use crate::writing::{file_filled, filling_len};
+use dgn_desk::{Desk, Stop};
 use dgn_generator::generate;
 use dgn_session::Session;
 use edit_script::{Command, ScriptFault, read_script};
@@ -41,21 +38,13 @@ pub(crate) fn generate_file<D: Desk>(
     seed: u32,
     count: u32,
     output: &str,
-) -> Status
+) -> Result<Ending, Stop>
     requires some { 1 ≤ count }
     requires few { count ≤ 200000 }
-    ensures outcome { ComesTo result (λ _. generation seed count output.now) (D.content desk.old) (D.content desk.new) }
-    ensures counted { IsEnding result → (D.read_faults desk.new ≡ D.read_faults desk.old)
-        × (D.write_faults desk.new ≡ D.write_faults desk.old) }
-    ensures usage { result ≡ Status.Usage → ⊥ }
-    ensures read { result ≡ Status.ReadFault → ⊥ }
-    ensures write { result ≡ Status.WriteFault → Rose (D.write_faults desk.old) (D.write_faults desk.new) }
-    ensures able { IsTrue (D.willing desk.old) → IsFaultless result }
+    ensures { DeskComes D.Desk (λ _. generation seed count output.now) desk.old desk.new result }
 {
-    match begin(alloc, seed, count) {
-        Ok(mut session) => try_drawing(alloc, desk, &mut session, output),
-        Err(_) => Status::Memory,
-    }
+    let mut session = begin(alloc, seed, count)?;
+    try_drawing(alloc, desk, &mut session, output)
 }
 
 // Begins a session on the drawing of a seed and a count. It opens, so opening it fails for want of memory alone.
@@ -73,30 +62,19 @@ fn begin(alloc: Global, seed: u32, count: u32) -> Result<Session, AllocError>
 }
 
 // Runs the fixed script on the drawing of a session, writes it, and says its summary.
-fn try_drawing<D: Desk>(alloc: Global, desk: &mut D, session: &mut Session, output: &str) -> Status
-    ensures outcome { ComesTo result
-        (λ _. generated_from (state_of session.old) session.old.tail output.now)
-        (D.content desk.old) (D.content desk.new) }
-    ensures counted { IsEnding result → (D.read_faults desk.new ≡ D.read_faults desk.old)
-        × (D.write_faults desk.new ≡ D.write_faults desk.old) }
-    ensures usage { result ≡ Status.Usage → ⊥ }
-    ensures read { result ≡ Status.ReadFault → ⊥ }
-    ensures write { result ≡ Status.WriteFault → Rose (D.write_faults desk.old) (D.write_faults desk.new) }
-    ensures able { IsTrue (D.willing desk.old) → IsFaultless result }
+fn try_drawing<D: Desk>(
+    alloc: Global,
+    desk: &mut D,
+    session: &mut Session,
+    output: &str,
+) -> Result<Ending, Stop>
+    ensures { DeskComes D.Desk
+        (λ _. generated_from (state_of session.old) session.old.tail output.now) desk.old desk.new result }
 {
     let before = session.design().body.len();
-    let summary = match summarize(alloc, session, before) {
-        Ok(summary) => summary,
-        Err(_) => return Status::Memory,
-    };
-    match write_drawing(desk, output, before, session) {
-        Ok(()) => {}
-        Err(stop) => return stopped(stop),
-    }
-    match say_all(desk, &summary) {
-        Ok(()) => Status::Done,
-        Err(stop) => stopped(stop),
-    }
+    let text = summarize(alloc, session, before)?;
+    let design = session.design();
+    file_filled(desk, output, before, &design.body, &design.tail, &text)
 }
 
 // Runs the fixed script on the drawing of a session, whose elements have `before` bytes, and gives its summary.

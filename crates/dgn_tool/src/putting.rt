@@ -4,8 +4,8 @@ ghost use Rattle.std.specs.Prelude.{◌≤◌, ◌<◌, ◌+◌, ◌^◌, [], �
 ghost use Rattle.patch_file.specs.PatchView.{packed_of, all_packed};
 ghost use Rattle.dgn_tool.specs.Applied.{put_from, Puts};
 
-use crate::opening::MOST_DESIGN;
 use crate::put_end::PutEnd;
+use crate::reading::MOST_DESIGN;
 use patch_file::{PatchEntry, apply_entry, stands};
 
 // Puts an entry on a body where it stands there, and the body keeps the limit with so many bytes behind it.
