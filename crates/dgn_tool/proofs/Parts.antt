@@ -1,22 +1,30 @@
 -- Parts of a run, one after the other: reading and then an end, reading twice, and what an end of one part is for the run.
-use Rattle.std.proofs.Common.{◌≡◌, ℕ, Option, Some, None, Result, Ok, Err, refl, sym, ◌∙◌, subst}
+use Rattle.std.proofs.Common.{◌≡◌, List, ℕ, Option, Some, None, Result, Ok, Err, refl, sym, ◌∙◌, subst}
 use Rattle.std.specs.Prelude.{IfSome}
 use Rattle.dgn_desk.specs.declared.stop.Stop.{Stop}
 use Rattle.dgn_desk.specs.declared.stop.Stop.TheVariants as stops
 use Rattle.dgn_desk.specs.Content.{Content, Files, OnlyLeftDiffers}
-use Rattle.dgn_desk.specs.Desk.{Rose, Counts}
+use Rattle.dgn_desk.specs.Desk.{Rose, Counts, SaysAll}
 use Rattle.dgn_desk.specs.Seen.{Seen, OnlyReads, Writes}
-use Rattle.dgn_desk.proofs.InTurn.{wanted}
-use Rattle.dgn_tool.specs.Ended.{Outcome}
-use Rattle.dgn_tool.specs.Ends.{Tells, IsUnread, Ends, ReadTo, end_of}
+use Rattle.dgn_desk.proofs.InTurn.{done_so, stopped_so, wanted}
+use Rattle.dgn_tool.specs.Ended.{Outcome, ended}
+use Rattle.dgn_tool.specs.Ends.{status_said, Tells, IsUnread, Ends, ReadTo, end_of}
 use Rattle.dgn_tool.specs.declared.ending.Ending.{Ending}
 use Rattle.dgn_tool.specs.declared.end.End.{End}
 use Rattle.dgn_tool.specs.declared.end.End.TheVariants as ends
-use Rattle.dgn_tool.proofs.Telling.{where_told, stopped_early, nothing_done, read_twice, tells_through}
+use Rattle.dgn_tool.proofs.Telling.{where_told, stopped_early, nothing_done, read_twice, tells_through, line_said, line_stopped}
 
 -- the same outcome by another name
 pub named_so : (o q : Outcome) (r : Result Ending Stop) (old new : Seen) → o ≡ q → Writes r (Tells (λ _. q) r) old new → Writes r (Tells (λ _. o) r) old new
 named_so o q r old new same comes = subst (λ (x : Outcome). Writes r (Tells (λ _. x) r) old new) (sym same) comes
+
+-- a line that ends the run was said
+pub line_ends : (ending : Ending) (line : List ℕ) (old new : Seen) → Writes {T = Unit {0}} (Ok tt) (SaysAll (Ok tt) line) old new → Writes {T = Ending} (Ok ending) (Tells (λ _. ended (status_said ending) line) (Ok ending)) old new
+line_ends ending line old new said = done_so tt ending said (line_said ending line old.content new.content)
+
+-- or that was stopped
+pub line_stops : (ending : Ending) (line : List ℕ) (stop : Stop) (old new : Seen) → Writes {T = Unit {0}} (Err stop) (SaysAll (Err stop) line) old new → Writes {T = Ending} (Err stop) (Tells (λ _. ended (status_said ending) line) (Err stop)) old new
+line_stops ending line stop old new said = stopped_so stop said (line_stopped ending line stop old.content new.content)
 
 -- a part that reads nothing wanted memory before it did anything
 pub wants : (o : Files → Outcome) (old : Seen) → Writes {T = Ending} (Err stops.Memory) (Tells o (Err stops.Memory)) old old

@@ -1,11 +1,12 @@
 -- What a whole run ensures, said as one.
-use Rattle.std.specs.Prelude.{◌≡◌, Option, IfSome, IsNone, IsTrue}
+use Rattle.std.specs.Prelude.{ℕ, ◌≡◌, Option, IfSome, IsNone, IsTrue}
 use Rattle.dgn_desk.specs.declared.desk.Desk.{Ghosts}
 use Rattle.dgn_desk.specs.Content.{OnlyLeftDiffers}
 use Rattle.dgn_desk.specs.Desk.{Rose}
 use Rattle.dgn_desk.specs.Seen.{Seen, seen}
 use Rattle.dgn_tool.specs.Request.{Request}
 use Rattle.dgn_tool.specs.Outcome.{outcome_of, IsEnding, EndsAs, StoppedAs, IsFaultless, HasFiles, Reads}
+use Rattle.dgn_tool.specs.Status.{number_of}
 use Rattle.dgn_tool.specs.declared.status.Status.{Status}
 use Rattle.dgn_tool.specs.declared.status.Status.TheVariants as statuses
 
@@ -25,3 +26,7 @@ pub record Runs (request : Option Request) (old new : Seen) (status : Status) : 
 -- the same of a desk before and after
 abbrev pub DeskRuns : {D : Type 0} → Ghosts D → Option Request → D → D → Status → Type 0
 DeskRuns g request old new status = Runs request (seen g old) (seen g new) status
+
+-- so it ended with the number of its status
+abbrev pub DeskExits : {D : Type 0} → Ghosts D → Option Request → D → D → ℕ → Type 0
+DeskExits g request old new number = (status : Status) × (number ≡ number_of status) × DeskRuns g request old new status

@@ -13,6 +13,7 @@ mod end;
 mod ending;
 mod fences;
 mod generating;
+mod given;
 mod importing;
 mod inputs;
 pub mod laws;
@@ -34,6 +35,7 @@ mod writing;
 
 pub use answers::answer;
 pub use dgn_generator::generate;
+pub use given::run_given;
 pub use importing::answer_import;
 pub use status::Status;
 pub use top::run;

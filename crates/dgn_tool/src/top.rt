@@ -59,7 +59,7 @@ pub fn run<D: Desk>(alloc: Global, words: &[String], desk: &mut D) -> Status
 }
 
 // The same, said as one.
-fn run_words<D: Desk>(alloc: Global, words: &[String], desk: &mut D) -> Status
+pub(crate) fn run_words<D: Desk>(alloc: Global, words: &[String], desk: &mut D) -> Status
     ensures { DeskRuns D.Desk (request_of (map string_bytes words.now)) desk.old desk.new result }
 {
     match read_words(words) {

@@ -1,4 +1,4 @@
-use Rattle.std.proofs.Common.{◌≡◌, Err, ap, sym, subst, ◌∙◌}
+use Rattle.std.proofs.Common.{◌≡◌, ◌≤◌, List, ℕ, length, Err, ap, sym, subst, ◌∙◌}
 use Rattle.std.specs.Prelude.{codes}
 use Rattle.std.proofs.lemmas.Result.{err_from_is_err_and}
 use Rattle.edit_script.specs.Script.{commands_of, Tells}
@@ -9,7 +9,7 @@ use Rattle.dgn_tool.specs.Lines.{numbered}
 use Rattle.dgn_tool.specs.Outcome.{script_outcome}
 use Rattle.dgn_tool.specs.Readings.{script_in, ReadsAs}
 use Rattle.dgn_tool.specs.declared.status.Status.TheVariants as statuses
-use Rattle.dgn_tool.proofs.InputsRead.{reads_so, script_file}
+use Rattle.dgn_tool.proofs.InputsRead.{reads_so, script_file, items_within}
 use Rattle.dgn_tool.proofs.Parts.{known_so, then_comes, wants_behind}
 use Rattle.dgn_tool.proofs.reading.read_commands.Goals as goal
 
@@ -35,3 +35,13 @@ returns-in-Err-Line-clause-ended g c =
 pub returns-clause-ended : goal.returns-clause-ended
 returns-clause-ended g c =
     record { early = λ go_on. wants_behind c.in_ok-text.ensures.read (Has c.args.script.now) (script_in c.args.script.now go_on) }
+
+pub read_script-requires : goal.read_script-requires
+read_script-requires g c =
+    subst (λ (b : List ℕ). length b ≤ 1048576) (sym c.deref.ensures.value) (items_within c.in_ok-text.text 1048576 c.in_ok-text.ensures.within)
+
+pub returns-in-Ok-clause-ended : goal.returns-in-Ok-clause-ended
+returns-in-Ok-clause-ended g c = tt
+
+pub returns-in-Err-Line-clause-read : goal.returns-in-Err-Line-clause-read
+returns-in-Err-Line-clause-read g c = tt
