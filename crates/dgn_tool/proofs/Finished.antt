@@ -9,11 +9,11 @@ use Rattle.dgn_desk.specs.declared.stop.Stop.{Stop}
 use Rattle.dgn_desk.proofs.InTurn.{done_with, stopped_so, then_so}
 use Rattle.dgn_drawing.specs.Opening.{elements_of}
 use Rattle.dgn_drawing.specs.Spelling.{spelling}
-use Rattle.dgn_drawing.proofs.Fronts.{body_spelled}
 use Rattle.elem_index.specs.declared.design.Design.{Design}
-use Rattle.elem_index.specs.Design.{elements, IsWhole}
+use Rattle.elem_index.specs.Design.{IsWhole}
 use Rattle.dgn_session.specs.State.{State}
-use Rattle.dgn_tool.specs.Given.{Given, after_all, texts_of, refused_count}
+use Rattle.dgn_answers.proofs.Counting.{spelled_with}
+use Rattle.dgn_answers.specs.Given.{Given, after_all, texts_of, refused_count}
 use Rattle.dgn_tool.specs.Filling.{is_blocks, left_in_block, filling, file_made}
 use Rattle.dgn_tool.specs.Ended.{said_then_filed, status_with, file_after}
 use Rattle.dgn_tool.specs.Ends.{Tells, status_said}
@@ -81,13 +81,6 @@ filled_so before n long body tail tail' zeros same counted few is are =
     let exact : n ≡ cond (is_blocks before tail) (left_in_block (length body + length tail)) 0 =
     is ∙ ap (λ (t : List ℕ). cond (is_blocks before t) (left_in_block (long + length t)) 0) same ∙ ap (λ (k : ℕ). cond (is_blocks before tail) (left_in_block (k + length tail)) 0) counted in
     ap (λ (z : List ℕ). body ++ (tail ++ z)) (zeros_fill before tail (length body) n zeros few exact are)
-
--- the elements of the drawing spell its body
-pub spelled_with : (dim : ℕ) (body : List ℕ) (d : Design) → IsWhole d → d.dim ≡ dim → d.body.items ≡ body → d.body.items ≡ spelling (elements_of dim body)
-spelled_with dim body d whole axes text =
-    sym (body_spelled d.body.items d.tail.items d.dim (elements d) whole.is_open.opens)
-    ∙ ap (λ (k : ℕ). spelling (elements_of k d.body.items)) axes
-    ∙ ap (λ (b : List ℕ). spelling (elements_of dim b)) text
 
 -- as many bytes as they spell
 pub begun_with : (dim : ℕ) (body : List ℕ) (d : Design) (n : ℕ) → IsWhole d → d.dim ≡ dim → d.body.items ≡ body → n ≡ vec_len d.body → n ≡ length (spelling (elements_of dim body))

@@ -13,10 +13,10 @@ use Rattle.elem_index.specs.Answers.{HasCount, TellsFault}
 use Rattle.edit_script.specs.Script.{commands_of}
 use Rattle.edit_script.specs.declared.command.Command.{Command}
 use Rattle.edit_script.specs.declared.fault.ScriptFault.{ScriptFault}
-use Rattle.dgn_tool.specs.Lines.{numbered}
+use Rattle.dgn_answers.specs.Lines.{numbered}
 use Rattle.dgn_tool.specs.Ended.{Outcome, ended}
 use Rattle.dgn_tool.specs.Ends.{Has}
-use Rattle.dgn_tool.specs.Given.{Given, given_all}
+use Rattle.dgn_answers.specs.Given.{Given, given_all}
 use Rattle.dgn_tool.specs.Outcome.{script_outcome, scripted, opened_outcome, input_outcome, run_outcome, checked, comes_to_script, HasBoth, HasAll}
 use Rattle.dgn_tool.specs.Readings.{whole_file, IsWholeFile, OpensAs, FaultSays, ReadsAs, ComeTo, GoesOn}
 use Rattle.dgn_tool.specs.SecondFiles.{names_in, files_named, is_within, stepped, AreThere, HasSeconds}

@@ -4,21 +4,15 @@ mod Joined
 mod Telling
 mod Parts
 mod Whole
-mod Stepping
 mod Ran
-mod Tallied
 mod Finished
 mod Filled
-mod Undone
 mod Begun
-mod Links
 mod Tried
-mod Logged
 mod Stacked
 mod Appending
 mod SecondsRead
 mod Names
-mod Imported
 mod InputsRead
 mod Linked
 mod Packed
@@ -30,3 +24,4 @@ mod PatchEndings
 mod SameFile
 mod NamedValues
 mod ScriptEdits
+mod Named

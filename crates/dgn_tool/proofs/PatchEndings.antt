@@ -17,13 +17,13 @@ use Rattle.patch_file.specs.Standing.{put_all}
 use Rattle.dgn_tool.specs.Applied.{Patched, Made, Differs, Overruns, put_from, patched_outcome, entries_outcome, reading_outcome, body_patched, patched}
 use Rattle.dgn_tool.specs.Ended.{Outcome, ended, filed_then_said}
 use Rattle.dgn_tool.specs.Filling.{file_made}
-use Rattle.dgn_tool.specs.Lines.{numbered}
+use Rattle.dgn_answers.specs.Lines.{numbered}
 use Rattle.dgn_tool.specs.Outcome.{input_outcome, outcome_of, outcome}
 use Rattle.dgn_tool.specs.PatchLaws.{Applies, RefusesWhereOneDiffers, RefusesNoneElse, AppliesAll}
 use Rattle.dgn_tool.specs.declared.status.Status.TheVariants as statuses
 use Rattle.dgn_tool.specs.Readings.{IsWholeFile, OpensAs}
 use Rattle.dgn_tool.proofs.InputsRead.{input_opens}
-use Rattle.dgn_tool.proofs.Finished.{spelled_with}
+use Rattle.dgn_answers.proofs.Counting.{spelled_with}
 use Rattle.dgn_tool.proofs.Patching.{where_one_differs, one_differs, all_made}
 
 -- what was read of PATCH goes on so

@@ -1,5 +1,5 @@
 -- The steps of a run, one after the other: what those that ran have said and done, and what those that are left will.
-use Rattle.std.proofs.Common.{◌≡◌, ℕ, ◌+◌, ◌≤◌, Bool, true, false, Ok, Err, List, [], ◌∷◌, ◌++◌, take, drop, arith, Option, Some, None, refl, sym, ap, ◌∙◌, append_assoc}
+use Rattle.std.proofs.Common.{◌≡◌, ℕ, ◌+◌, Bool, Ok, Err, List, [], ◌∷◌, ◌++◌, take, drop, arith, Option, Some, None, refl, sym, ap, ◌∙◌, append_assoc}
 use Rattle.std.specs.Prelude.{option_map}
 use Rattle.std.specs.Int.{from_bool}
 use Rattle.std.proofs.lemmas.List.{append-nil, take-append-drop}
@@ -11,7 +11,7 @@ use Rattle.dgn_desk.specs.declared.stop.Stop.TheVariants as stops
 use Rattle.dgn_desk.proofs.InTurn.{done_so, stopped_so, then_so}
 use Rattle.dgn_desk.proofs.Telling.{spoken-append}
 use Rattle.dgn_session.specs.State.{State}
-use Rattle.dgn_tool.specs.Given.{Given, step_text, step_refused, after_step, after_all, texts_of, refused_count}
+use Rattle.dgn_answers.specs.Given.{Given, step_text, step_refused, after_step, after_all, texts_of, refused_count}
 use Rattle.dgn_tool.specs.Outcome.{SaysFront, SaysAs}
 
 -- all of this text was said
@@ -107,8 +107,3 @@ ran_part all left c refused stop line from s old now then ran line_is says =
       part.2 ∙ ap (option_map (spoken (take part.0 line))) before ∙ spoken-append ran.done (take part.0 line) old.content,
     )) in
     stopped_so stop both (λ front. front)
-
--- at most one more is refused with each command
-pub refused_few : (refused i : ℕ) (was : Bool) → refused ≤ i → refused + from_bool was ≤ i + 1
-refused_few refused i true few = omega (arith, few)
-refused_few refused i false few = omega (arith, few)

@@ -6,9 +6,9 @@ use Rattle.elem_index.proofs.Finds.{opens-opening}
 use Rattle.patch_file.specs.Spelling.{Packed}
 use Rattle.patch_file.specs.Reading.{patch_of}
 use Rattle.patch_file.proofs.Again.{patch_again}
-use Rattle.dgn_tool.specs.Commands.{begun}
+use Rattle.dgn_answers.specs.Commands.{begun}
 use Rattle.dgn_tool.specs.Filling.{file_made}
-use Rattle.dgn_tool.specs.Lines.{numbered}
+use Rattle.dgn_answers.specs.Lines.{numbered}
 use Rattle.dgn_tool.specs.Ended.{Outcome, filed_then_said}
 use Rattle.dgn_tool.specs.Packing.{packed_after}
 use Rattle.dgn_tool.specs.Laws.{steps_of}

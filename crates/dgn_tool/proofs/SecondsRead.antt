@@ -11,7 +11,8 @@ use Rattle.dgn_import.specs.Seconds.{SecondValue, second_of, value_of, IsSound}
 use Rattle.edit_script.specs.declared.command.Command.{Command}
 use Rattle.dgn_tool.specs.Ended.{Outcome, ended}
 use Rattle.dgn_tool.specs.Readings.{IsWholeFile, whole_file, ComeTo, seconds_in}
-use Rattle.dgn_tool.specs.SecondFiles.{names_of, names_in, files_named, is_within, waiting, AreThere, ComeBehind}
+use Rattle.dgn_tool.specs.SecondFiles.{names_of, names_in, files_named, is_within, AreThere, ComeBehind}
+use Rattle.dgn_answers.specs.Given.{waiting}
 use Rattle.dgn_tool.specs.declared.status.Status.TheVariants as statuses
 
 -- Names, and more behind them.

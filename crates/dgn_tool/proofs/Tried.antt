@@ -5,11 +5,11 @@ use Rattle.std.proofs.lemmas.List.{length-replicate}
 use Rattle.dgn_drawing.specs.Shown.{shown}
 use Rattle.dgn_drawing.specs.Spelling.{spelling}
 use Rattle.dgn_session.specs.State.{State}
-use Rattle.dgn_tool.specs.Commands.{begun}
-use Rattle.dgn_tool.specs.Given.{after_all}
+use Rattle.dgn_answers.specs.Commands.{begun}
+use Rattle.dgn_answers.specs.Given.{after_all}
 use Rattle.dgn_tool.specs.Filling.{is_blocks, left_in_block, filling, file_made}
 use Rattle.dgn_tool.specs.Generation.{fixed_steps, sizes_of, summary, generated_from, drawing_of, generation}
-use Rattle.dgn_tool.specs.Lines.{numbered}
+use Rattle.dgn_answers.specs.Lines.{numbered}
 use Rattle.dgn_tool.specs.Ended.{filed_then_said}
 use Rattle.dgn_tool.specs.declared.status.Status.TheVariants as statuses
 use Rattle.dgn_tool.proofs.Finished.{made_so}

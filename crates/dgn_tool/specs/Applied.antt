@@ -9,7 +9,7 @@ use Rattle.patch_file.specs.Spelling.{Packed}
 use Rattle.patch_file.specs.Reading.{patch_of}
 use Rattle.patch_file.specs.Standing.{put_on}
 use Rattle.dgn_tool.specs.Filling.{file_made}
-use Rattle.dgn_tool.specs.Lines.{numbered}
+use Rattle.dgn_answers.specs.Lines.{numbered}
 use Rattle.dgn_tool.specs.Ended.{Outcome, ended, filed_then_said}
 use Rattle.dgn_tool.specs.declared.put_end.PutEnd.{PutEnd}
 use Rattle.dgn_tool.specs.declared.put_end.PutEnd.TheVariants as ends

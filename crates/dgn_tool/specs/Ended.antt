@@ -2,7 +2,7 @@
 use Rattle.std.specs.Prelude.{ℕ, nat_lt, Bool, true, false, if◌then◌else◌, Option, Some, None, List, length}
 use Rattle.dgn_drawing.specs.Spelling.{spelling}
 use Rattle.dgn_session.specs.State.{State}
-use Rattle.dgn_tool.specs.Given.{Given, after_all}
+use Rattle.dgn_answers.specs.Given.{Given, after_all}
 use Rattle.dgn_tool.specs.Filling.{file_made}
 use Rattle.dgn_tool.specs.declared.status.Status.{Status}
 use Rattle.dgn_tool.specs.declared.status.Status.TheVariants as statuses

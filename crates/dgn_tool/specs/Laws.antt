@@ -16,13 +16,13 @@ use Rattle.edit_script.specs.declared.command.Command.{Command}
 use Rattle.edit_script.specs.declared.command.Command.TheVariants as command
 use Rattle.edit_script.specs.Script.{commands_of}
 use Rattle.elem_index.specs.Opened.{Opened}
-use Rattle.dgn_tool.specs.Commands.{begun}
-use Rattle.dgn_tool.specs.Given.{Given, given_all, after_all}
+use Rattle.dgn_answers.specs.Commands.{begun}
+use Rattle.dgn_answers.specs.Given.{Given, given_all, after_all}
 use Rattle.dgn_tool.specs.Filling.{filling}
 use Rattle.dgn_tool.specs.Ended.{file_after}
 use Rattle.dgn_tool.specs.Applied.{AllFit}
 use Rattle.dgn_tool.specs.Packing.{packed_after}
-use Rattle.dgn_tool.specs.Remaining.{Made, remaining, fields_made}
+use Rattle.dgn_answers.specs.Remaining.{Made, remaining, fields_made}
 
 -- the place is in no field that it writes
 abbrev pub IsOutside : ℕ → ℕ → Made → Type 0

@@ -1,13 +1,8 @@
 pub mod Status
 pub mod Request
 pub mod RequestView
-pub mod Lines
-pub mod Commands
-pub mod Imports
-pub mod Given
 pub mod Filling
 pub mod Ended
-pub mod Remaining
 pub mod Packing
 pub mod Generation
 pub mod Applied

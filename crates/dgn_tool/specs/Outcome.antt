@@ -17,9 +17,9 @@ use Rattle.dgn_tool.specs.Ended.{Outcome, ended, said_then_filed, status_with, f
 use Rattle.dgn_tool.specs.Generation.{generation}
 use Rattle.dgn_tool.specs.Packing.{packed}
 use Rattle.dgn_tool.specs.Applied.{patched}
-use Rattle.dgn_tool.specs.Lines.{numbered}
-use Rattle.dgn_tool.specs.Commands.{begun}
-use Rattle.dgn_tool.specs.Given.{Given, texts_of, refused_count}
+use Rattle.dgn_answers.specs.Lines.{numbered}
+use Rattle.dgn_answers.specs.Commands.{begun}
+use Rattle.dgn_answers.specs.Given.{Given, texts_of, refused_count}
 use Rattle.dgn_tool.specs.SecondFiles.{stepped, HasSeconds}
 use Rattle.dgn_tool.specs.declared.status.Status.{Status}
 use Rattle.dgn_tool.specs.declared.status.Status.TheVariants as statuses

@@ -9,12 +9,12 @@ use Rattle.patch_file.specs.Reading.{patch_of}
 use Rattle.patch_file.specs.Standing.{Stands, AllStand, put_all}
 use Rattle.edit_script.specs.declared.command.Command.{Command}
 use Rattle.dgn_tool.specs.Applied.{AllFit}
-use Rattle.dgn_tool.specs.Commands.{begun}
+use Rattle.dgn_answers.specs.Commands.{begun}
 use Rattle.dgn_tool.specs.Filling.{file_made}
-use Rattle.dgn_tool.specs.Lines.{numbered}
+use Rattle.dgn_answers.specs.Lines.{numbered}
 use Rattle.dgn_tool.specs.Request.{Apply, request_of}
 use Rattle.dgn_tool.specs.Ended.{Outcome, ended, filed_then_said}
-use Rattle.dgn_tool.specs.Given.{Given}
+use Rattle.dgn_answers.specs.Given.{Given}
 use Rattle.dgn_tool.specs.Laws.{IsEditIn, steps_of}
 use Rattle.dgn_tool.specs.Outcome.{told, outcome}
 use Rattle.dgn_tool.specs.Packing.{packed_after}

@@ -10,7 +10,7 @@ use Rattle.elem_index.specs.declared.open_fault.OpenFault.{OpenFault}
 use Rattle.elem_index.specs.Opened.{Opened, opening}
 use Rattle.dgn_tool.specs.Ended.{Outcome, ended}
 use Rattle.dgn_tool.specs.Ends.{Reading}
-use Rattle.dgn_tool.specs.Given.{Given}
+use Rattle.dgn_answers.specs.Given.{Given}
 use Rattle.dgn_tool.specs.Outcome.{fault_line, scripted, input_outcome, run_outcome}
 use Rattle.dgn_tool.specs.SecondFiles.{files_named, is_within, seconded}
 use Rattle.dgn_tool.specs.declared.status.Status.TheVariants as statuses

@@ -2,7 +2,6 @@
 use Rattle.std.specs.Prelude.{ℕ, ◌≡◌, ◌≤◌, nat_le, Bool, true, if◌then◌else◌, List, [], ◌∷◌, ◌++◌, length, map, codes, Result, Ok, Err, IsSome, ⊤}
 use Rattle.std.specs.FinMap as maps
 use Rattle.std.specs.List.{list_all}
-use Rattle.std.specs.Prelude.{reverse}
 use Rattle.dgn_desk.specs.Content.{Files, bytes_of}
 use Rattle.dgn_import.specs.declared.second.Second.{Second}
 use Rattle.dgn_import.specs.Seconds.{SecondValue, second_of, value_of}
@@ -10,7 +9,7 @@ use Rattle.edit_script.specs.declared.command.Command.{Command}
 use Rattle.edit_script.specs.declared.command.Command.TheVariants as command
 use Rattle.edit_script.specs.declared.fault.ScriptFault.{ScriptFault}
 use Rattle.edit_script.specs.Imports.{is_name_byte}
-use Rattle.dgn_tool.specs.Given.{Given, given_all}
+use Rattle.dgn_answers.specs.Given.{Given, given_all}
 use Rattle.dgn_tool.specs.Ended.{Outcome, ended}
 use Rattle.dgn_tool.specs.declared.status.Status.TheVariants as statuses
 
@@ -43,10 +42,6 @@ seconded fs go_on = if list_all is_within fs then go_on (map second_of fs) else 
 -- what it comes to with these commands, where it goes on so with their steps
 abbrev pub stepped : List Command → Files → (List Given → Outcome) → Outcome
 stepped cs files go_on = seconded (files_named (names_in cs) files) (λ vs. go_on (given_all cs vs))
-
--- what the second files come to that are left, the next of which stands last
-abbrev pub waiting : List Second → List SecondValue
-waiting seconds = map value_of (reverse seconds)
 
 -- these are there, each where those before it are within their limit
 abbrev pub AreThere : List (List ℕ) → Files → Type 0

@@ -9,12 +9,12 @@ ghost use Rattle.dgn_tool.specs.Outcome.{input_outcome, HasBoth};
 
 use crate::end::End;
 use crate::ending::Ending;
-use crate::lines::numbered_line;
 use crate::put_end::PutEnd;
 use crate::putting::put_entries;
 use crate::reading::{open_design, read_file};
 use crate::saying::{end, end_numbered};
 use crate::writing::file_filled;
+use dgn_answers::numbered_line;
 use dgn_desk::{Desk, Stop};
 use patch_file::{PatchEntry, PatchFault, read_patch};
 use std::alloc::Global;

@@ -3,11 +3,11 @@ ghost use Rattle.std.specs.List.{AllByRecursion};
 ghost use Rattle.dgn_desk.specs.Seen.{DeskWrites};
 ghost use Rattle.dgn_session.specs.State.{state_of};
 ghost use Rattle.dgn_import.specs.Seconds.{IsSound};
-ghost use Rattle.dgn_tool.specs.Given.{given_all, after_all, texts_of, refused_count};
+ghost use Rattle.dgn_answers.specs.Given.{given_all, after_all, texts_of, refused_count};
 ghost use Rattle.dgn_tool.specs.Outcome.{SaysAs};
-ghost use Rattle.dgn_tool.specs.SecondFiles.{waiting};
+ghost use Rattle.dgn_answers.specs.Given.{waiting};
 
-use crate::steps::take_step;
+use dgn_answers::take_step;
 use dgn_desk::{Desk, Stop, say_all};
 use dgn_import::Second;
 use dgn_session::Session;

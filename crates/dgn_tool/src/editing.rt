@@ -6,9 +6,9 @@ ghost use Rattle.elem_index.specs.Design.{IsWhole};
 ghost use Rattle.elem_index.specs.Answers.{opened_of};
 ghost use Rattle.dgn_session.specs.State.{state_of};
 ghost use Rattle.dgn_tool.specs.Ends.{DeskComes, DeskEnds};
-ghost use Rattle.dgn_tool.specs.Given.{given_all};
+ghost use Rattle.dgn_answers.specs.Given.{given_all};
 ghost use Rattle.dgn_tool.specs.Outcome.{HasAll, run_outcome, told, told_from};
-ghost use Rattle.dgn_tool.specs.SecondFiles.{waiting};
+ghost use Rattle.dgn_answers.specs.Given.{waiting};
 
 use crate::commands::run_all;
 use crate::end::End;

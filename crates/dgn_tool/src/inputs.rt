@@ -6,10 +6,10 @@ ghost use Rattle.elem_index.specs.Design.{IsWhole};
 ghost use Rattle.elem_index.specs.Answers.{opened_of};
 ghost use Rattle.dgn_import.specs.Seconds.{IsSound};
 ghost use Rattle.dgn_tool.specs.Ends.{DeskReads, DeskEndsEarly};
-ghost use Rattle.dgn_tool.specs.Given.{given_all};
+ghost use Rattle.dgn_answers.specs.Given.{given_all};
 ghost use Rattle.dgn_tool.specs.Outcome.{HasAll};
 ghost use Rattle.dgn_tool.specs.Readings.{GoesOn, inputs_in};
-ghost use Rattle.dgn_tool.specs.SecondFiles.{waiting};
+ghost use Rattle.dgn_answers.specs.Given.{waiting};
 
 use crate::end::End;
 use crate::reading::{open_design, read_commands};

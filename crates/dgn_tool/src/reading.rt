@@ -13,8 +13,8 @@ ghost use Rattle.dgn_tool.specs.Readings.{whole_file, opening_in, script_in, IsW
 
 use crate::end::End;
 use crate::ending::Ending;
-use crate::lines::numbered_line;
 use crate::saying::{end, end_numbered};
+use dgn_answers::numbered_line;
 use dgn_desk::{Desk, ReadEnd, Stop, read_all};
 use edit_script::{Command, ScriptFault, read_script};
 use elem_index::{Design, OpenFault, read_design};

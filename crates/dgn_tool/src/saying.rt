@@ -1,11 +1,11 @@
 // Ending a run with a line.
 
-ghost use Rattle.dgn_tool.specs.Lines.{numbered};
+ghost use Rattle.dgn_answers.specs.Lines.{numbered};
 ghost use Rattle.dgn_tool.specs.Ended.{ended};
 ghost use Rattle.dgn_tool.specs.Ends.{DeskComes, status_said};
 
 use crate::ending::Ending;
-use crate::lines::numbered_line;
+use dgn_answers::numbered_line;
 use dgn_desk::{Desk, Stop, say_all};
 use std::alloc::Global;
 

@@ -6,7 +6,8 @@ ghost use Rattle.dgn_import.specs.Seconds.{value_of, IsSound};
 ghost use Rattle.edit_script.specs.Imports.{is_name_byte};
 ghost use Rattle.dgn_tool.specs.Ends.{DeskReads, DeskEndsEarly};
 ghost use Rattle.dgn_tool.specs.Readings.{ComeTo, seconds_in};
-ghost use Rattle.dgn_tool.specs.SecondFiles.{text_named, names_of, names_in, waiting, AreThere, ComeBehind};
+ghost use Rattle.dgn_tool.specs.SecondFiles.{text_named, names_of, names_in, AreThere, ComeBehind};
+ghost use Rattle.dgn_answers.specs.Given.{waiting};
 
 use crate::end::End;
 use crate::reading::{MOST_DESIGN, read_file};

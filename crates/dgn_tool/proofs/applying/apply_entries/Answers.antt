@@ -5,7 +5,7 @@ use Rattle.dgn_desk.specs.Seen.{seen}
 use Rattle.patch_file.specs.PatchView.{all_packed}
 use Rattle.dgn_tool.specs.Applied.{Made, Differs, Overruns, put_from, entries_outcome, Puts}
 use Rattle.dgn_tool.specs.Ended.{ended}
-use Rattle.dgn_tool.specs.Lines.{numbered}
+use Rattle.dgn_answers.specs.Lines.{numbered}
 use Rattle.dgn_tool.specs.declared.status.Status.TheVariants as statuses
 use Rattle.dgn_tool.proofs.Parts.{wants, named_so}
 use Rattle.dgn_tool.proofs.PatchEndings.{entries_made, applied_so}

@@ -8,7 +8,7 @@ use Rattle.patch_file.specs.Reading.{patch_of, IsBadAt}
 use Rattle.dgn_tool.specs.Applied.{body_patched, entries_outcome, reading_outcome}
 use Rattle.dgn_tool.specs.Ended.{ended}
 use Rattle.dgn_tool.specs.Ends.{Has}
-use Rattle.dgn_tool.specs.Lines.{numbered}
+use Rattle.dgn_answers.specs.Lines.{numbered}
 use Rattle.dgn_tool.specs.declared.status.Status.TheVariants as statuses
 use Rattle.dgn_tool.proofs.Parts.{then_comes, wants_behind}
 use Rattle.dgn_tool.proofs.PatchEndings.{reads_entries, reads_bad, few_read}

@@ -5,7 +5,7 @@ use Rattle.elem_index.specs.Answers.{HasCount, TellsFault}
 use Rattle.elem_index.specs.Opened.{opening}
 use Rattle.dgn_tool.specs.Ended.{ended}
 use Rattle.dgn_tool.specs.Ends.{Has}
-use Rattle.dgn_tool.specs.Lines.{numbered}
+use Rattle.dgn_answers.specs.Lines.{numbered}
 use Rattle.dgn_tool.specs.Outcome.{input_outcome, opened_outcome, checked}
 use Rattle.dgn_tool.specs.declared.status.Status.TheVariants as statuses
 use Rattle.dgn_tool.proofs.InputsRead.{input_file, counts}

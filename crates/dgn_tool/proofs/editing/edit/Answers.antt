@@ -2,9 +2,9 @@ use Rattle.std.proofs.Common.{List, subst}
 use Rattle.edit_script.specs.declared.command.Command.{Command}
 use Rattle.elem_index.specs.Answers.{opened_of}
 use Rattle.dgn_tool.specs.Ends.{DeskComes}
-use Rattle.dgn_tool.specs.Given.{given_all}
+use Rattle.dgn_answers.specs.Given.{given_all}
 use Rattle.dgn_tool.specs.Outcome.{HasAll, run_outcome, told}
-use Rattle.dgn_tool.specs.SecondFiles.{waiting}
+use Rattle.dgn_answers.specs.Given.{waiting}
 use Rattle.dgn_tool.proofs.Parts.{then_comes}
 use Rattle.dgn_tool.proofs.editing.edit.Goals as goal
 

@@ -3,9 +3,9 @@ use Rattle.std.proofs.lemmas.Result.{err_from_is_err_and}
 use Rattle.dgn_desk.specs.Seen.{seen}
 use Rattle.elem_index.specs.Answers.{opened_of}
 use Rattle.dgn_session.specs.State.{State, state_of, SessionValue}
-use Rattle.dgn_tool.specs.Given.{given_all}
+use Rattle.dgn_answers.specs.Given.{given_all}
 use Rattle.dgn_tool.specs.Outcome.{told, told_from}
-use Rattle.dgn_tool.specs.SecondFiles.{waiting}
+use Rattle.dgn_answers.specs.Given.{waiting}
 use Rattle.dgn_tool.proofs.Parts.{wants, named_so}
 use Rattle.dgn_tool.proofs.editing.run_script.Goals as goal
 

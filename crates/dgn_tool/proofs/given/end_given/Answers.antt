@@ -1,7 +1,3 @@
-use Rattle.std.proofs.Common.{List, sym, subst}
-use Rattle.std.specs.Prelude.{map, string_bytes, IfOk}
-use Rattle.dgn_tool.specs.Request.{request_of}
-use Rattle.dgn_tool.specs.Runs.{DeskRuns}
 use Rattle.dgn_tool.proofs.given.end_given.Goals as goal
 
 pub returns-in-Ok-clause-words : goal.returns-in-Ok-clause-words

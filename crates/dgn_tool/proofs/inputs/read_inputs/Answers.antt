@@ -5,10 +5,11 @@ use Rattle.dgn_desk.specs.Seen.{seen}
 use Rattle.edit_script.specs.declared.command.Command.{Command}
 use Rattle.elem_index.specs.Answers.{opened_of}
 use Rattle.dgn_tool.specs.Ends.{Has, ReadTo}
-use Rattle.dgn_tool.specs.Given.{given_all}
+use Rattle.dgn_answers.specs.Given.{given_all}
 use Rattle.dgn_tool.specs.Outcome.{HasAll, scripted}
 use Rattle.dgn_tool.specs.Readings.{OpensAs, ReadsAs, GoesOn, inputs_in, script_in, seconds_in}
-use Rattle.dgn_tool.specs.SecondFiles.{names_in, stepped, waiting, AreThere}
+use Rattle.dgn_tool.specs.SecondFiles.{names_in, stepped, AreThere}
+use Rattle.dgn_answers.specs.Given.{waiting}
 use Rattle.dgn_tool.proofs.InputsRead.{to_script, to_seconds, to_steps, other_there, seconds_there}
 use Rattle.dgn_tool.proofs.Parts.{same_end, then_ends, then_reads}
 use Rattle.dgn_tool.proofs.inputs.read_inputs.Goals as goal

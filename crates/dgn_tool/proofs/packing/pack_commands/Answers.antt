@@ -5,9 +5,9 @@ use Rattle.elem_index.specs.Answers.{opened_of}
 use Rattle.patch_file.specs.Spelling.{patch_spelling}
 use Rattle.patch_file.specs.PatchView.{all_packed}
 use Rattle.patch_file.specs.declared.patch_entry.PatchEntry.{PatchEntry}
-use Rattle.dgn_tool.specs.Given.{given_all}
-use Rattle.dgn_tool.specs.SecondFiles.{waiting}
-use Rattle.dgn_tool.specs.Commands.{begun}
+use Rattle.dgn_answers.specs.Given.{given_all}
+use Rattle.dgn_answers.specs.Given.{waiting}
+use Rattle.dgn_answers.specs.Commands.{begun}
 use Rattle.dgn_tool.specs.Packing.{packed}
 use Rattle.dgn_tool.proofs.Parts.{wants, named_so}
 use Rattle.dgn_tool.proofs.Packed.{packed_short, packed_long, within_cap, beyond_cap}

@@ -5,7 +5,7 @@ use Rattle.edit_script.specs.Script.{commands_of, Tells}
 use Rattle.edit_script.specs.declared.fault.ScriptFault.TheVariants as faults
 use Rattle.dgn_tool.specs.Ends.{Has}
 use Rattle.dgn_tool.specs.Ended.{ended}
-use Rattle.dgn_tool.specs.Lines.{numbered}
+use Rattle.dgn_answers.specs.Lines.{numbered}
 use Rattle.dgn_tool.specs.Outcome.{script_outcome}
 use Rattle.dgn_tool.specs.Readings.{script_in, ReadsAs}
 use Rattle.dgn_tool.specs.declared.status.Status.TheVariants as statuses

@@ -3,7 +3,7 @@ use Rattle.std.proofs.lemmas.Result.{err_from_is_err_and}
 use Rattle.dgn_desk.specs.Seen.{seen}
 use Rattle.dgn_tool.specs.Ended.{ended}
 use Rattle.dgn_tool.specs.Ends.{status_said}
-use Rattle.dgn_tool.specs.Lines.{numbered}
+use Rattle.dgn_answers.specs.Lines.{numbered}
 use Rattle.dgn_tool.proofs.Parts.{named_so, wants}
 use Rattle.dgn_tool.proofs.saying.end_numbered.Goals as goal
 

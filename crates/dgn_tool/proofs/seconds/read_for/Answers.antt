@@ -4,7 +4,7 @@ use Rattle.dgn_desk.specs.Seen.{seen}
 use Rattle.dgn_tool.specs.Ends.{DeskReads, DeskEndsEarly}
 use Rattle.dgn_tool.specs.Readings.{seconds_in}
 use Rattle.dgn_tool.specs.SecondFiles.{names_of, AreThere, ComeBehind}
-use Rattle.dgn_tool.proofs.Imported.{names_none}
+use Rattle.dgn_tool.proofs.Named.{names_none}
 use Rattle.dgn_tool.proofs.Parts.{known_so, read_none, wants_behind}
 use Rattle.dgn_tool.proofs.SecondsRead.{second_added, none_added}
 use Rattle.dgn_tool.proofs.seconds.read_for.Goals as goal

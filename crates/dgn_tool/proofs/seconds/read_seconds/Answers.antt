@@ -8,7 +8,8 @@ use Rattle.dgn_import.specs.Seconds.{IsSound}
 use Rattle.edit_script.specs.declared.command.Command.{Command}
 use Rattle.dgn_tool.specs.Ends.{ReadTo}
 use Rattle.dgn_tool.specs.Readings.{ComeTo, seconds_in}
-use Rattle.dgn_tool.specs.SecondFiles.{names_of, names_in, waiting, AreThere}
+use Rattle.dgn_tool.specs.SecondFiles.{names_of, names_in, AreThere}
+use Rattle.dgn_answers.specs.Given.{waiting}
 use Rattle.dgn_tool.proofs.Parts.{known_so, read_none, then_ends, then_reads}
 use Rattle.dgn_tool.proofs.SecondsRead.{IsReadSo, nothing_read, one_read, all_read, ends_there, next_there, sound_turned, turned_back}
 use Rattle.dgn_tool.proofs.seconds.read_seconds.Goals as goal

@@ -4,7 +4,7 @@ use Rattle.dgn_desk.specs.Seen.{DeskWrites}
 use Rattle.dgn_drawing.specs.Spelling.{spelling}
 use Rattle.dgn_session.specs.State.{state_of}
 use Rattle.dgn_tool.specs.Filling.{file_made}
-use Rattle.dgn_tool.proofs.Finished.{spelled_with}
+use Rattle.dgn_answers.proofs.Counting.{spelled_with}
 use Rattle.dgn_tool.proofs.writing.write_drawing.Goals as goal
 
 pub returns : goal.returns
