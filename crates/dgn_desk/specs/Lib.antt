@@ -1,5 +1,6 @@
 pub mod Content
 pub mod Desk
+pub mod Seen
 pub mod FileLaws
 pub mod FileMap
 pub mod NumberedDesk

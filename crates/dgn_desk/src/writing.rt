@@ -1,6 +1,7 @@
 ghost use Rattle.std.specs.Prelude.{◌≡◌, ◌++◌, ℕ, List, Option, option_map, OnOk, IsTrue};
 ghost use Rattle.dgn_desk.specs.Content.{Content, filed, HasTarget};
 ghost use Rattle.dgn_desk.specs.Desk.{Counts, SaysAll, FilesAll, AddsAll, StaysWilling, DoesNotFail};
+ghost use Rattle.dgn_desk.specs.Seen.{DeskWrites};
 
 use crate::desk::Desk;
 use crate::stop::Stop;
@@ -8,11 +9,7 @@ use crate::stop::Stop;
 /// Says all the bytes: the desk is handed all that is left each time, and goes on behind a short call.
 /// Where it stops, some first part of them was said. A willing desk doesn't fail, and stays willing.
 pub fn say_all<D: Desk>(desk: &mut D, bytes: &[u8]) -> Result<(), Stop>
-    ensures cause { Counts (D.write_faults desk.old) (D.write_faults desk.new) result }
-    ensures other { D.read_faults desk.new ≡ D.read_faults desk.old }
-    ensures told { SaysAll result bytes.now (D.content desk.old) (D.content desk.new) }
-    ensures stays { StaysWilling (D.willing desk.old) (D.willing desk.new) }
-    ensures able { IsTrue (D.willing desk.old) → DoesNotFail result }
+    ensures { DeskWrites D.Desk result (SaysAll result bytes.now) desk.old desk.new }
 {
     let mut rest = bytes;
     'pieces: while !rest.is_empty() {
@@ -34,11 +31,7 @@ pub fn write_file<D: Desk>(
     tail: &[u8],
     filling: &[u8],
 ) -> Result<(), Stop>
-    ensures cause { Counts (D.write_faults desk.old) (D.write_faults desk.new) result }
-    ensures other { D.read_faults desk.new ≡ D.read_faults desk.old }
-    ensures told { FilesAll result name.now (body.now ++ (tail.now ++ filling.now)) (D.content desk.old) (D.content desk.new) }
-    ensures stays { StaysWilling (D.willing desk.old) (D.willing desk.new) }
-    ensures able { IsTrue (D.willing desk.old) → DoesNotFail result }
+    ensures { DeskWrites D.Desk result (FilesAll result name.now (body.now ++ (tail.now ++ filling.now))) desk.old desk.new }
 {
     desk.begin_write(name)?;
     write_more(desk, body)?;

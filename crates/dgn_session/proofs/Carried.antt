@@ -19,6 +19,10 @@ use Rattle.edit_ops.specs.Applying.{Done, apply, IsEdit}
 use Rattle.edit_ops.specs.Fields.{Field, edited_fields, filled}
 use Rattle.edit_ops.specs.Fenced.{fenced_fields, AreRoots, IsFenceEdit}
 use Rattle.edit_ops.specs.Planned.{IsPlan, IsFencePlan}
+use Rattle.edit_ops.specs.Laws.{ChangesItsFields}
+use Rattle.edit_ops.specs.FenceLaws.{ChangesFencedFields}
+use Rattle.edit_ops.proofs.EditLaws.{changes_fields}
+use Rattle.edit_ops.proofs.FenceLaws.{fenced_changes}
 use Rattle.dgn_session.specs.State.{SessionValue, state_of, pushed, undone, entry_with, value_with}
 use Rattle.dgn_session.specs.Kept.{OpensAt, AreKept, value_of}
 use Rattle.dgn_session.specs.Carried.{IsSoundPlan}
@@ -58,12 +62,19 @@ module _ (d : Design) (l : LogState) (mask : Mask) (fence : Option (List Pt)) (k
         let body : spelling (elements d) ≡ d.body.items = body_spelled d.body.items d.tail.items d.dim (elements d) opens.opens in
         edit_becomes (d.body.items ++ d.tail.items) d.dim (elements d) d.tail.items e plan.made fits opens.opens (omega (arith, opens.few, ap (length {A = ℕ}) body)) edit_done
 
+    -- which has changed its fields alone
+    pub edit_changes : ChangesItsFields d.dim (elements d) e plan.made
+    edit_changes = changes_fields (d.body.items ++ d.tail.items) d.dim (elements d) d.tail.items (length d.tail.items) e plan.made fits opens.opens edit_done
+
   -- and by one of some roots
   module _ (ns : List ℕ) (roots : AreRoots (elements d) ns) (e : FenceEdit) (p : Plan) (fits : IsFenceEdit e) (plan : IsFencePlan d.dim (elements d) (length d.tail.items) e ns p) where
     pub fence_made : Become d.dim d.tail.items (elements d) (fenced_fields d.dim (elements d) e ns) plan.made
     fence_made =
         let body : spelling (elements d) ≡ d.body.items = body_spelled d.body.items d.tail.items d.dim (elements d) opens.opens in
         fence_becomes (d.body.items ++ d.tail.items) d.dim (elements d) d.tail.items e ns plan.made fits roots opens.opens (omega (arith, opens.few, ap (length {A = ℕ}) body)) plan.done
+
+    pub fence_changes : ChangesFencedFields d.dim (elements d) e ns plan.made
+    fence_changes = fenced_changes (d.body.items ++ d.tail.items) d.dim (elements d) d.tail.items (length d.tail.items) e ns plan.made fits roots opens.opens plan.done
 
   -- its elements become others, and that is planned
   module _ (fields : List Field) (made : List Element) (becomes : Become d.dim d.tail.items (elements d) fields made)

@@ -1,10 +1,13 @@
-ghost use Rattle.std.specs.Prelude.{◌≡◌, ◌↔◌, [], ◌∷◌, ◌++◌, length, map, option_map, Some, None, Err, IfOk, IfErr, IsErr, OnOk, OnErr};
+ghost use Rattle.std.specs.Prelude.{◌≡◌, ◌↔◌, [], ◌∷◌, ◌++◌, length, map, option_map, Some, None, Err, IfOk, IfErr, IfSome, IsErr, OnOk, OnErr};
 ghost use Rattle.undo_log.specs.Entries.{IsUndone};
 ghost use Rattle.dgn_drawing.specs.Rows.{row_of};
 ghost use Rattle.dgn_drawing.specs.Spelling.{spelling};
 ghost use Rattle.dgn_drawing.specs.Shown.{shown};
 ghost use Rattle.elem_index.specs.Design.{elements, IsWhole};
-ghost use Rattle.edit_ops.specs.Applying.{Done};
+ghost use Rattle.edit_ops.specs.Applying.{Done, IsEdit};
+ghost use Rattle.edit_ops.specs.Fenced.{IsFenceEdit};
+ghost use Rattle.edit_ops.specs.FenceLaws.{ChangesFencedFields};
+ghost use Rattle.edit_ops.specs.Laws.{ChangesItsFields};
 ghost use Rattle.edit_ops.specs.Planned.{IsRefused};
 ghost use Rattle.dgn_session.specs.State.{SessionValue, state_of, begun, applied, edited, undone, with_mask, entry, value_with, value_with_mask};
 ghost use Rattle.dgn_session.specs.State.{selection, fence_applied, fence_edited, with_fence, fence_entry, value_with_fence};
@@ -76,7 +79,8 @@ impl Session {
         })
     }
 
-    /// Makes an edit: writes its fields, puts what it appends behind the body, and adds the entry that takes it back.
+    /// Makes an edit: writes its fields, puts what it appends behind the body, and adds the entry that takes it back. Its
+    /// values are such as their type keeps, and no byte of the elements changes outside of its fields.
     ///
     /// Refused comes with the first cause that stands, exactly where the edit is refused (`edit_ops::plan`), and Memory
     /// where there is no memory for it. The session is then as before: all memory is taken before the first byte is
@@ -86,6 +90,9 @@ impl Session {
         ensures accepted { OnOk result (applied e.now (state_of self.old) ≡ Done (state_of self.new).top) }
         ensures value { OnOk result (self.new ≡ value_with (spelling (state_of self.new).top)
             (self.old.entries ++ entry self.old.dim (state_of self.old).top e.now ∷ []) self.old) }
+        ensures within { OnOk result (IsEdit e.now) }
+        ensures changed { OnOk result
+            (ChangesItsFields self.old.dim (state_of self.old).top e.now (state_of self.new).top) }
         ensures refused { IfErr result (IsRefused (applied e.now (state_of self.old))) }
         ensures kept { OnErr result (self.new ≡ self.old) }
     {
@@ -117,6 +124,9 @@ impl Session {
             (λ ns. value_with (spelling (state_of self.new).top)
             (self.old.entries ++ fence_entry self.old.dim (state_of self.old).top e.now ns ∷ []) self.old)
             (selection mode (state_of self.old))) }
+        ensures within { OnOk result (IsFenceEdit e.now) }
+        ensures changed { OnOk result (IfSome (selection mode (state_of self.old))
+            (λ ns. ChangesFencedFields self.old.dim (state_of self.old).top e.now ns (state_of self.new).top)) }
         ensures no_fence { (result ≡ Err FenceEditFault.NoFence) ↔ (self.old.fence ≡ None) }
         ensures refused { IfErr result (IsFenceRefused (fence_applied mode e.now (state_of self.old))) }
         ensures kept { OnErr result (self.new ≡ self.old) }

@@ -25,8 +25,8 @@ use Rattle.dgn_session.specs.State.{State}
 use Rattle.edit_script.specs.declared.command.Command.{Command}
 use Rattle.edit_script.specs.declared.command.Command.TheVariants as command
 use Rattle.edit_ops.specs.Fields.{filled}
-use Rattle.dgn_tool.specs.Imports.{Appends, unless_long, importing, importing_of}
-use Rattle.dgn_tool.specs.Given.{Given, Plain, Import, first_second, given, seconds_behind, given_all}
+use Rattle.dgn_answers.specs.Imports.{Appends, unless_long, importing, importing_of}
+use Rattle.dgn_answers.specs.Given.{Given, Plain, Import, first_second, given, seconds_behind, given_all}
 use Rattle.dgn_tool.specs.Laws.{IsEditIn, steps_of}
 
 -- a drawing of a second file opens

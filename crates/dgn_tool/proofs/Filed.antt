@@ -1,75 +1,53 @@
 -- What is told of a run that writes a file and then says a text, and what where that was stopped.
-use Rattle.std.proofs.Common.{◌≡◌, List, [], ℕ, take, Option, Some, None, Err, inl, inr, refl, sym}
+use Rattle.std.proofs.Common.{◌≡◌, List, [], ℕ, take, Option, Some, None, Result, Ok, Err, inl, inr, refl, sym}
 use Rattle.std.specs.Prelude.{option_map, IfSome}
 use Rattle.std.proofs.lemmas.List.{append-nil}
-use Rattle.dgn_desk.specs.Content.{Content, filed, spoken}
-use Rattle.dgn_desk.specs.Desk.{SaysAll, FilesAll}
+use Rattle.dgn_desk.specs.Content.{Content, filed}
+use Rattle.dgn_desk.specs.Desk.{FilesAll}
+use Rattle.dgn_desk.specs.Seen.{Seen, Writes}
 use Rattle.dgn_desk.specs.declared.stop.Stop.{Stop}
-use Rattle.dgn_tool.specs.Ended.{Outcome, ended}
-use Rattle.dgn_tool.specs.Outcome.{Leaves, Stops, IsFrontOf, ComesTo, IsEnding, IsStopped}
+use Rattle.dgn_desk.proofs.InTurn.{stopped_so, then_so}
+use Rattle.dgn_tool.specs.Ended.{ended, filed_then_said}
+use Rattle.dgn_tool.specs.Ends.{Tells, status_said}
+use Rattle.dgn_tool.specs.Outcome.{Leaves, Stops, IsFrontOf}
+use Rattle.dgn_tool.specs.declared.ending.Ending.{Ending}
 use Rattle.dgn_tool.specs.declared.status.Status.{Status}
-use Rattle.dgn_tool.proofs.Endings.{ends_only, is_taken}
-
--- the outcome of such a run
-abbrev pub files_then : Status → List ℕ → List ℕ → List ℕ → Outcome
-files_then status text name bytes = record { status = status; text = text; file = Some (name, bytes) }
+use Rattle.dgn_tool.proofs.Telling.{is_taken}
 
 module _ (status : Status) (text name bytes : List ℕ) where
   -- nothing of the file was written
-  unwritten : (old now : Option Content) → now ≡ old → IfSome old (λ c. Stops (files_then status text name bytes) c now)
+  unwritten : (old now : Option Content) → now ≡ old → IfSome old (λ c. Stops (filed_then_said status text name bytes) c now)
   unwritten None now e = tt
   unwritten (Some c) now e =
-      record { content = c; told_is = e; front = []; is_front = (text, refl); said_is = sym (append-nil c.said); files_are = inl refl }
+      record { content = c; told_is = e; front = []; is_front = (text, refl); said_is = sym (append-nil c.said); files_are = inl refl; in_order = inl refl }
 
   -- or a front of it was
-  written_front : (front : List ℕ) (old now : Option Content) → IsFrontOf bytes front → now ≡ option_map (filed name front) old → IfSome old (λ c. Stops (files_then status text name bytes) c now)
+  written_front : (front : List ℕ) (old now : Option Content) → IsFrontOf bytes front → now ≡ option_map (filed name front) old → IfSome old (λ c. Stops (filed_then_said status text name bytes) c now)
   written_front front None now is e = tt
   written_front front (Some c) now is e =
-      record { content = filed name front c; told_is = e; front = []; is_front = (text, refl); said_is = sym (append-nil c.said); files_are = inr (front, is, refl) }
+      record {
+        content = filed name front c;
+        told_is = e;
+        front = [];
+        is_front = (text, refl);
+        said_is = sym (append-nil c.said);
+        files_are = inr (front, is, refl);
+        in_order = inl refl;
+      }
 
-  written_part : (stop : Stop) (old now : Option Content) → FilesAll (Err stop) name bytes old now → IfSome old (λ c. Stops (files_then status text name bytes) c now)
+  pub written_part : (stop : Stop) (old now : Option Content) → FilesAll (Err stop) name bytes old now → IfSome old (λ c. Stops (filed_then_said status text name bytes) c now)
   written_part stop old now (inl e) = unwritten old now e
   written_part stop old now (inr part) = written_front (take part.0 bytes) old now (is_taken bytes part.0) part.2
 
-  -- the file was written, and a front of the text said
-  said_part : (front : List ℕ) (old mid now : Option Content) → mid ≡ option_map (filed name bytes) old → IsFrontOf text front → now ≡ option_map (spoken front) mid → IfSome old (λ c. Stops (files_then status text name bytes) c now)
-  said_part front None mid now filed_is part e = tt
-  said_part front (Some c) mid now filed_is part e =
-      record {
-        content = spoken front (filed name bytes c);
-        told_is = rw (e, filed_is) refl;
-        front = front;
-        is_front = part;
-        said_is = refl;
-        files_are = inr (bytes, ([], sym (append-nil bytes)), refl);
-      }
-
-  -- all was written and said
-  said_all : (old mid now : Option Content) → mid ≡ option_map (filed name bytes) old → now ≡ option_map (spoken text) mid → IfSome old (λ c. Leaves (files_then status text name bytes) status c now)
-  said_all None mid now filed_is e = tt
-  said_all (Some c) mid now filed_is e =
-      record { status_is = refl; content = spoken text (filed name bytes c); told_is = rw (e, filed_is) refl; said_is = refl; files_are = refl }
-
-  pub filed_and_said : (old mid now : Option Content) → IsEnding status → mid ≡ option_map (filed name bytes) old → now ≡ option_map (spoken text) mid → ComesTo status (λ _. files_then status text name bytes) old now
-  filed_and_said old mid now is filed_is said = (λ _. said_all old mid now filed_is said, λ stopped. absurd (ends_only status is stopped))
-
-  pub stopped_saying : (stop : Stop) (now_status : Status) (old mid now : Option Content) → IsStopped now_status → mid ≡ option_map (filed name bytes) old → SaysAll (Err stop) text mid now → ComesTo now_status (λ _. files_then status text name bytes) old now
-  stopped_saying stop now_status old mid now stopped filed_is says =
-      (λ ending. absurd (ends_only now_status ending stopped), λ _. said_part (take says.0 text) old mid now filed_is (is_taken text says.0) says.2)
-
-  pub stopped_filing : (stop : Stop) (now_status : Status) (old now : Option Content) → IsStopped now_status → FilesAll (Err stop) name bytes old now → ComesTo now_status (λ _. files_then status text name bytes) old now
-  stopped_filing stop now_status old now stopped filed_is =
-      (λ ending. absurd (ends_only now_status ending stopped), λ _. written_part stop old now filed_is)
-
-  -- the file was written, and the run came to the end of its line
-  leaves_filed : (now_status : Status) (old mid now : Option Content) → mid ≡ option_map (filed name bytes) old → IfSome mid (λ c. Leaves (ended status text) now_status c now) → IfSome old (λ c. Leaves (files_then status text name bytes) now_status c now)
-  leaves_filed now_status None mid now is leaves = tt
-  leaves_filed now_status (Some c) mid now is leaves =
-      let l : Leaves (ended status text) now_status (filed name bytes c) now = rw is at leaves in
+  -- the file was written, and the run came to the end of its text
+  leaves_filed : (ending : Status) (old mid now : Option Content) → mid ≡ option_map (filed name bytes) old → IfSome mid (λ c. Leaves (ended status text) ending c now) → IfSome old (λ c. Leaves (filed_then_said status text name bytes) ending c now)
+  leaves_filed ending None mid now is leaves = tt
+  leaves_filed ending (Some c) mid now is leaves =
+      let l : Leaves (ended status text) ending (filed name bytes c) now = rw is at leaves in
       record { status_is = l.status_is; content = l.content; told_is = l.told_is; said_is = l.said_is; files_are = l.files_are }
 
   -- or was stopped there
-  stops_filed : (old mid now : Option Content) → mid ≡ option_map (filed name bytes) old → IfSome mid (λ c. Stops (ended status text) c now) → IfSome old (λ c. Stops (files_then status text name bytes) c now)
+  stops_filed : (old mid now : Option Content) → mid ≡ option_map (filed name bytes) old → IfSome mid (λ c. Stops (ended status text) c now) → IfSome old (λ c. Stops (filed_then_said status text name bytes) c now)
   stops_filed None mid now is stops = tt
   stops_filed (Some c) mid now is stops =
       let s : Stops (ended status text) (filed name bytes c) now = rw is at stops in
@@ -80,8 +58,19 @@ module _ (status : Status) (text name bytes : List ℕ) where
         is_front = s.is_front;
         said_is = s.said_is;
         files_are = inr (bytes, ([], sym (append-nil bytes)), s.files_are);
+        in_order = inr s.files_are;
       }
 
-  pub filed_first : (now_status : Status) (old mid now : Option Content) → mid ≡ option_map (filed name bytes) old → ComesTo now_status (λ _. ended status text) mid now → ComesTo now_status (λ _. files_then status text name bytes) old now
-  filed_first now_status old mid now is comes =
-      (λ ending. leaves_filed now_status old mid now is (comes.0 ending), λ stopped. stops_filed old mid now is (comes.1 stopped))
+  pub filed_first : (r : Result Ending Stop) (old mid now : Option Content) → mid ≡ option_map (filed name bytes) old → Tells (λ _. ended status text) r mid now → Tells (λ _. filed_then_said status text name bytes) r old now
+  filed_first (Ok ending) old mid now is tells = leaves_filed (status_said ending) old mid now is tells
+  filed_first (Err stop) old mid now is tells = stops_filed old mid now is tells
+
+-- The calls that write the file and then say the text, one after the other.
+
+pub file_then_ends : (ending : Ending) (text name bytes : List ℕ) (r : Result Ending Stop) (old mid new : Seen) → Writes {T = Unit {0}} (Ok tt) (FilesAll (Ok tt) name bytes) old mid → Writes r (Tells (λ _. ended (status_said ending) text) r) mid new
+    → Writes r (Tells (λ _. filed_then_said (status_said ending) text name bytes) r) old new
+file_then_ends ending text name bytes r old mid new wrote ends = then_so tt r wrote ends (filed_first (status_said ending) text name bytes r old.content mid.content new.content)
+
+pub file_stops : (ending : Ending) (text name bytes : List ℕ) (stop : Stop) (old new : Seen) → Writes {T = Unit {0}} (Err stop) (FilesAll (Err stop) name bytes) old new
+    → Writes {T = Ending} (Err stop) (Tells (λ _. filed_then_said (status_said ending) text name bytes) (Err stop)) old new
+file_stops ending text name bytes stop old new wrote = stopped_so stop wrote (written_part (status_said ending) text name bytes stop old.content new.content)

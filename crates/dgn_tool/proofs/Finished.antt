@@ -1,36 +1,64 @@
 -- What is told once all commands were said and the file was written, and what where that was stopped.
-use Rattle.std.proofs.Common.{◌≡◌, List, [], ◌∷◌, ℕ, zero, suc, ◌+◌, ◌++◌, length, vec_len, replicate, take, ◌<◌, ◌≤◌, nat_lt, Bool, true, false, cond, arith, Option, Some, None, Err, inl, inr, refl, sym, ap, ◌∙◌, subst}
+use Rattle.std.proofs.Common.{◌≡◌, List, [], ◌∷◌, ℕ, zero, suc, ◌+◌, ◌++◌, length, vec_len, replicate, take, ◌<◌, ◌≤◌, Bool, true, false, cond, arith, Option, Some, None, Ok, Err, inl, inr, refl, sym, ap, ◌∙◌, subst}
 use Rattle.std.specs.Prelude.{option_map, IfSome}
-use Rattle.std.proofs.lemmas.Bool.Decides.{nat_tests}
 use Rattle.std.proofs.lemmas.List.{append-nil}
 use Rattle.dgn_desk.specs.Content.{Content, filed, spoken}
 use Rattle.dgn_desk.specs.Desk.{FilesAll}
+use Rattle.dgn_desk.specs.Seen.{Seen, Writes}
 use Rattle.dgn_desk.specs.declared.stop.Stop.{Stop}
+use Rattle.dgn_desk.proofs.InTurn.{done_with, stopped_so, then_so}
 use Rattle.dgn_drawing.specs.Opening.{elements_of}
 use Rattle.dgn_drawing.specs.Spelling.{spelling}
-use Rattle.dgn_drawing.proofs.Fronts.{body_spelled}
 use Rattle.elem_index.specs.declared.design.Design.{Design}
-use Rattle.elem_index.specs.Design.{elements, IsWhole}
+use Rattle.elem_index.specs.Design.{IsWhole}
 use Rattle.dgn_session.specs.State.{State}
-use Rattle.dgn_tool.specs.Given.{Given, after_all, texts_of, refused_count}
+use Rattle.dgn_answers.proofs.Counting.{spelled_with}
+use Rattle.dgn_answers.specs.Given.{Given, after_all, texts_of, refused_count}
 use Rattle.dgn_tool.specs.Filling.{is_blocks, left_in_block, filling, file_made}
-use Rattle.dgn_tool.specs.Ended.{file_after}
-use Rattle.dgn_tool.specs.Outcome.{told_from, Leaves, Stops, IsFrontOf, SaysFront, ComesTo, IsEnding, IsStopped}
+use Rattle.dgn_tool.specs.Ended.{said_then_filed, status_with, file_after}
+use Rattle.dgn_tool.specs.Ends.{Tells, status_said}
+use Rattle.dgn_tool.specs.Outcome.{told_from, Leaves, Stops, IsFrontOf, SaysFront, SaysAs}
+use Rattle.dgn_tool.specs.declared.ending.Ending.{Ending}
 use Rattle.dgn_tool.specs.declared.status.Status.{Status}
-use Rattle.dgn_tool.specs.declared.status.Status.TheVariants as statuses
-use Rattle.dgn_tool.proofs.Endings.{ends_only, is_taken}
+use Rattle.dgn_tool.proofs.Telling.{is_taken}
 
--- the commands were said and the file was written
-filed_so : (s : State) (t : List ℕ) (cs : List Given) (output bytes : List ℕ) (status : Status) (old mid now : Option Content) → mid ≡ option_map (spoken (texts_of cs s)) old → now ≡ option_map (filed output bytes) mid → bytes ≡ file_after s t cs → status ≡ (told_from s t cs output).status → IfSome old (λ c. Leaves (told_from s t cs output) status c now)
-filed_so s t cs output bytes status None mid now said filed_is is e = tt
-filed_so s t cs output bytes status (Some c) mid now said filed_is is e =
-    record {
-      status_is = e;
-      content = filed output (file_after s t cs) (spoken (texts_of cs s) c);
-      told_is = rw (filed_is, said, is) refl;
-      said_is = refl;
-      files_are = refl;
-    }
+module _ (status : Status) (text name bytes : List ℕ) where
+  -- all was said, and the file was written
+  pub all_filed : (old mid now : Option Content) → mid ≡ option_map (spoken text) old → now ≡ option_map (filed name bytes) mid → IfSome old (λ c. Leaves (said_then_filed status text name bytes) status c now)
+  all_filed None mid now said e = tt
+  all_filed (Some c) mid now said e =
+      record { status_is = refl; content = filed name bytes (spoken text c); told_is = rw (e, said) refl; said_is = refl; files_are = refl }
+
+  -- a front was said
+  front_said : (front : List ℕ) (old now : Option Content) → IsFrontOf text front → now ≡ option_map (spoken front) old → IfSome old (λ c. Stops (said_then_filed status text name bytes) c now)
+  front_said front None now is e = tt
+  front_said front (Some c) now is e =
+      record { content = spoken front c; told_is = e; front = front; is_front = is; said_is = refl; files_are = inl refl; in_order = inr refl }
+
+  pub stopped_saying : (old now : Option Content) → SaysFront text old now → IfSome old (λ c. Stops (said_then_filed status text name bytes) c now)
+  stopped_saying old now says = front_said says.0 old now says.1 says.2
+
+  -- all was said, and a front of the file was written
+  front_filed : (front : List ℕ) (old mid now : Option Content) → mid ≡ option_map (spoken text) old → IsFrontOf bytes front → now ≡ option_map (filed name front) mid → IfSome old (λ c. Stops (said_then_filed status text name bytes) c now)
+  front_filed front None mid now said is e = tt
+  front_filed front (Some c) mid now said is e =
+      record {
+        content = filed name front (spoken text c);
+        told_is = rw (e, said) refl;
+        front = text;
+        is_front = ([], sym (append-nil text));
+        said_is = refl;
+        files_are = inr (front, is, refl);
+        in_order = inl refl;
+      }
+
+  -- or nothing of it was
+  unfiled : (old mid now : Option Content) → mid ≡ option_map (spoken text) old → now ≡ mid → IfSome old (λ c. Stops (said_then_filed status text name bytes) c now)
+  unfiled old mid now said e = front_said text old now ([], sym (append-nil text)) (e ∙ said)
+
+  pub stopped_filing : (stop : Stop) (old mid now : Option Content) → mid ≡ option_map (spoken text) old → FilesAll (Err stop) name bytes mid now → IfSome old (λ c. Stops (said_then_filed status text name bytes) c now)
+  stopped_filing stop old mid now said (inl e) = unfiled old mid now said e
+  stopped_filing stop old mid now said (inr part) = front_filed (take part.0 bytes) old mid now said (is_taken bytes part.0) part.2
 
 -- zero bytes of a block
 zeros_taken : (n m : ℕ) → n ≤ m → take n (replicate {A = ℕ} m 0) ≡ replicate n 0
@@ -54,13 +82,6 @@ filled_so before n long body tail tail' zeros same counted few is are =
     is ∙ ap (λ (t : List ℕ). cond (is_blocks before t) (left_in_block (long + length t)) 0) same ∙ ap (λ (k : ℕ). cond (is_blocks before tail) (left_in_block (k + length tail)) 0) counted in
     ap (λ (z : List ℕ). body ++ (tail ++ z)) (zeros_fill before tail (length body) n zeros few exact are)
 
--- the elements of the drawing spell its body
-pub spelled_with : (dim : ℕ) (body : List ℕ) (d : Design) → IsWhole d → d.dim ≡ dim → d.body.items ≡ body → d.body.items ≡ spelling (elements_of dim body)
-spelled_with dim body d whole axes text =
-    sym (body_spelled d.body.items d.tail.items d.dim (elements d) whole.is_open.opens)
-    ∙ ap (λ (k : ℕ). spelling (elements_of k d.body.items)) axes
-    ∙ ap (λ (b : List ℕ). spelling (elements_of dim b)) text
-
 -- as many bytes as they spell
 pub begun_with : (dim : ℕ) (body : List ℕ) (d : Design) (n : ℕ) → IsWhole d → d.dim ≡ dim → d.body.items ≡ body → n ≡ vec_len d.body → n ≡ length (spelling (elements_of dim body))
 begun_with dim body d n whole axes text counted = counted ∙ d.body.ok.0 ∙ ap (length {A = ℕ}) (spelled_with dim body d whole axes text)
@@ -72,56 +93,30 @@ made_so s new t tail cs before drawn back begun =
     ∙ ap (λ (n : State). file_made (length (spelling s.top)) tail (spelling n.top)) drawn
     ∙ ap (λ (b : List ℕ). file_made (length (spelling s.top)) b (spelling (after_all cs s).top)) back
 
--- what the calls that ran the commands and wrote the file ensure comes to the outcome
-pub finished : (s new : State) (t : List ℕ) (cs : List Given) (output tail : List ℕ) (before refused : ℕ) (status : Status) (old mid now : Option Content) → new ≡ after_all cs s → mid ≡ option_map (spoken (texts_of cs s)) old → now ≡ option_map (filed output (file_made before tail (spelling new.top))) mid → tail ≡ t → before ≡ length (spelling s.top) → refused ≡ refused_count cs s → IsEnding status → status ≡ cond (nat_lt 0 refused) statuses.SomeRefused statuses.Done → ComesTo status (λ _. told_from s t cs output) old now
-finished s new t cs output tail before refused status old mid now drawn said filed_is back begun count ending is = (
-  λ _. filed_so s t cs output (file_made before tail (spelling new.top)) status old mid now said filed_is (made_so s new t tail cs before drawn back begun) (is ∙ ap (λ (n : ℕ). cond (nat_lt 0 n) statuses.SomeRefused statuses.Done) count),
-  λ stopped. absurd (ends_only status ending stopped),
-)
+-- The commands of an edit and its file.
 
--- the status, where a command was refused, and where none was
-pub refused_some : (refused : ℕ) → 0 < refused → statuses.SomeRefused ≡ cond (nat_lt 0 refused) statuses.SomeRefused statuses.Done
-refused_some refused some =
-    let test : nat_lt 0 refused ≡ true = grind (arith, nat_tests) in
-    rw test refl
+module _ (s : State) (t : List ℕ) (cs : List Given) (output file : List ℕ) (file_is : file ≡ file_after s t cs) where
+  -- all commands were said, and the file was written
+  pub edited : {old mid new : Seen} (refused : ℕ) (ending : Ending) → refused ≡ refused_count cs s → status_said ending ≡ status_with refused
+      → Writes {T = ℕ} (Ok refused) (SaysAs {T = ℕ} (Ok refused) (texts_of cs s)) old mid → Writes {T = Unit {0}} (Ok tt) (FilesAll (Ok tt) output file) mid new
+      → Writes {T = Ending} (Ok ending) (Tells (λ _. told_from s t cs output) (Ok ending)) old new
+  edited {old = old} {mid = mid} {new = new} refused ending count is said wrote =
+      then_so refused (Ok ending) said (done_with tt ending wrote) (λ a b.
+      subst (λ (status : Status). IfSome old.content (λ c. Leaves (told_from s t cs output) status c new.content)) (sym (is ∙ ap status_with count))
+      (all_filed (status_with (refused_count cs s)) (texts_of cs s) output (file_after s t cs) old.content mid.content new.content a (b ∙ ap (λ (x : List ℕ). option_map (filed output x) mid.content) file_is)))
 
-pub refused_none : (refused : ℕ) → refused ≤ 0 → statuses.Done ≡ cond (nat_lt 0 refused) statuses.SomeRefused statuses.Done
-refused_none refused none =
-    let test : nat_lt 0 refused ≡ false = grind (arith, nat_tests) in
-    rw test refl
+  -- the writing of the file was stopped
+  pub edit_unfiled : {old mid new : Seen} (refused : ℕ) (stop : Stop) → Writes {T = ℕ} (Ok refused) (SaysAs {T = ℕ} (Ok refused) (texts_of cs s)) old mid → Writes {T = Unit {0}} (Err stop) (FilesAll (Err stop) output file) mid new
+      → Writes {T = Ending} (Err stop) (Tells (λ _. told_from s t cs output) (Err stop)) old new
+  edit_unfiled {old = old} {mid = mid} {new = new} refused stop said wrote =
+      let both : Writes {T = Unit {0}} (Err stop) (λ a b. IfSome a (λ c. Stops (told_from s t cs output) c b)) old new =
+      then_so refused (Err stop) said wrote (λ a b.
+      stopped_filing (status_with (refused_count cs s)) (texts_of cs s) output (file_after s t cs) stop old.content mid.content new.content a
+      (subst (λ (x : List ℕ). FilesAll (Err stop) output x mid.content new.content) file_is b)) in
+      stopped_so stop both (λ stops. stops)
 
 -- the commands were stopped
-ran_front : (s : State) (t : List ℕ) (cs : List Given) (output front : List ℕ) (old now : Option Content) → IsFrontOf (texts_of cs s) front → now ≡ option_map (spoken front) old → IfSome old (λ c. Stops (told_from s t cs output) c now)
-ran_front s t cs output front None now is e = tt
-ran_front s t cs output front (Some c) now is e =
-    record { content = spoken front c; told_is = e; front = front; is_front = is; said_is = refl; files_are = inl refl }
-
-pub stopped_running : (s : State) (t : List ℕ) (cs : List Given) (output : List ℕ) (status : Status) (old now : Option Content) → IsStopped status → SaysFront (texts_of cs s) old now → ComesTo status (λ _. told_from s t cs output) old now
-stopped_running s t cs output status old now stopped says =
-    (λ ending. absurd (ends_only status ending stopped), λ _. ran_front s t cs output says.0 old now says.1 says.2)
-
--- all commands were said, and the writing of the file was stopped
-written_front : (s : State) (t : List ℕ) (cs : List Given) (output front : List ℕ) (old mid now : Option Content) → mid ≡ option_map (spoken (texts_of cs s)) old → IsFrontOf (file_after s t cs) front → now ≡ option_map (filed output front) mid → IfSome old (λ c. Stops (told_from s t cs output) c now)
-written_front s t cs output front None mid now said is e = tt
-written_front s t cs output front (Some c) mid now said is e =
-    record {
-      content = filed output front (spoken (texts_of cs s) c);
-      told_is = rw (e, said) refl;
-      front = texts_of cs s;
-      is_front = ([], sym (append-nil (texts_of cs s)));
-      said_is = refl;
-      files_are = inr (front, is, refl);
-    }
-
-unwritten : (s : State) (t : List ℕ) (cs : List Given) (output : List ℕ) (old mid now : Option Content) → mid ≡ option_map (spoken (texts_of cs s)) old → now ≡ mid → IfSome old (λ c. Stops (told_from s t cs output) c now)
-unwritten s t cs output old mid now said e =
-    ran_front s t cs output (texts_of cs s) old now ([], sym (append-nil (texts_of cs s))) (e ∙ said)
-
-written_part : (s : State) (t : List ℕ) (cs : List Given) (output bytes : List ℕ) (stop : Stop) (old mid now : Option Content) → mid ≡ option_map (spoken (texts_of cs s)) old → bytes ≡ file_after s t cs → FilesAll (Err stop) output bytes mid now → IfSome old (λ c. Stops (told_from s t cs output) c now)
-written_part s t cs output bytes stop old mid now said is (inl e) = unwritten s t cs output old mid now said e
-written_part s t cs output bytes stop old mid now said is (inr part) =
-    written_front s t cs output (take part.0 bytes) old mid now said (subst (λ (b : List ℕ). IsFrontOf b (take part.0 bytes)) is (is_taken bytes part.0)) part.2
-
-pub stopped_writing : (s new : State) (t : List ℕ) (cs : List Given) (output tail : List ℕ) (before : ℕ) (stop : Stop) (status : Status) (old mid now : Option Content) → new ≡ after_all cs s → mid ≡ option_map (spoken (texts_of cs s)) old → FilesAll (Err stop) output (file_made before tail (spelling new.top)) mid now → tail ≡ t → before ≡ length (spelling s.top) → IsStopped status → ComesTo status (λ _. told_from s t cs output) old now
-stopped_writing s new t cs output tail before stop status old mid now drawn said filed_is back begun stopped =
-    (λ ending. absurd (ends_only status ending stopped), λ _. written_part s t cs output (file_made before tail (spelling new.top)) stop old mid now said (made_so s new t tail cs before drawn back begun) filed_is)
+pub edit_unsaid : (s : State) (t : List ℕ) (cs : List Given) (output : List ℕ) {old new : Seen} (stop : Stop) → Writes {T = ℕ} (Err stop) (SaysAs {T = ℕ} (Err stop) (texts_of cs s)) old new
+    → Writes {T = Ending} (Err stop) (Tells (λ _. told_from s t cs output) (Err stop)) old new
+edit_unsaid s t cs output {old = old} {new = new} stop said =
+    stopped_so stop said (stopped_saying (status_with (refused_count cs s)) (texts_of cs s) output (file_after s t cs) old.content new.content)

@@ -15,9 +15,9 @@ use Rattle.dgn_listing.specs.FindingTexts.{findings_text}
 use Rattle.dgn_session.specs.State as machine
 use Rattle.dgn_session.specs.State.{State, pushed}
 use Rattle.edit_script.specs.declared.command.Command.TheVariants as command
-use Rattle.dgn_tool.specs.Commands.{begun, text_of}
-use Rattle.dgn_tool.specs.Given.{Given, after_all}
-use Rattle.dgn_tool.specs.Remaining.{Made, with_steps}
+use Rattle.dgn_answers.specs.Commands.{begun, text_of}
+use Rattle.dgn_answers.specs.Given.{Given, after_all}
+use Rattle.dgn_answers.specs.Remaining.{Made, with_steps}
 use Rattle.dgn_tool.specs.Laws.{steps_of}
 use Rattle.dgn_tool.specs.FitLaws.{FitsEndFindings}
 use Rattle.dgn_tool.proofs.Appending.{IsStep, steps_given}

@@ -1,98 +1,123 @@
--- A run that reads IN, SCRIPT and the second files: what it goes on with, or how it ended.
-use Rattle.std.proofs.Common.{◌≡◌, ℕ, List, map, true, false, Option, Some, None, Ok, Err, sym, ap, ◌∙◌, subst}
-use Rattle.std.specs.Prelude.{IfSome, IsErrOf, codes}
+-- What files that were read come to in a run: IN, SCRIPT, and both with the second files.
+use Rattle.std.proofs.Common.{◌≡◌, ◌<◌, ◌≤◌, List, ℕ, length, nat_lt, nat_le, true, false, vec_len, Vec, Result, Ok, refl, sym, ap, ◌∙◌, subst, arith}
+use Rattle.std.specs.Prelude.{IsTrue, codes}
 use Rattle.std.specs.List.{list_all}
-use Rattle.std.proofs.lemmas.Bool.{cond-true, cond-false}
-use Rattle.dgn_desk.specs.Content.{Content, bytes_of, OnlyLeftDiffers, HasFile}
-use Rattle.dgn_import.specs.Seconds.{SecondValue, second_of}
-use Rattle.elem_index.specs.Opened.{Opened}
+use Rattle.std.proofs.lemmas.Bool.{cond-true}
+use Rattle.std.proofs.lemmas.Bool.Decides.{nat_tests}
+use Rattle.dgn_desk.specs.Content.{Files, bytes_of}
+use Rattle.dgn_drawing.specs.Opening.{Fault}
+use Rattle.dgn_import.specs.Seconds.{SecondValue}
+use Rattle.elem_index.specs.declared.open_fault.OpenFault.{OpenFault}
+use Rattle.elem_index.specs.Opened.{Opened, opening}
+use Rattle.elem_index.specs.Answers.{HasCount, TellsFault}
+use Rattle.edit_script.specs.Script.{commands_of}
 use Rattle.edit_script.specs.declared.command.Command.{Command}
-use Rattle.dgn_tool.specs.Given.{Given, given_all}
+use Rattle.edit_script.specs.declared.fault.ScriptFault.{ScriptFault}
+use Rattle.dgn_answers.specs.Lines.{numbered}
 use Rattle.dgn_tool.specs.Ended.{Outcome, ended}
-use Rattle.dgn_tool.specs.SecondFiles.{names_in, files_named, is_within, stepped, AreThere, HasSeconds, ComeTo}
-use Rattle.dgn_tool.specs.Outcome.{scripted, run_outcome, ComesEarly, OpensAs, ReadsAs, EndsScript, EndsNamed, EndsInputs, GoesOn, HasBoth, HasAll}
-use Rattle.dgn_tool.specs.declared.status.Status.{Status}
+use Rattle.dgn_tool.specs.Ends.{Has}
+use Rattle.dgn_answers.specs.Given.{Given, given_all}
+use Rattle.dgn_tool.specs.Outcome.{script_outcome, scripted, opened_outcome, input_outcome, run_outcome, checked, comes_to_script, HasBoth, HasAll}
+use Rattle.dgn_tool.specs.Readings.{whole_file, IsWholeFile, OpensAs, FaultSays, ReadsAs, ComeTo, GoesOn}
+use Rattle.dgn_tool.specs.SecondFiles.{names_in, files_named, is_within, stepped, AreThere, HasSeconds}
 use Rattle.dgn_tool.specs.declared.status.Status.TheVariants as statuses
-use Rattle.dgn_tool.proofs.Endings.{through, input_opens, script_reads, comes}
+
+-- a `Vec` of at most n items is a list of at most n
+pub items_within : {X Z : Type 0} (v : Vec X Z) (n : ℕ) → vec_len v ≤ n → length v.items ≤ n
+items_within v n h = subst (λ k. k ≤ n) v.ok.0 h
+
+-- A whole file.
+
+pub file_overruns : (name : List ℕ) (limit : ℕ) (line : List ℕ) (files : Files) (go_on : Files → List ℕ → Outcome) → limit < length (bytes_of files name) → whole_file name limit line go_on files ≡ ended statuses.TooLong line
+file_overruns name limit line files go_on h =
+    let test : nat_lt limit (length (bytes_of files name)) ≡ true = grind (arith, nat_tests) in
+    rw test refl
+
+pub file_read : (name : List ℕ) (limit : ℕ) (line bytes : List ℕ) (files : Files) (go_on : Files → List ℕ → Outcome) → IsWholeFile name limit files bytes → whole_file name limit line go_on files ≡ go_on files bytes
+file_read name limit line bytes files go_on is =
+    let few : length (bytes_of files name) ≤ limit = subst (λ (b : List ℕ). length b ≤ limit) is.1 is.0 in
+    let test : nat_lt limit (length (bytes_of files name)) ≡ false = grind (arith, nat_tests) in
+    rw test (ap (go_on files) (sym is.1))
+
+-- IN.
+
+-- IN has no more bytes than it may
+pub input_opens : (input : List ℕ) (go_on : Opened → Outcome) (found : Result Opened Fault) → length input ≤ 67108864 → opening input ≡ found → input_outcome input go_on ≡ opened_outcome found go_on
+input_opens input go_on found h e =
+    let test : nat_lt 67108864 (length input) ≡ false = grind (arith, nat_tests) in
+    rw (test, e) refl
+
+-- what was read of IN opens so
+pub opens_so : (name bytes : List ℕ) (d : Opened) (files : Files) → opening bytes ≡ Ok d → IsWholeFile name 67108864 files bytes → OpensAs name files d
+opens_so name bytes d files opens is = (subst (λ (b : List ℕ). length b ≤ 67108864) is.1 is.0, ap opening (sym is.1) ∙ opens)
+
+-- and it is these bytes that open
+pub input_file : (name bytes : List ℕ) (files : Files) (go_on : Opened → Outcome) → IsWholeFile name 67108864 files bytes → input_outcome (bytes_of files name) go_on ≡ opened_outcome (opening bytes) go_on
+input_file name bytes files go_on is =
+    input_opens (bytes_of files name) go_on (opening bytes) (subst (λ (b : List ℕ). length b ≤ 67108864) is.1 is.0) (ap opening (sym is.1))
+
+-- a fault that is told ends a run with its line
+pub fault_outcome : (found : Result Opened Fault) (fault : OpenFault) (line : List ℕ) (go_on : Opened → Outcome) → TellsFault found fault → FaultSays fault line → opened_outcome found go_on ≡ ended statuses.BadDesign line
+fault_outcome found OpenFault.NotDesign line go_on tells says = ap (λ (r : Result Opened Fault). opened_outcome r go_on) tells ∙ ap (ended statuses.BadDesign) (sym says)
+fault_outcome found (OpenFault.Cut at) line go_on tells says = ap (λ (r : Result Opened Fault). opened_outcome r go_on) tells ∙ ap (ended statuses.BadDesign) (sym says)
+fault_outcome found (OpenFault.Short at) line go_on tells says = ap (λ (r : Result Opened Fault). opened_outcome r go_on) tells ∙ ap (ended statuses.BadDesign) (sym says)
+fault_outcome found (OpenFault.Attr at) line go_on tells says = ap (λ (r : Result Opened Fault). opened_outcome r go_on) tells ∙ ap (ended statuses.BadDesign) (sym says)
+fault_outcome found OpenFault.Memory line go_on tells says = absurd says
+
+-- where IN opens, `check` says how many elements it has
+pub counts : (bytes : List ℕ) (count : ℕ) → HasCount bytes count → opened_outcome (opening bytes) checked ≡ ended statuses.Done (numbered (codes "elements ") count)
+counts bytes count has =
+    ap (λ (r : Result Opened Fault). opened_outcome r checked) has.found
+    ∙ ap (λ (n : ℕ). ended statuses.Done (numbered (codes "elements ") n)) (sym has.counted)
+
+-- SCRIPT.
+
+-- SCRIPT has no more bytes than it may
+pub script_reads : (script : List ℕ) (go_on : List Command → Outcome) (found : Result (List Command) ScriptFault) → length script ≤ 1048576 → commands_of script ≡ found → scripted script go_on ≡ script_outcome found go_on
+script_reads script go_on found h e =
+    let test : nat_lt 1048576 (length script) ≡ false = grind (arith, nat_tests) in
+    rw (test, e) refl
+
+-- and it is these bytes that read
+pub script_file : (name bytes : List ℕ) (found : Result (List Command) ScriptFault) (files : Files) (go_on : List Command → Outcome) → commands_of bytes ≡ found → IsWholeFile name 1048576 files bytes → scripted (bytes_of files name) go_on ≡ script_outcome found go_on
+script_file name bytes found files go_on reads is =
+    script_reads (bytes_of files name) go_on found (subst (λ (b : List ℕ). length b ≤ 1048576) is.1 is.0) (ap commands_of (sym is.1) ∙ reads)
+
+-- what was read of SCRIPT reads so
+pub reads_so : (name bytes : List ℕ) (cs : List Command) (files : Files) → commands_of bytes ≡ Ok cs → IsWholeFile name 1048576 files bytes → ReadsAs name files cs
+reads_so name bytes cs files reads is = (subst (λ (b : List ℕ). length b ≤ 1048576) is.1 is.0, ap commands_of (sym is.1) ∙ reads)
+
+-- an IN within its limit that opens comes to SCRIPT
+comes : (input : List ℕ) (d : Opened) → length input ≤ 67108864 → opening input ≡ Ok d → IsTrue (comes_to_script input)
+comes input d within opens =
+    let test : nat_le (length input) 67108864 ≡ true = grind (arith, nat_tests) in
+    rw (test, opens) refl
+
+-- after such an IN was read, SCRIPT, or PATCH, is there
+pub other_there : (input other : List ℕ) (d : Opened) (files : Files) → OpensAs input files d → HasBoth input other files → Has other files
+other_there input other d files opens has = has.1 (comes (bytes_of files input) d opens.0 opens.1)
+
+-- IN, SCRIPT and the second files.
 
 module _ (input script : List ℕ) where
-  -- IN ended it
-  pub input_ends : (status : Status) (old now : Option Content) → ComesEarly input old now status → EndsInputs input script old now status
-  input_ends status old now early go_on = early (λ files d. scripted (bytes_of files script) (λ cs. stepped cs files (go_on d)))
+  -- where IN opens, it goes on with SCRIPT
+  pub to_script : (d : Opened) (files : Files) (go_on : Opened → List Given → Outcome) → OpensAs input files d → run_outcome input script files go_on ≡ scripted (bytes_of files script) (λ cs. stepped cs files (go_on d))
+  to_script d files go_on opens = input_opens (bytes_of files input) (λ x. scripted (bytes_of files script) (λ cs. stepped cs files (go_on x))) (Ok d) opens.0 opens.1
 
-  module _ (d : Opened) (old : Option Content) (opens : OpensAs input old d) where
-    -- where IN opens, it goes on with SCRIPT
-    to_script : (go_on : Opened → List Given → Outcome) → IfSome old (λ c. run_outcome input script c.files go_on ≡ scripted (bytes_of c.files script) (λ cs. stepped cs c.files (go_on d)))
-    to_script go_on = with_content old opens
-      where
-        with_content : (o : Option Content) → OpensAs input o d → IfSome o (λ c. run_outcome input script c.files go_on ≡ scripted (bytes_of c.files script) (λ cs. stepped cs c.files (go_on d)))
-        with_content None opens = tt
-        with_content (Some c) opens = input_opens (bytes_of c.files input) (λ x. scripted (bytes_of c.files script) (λ cs. stepped cs c.files (go_on x))) (Ok d) opens.0 opens.1
+  -- where that is read, it goes on with the second files
+  pub to_seconds : (d : Opened) (cs : List Command) (files : Files) (go_on : Opened → List Given → Outcome) → OpensAs input files d → ReadsAs script files cs → run_outcome input script files go_on ≡ stepped cs files (go_on d)
+  to_seconds d cs files go_on opens reads =
+      to_script d files go_on opens
+      ∙ script_reads (bytes_of files script) (λ ks. stepped ks files (go_on d)) (Ok cs) reads.0 reads.1
 
-    -- SCRIPT ended it
-    pub script_ends_it : (status : Status) (mid now : Option Content) → OnlyLeftDiffers old mid → EndsScript script mid now status → EndsInputs input script old now status
-    script_ends_it status mid now only ends go_on =
-        through (λ files. run_outcome input script files go_on) (λ files. scripted (bytes_of files script) (λ cs. stepped cs files (go_on d))) status old mid now only (to_script go_on) (ends (λ files cs. stepped cs files (go_on d)))
+  -- and where they are, with the steps
+  pub to_steps : (d : Opened) (cs : List Command) (vs : List SecondValue) (files : Files) → OpensAs input files d → ReadsAs script files cs → ComeTo (names_in cs) files vs → GoesOn input script files (d, given_all cs vs)
+  to_steps d cs vs files opens reads come go_on =
+      to_seconds d cs files go_on opens reads
+      ∙ cond-true (list_all is_within (files_named (names_in cs) files)) _ _ come.0
+      ∙ ap (λ (ws : List SecondValue). go_on d (given_all cs ws)) (sym come.1)
 
-    module _ (cs : List Command) (mid : Option Content) (only : OnlyLeftDiffers old mid) (reads : ReadsAs script mid cs) (here : Option Content) (left_only : OnlyLeftDiffers old here) where
-      -- where that is read, it goes on with the second files
-      reads_here : (o m : Option Content) → OnlyLeftDiffers o m → ReadsAs script m cs → ReadsAs script o cs
-      reads_here None m left known = tt
-      reads_here (Some c) m left known = rw left.1 at known
-
-      to_steps_of : (go_on : Opened → List Given → Outcome) (o : Option Content) → OpensAs input o d → ReadsAs script o cs → IfSome o (λ c. run_outcome input script c.files go_on ≡ stepped cs c.files (go_on d))
-      to_steps_of go_on None opens known = tt
-      to_steps_of go_on (Some c) opens known =
-          input_opens (bytes_of c.files input) (λ x. scripted (bytes_of c.files script) (λ ks. stepped ks c.files (go_on x))) (Ok d) opens.0 opens.1
-          ∙ script_reads (bytes_of c.files script) (λ ks. stepped ks c.files (go_on d)) (Ok cs) known.0 known.1
-
-      to_steps : (go_on : Opened → List Given → Outcome) → IfSome old (λ c. run_outcome input script c.files go_on ≡ stepped cs c.files (go_on d))
-      to_steps go_on = to_steps_of go_on old opens (reads_here old mid only reads)
-
-      -- a second file ended it
-      long_ends : (go_on : List Given → Outcome) (o : Option Content)
-          → IfSome o (λ c. list_all is_within (files_named (names_in cs) c.files) ≡ false → stepped cs c.files go_on ≡ ended statuses.TooLong (codes "too long import\n"))
-      long_ends go_on None = tt
-      long_ends go_on (Some c) = λ long. cond-false (list_all is_within (files_named (names_in cs) c.files)) _ _ long
-
-      pub seconds_end_it : (status : Status) (now : Option Content) → EndsNamed (names_in cs) here now status → EndsInputs input script old now status
-      seconds_end_it status now ends go_on =
-          through (λ files. run_outcome input script files go_on) (λ files. stepped cs files (go_on d)) status old here now left_only (to_steps go_on)
-          (ends (λ files. stepped cs files (go_on d)) (long_ends (go_on d) here))
-
-      -- none did
-      steps_are : (vs : List SecondValue) (go_on : Opened → List Given → Outcome) (o m : Option Content) → OnlyLeftDiffers o m → ComeTo (names_in cs) m vs
-          → IfSome o (λ c. run_outcome input script c.files go_on ≡ stepped cs c.files (go_on d)) → IfSome o (λ c. run_outcome input script c.files go_on ≡ go_on d (given_all cs vs))
-      steps_are vs go_on None m left come to = tt
-      steps_are vs go_on (Some c) m left come to =
-          let all : (list_all is_within (files_named (names_in cs) c.files) ≡ true) × (vs ≡ map second_of (files_named (names_in cs) c.files)) = rw left.1 at come in
-          to ∙ cond-true (list_all is_within (files_named (names_in cs) c.files)) _ _ all.0 ∙ ap (λ (ws : List SecondValue). go_on d (given_all cs ws)) (sym all.1)
-
-      pub all_read : (vs : List SecondValue) → ComeTo (names_in cs) here vs → GoesOn input script old d (given_all cs vs)
-      all_read vs come go_on = steps_are vs go_on old here left_only come (to_steps go_on)
-
-      -- the second files are there
-      there_of : (o m : Option Content) → OnlyLeftDiffers o m → OpensAs input o d → ReadsAs script o cs → IfSome o (λ c. HasAll input script c.files) → IfSome m (λ c. AreThere (names_in cs) c.files)
-      there_of None m left opens known has = rw left.1 tt
-      there_of (Some c) m left opens known has =
-          let there : AreThere (names_in cs) c.files = subst (λ r. HasSeconds r c.files) known.1 (has.1 (comes (bytes_of c.files input) d opens.0 opens.1) known.0) in
-          rw left.1 there
-
-      pub seconds_there : IfSome old (λ c. HasAll input script c.files) → IfSome here (λ c. AreThere (names_in cs) c.files)
-      seconds_there has = there_of old here left_only opens (reads_here old mid only reads) has
-
-  -- IN is there
-  pub input_there : (old : Option Content) → IfSome old (λ c. HasAll input script c.files) → HasFile input old
-  input_there None has = tt
-  input_there (Some c) has = has.0.0
-
-  -- IN is there, and SCRIPT
-  pub both_there : (old : Option Content) → IfSome old (λ c. HasAll input script c.files) → IfSome old (λ c. HasBoth input script c.files)
-  both_there None has = tt
-  both_there (Some c) has = has.0
-
--- an error is the same, whatever the other answers would be
-pub err_of : {T U : Type 0} (e f : Status) → IsErrOf {T = T} (Err e) f → IsErrOf {T = U} (Err e) f
-err_of e f is =
-    let same : e ≡ f = (let x = is in cc) in
-    ap Err same
+  -- the second files are there
+  pub seconds_there : (d : Opened) (cs : List Command) (files : Files) → OpensAs input files d → ReadsAs script files cs → HasAll input script files → AreThere (names_in cs) files
+  seconds_there d cs files opens reads has =
+      subst (λ (r : Result (List Command) ScriptFault). HasSeconds r files) reads.1 (has.1 (comes (bytes_of files input) d opens.0 opens.1) reads.0)

@@ -22,10 +22,10 @@ use Rattle.dgn_import.specs.Gathering.{Gathering, Trees, Bad, Dimension, Refused
 use Rattle.dgn_import.specs.Laws.{NestApart}
 use Rattle.dgn_import.proofs.GatheredTrees.{nest_apart, same_dim, fitting, other_dim}
 use Rattle.dgn_session.specs.State.{State}
-use Rattle.dgn_tool.specs.Lines.{numbered}
-use Rattle.dgn_tool.specs.Commands.{begun}
-use Rattle.dgn_tool.specs.Given.{Given, after_all}
-use Rattle.dgn_tool.specs.Imports.{Importing, Appends, Declines, unless_long, importing, importing_of, import_refused, import_left}
+use Rattle.dgn_answers.specs.Lines.{numbered}
+use Rattle.dgn_answers.specs.Commands.{begun}
+use Rattle.dgn_answers.specs.Given.{Given, after_all}
+use Rattle.dgn_answers.specs.Imports.{Importing, Appends, Declines, unless_long, importing, importing_of, import_refused, import_left}
 use Rattle.dgn_tool.specs.Laws.{steps_of}
 use Rattle.dgn_tool.specs.ImportLaws.{trees_taken, CanFollow, TreesFollow, ImportsNestApart, ImportsOfRunsNestApart, RefusedImportsChangeNothing}
 use Rattle.dgn_tool.proofs.Appending.{not_long, steps_given}

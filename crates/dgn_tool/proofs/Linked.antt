@@ -31,10 +31,10 @@ use Rattle.dgn_audit.proofs.FitKeepsRows.{fitted_opens, fits_change}
 use Rattle.dgn_session.specs.Fits.{fit_applied}
 use Rattle.edit_script.specs.declared.command.Command.{Command}
 use Rattle.edit_script.specs.declared.command.Command.TheVariants as command
-use Rattle.dgn_tool.specs.Commands.{fence_refused, after_command}
-use Rattle.dgn_tool.specs.Imports.{Importing, Appends, Declines, importing_of, import_left}
-use Rattle.dgn_tool.specs.Given.{Given, Plain, Import, after_step, after_all}
-use Rattle.dgn_tool.specs.Remaining.{Made, Alone, Fenced, Fitted, Imported, fields_made, with_made, with_all_made, without_newest, with_import, with_command, with_step, with_steps}
+use Rattle.dgn_answers.specs.Commands.{fence_refused, after_command}
+use Rattle.dgn_answers.specs.Imports.{Importing, Appends, Declines, importing_of, import_left}
+use Rattle.dgn_answers.specs.Given.{Given, Plain, Import, after_step, after_all}
+use Rattle.dgn_answers.specs.Remaining.{Made, Alone, Fenced, Fitted, Imported, fields_made, with_made, with_all_made, without_newest, with_import, with_command, with_step, with_steps}
 use Rattle.dgn_tool.specs.Laws.{IsOutside, IsEditIn}
 use Rattle.dgn_tool.proofs.Appending.{IsStep, import_behind, appended}
 use Rattle.dgn_tool.proofs.Stacked.{IsStacked, step_stacks}

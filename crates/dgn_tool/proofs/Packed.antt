@@ -16,12 +16,14 @@ use Rattle.dgn_session.specs.State.{State, SessionValue, state_of, earlier_of}
 use Rattle.dgn_session.specs.Kept.{AreKept}
 use Rattle.dgn_session.specs.Laws.{IsSound}
 use Rattle.dgn_session.proofs.Steps.{bodies_first}
-use Rattle.dgn_tool.specs.Given.{Given, after_all, refused_count}
-use Rattle.dgn_tool.specs.Ended.{ended}
-use Rattle.dgn_tool.specs.Lines.{numbered}
+use Rattle.dgn_answers.specs.Given.{Given, after_all, refused_count}
+use Rattle.dgn_tool.specs.Ended.{ended, filed_then_said, status_with}
+use Rattle.dgn_answers.specs.Lines.{numbered}
+use Rattle.dgn_tool.specs.declared.status.Status.{Status}
 use Rattle.dgn_tool.specs.declared.status.Status.TheVariants as statuses
-use Rattle.dgn_tool.specs.Remaining.{Made, with_steps}
-use Rattle.dgn_tool.specs.Packing.{entry_made, packed_made, packed_after, filed_patch, packed_from, IsLogOf, AllLogAs}
+use Rattle.dgn_answers.specs.Remaining.{Made, with_steps}
+use Rattle.dgn_tool.specs.Packing.{packed_made, packed_after, filed_patch, packed_from}
+use Rattle.dgn_answers.specs.Logs.{entry_made, IsLogOf, AllLogAs}
 use Rattle.dgn_tool.proofs.Stacked.{lists_made, IsStacked, steps_stack}
 use Rattle.dgn_tool.proofs.Linked.{steps_dim}
 
@@ -89,14 +91,13 @@ taken_all from v taken all so many is =
     ap all_packed is ∙ sym (reversed_packed taken)
     ∙ sym (so.whole ∙ ap (λ (es : List Entry). all_taken v.body (reverse es) ++ reverse (all_packed taken)) none)
 
--- what was spelled for the file and for the line that is said
-pub text_filed : (empty file bytes : List ℕ) (es : List Packed) → empty ≡ [] → file ≡ empty ++ patch_spelling es → bytes ≡ file → bytes ++ [] ≡ patch_spelling es
-text_filed empty file bytes es none spelled same = append-nil bytes ∙ same ∙ spelled ∙ ap (λ (b : List ℕ). b ++ patch_spelling es) none
-
-pub line_said : (empty line bytes : List ℕ) (entries : List PatchEntry) → empty ≡ [] → line ≡ empty ++ numbered (codes "entries ") (length entries) → bytes ≡ line → bytes ≡ numbered (codes "entries ") (length (all_packed entries))
-line_said empty line bytes entries none spelled same =
-    same ∙ spelled ∙ ap (λ (b : List ℕ). b ++ numbered (codes "entries ") (length entries)) none
-    ∙ ap (numbered (codes "entries ")) (sym (length-map entries packed_of))
+-- the outcome, by the bytes that are written and the text that is said
+pub filed_so : (entries : List PatchEntry) (refused : ℕ) (patch file text : List ℕ) (status : Status) → file ≡ patch_spelling (all_packed entries) → text ≡ numbered (codes "entries ") (length entries) → status ≡ status_with refused
+    → filed_patch (all_packed entries) refused patch ≡ filed_then_said status text patch (file ++ ([] ++ []))
+filed_so entries refused patch file text status spelled said is =
+    ap (λ (st : Status). filed_then_said st (numbered (codes "entries ") (length (all_packed entries))) patch (patch_spelling (all_packed entries))) (sym is)
+    ∙ ap (λ (x : List ℕ). filed_then_said status x patch (patch_spelling (all_packed entries))) (ap (numbered (codes "entries ")) (length-map entries packed_of) ∙ sym said)
+    ∙ ap (filed_then_said status text patch) (sym spelled ∙ sym (append-nil file))
 
 -- the outcome of a patch file that isn't too long, and of one that is
 pub packed_short : (cs : List Given) (s : State) (es : List Packed) (refused : ℕ) (patch : List ℕ) → es ≡ packed_after cs s → refused ≡ refused_count cs s → length (patch_spelling es) ≤ 134217728 → filed_patch es refused patch ≡ packed_from s cs patch

@@ -19,10 +19,11 @@ use Rattle.dgn_session.specs.State.{State}
 use Rattle.dgn_session.proofs.Leading.{leads_back}
 use Rattle.dgn_session.proofs.Rising.{rise_long, filled_rise, olds_filled}
 use Rattle.edit_ops.specs.Fields.{Field, Rise, filled}
-use Rattle.dgn_tool.specs.Commands.{begun}
-use Rattle.dgn_tool.specs.Given.{Given, after_all}
-use Rattle.dgn_tool.specs.Remaining.{Made, fields_made, with_steps}
-use Rattle.dgn_tool.specs.Packing.{entry_made, packed_made, packed_after}
+use Rattle.dgn_answers.specs.Commands.{begun}
+use Rattle.dgn_answers.specs.Given.{Given, after_all}
+use Rattle.dgn_answers.specs.Remaining.{Made, fields_made, with_steps}
+use Rattle.dgn_tool.specs.Packing.{packed_made, packed_after}
+use Rattle.dgn_answers.specs.Logs.{entry_made}
 use Rattle.dgn_tool.specs.Applied.{AllFit}
 use Rattle.dgn_tool.specs.Laws.{steps_of, PacksAgain, AppliedGivesTheSame}
 use Rattle.dgn_tool.proofs.Sized.{HasFew, made_few}

@@ -6,15 +6,15 @@ use Rattle.elem_index.proofs.OpeningAnswers.{opens-opening}
 use Rattle.patch_file.specs.Spelling.{Packed}
 use Rattle.patch_file.specs.Reading.{patch_of}
 use Rattle.patch_file.proofs.SpellingsRead.{patch_again}
-use Rattle.dgn_tool.specs.Commands.{begun}
+use Rattle.dgn_answers.specs.Commands.{begun}
 use Rattle.dgn_tool.specs.Filling.{file_made}
-use Rattle.dgn_tool.specs.Lines.{numbered}
-use Rattle.dgn_tool.specs.Ended.{Outcome}
+use Rattle.dgn_answers.specs.Lines.{numbered}
+use Rattle.dgn_tool.specs.Ended.{Outcome, filed_then_said}
 use Rattle.dgn_tool.specs.Packing.{packed_after}
 use Rattle.dgn_tool.specs.Laws.{steps_of}
 use Rattle.dgn_tool.specs.PatchLaws.{Applies, WritesTheSame}
 use Rattle.dgn_tool.specs.declared.status.Status.TheVariants as statuses
-use Rattle.std.specs.Prelude.{codes, Some}
+use Rattle.std.specs.Prelude.{codes}
 use Rattle.dgn_tool.proofs.PatchEndings.{applies_all}
 use Rattle.dgn_tool.proofs.Repacked.{applied_gives_the_same}
 
@@ -33,9 +33,5 @@ writes_the_same words files d cs seconds output a fits bytes =
       short = a.short;
       reads = reads;
     } in
-    let made : List ℕ → Outcome = λ b. record {
-      status = statuses.Done;
-      text = numbered (codes "applied ") (length es);
-      file = Some (output, file_made (length (spelling d.elements)) d.tail b);
-    } in
+    let made : List ℕ → Outcome = λ b. filed_then_said statuses.Done (numbered (codes "applied ") (length es)) output (file_made (length (spelling d.elements)) d.tail b) in
     applies_all words files d es output so again.stand again.fit ∙ ap made again.gives

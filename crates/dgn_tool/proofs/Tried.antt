@@ -1,53 +1,30 @@
--- What the calls ensure that try a generated drawing comes to its outcome: where its file was written and its summary
--- said, and where that was stopped.
-use Rattle.std.proofs.Common.{◌≡◌, List, [], ℕ, ◌+◌, ◌++◌, length, replicate, Bool, true, false, cond, Option, Err, refl, sym, ap, ◌∙◌, subst, append_assoc, arith, length-append}
-use Rattle.std.specs.Prelude.{option_map, codes}
+-- What is written and said of a generated drawing on which the fixed script was run.
+use Rattle.std.proofs.Common.{◌≡◌, List, [], ℕ, ◌+◌, ◌++◌, length, replicate, Bool, true, false, cond, refl, sym, ap, ◌∙◌, append_assoc, arith, length-append}
+use Rattle.std.specs.Prelude.{codes}
 use Rattle.std.proofs.lemmas.List.{length-replicate}
-use Rattle.dgn_desk.specs.Content.{Content, filed, spoken}
-use Rattle.dgn_desk.specs.Desk.{SaysAll, FilesAll}
-use Rattle.dgn_desk.specs.declared.stop.Stop.{Stop}
 use Rattle.dgn_drawing.specs.Shown.{shown}
 use Rattle.dgn_drawing.specs.Spelling.{spelling}
 use Rattle.dgn_session.specs.State.{State}
-use Rattle.dgn_tool.specs.Commands.{begun}
-use Rattle.dgn_tool.specs.Given.{after_all}
+use Rattle.dgn_answers.specs.Commands.{begun}
+use Rattle.dgn_answers.specs.Given.{after_all}
 use Rattle.dgn_tool.specs.Filling.{is_blocks, left_in_block, filling, file_made}
 use Rattle.dgn_tool.specs.Generation.{fixed_steps, sizes_of, summary, generated_from, drawing_of, generation}
-use Rattle.dgn_tool.specs.Lines.{numbered}
-use Rattle.dgn_tool.specs.Ended.{file_after}
-use Rattle.dgn_tool.specs.Outcome.{ComesTo, IsStopped}
-use Rattle.dgn_tool.specs.declared.status.Status.{Status}
+use Rattle.dgn_answers.specs.Lines.{numbered}
+use Rattle.dgn_tool.specs.Ended.{filed_then_said}
 use Rattle.dgn_tool.specs.declared.status.Status.TheVariants as statuses
-use Rattle.dgn_tool.proofs.Filed as file
-use Rattle.dgn_tool.proofs.Filed.{filed_and_said}
 use Rattle.dgn_tool.proofs.Finished.{made_so}
 
-module _ (s : State) (t output : List ℕ) where
-  module _ (new : State) (tail text : List ℕ) (before : ℕ) (old : Option Content) (drawn : new ≡ after_all fixed_steps s) (back : tail ≡ t) (begins : before ≡ length (spelling s.top)) where
-    made : file_made before tail (spelling new.top) ≡ file_after s t fixed_steps
-    made = made_so s new t tail fixed_steps before drawn back begins
-
-    -- the file that is written is that after the fixed commands
-    made_is : (mid : Option Content) → mid ≡ option_map (filed output (file_made before tail (spelling new.top))) old → mid ≡ option_map (filed output (file_after s t fixed_steps)) old
-    made_is mid filed_is = filed_is ∙ ap (λ (b : List ℕ). option_map (filed output b) old) made
-
-    pub tried : (mid now : Option Content) → text ≡ summary s t → mid ≡ option_map (filed output (file_made before tail (spelling new.top))) old → now ≡ option_map (spoken text) mid → ComesTo statuses.Done (λ _. generated_from s t output) old now
-    tried mid now told filed_is said =
-        filed_and_said statuses.Done (summary s t) output (file_after s t fixed_steps) old mid now tt (made_is mid filed_is) (said ∙ ap (λ (b : List ℕ). option_map (spoken b) mid) told)
-
-    pub stopped_saying : (stop : Stop) (status : Status) (mid now : Option Content) → IsStopped status → text ≡ summary s t → mid ≡ option_map (filed output (file_made before tail (spelling new.top))) old → SaysAll (Err stop) text mid now → ComesTo status (λ _. generated_from s t output) old now
-    stopped_saying stop status mid now stopped told filed_is said =
-        file.stopped_saying statuses.Done (summary s t) output (file_after s t fixed_steps) stop status old mid now stopped (made_is mid filed_is) (subst (λ (b : List ℕ). SaysAll (Err stop) b mid now) told said)
-
-    pub stopped_filing : (stop : Stop) (status : Status) (now : Option Content) → IsStopped status → FilesAll (Err stop) output (file_made before tail (spelling new.top)) old now → ComesTo status (λ _. generated_from s t output) old now
-    stopped_filing stop status now stopped filed_is =
-        file.stopped_filing statuses.Done (summary s t) output (file_after s t fixed_steps) stop status old now stopped (subst (λ (b : List ℕ). FilesAll (Err stop) output b old now) made filed_is)
+-- the outcome, by the bytes that are written and the text that is said
+pub tried : (s new : State) (t output tail body text : List ℕ) (before : ℕ) → new ≡ after_all fixed_steps s → tail ≡ t → before ≡ length (spelling s.top) → body ≡ spelling new.top → text ≡ summary s t
+    → generated_from s t output ≡ filed_then_said statuses.Done text output (file_made before tail body)
+tried s new t output tail body text before drawn back begins spelled told =
+    ap (filed_then_said statuses.Done (summary s t) output) (sym (ap (file_made before tail) spelled ∙ made_so s new t tail fixed_steps before drawn back begins))
+    ∙ ap (λ (x : List ℕ). filed_then_said statuses.Done x output (file_made before tail body)) (sym told)
 
 -- a session on the drawing of a seed and a count comes to what is generated
-pub generates : (seed count : ℕ) (s : State) (t output : List ℕ) (status : Status) (old now : Option Content) → s ≡ begun (drawing_of seed count) → t ≡ (drawing_of seed count).tail → ComesTo status (λ _. generated_from s t output) old now → ComesTo status (λ _. generation seed count output) old now
-generates seed count s t output status old now drawn tail comes =
-    subst (λ (x : State). ComesTo status (λ _. generated_from x (drawing_of seed count).tail output) old now) drawn
-    (subst (λ (x : List ℕ). ComesTo status (λ _. generated_from s x output) old now) tail comes)
+pub generates : (seed count : ℕ) (s : State) (t output : List ℕ) → s ≡ begun (drawing_of seed count) → t ≡ (drawing_of seed count).tail → generation seed count output ≡ generated_from s t output
+generates seed count s t output drawn tail =
+    ap (λ (x : State). generated_from x (drawing_of seed count).tail output) (sym drawn) ∙ ap (λ (x : List ℕ). generated_from s x output) (sym tail)
 
 -- how many bytes fill the last block
 filled_long : (blocks : Bool) (k : ℕ) → length (cond blocks (replicate {A = ℕ} k 0) []) ≡ cond blocks k 0

@@ -1,5 +1,5 @@
 -- What a patch file comes to on a drawing: its entries are put on the drawing's elements, one after the other.
-use Rattle.std.specs.Prelude.{ℕ, ◌≡◌, ◌≤◌, ◌+◌, ◌-◌, ◌==◌, ◌&&◌, nat_lt, not, Bool, if◌then◌else◌, List, [], ◌∷◌, length, take, drop, codes, Some, Result, Ok, Err}
+use Rattle.std.specs.Prelude.{ℕ, ◌≡◌, ◌≤◌, ◌+◌, ◌-◌, ◌==◌, ◌&&◌, nat_lt, not, Bool, if◌then◌else◌, List, [], ◌∷◌, length, take, drop, codes, Result, Ok, Err}
 use Rattle.std.specs.List.{list_all}
 use Rattle.std.specs.Str.{bytes_eq}
 use Rattle.dgn_drawing.specs.Spelling.{spelling}
@@ -9,8 +9,8 @@ use Rattle.patch_file.specs.Spelling.{Packed}
 use Rattle.patch_file.specs.Reading.{patch_of}
 use Rattle.patch_file.specs.Standing.{put_on}
 use Rattle.dgn_tool.specs.Filling.{file_made}
-use Rattle.dgn_tool.specs.Lines.{numbered}
-use Rattle.dgn_tool.specs.Ended.{Outcome, ended}
+use Rattle.dgn_answers.specs.Lines.{numbered}
+use Rattle.dgn_tool.specs.Ended.{Outcome, ended, filed_then_said}
 use Rattle.dgn_tool.specs.declared.put_end.PutEnd.{PutEnd}
 use Rattle.dgn_tool.specs.declared.put_end.PutEnd.TheVariants as ends
 use Rattle.dgn_tool.specs.declared.status.Status.TheVariants as statuses
@@ -42,11 +42,7 @@ put_from tail k b (e ∷ es) =
 
 -- what a run comes to with that, of so many entries, where the elements had so many bytes before
 abbrev pub patched_outcome : ℕ → List ℕ → ℕ → Patched → List ℕ → Outcome
-patched_outcome before tail count (Made b) output = record {
-  status = statuses.Done;
-  text = numbered (codes "applied ") count;
-  file = Some (output, file_made before tail b);
-}
+patched_outcome before tail count (Made b) output = filed_then_said statuses.Done (numbered (codes "applied ") count) output (file_made before tail b)
 patched_outcome before tail count (Differs k) output = ended statuses.PatchRefused (numbered (codes "refused entry ") k)
 patched_outcome before tail count Overruns output = ended statuses.TooLong (codes "too long design\n")
 

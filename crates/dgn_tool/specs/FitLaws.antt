@@ -11,8 +11,8 @@ use Rattle.dgn_session.specs.State.{State}
 use Rattle.edit_script.specs.declared.command.Command.{Command}
 use Rattle.edit_script.specs.declared.command.Command.TheVariants as command
 use Rattle.elem_index.specs.Opened.{Opened}
-use Rattle.dgn_tool.specs.Commands.{begun, text_of, is_refused, after_command}
-use Rattle.dgn_tool.specs.Given.{after_all}
+use Rattle.dgn_answers.specs.Commands.{begun, text_of, is_refused, after_command}
+use Rattle.dgn_answers.specs.Given.{after_all}
 use Rattle.dgn_tool.specs.Laws.{IsEditIn, steps_of}
 
 -- where a fit is done in a state, `audit` says behind it the findings before it without those of the tree that it fitted

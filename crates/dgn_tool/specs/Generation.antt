@@ -12,12 +12,12 @@ use Rattle.elem_index.specs.Opened.{Opened}
 use Rattle.edit_script.specs.Script.{commands_of}
 use Rattle.edit_script.specs.declared.command.Command.{Command}
 use Rattle.edit_script.specs.declared.command.Command.TheVariants as command
-use Rattle.dgn_tool.specs.Commands.{begun}
-use Rattle.dgn_tool.specs.Given.{Given, given_all, after_all, refused_count, trees_of_all}
+use Rattle.dgn_answers.specs.Commands.{begun}
+use Rattle.dgn_answers.specs.Given.{Given, given_all, after_all, refused_count, trees_of_all}
 use Rattle.dgn_tool.specs.Filling.{file_made}
 use Rattle.dgn_generator.specs.Generator.{generated_elements}
-use Rattle.dgn_tool.specs.Lines.{numbered}
-use Rattle.dgn_tool.specs.Ended.{Outcome, file_after}
+use Rattle.dgn_answers.specs.Lines.{numbered}
+use Rattle.dgn_tool.specs.Ended.{Outcome, filed_then_said, file_after}
 use Rattle.dgn_tool.specs.declared.status.Status.TheVariants as statuses
 
 -- the fixed script
@@ -84,11 +84,7 @@ summary s tail =
 
 -- what a drawing with this tail comes to that is generated: the fixed commands are run on it, and its summary is said
 abbrev pub generated_from : State → List ℕ → List ℕ → Outcome
-generated_from s tail output = record {
-  status = statuses.Done;
-  text = summary s tail;
-  file = Some (output, file_after s tail fixed_steps);
-}
+generated_from s tail output = filed_then_said statuses.Done (summary s tail) output (file_after s tail fixed_steps)
 
 -- the drawing of a seed and a count
 abbrev pub drawing_of : ℕ → ℕ → Opened

@@ -13,10 +13,10 @@ use Rattle.dgn_import.specs.Gathering.{taken, import_trees, cause_of_roots}
 use Rattle.dgn_session.specs.State.{State}
 use Rattle.edit_script.specs.declared.command.Command.{Command}
 use Rattle.elem_index.specs.Opened.{Opened}
-use Rattle.dgn_tool.specs.Lines.{numbered}
-use Rattle.dgn_tool.specs.Commands.{begun}
-use Rattle.dgn_tool.specs.Given.{after_all}
-use Rattle.dgn_tool.specs.Imports.{Importing, importing_of, import_said, import_refused, import_left}
+use Rattle.dgn_answers.specs.Lines.{numbered}
+use Rattle.dgn_answers.specs.Commands.{begun}
+use Rattle.dgn_answers.specs.Given.{after_all}
+use Rattle.dgn_answers.specs.Imports.{Importing, importing_of, import_said, import_refused, import_left}
 use Rattle.dgn_tool.specs.Laws.{IsEditIn, steps_of}
 use Rattle.dgn_drawing.specs.declared.limits.TheConstants.{MOST_DESIGN}
 

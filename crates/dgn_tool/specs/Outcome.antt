@@ -1,10 +1,10 @@
 -- What a run comes to: a status, what is said, and the file that is written, computed from the words of
 -- the command line and the files that they name.
-use Rattle.std.specs.Prelude.{ℕ, ◌≡◌, ◌⊎◌, ◌≤◌, nat_lt, nat_le, Bool, false, ◌&&◌, if◌then◌else◌, List, [], ◌++◌, length, codes, Option, Some, None, Result, Ok, Err, IsSome, IfSome, IsTrue, option_map, ⊤}
+use Rattle.std.specs.Prelude.{ℕ, ◌≡◌, ◌⊎◌, ◌≤◌, nat_lt, nat_le, Bool, true, false, ◌&&◌, if◌then◌else◌, List, [], ◌++◌, length, codes, Option, Some, None, Result, Ok, Err, IsSome, IfSome, IsTrue, option_map, ⊤}
 use Rattle.std.specs.FinMap as maps
-use Rattle.std.specs.List.{list_all}
 use Rattle.std.specs.Result.{is_ok}
 use Rattle.dgn_desk.specs.Content.{Files, Content, bytes_of, with_file, spoken}
+use Rattle.dgn_desk.specs.declared.stop.Stop.{Stop}
 use Rattle.dgn_drawing.specs.Opening.{Fault, NotDesign, Cut, Short, Attr}
 use Rattle.dgn_session.specs.State.{State}
 use Rattle.elem_index.specs.Opened.{Opened, opening}
@@ -13,26 +13,20 @@ use Rattle.edit_script.specs.declared.command.Command.{Command}
 use Rattle.edit_script.specs.declared.fault.ScriptFault.{ScriptFault}
 use Rattle.edit_script.specs.declared.fault.ScriptFault.TheVariants as faults
 use Rattle.dgn_tool.specs.Request.{Request, Edit, Check, Gen, Pack, Apply, request_of}
-use Rattle.dgn_tool.specs.Ended.{Outcome, ended, file_after}
+use Rattle.dgn_tool.specs.Ended.{Outcome, ended, said_then_filed, status_with, file_after}
 use Rattle.dgn_tool.specs.Generation.{generation}
 use Rattle.dgn_tool.specs.Packing.{packed}
 use Rattle.dgn_tool.specs.Applied.{patched}
-use Rattle.dgn_tool.specs.Lines.{numbered}
-use Rattle.dgn_tool.specs.Commands.{begun}
-use Rattle.dgn_tool.specs.Given.{Given, texts_of, refused_count}
-use Rattle.dgn_tool.specs.SecondFiles.{is_within, files_named, stepped, HasSeconds}
+use Rattle.dgn_answers.specs.Lines.{numbered}
+use Rattle.dgn_answers.specs.Commands.{begun}
+use Rattle.dgn_answers.specs.Given.{Given, texts_of, refused_count}
+use Rattle.dgn_tool.specs.SecondFiles.{stepped, HasSeconds}
 use Rattle.dgn_tool.specs.declared.status.Status.{Status}
 use Rattle.dgn_tool.specs.declared.status.Status.TheVariants as statuses
-use Rattle.dgn_drawing.specs.declared.limits.TheConstants.{MOST_DESIGN}
-use Rattle.edit_script.specs.declared.limits.TheConstants.{MOST_SCRIPT}
 
 -- what the steps come to in a state, with this tail: their texts, and the file of the drawing after them
 abbrev pub told_from : State → List ℕ → List Given → List ℕ → Outcome
-told_from s tail gs output = record {
-  status = if nat_lt 0 (refused_count gs s) then statuses.SomeRefused else statuses.Done;
-  text = texts_of gs s;
-  file = Some (output, file_after s tail gs);
-}
+told_from s tail gs output = said_then_filed (status_with (refused_count gs s)) (texts_of gs s) output (file_after s tail gs)
 
 -- and on a drawing
 abbrev pub told : Opened → List Given → List ℕ → Outcome
@@ -47,7 +41,7 @@ script_outcome (Err faults.Memory) go_on = ended statuses.Memory []
 -- what these bytes of SCRIPT come to, where its commands go on so
 abbrev pub scripted : List ℕ → (List Command → Outcome) → Outcome
 scripted script go_on =
-    if nat_lt MOST_SCRIPT (length script) then ended statuses.TooLong (codes "too long script\n")
+    if nat_lt 1048576 (length script) then ended statuses.TooLong (codes "too long script\n")
     else script_outcome (commands_of script) go_on
 
 -- what `check` comes to on a drawing
@@ -69,7 +63,7 @@ opened_outcome (Err fault) go_on = ended statuses.BadDesign (fault_line fault)
 -- what these bytes of IN come to, where a drawing goes on so
 abbrev pub input_outcome : List ℕ → (Opened → Outcome) → Outcome
 input_outcome input go_on =
-    if nat_lt MOST_DESIGN (length input) then ended statuses.TooLong (codes "too long design\n")
+    if nat_lt 67108864 (length input) then ended statuses.TooLong (codes "too long design\n")
     else opened_outcome (opening input) go_on
 
 -- what a run comes to that reads IN, SCRIPT and the second files of its imports, where it goes on so
@@ -77,9 +71,13 @@ abbrev pub run_outcome : List ℕ → List ℕ → Files → (Opened → List Gi
 run_outcome input script files go_on =
     input_outcome (bytes_of files input) (λ d. scripted (bytes_of files script) (λ cs. stepped cs files (go_on d)))
 
+-- what is said where the words are of no form
+abbrev pub usage_line : List ℕ
+usage_line = codes "usage: dgnedit edit IN SCRIPT OUT, check IN, gen SEED COUNT OUT, pack IN SCRIPT PATCH, apply IN PATCH OUT\n"
+
 -- what a run with this request comes to
 abbrev pub outcome_of : Option Request → Files → Outcome
-outcome_of None files = ended statuses.Usage (codes "usage: dgnedit edit IN SCRIPT OUT, check IN, gen SEED COUNT OUT, pack IN SCRIPT PATCH, apply IN PATCH OUT\n")
+outcome_of None files = ended statuses.Usage usage_line
 outcome_of (Some (Edit input script output)) files = run_outcome input script files (λ d gs. told d gs output)
 outcome_of (Some (Check input)) files = input_outcome (bytes_of files input) checked
 outcome_of (Some (Gen seed count output)) files = generation seed count output
@@ -128,13 +126,24 @@ IsFrontOf whole front = (rest : List ℕ) × (whole ≡ front ++ rest)
 abbrev pub SaysFront : List ℕ → Option Content → Option Content → Type 0
 SaysFront text old now = (front : List ℕ) × IsFrontOf text front × (now ≡ option_map (spoken front) old)
 
+-- all of this text was said, or, where that stopped, a front of it; and nothing else changed
+abbrev pub SaysAs : {T : Type 0} → Result T Stop → List ℕ → Option Content → Option Content → Type 0
+SaysAs (Ok x) text old now = now ≡ option_map (spoken text) old
+SaysAs (Err stop) text old now = SaysFront text old now
+
 -- the file that is to be written is as it was, or it holds a front of its bytes; and no other file changed
 abbrev pub HoldsFront : Option (List ℕ × List ℕ) → Files → Files → Type 0
 HoldsFront None old now = now ≡ old
 HoldsFront (Some file) old now = (now ≡ old) ⊎ ((front : List ℕ) × IsFrontOf file.1 front × (now ≡ with_file file.0 front old))
 
--- a run over a desk that told this content stopped so: a front of the outcome's text was said, and of the file that
--- it writes there is a front, or the file as it was
+-- what is said and what is written come in their order: where all is said first, the file isn't begun before that, and
+-- else nothing is said before the file is whole
+abbrev pub InOrder : Bool → List ℕ → List ℕ → Option (List ℕ × List ℕ) → Files → Files → Type 0
+InOrder true text front file old now = (front ≡ text) ⊎ (now ≡ old)
+InOrder false text front file old now = (front ≡ []) ⊎ (now ≡ files_after file old)
+
+-- a run over a desk that told this content stopped so: a front of the outcome's text was said, of the file that it writes
+-- there is a front, or the file as it was, and both came in the outcome's order
 pub record Stops (o : Outcome) (old : Content) (now : Option Content) : Type 0 where
   pub content : Content
   pub told_is : now ≡ Some content
@@ -142,53 +151,12 @@ pub record Stops (o : Outcome) (old : Content) (now : Option Content) : Type 0 w
   pub is_front : IsFrontOf o.text front
   pub said_is : content.said ≡ old.said ++ front
   pub files_are : HoldsFront o.file old.files content.files
+  pub in_order : InOrder o.says_first o.text front o.file old.files content.files
 
 -- where a fault of writing or want of memory stopped a run, over a desk that told what it holds, it had come to a front
 -- of the outcome that its files have
 abbrev pub StoppedAs : Status → (Files → Outcome) → Option Content → Option Content → Type 0
 StoppedAs status o old now = IsStopped status → IfSome old (λ c. Stops (o c.files) c now)
-
--- a run came to an ending or was stopped, both with the outcome that its files have
-abbrev pub ComesTo : Status → (Files → Outcome) → Option Content → Option Content → Type 0
-ComesTo status o old now = EndsAs status o old now × StoppedAs status o old now
-
--- a run that reads the named IN first came to this, whatever it would have gone on with
-abbrev pub ComesEarly : List ℕ → Option Content → Option Content → Status → Type 0
-ComesEarly name old now status =
-    (go_on : Files → Opened → Outcome) → ComesTo status (λ files. input_outcome (bytes_of files name) (go_on files)) old now
-
--- a run that reads the named SCRIPT first came to this, whatever its commands would have gone on with
-abbrev pub EndsScript : List ℕ → Option Content → Option Content → Status → Type 0
-EndsScript name old now status =
-    (go_on : Files → List Command → Outcome) → ComesTo status (λ files. scripted (bytes_of files name) (go_on files)) old now
-
--- a run that reads the files of these names first came to this, where it would have come to the line of one that is too
--- long
-abbrev pub EndsNamed : List (List ℕ) → Option Content → Option Content → Status → Type 0
-EndsNamed names old now status =
-    (o : Files → Outcome)
-    → IfSome old (λ c. list_all is_within (files_named names c.files) ≡ false → o c.files ≡ ended statuses.TooLong (codes "too long import\n"))
-    → ComesTo status o old now
-
--- a run that reads IN, SCRIPT and the second files first came to this, whatever it would have gone on with
-abbrev pub EndsInputs : List ℕ → List ℕ → Option Content → Option Content → Status → Type 0
-EndsInputs input script old now status =
-    (go_on : Opened → List Given → Outcome) → ComesTo status (λ files. run_outcome input script files go_on) old now
-
--- it goes on with this drawing and these steps, where the desk told the files
-abbrev pub GoesOn : List ℕ → List ℕ → Option Content → Opened → List Given → Type 0
-GoesOn input script old d gs =
-    (go_on : Opened → List Given → Outcome) → IfSome old (λ c. run_outcome input script c.files go_on ≡ go_on d gs)
-
--- the named SCRIPT is within its limit and reads as these commands, where the desk told it
-abbrev pub ReadsAs : List ℕ → Option Content → List Command → Type 0
-ReadsAs name old cs =
-    IfSome old (λ c. (length (bytes_of c.files name) ≤ MOST_SCRIPT) × (commands_of (bytes_of c.files name) ≡ Ok cs))
-
--- the named IN is within its limit and opens as this, where the desk told it
-abbrev pub OpensAs : List ℕ → Option Content → Opened → Type 0
-OpensAs name old d =
-    IfSome old (λ c. (length (bytes_of c.files name) ≤ MOST_DESIGN) × (opening (bytes_of c.files name) ≡ Ok d))
 
 -- a status that no fault made: that of an ending, or Memory
 abbrev pub IsFaultless : Status → Type 0
@@ -198,7 +166,7 @@ IsFaultless _ = ⊤
 
 -- whether another file is read after this IN: IN is within its limit and opens
 abbrev pub comes_to_script : List ℕ → Bool
-comes_to_script input = nat_le (length input) MOST_DESIGN && is_ok (opening input)
+comes_to_script input = nat_le (length input) 67108864 && is_ok (opening input)
 
 -- IN is there, and so is SCRIPT, or PATCH, where it is read after IN
 abbrev pub HasBoth : List ℕ → List ℕ → Files → Type 0
@@ -208,7 +176,7 @@ HasBoth input script files = IsSome (maps.get files input) × (IsTrue (comes_to_
 abbrev pub HasAll : List ℕ → List ℕ → Files → Type 0
 HasAll input script files =
     HasBoth input script files
-    × (IsTrue (comes_to_script (bytes_of files input)) → length (bytes_of files script) ≤ MOST_SCRIPT → HasSeconds (commands_of (bytes_of files script)) files)
+    × (IsTrue (comes_to_script (bytes_of files input)) → length (bytes_of files script) ≤ 1048576 → HasSeconds (commands_of (bytes_of files script)) files)
 
 -- the files that a run with this request comes to read are there
 abbrev pub HasFiles : Option Request → Files → Type 0

@@ -1,25 +1,20 @@
 -- What `pack` comes to: the patch file of the edits that a run leaves.
-use Rattle.std.specs.Prelude.{ℕ, ◌≡◌, nat_lt, if◌then◌else◌, List, [], ◌∷◌, ◌++◌, length, map, reverse, codes, Some}
+use Rattle.std.specs.Prelude.{ℕ, ◌≡◌, nat_lt, if◌then◌else◌, List, [], ◌∷◌, ◌++◌, length, map, codes}
 use Rattle.dgn_drawing.specs.Spelling.{spelling}
 use Rattle.undo_log.specs.declared.entry.Entry.{Entry}
 use Rattle.undo_log.specs.Entries.{back}
 use Rattle.patch_file.specs.Spelling.{Packed, patch_spelling}
 use Rattle.patch_file.specs.Standing.{taken_of}
 use Rattle.elem_index.specs.Opened.{Opened}
-use Rattle.dgn_session.specs.State.{State, SessionValue, state_of, entry_with}
-use Rattle.edit_script.specs.declared.command.Command.{Command}
-use Rattle.dgn_tool.specs.Commands.{begun}
-use Rattle.dgn_tool.specs.Imports.{Importing}
-use Rattle.dgn_tool.specs.Given.{Given, refused_count}
-use Rattle.dgn_tool.specs.Ended.{Outcome, ended}
-use Rattle.dgn_tool.specs.Lines.{numbered}
-use Rattle.dgn_tool.specs.Remaining.{Made, with_command, with_import, with_step, with_steps, fields_made, remaining}
+use Rattle.dgn_session.specs.State.{State, SessionValue}
+use Rattle.dgn_answers.specs.Commands.{begun}
+use Rattle.dgn_answers.specs.Given.{Given, refused_count}
+use Rattle.dgn_answers.specs.Logs.{entry_made}
+use Rattle.dgn_tool.specs.Ended.{Outcome, ended, filed_then_said, status_with}
+use Rattle.dgn_answers.specs.Lines.{numbered}
+use Rattle.dgn_answers.specs.Remaining.{Made, remaining}
 use Rattle.dgn_tool.specs.declared.status.Status.TheVariants as statuses
 use Rattle.patch_file.specs.declared.limits.TheConstants.{MOST_PATCH}
-
--- the log's entry of an edit that is left: the bytes that stood in the fields that it wrote, and how many there were
-abbrev pub entry_made : ℕ → Made → Entry
-entry_made dim m = entry_with m.on (fields_made dim m.on m.making)
 
 -- its packed entry: that, with the bytes that it put there, and those that it appended
 abbrev pub packed_made : ℕ → Made → Packed
@@ -31,11 +26,7 @@ packed_after gs s = map (packed_made s.dim) (remaining gs s)
 
 -- the patch file of entries is written, and it is said how many there are; so many steps were refused
 abbrev pub filed_patch : List Packed → ℕ → List ℕ → Outcome
-filed_patch es refused patch = record {
-  status = if nat_lt 0 refused then statuses.SomeRefused else statuses.Done;
-  text = numbered (codes "entries ") (length es);
-  file = Some (patch, patch_spelling es);
-}
+filed_patch es refused patch = filed_then_said (status_with refused) (numbered (codes "entries ") (length es)) patch (patch_spelling es)
 
 -- where it isn't too long; the texts of the steps aren't said
 abbrev pub packed_from : State → List Given → List ℕ → Outcome
@@ -46,28 +37,6 @@ packed_from s gs patch =
 -- and on a drawing
 abbrev pub packed : Opened → List Given → List ℕ → Outcome
 packed d gs patch = packed_from (begun d) gs patch
-
--- What a session's log holds.
-
--- the entries of these edits, which stand the newest first
-abbrev pub IsLogOf : SessionValue → List Made → Type 0
-IsLogOf v left = reverse v.entries ≡ map (entry_made v.dim) left
-
--- a command changes the log as it changes the edits that are left
-abbrev pub LogsAs : Command → SessionValue → SessionValue → Type 0
-LogsAs c old new = (left : List Made) → IsLogOf old left → IsLogOf new (with_command (state_of old) c left)
-
--- an import changes it so too
-abbrev pub ImportLogsAs : Importing → SessionValue → SessionValue → Type 0
-ImportLogsAs came old new = (left : List Made) → IsLogOf old left → IsLogOf new (with_import came (state_of old) left)
-
--- a step changes the log as it changes the edits that are left
-abbrev pub StepLogsAs : Given → SessionValue → SessionValue → Type 0
-StepLogsAs g old new = (left : List Made) → IsLogOf old left → IsLogOf new (with_step (state_of old) g left)
-
--- and so do steps, the first one first
-abbrev pub AllLogAs : List Given → SessionValue → SessionValue → Type 0
-AllLogAs gs old new = (left : List Made) → IsLogOf old left → IsLogOf new (with_steps gs (state_of old) left)
 
 -- the last entry was taken off a log and written back, and this is what it took back
 pub record TakesLast (old new : SessionValue) (taken : Packed) : Type 0 where

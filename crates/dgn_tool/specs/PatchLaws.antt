@@ -1,5 +1,5 @@
 -- What holds of every drawing that opens and every patch file that reads, each the contract of a function in `laws`.
-use Rattle.std.specs.Prelude.{ℕ, ◌≡◌, ◌+◌, ◌≤◌, List, ◌∷◌, ◌++◌, length, codes, Some, Ok, All}
+use Rattle.std.specs.Prelude.{ℕ, ◌≡◌, ◌+◌, ◌≤◌, List, ◌∷◌, ◌++◌, length, codes, false, Some, Ok, All}
 use Rattle.dgn_desk.specs.Content.{Files, bytes_of}
 use Rattle.dgn_drawing.specs.Spelling.{spelling}
 use Rattle.dgn_drawing.specs.WellFormed.{IsBytes}
@@ -9,12 +9,12 @@ use Rattle.patch_file.specs.Reading.{patch_of}
 use Rattle.patch_file.specs.Standing.{Stands, AllStand, put_all}
 use Rattle.edit_script.specs.declared.command.Command.{Command}
 use Rattle.dgn_tool.specs.Applied.{AllFit}
-use Rattle.dgn_tool.specs.Commands.{begun}
+use Rattle.dgn_answers.specs.Commands.{begun}
 use Rattle.dgn_tool.specs.Filling.{file_made}
-use Rattle.dgn_tool.specs.Lines.{numbered}
+use Rattle.dgn_answers.specs.Lines.{numbered}
 use Rattle.dgn_tool.specs.Request.{Apply, request_of}
-use Rattle.dgn_tool.specs.Ended.{Outcome, ended}
-use Rattle.dgn_tool.specs.Given.{Given}
+use Rattle.dgn_tool.specs.Ended.{Outcome, ended, filed_then_said}
+use Rattle.dgn_answers.specs.Given.{Given}
 use Rattle.dgn_tool.specs.Laws.{IsEditIn, steps_of}
 use Rattle.dgn_tool.specs.Outcome.{told, outcome}
 use Rattle.dgn_tool.specs.Packing.{packed_after}
@@ -67,11 +67,7 @@ AppliesAll =
     (words : List (List ℕ)) (files : Files) (d : Opened) (es : List Packed) (output : List ℕ)
     → Applies words files d es output → AllStand (spelling d.elements) es → AllFit (length d.tail) (spelling d.elements) es
     → outcome words files
-    ≡ record {
-      status = statuses.Done;
-      text = numbered (codes "applied ") (length es);
-      file = Some (output, file_made (length (spelling d.elements)) d.tail (put_all (spelling d.elements) es));
-    }
+    ≡ filed_then_said statuses.Done (numbered (codes "applied ") (length es)) output (file_made (length (spelling d.elements)) d.tail (put_all (spelling d.elements) es))
 
 -- the words ask to apply what `pack` makes of these steps to the same file, into OUT
 pub record AppliesPacked (words : List (List ℕ)) (files : Files) (d : Opened) (gs : List Given) (output : List ℕ) : Type 0 where
@@ -94,4 +90,5 @@ WritesTheSame =
       status = statuses.Done;
       text = numbered (codes "applied ") (length (packed_after (steps_of cs seconds) (begun d)));
       file = (told d (steps_of cs seconds) output).file;
+      says_first = false;
     }

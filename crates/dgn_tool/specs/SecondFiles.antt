@@ -1,16 +1,15 @@
 -- The second files of a script's imports, which are read before its first command runs.
-use Rattle.std.specs.Prelude.{ℕ, ◌≡◌, ◌≤◌, nat_le, Bool, true, if◌then◌else◌, List, [], ◌∷◌, ◌++◌, length, map, codes, Option, Result, Ok, Err, IsSome, IfSome, ⊤}
+use Rattle.std.specs.Prelude.{ℕ, ◌≡◌, ◌≤◌, nat_le, Bool, true, if◌then◌else◌, List, [], ◌∷◌, ◌++◌, length, map, codes, Result, Ok, Err, IsSome, ⊤}
 use Rattle.std.specs.FinMap as maps
 use Rattle.std.specs.List.{list_all}
-use Rattle.std.specs.Prelude.{reverse}
-use Rattle.dgn_desk.specs.Content.{Files, Content, bytes_of}
+use Rattle.dgn_desk.specs.Content.{Files, bytes_of}
 use Rattle.dgn_import.specs.declared.second.Second.{Second}
 use Rattle.dgn_import.specs.Seconds.{SecondValue, second_of, value_of}
 use Rattle.edit_script.specs.declared.command.Command.{Command}
 use Rattle.edit_script.specs.declared.command.Command.TheVariants as command
 use Rattle.edit_script.specs.declared.fault.ScriptFault.{ScriptFault}
 use Rattle.edit_script.specs.Imports.{is_name_byte}
-use Rattle.dgn_tool.specs.Given.{Given, given_all}
+use Rattle.dgn_answers.specs.Given.{Given, given_all}
 use Rattle.dgn_tool.specs.Ended.{Outcome, ended}
 use Rattle.dgn_tool.specs.declared.status.Status.TheVariants as statuses
 use Rattle.dgn_drawing.specs.declared.limits.TheConstants.{MOST_DESIGN}
@@ -45,10 +44,6 @@ seconded fs go_on = if list_all is_within fs then go_on (map second_of fs) else 
 abbrev pub stepped : List Command → Files → (List Given → Outcome) → Outcome
 stepped cs files go_on = seconded (files_named (names_in cs) files) (λ vs. go_on (given_all cs vs))
 
--- what the second files come to that are left, the next of which stands last
-abbrev pub waiting : List Second → List SecondValue
-waiting seconds = map value_of (reverse seconds)
-
 -- these are there, each where those before it are within their limit
 abbrev pub AreThere : List (List ℕ) → Files → Type 0
 AreThere [] files = ⊤
@@ -59,12 +54,7 @@ abbrev pub HasSeconds : Result (List Command) ScriptFault → Files → Type 0
 HasSeconds (Ok cs) files = AreThere (names_in cs) files
 HasSeconds (Err fault) files = ⊤
 
--- the files of these names are within their limit and come to these, where the desk told them
-abbrev pub ComeTo : List (List ℕ) → Option Content → List SecondValue → Type 0
-ComeTo names old vs =
-    IfSome old (λ c. (list_all is_within (files_named names c.files) ≡ true) × (vs ≡ map second_of (files_named names c.files)))
-
--- what was read of them was added behind what came before
-abbrev pub ComeBehind : List (List ℕ) → Option Content → List Second → List Second → Type 0
-ComeBehind names old before now =
-    IfSome old (λ c. (list_all is_within (files_named names c.files) ≡ true) × (map value_of now ≡ map value_of before ++ map second_of (files_named names c.files)))
+-- what was read of the files of these names was added behind what came before
+abbrev pub ComeBehind : List (List ℕ) → List Second → Files → List Second → Type 0
+ComeBehind names before files now =
+    (list_all is_within (files_named names files) ≡ true) × (map value_of now ≡ map value_of before ++ map second_of (files_named names files))

@@ -1,14 +1,13 @@
-ghost use Rattle.std.specs.Prelude.{◌≡◌, option_map, IfOk, OnOk, OnErr, IsTrue};
+ghost use Rattle.std.specs.Prelude.{◌≡◌, IfOk, OnOk};
 ghost use Rattle.std.specs.List.{AllByRecursion};
-ghost use Rattle.dgn_desk.specs.Content.{spoken};
-ghost use Rattle.dgn_desk.specs.Desk.{Counts, StaysWilling, DoesNotFail};
+ghost use Rattle.dgn_desk.specs.Seen.{DeskWrites};
 ghost use Rattle.dgn_session.specs.State.{state_of};
 ghost use Rattle.dgn_import.specs.Seconds.{IsSound};
-ghost use Rattle.dgn_tool.specs.Given.{given_all, after_all, texts_of, refused_count};
-ghost use Rattle.dgn_tool.specs.Outcome.{SaysFront};
-ghost use Rattle.dgn_tool.specs.SecondFiles.{waiting};
+ghost use Rattle.dgn_answers.specs.Given.{given_all, after_all, texts_of, refused_count};
+ghost use Rattle.dgn_tool.specs.Outcome.{SaysAs};
+ghost use Rattle.dgn_answers.specs.Given.{waiting};
 
-use crate::steps::take_step;
+use dgn_answers::take_step;
 use dgn_desk::{Desk, Stop, say_all};
 use dgn_import::Second;
 use dgn_session::Session;
@@ -26,17 +25,14 @@ pub fn run_all<D: Desk>(
     seconds: &mut Vec<Second>,
 ) -> Result<u64, Stop>
     requires { AllByRecursion IsSound seconds.old.items }
-    ensures cause { Counts (D.write_faults desk.old) (D.write_faults desk.new) result }
-    ensures other { D.read_faults desk.new ≡ D.read_faults desk.old }
-    ensures refused { IfOk result (λ refused. refused ≡ refused_count (given_all commands.now (waiting seconds.old.items)) (state_of session.old)) }
-    ensures said { OnOk result (D.content desk.new
-        ≡ option_map (spoken (texts_of (given_all commands.now (waiting seconds.old.items)) (state_of session.old))) (D.content desk.old)) }
-    ensures front { OnErr result
-        (SaysFront (texts_of (given_all commands.now (waiting seconds.old.items)) (state_of session.old)) (D.content desk.old) (D.content desk.new)) }
-    ensures state { OnOk result (state_of session.new ≡ after_all (given_all commands.now (waiting seconds.old.items)) (state_of session.old)) }
+    ensures said { DeskWrites D.Desk result
+        (SaysAs result (texts_of (given_all commands.now (waiting seconds.old.items)) (state_of session.old)))
+        desk.old desk.new }
+    ensures refused { IfOk result
+        (λ refused. refused ≡ refused_count (given_all commands.now (waiting seconds.old.items)) (state_of session.old)) }
+    ensures state { OnOk result
+        (state_of session.new ≡ after_all (given_all commands.now (waiting seconds.old.items)) (state_of session.old)) }
     ensures tail { session.new.tail ≡ session.old.tail }
-    ensures stays { StaysWilling (D.willing desk.old) (D.willing desk.new) }
-    ensures able { IsTrue (D.willing desk.old) → DoesNotFail result }
 {
     let mut out = Vec::new(alloc);
     let mut refused = 0;

@@ -1,63 +1,52 @@
-ghost use Rattle.std.specs.Prelude.{◌≡◌, IsTrue};
-ghost use Rattle.dgn_desk.specs.Desk.{Rose};
-ghost use Rattle.dgn_tool.specs.Lines.{numbered};
-ghost use Rattle.dgn_tool.specs.Ended.{ended};
-ghost use Rattle.dgn_tool.specs.Outcome.{IsEnding, IsStopped, ComesTo, IsFaultless};
+ghost use Rattle.std.specs.Prelude.{◌≡◌};
+ghost use Rattle.dgn_tool.specs.Ended.{status_with};
+ghost use Rattle.dgn_tool.specs.Ends.{status_said};
 
-use crate::lines::push_numbered;
 use crate::status::Status;
-use dgn_desk::{Desk, Stop, say_all};
-use std::alloc::Global;
 
-/// Ends the run with a line.
-pub fn end<D: Desk>(desk: &mut D, line: &[u8], status: Status) -> Status
-    requires { IsEnding status }
-    ensures outcome { ComesTo result (λ _. ended status line.now) (D.content desk.old) (D.content desk.new) }
-    ensures kept { IsEnding result → result ≡ status }
-    ensures counted { IsEnding result → (D.read_faults desk.new ≡ D.read_faults desk.old)
-        × (D.write_faults desk.new ≡ D.write_faults desk.old) }
-    ensures read { result ≡ Status.ReadFault → ⊥ }
-    ensures write { result ≡ Status.WriteFault → Rose (D.write_faults desk.old) (D.write_faults desk.new) }
-    ensures able { IsTrue (D.willing desk.old) → IsFaultless result }
-{
-    match say_all(desk, line) {
-        Ok(()) => status,
-        Err(stop) => stopped(stop),
-    }
+// An ending that a run comes to which the words of a form began: all that it has to say is said.
+#[derive(Clone, Copy, Drop)]
+pub(crate) enum Ending {
+    // All was done that was asked for.
+    Done,
+    // OUT or PATCH was written, and at least one command was refused.
+    SomeRefused,
+    // A line of the script is bad.
+    BadScript,
+    // IN is no design file.
+    BadDesign,
+    // A file has too many bytes, or a drawing would have.
+    TooLong,
+    // PATCH is no patch file.
+    BadPatch,
+    // An entry of the patch file doesn't stand.
+    PatchRefused,
 }
 
-/// Ends the run with a line of these words and a number.
-pub fn end_numbered<D: Desk>(
-    alloc: Global,
-    desk: &mut D,
-    words: &[u8],
-    number: u32,
-    status: Status,
-) -> Status
-    requires { IsEnding status }
-    ensures outcome { ComesTo result (λ _. ended status (numbered words.now number)) (D.content desk.old) (D.content desk.new) }
-    ensures kept { IsEnding result → result ≡ status }
-    ensures counted { IsEnding result → (D.read_faults desk.new ≡ D.read_faults desk.old)
-        × (D.write_faults desk.new ≡ D.write_faults desk.old) }
-    ensures read { result ≡ Status.ReadFault → ⊥ }
-    ensures write { result ≡ Status.WriteFault → Rose (D.write_faults desk.old) (D.write_faults desk.new) }
-    ensures able { IsTrue (D.willing desk.old) → IsFaultless result }
-{
-    let mut line = Vec::new(alloc);
-    match push_numbered(alloc, &mut line, words, u64::from(number)) {
-        Ok(()) => end(desk, &line, status),
-        Err(_) => Status::Memory,
+impl Ending {
+    // That of a run of which so many commands were refused.
+    pub(crate) fn of_refused(refused: u64) -> Ending
+        ensures { status_said result ≡ status_with refused }
+    {
+        if refused > 0 {
+            Ending::SomeRefused
+        } else {
+            Ending::Done
+        }
     }
-}
 
-/// How a run ends where saying or writing stopped.
-pub fn stopped(stop: Stop) -> Status
-    ensures failed { stop ≡ Stop.Failed → result ≡ Status.WriteFault }
-    ensures memory { stop ≡ Stop.Memory → result ≡ Status.Memory }
-    ensures stops { IsStopped result }
-{
-    match stop {
-        Stop::Failed => Status::WriteFault,
-        Stop::Memory => Status::Memory,
+    // The status that says it.
+    pub(crate) fn status(self) -> Status
+        ensures { result ≡ status_said self }
+    {
+        match self {
+            Ending::Done => Status::Done,
+            Ending::SomeRefused => Status::SomeRefused,
+            Ending::BadScript => Status::BadScript,
+            Ending::BadDesign => Status::BadDesign,
+            Ending::TooLong => Status::TooLong,
+            Ending::BadPatch => Status::BadPatch,
+            Ending::PatchRefused => Status::PatchRefused,
+        }
     }
 }

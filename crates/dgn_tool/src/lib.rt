@@ -2,35 +2,29 @@
 //! `answer` runs one command in a session, and `answer_import` one that is an import.
 #![tactic(auto)]
 
-mod answered;
-mod answers;
 mod applying;
-mod come;
+mod checking;
 mod commands;
+mod editing;
+mod end;
 mod ending;
-mod fences;
-mod filling;
-mod generation;
-mod importing;
+mod generating;
+mod given;
 mod inputs;
 pub mod laws;
-mod lines;
-mod listings;
-mod opening;
 mod packing;
 mod put_end;
 mod putting;
-mod ranges;
+mod reading;
 mod request;
+mod saying;
 mod seconds;
 mod status;
-mod steps;
-mod tally;
 mod top;
-mod ways;
+mod writing;
 
-pub use answers::answer;
+pub use dgn_answers::{answer, answer_import};
 pub use dgn_generator::generate;
-pub use importing::answer_import;
+pub use given::run_given;
 pub use status::Status;
 pub use top::run;

@@ -1,9 +1,8 @@
 // Packing what the commands of a script do to a drawing.
 
-ghost use Rattle.std.specs.Prelude.{◌≡◌, ◌≤◌, ◌<◌, ◌++◌, [], codes, length, reverse, IfOk, OnOk, IsTrue};
+ghost use Rattle.std.specs.Prelude.{◌≡◌, ◌≤◌, ◌<◌, ◌++◌, [], length, reverse, IfOk, OnOk};
 ghost use Rattle.std.specs.List.{AllByRecursion};
 ghost use Rattle.dgn_import.specs.Seconds.{IsSound as IsSoundSecond};
-ghost use Rattle.dgn_desk.specs.Desk.{Rose};
 ghost use Rattle.elem_index.specs.Design.{IsWhole};
 ghost use Rattle.elem_index.specs.Answers.{opened_of};
 ghost use Rattle.dgn_session.specs.Laws.{IsSound};
@@ -11,24 +10,29 @@ ghost use Rattle.dgn_session.specs.State.{state_of};
 ghost use Rattle.patch_file.specs.Spelling.{patch_spelling};
 ghost use Rattle.patch_file.specs.Standing.{all_taken};
 ghost use Rattle.patch_file.specs.PatchView.{packed_of, all_packed};
-ghost use Rattle.dgn_tool.specs.Commands.{begun};
-ghost use Rattle.dgn_tool.specs.Given.{given_all, refused_count};
-ghost use Rattle.dgn_tool.specs.Lines.{numbered};
+ghost use Rattle.dgn_answers.specs.Commands.{begun};
+ghost use Rattle.dgn_tool.specs.Ends.{DeskComes, DeskEnds};
+ghost use Rattle.dgn_answers.specs.Given.{given_all, refused_count};
 ghost use Rattle.dgn_tool.specs.Packing.{packed, packed_after, filed_patch, TakesLast};
-ghost use Rattle.dgn_tool.specs.Outcome.{IsEnding, ComesTo, IsFaultless};
-ghost use Rattle.dgn_tool.specs.SecondFiles.{waiting};
+ghost use Rattle.dgn_tool.specs.Outcome.{HasAll, run_outcome};
+ghost use Rattle.dgn_answers.specs.Given.{waiting};
 
-use crate::ending::{end, stopped};
-use crate::lines::push_numbered;
-use crate::status::Status;
-use crate::tally::run_unsaid;
-use dgn_desk::{Desk, say_all, write_file};
+use crate::end::End;
+use crate::ending::Ending;
+use crate::inputs::{Inputs, read_inputs};
+use crate::saying::end;
+use crate::writing::file_and_say;
+use dgn_answers::{numbered_line, run_unsaid};
+use dgn_desk::{Desk, Stop};
 use dgn_import::Second;
 use dgn_session::Session;
 use edit_script::Command;
 use elem_index::Design;
-use patch_file::{MOST_PATCH, PatchEntry, patch_len, take_entry, write_patch};
+use patch_file::{PatchEntry, patch_len, take_entry, write_patch};
 use std::alloc::{AllocError, Global};
+
+// The most bytes that a patch file may have.
+const MOST_PATCH: u64 = 134217728;
 
 // What the commands of a script did.
 #[derive(Drop)]
@@ -39,33 +43,47 @@ struct Packed {
     entries: Vec<PatchEntry>,
 }
 
+// Reads IN, SCRIPT and the second files of its imports, runs the commands, and writes what they did as PATCH.
+pub(crate) fn pack<D: Desk>(
+    alloc: Global,
+    desk: &mut D,
+    input: &str,
+    script: &str,
+    patch: &str,
+) -> End
+    ensures { DeskEnds D.Desk (HasAll input.now script.now)
+        (λ files. run_outcome input.now script.now files (λ d gs. packed d gs patch.now)) desk.old desk.new result }
+{
+    match read_inputs(alloc, desk, input, script) {
+        Ok(
+            Inputs {
+                design,
+                commands,
+                mut seconds,
+            },
+        ) => End::of(pack_commands(alloc, desk, design, &commands, &mut seconds, patch)),
+        Err(end) => end,
+    }
+}
+
 // Runs the commands on the design, and files what they did.
-pub(crate) fn pack_commands<D: Desk>(
+fn pack_commands<D: Desk>(
     alloc: Global,
     desk: &mut D,
     design: Design,
     commands: &[Command],
     seconds: &mut Vec<Second>,
     patch: &str,
-) -> Status
+) -> Result<Ending, Stop>
     requires whole { IsWhole design }
     requires sound { AllByRecursion IsSoundSecond seconds.old.items }
-    ensures outcome { ComesTo result
+    ensures { DeskComes D.Desk
         (λ _. packed (opened_of design) (given_all commands.now (waiting seconds.old.items)) patch.now)
-        (D.content desk.old) (D.content desk.new) }
-    ensures counted { IsEnding result → (D.read_faults desk.new ≡ D.read_faults desk.old)
-        × (D.write_faults desk.new ≡ D.write_faults desk.old) }
-    ensures usage { result ≡ Status.Usage → ⊥ }
-    ensures read { result ≡ Status.ReadFault → ⊥ }
-    ensures write { result ≡ Status.WriteFault → Rose (D.write_faults desk.old) (D.write_faults desk.new) }
-    ensures able { IsTrue (D.willing desk.old) → IsFaultless result }
+        desk.old desk.new result }
 {
-    let did = match pack_edits(alloc, design, commands, seconds) {
-        Ok(did) => did,
-        Err(_) => return Status::Memory,
-    };
-    if patch_len(&did.entries) > MOST_PATCH as u64 {
-        return end(desk, b"too long patch\n", Status::TooLong);
+    let did = pack_edits(alloc, design, commands, seconds)?;
+    if patch_len(&did.entries) > MOST_PATCH {
+        return end(desk, b"too long patch\n", Ending::TooLong);
     }
     file_entries(alloc, desk, &did.entries, did.refused, patch)
 }
@@ -149,44 +167,29 @@ fn file_entries<D: Desk>(
     entries: &[PatchEntry],
     refused: u64,
     patch: &str,
-) -> Status
-    requires { length (patch_spelling (all_packed entries.now)) ≤ MOST_PATCH }
-    ensures outcome { ComesTo result (λ _. filed_patch (all_packed entries.now) refused patch.now)
-        (D.content desk.old) (D.content desk.new) }
-    ensures counted { IsEnding result → (D.read_faults desk.new ≡ D.read_faults desk.old)
-        × (D.write_faults desk.new ≡ D.write_faults desk.old) }
-    ensures usage { result ≡ Status.Usage → ⊥ }
-    ensures read { result ≡ Status.ReadFault → ⊥ }
-    ensures write { result ≡ Status.WriteFault → Rose (D.write_faults desk.old) (D.write_faults desk.new) }
-    ensures able { IsTrue (D.willing desk.old) → IsFaultless result }
+) -> Result<Ending, Stop>
+    requires { length (patch_spelling (all_packed entries.now)) ≤ 134217728 }
+    ensures { DeskComes D.Desk (λ _. filed_patch (all_packed entries.now) refused patch.now) desk.old desk.new result }
 {
-    let mut file = Vec::new(alloc);
-    let mut line = Vec::new(alloc);
-    let Ok(()) = spell_entries(alloc, &mut file, &mut line, entries) else {
-        return Status::Memory;
-    };
-    match write_file(desk, patch, &file, b"", b"") {
-        Ok(()) => {}
-        Err(stop) => return stopped(stop),
-    }
-    match say_all(desk, &line) {
-        Ok(()) if refused > 0 => Status::SomeRefused,
-        Ok(()) => Status::Done,
-        Err(stop) => stopped(stop),
-    }
+    let file = spell_entries(alloc, entries)?;
+    let text = numbered_line(alloc, b"entries ", entries.len() as u64)?;
+    file_and_say(
+        desk,
+        patch,
+        &file,
+        b"",
+        b"",
+        &text,
+        Ending::of_refused(refused),
+    )
 }
 
-// Appends the patch file of these entries to `file`, and how many there are to `line`.
-fn spell_entries(
-    alloc: Global,
-    file: &mut Vec<u8>,
-    line: &mut Vec<u8>,
-    entries: &[PatchEntry],
-) -> Result<(), AllocError>
-    requires { length (patch_spelling (all_packed entries.now)) ≤ MOST_PATCH }
-    ensures file { OnOk result (file.new.items ≡ file.old.items ++ patch_spelling (all_packed entries.now)) }
-    ensures line { OnOk result (line.new.items ≡ line.old.items ++ numbered (codes "entries ") (length entries.now)) }
+// The patch file of these entries.
+fn spell_entries(alloc: Global, entries: &[PatchEntry]) -> Result<Vec<u8>, AllocError>
+    requires { length (patch_spelling (all_packed entries.now)) ≤ 134217728 }
+    ensures { IfOk result (λ file. file.items ≡ patch_spelling (all_packed entries.now)) }
 {
-    push_numbered(alloc, line, b"entries ", entries.len() as u64)?;
-    write_patch(alloc, file, entries)
+    let mut file = Vec::new(alloc);
+    write_patch(alloc, &mut file, entries)?;
+    Ok(file)
 }

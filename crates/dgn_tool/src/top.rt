@@ -1,34 +1,21 @@
-ghost use Rattle.std.specs.Prelude.{◌≡◌, ◌≤◌, map, string_bytes, IfOk, IfErr, IsErrOf, OnOk, IsNone, IfSome, IsTrue};
-ghost use Rattle.std.specs.List.{AllByRecursion};
-ghost use Rattle.dgn_import.specs.Seconds.{IsSound};
-ghost use Rattle.dgn_desk.specs.Content.{bytes_of, OnlyLeftDiffers, HasFile};
-ghost use Rattle.dgn_desk.specs.Desk.{Rose, Counts, FilesAll, StaysWilling, DoesNotFail};
-ghost use Rattle.dgn_drawing.specs.Spelling.{spelling};
-ghost use Rattle.elem_index.specs.Design.{IsWhole};
-ghost use Rattle.elem_index.specs.Answers.{opened_of};
-ghost use Rattle.dgn_session.specs.State.{state_of};
-ghost use Rattle.dgn_tool.specs.Filling.{file_made};
-ghost use Rattle.dgn_tool.specs.Given.{given_all};
+ghost use Rattle.std.specs.Prelude.{◌≡◌, map, string_bytes, IsNone, IfSome, IsTrue, None, Some};
+ghost use Rattle.dgn_desk.specs.Content.{OnlyLeftDiffers};
+ghost use Rattle.dgn_desk.specs.Desk.{Rose};
+ghost use Rattle.dgn_tool.specs.Ends.{DeskEnds};
 ghost use Rattle.dgn_tool.specs.Request.{request_of};
-ghost use Rattle.dgn_tool.specs.Outcome.{outcome, input_outcome, told, told_from, checked};
-ghost use Rattle.dgn_tool.specs.Outcome.{IsEnding, EndsAs, StoppedAs, ComesTo, IsFaultless, HasFiles, Reads, EndsScript, ReadsAs};
-ghost use Rattle.dgn_tool.specs.SecondFiles.{waiting};
+ghost use Rattle.dgn_tool.specs.RequestView.{seen, IsCounted};
+ghost use Rattle.dgn_tool.specs.Outcome.{outcome, outcome_of, IsEnding, EndsAs, StoppedAs, IsFaultless, HasFiles, Reads};
+ghost use Rattle.dgn_tool.specs.Runs.{DeskRuns};
 
 use crate::applying::apply;
-use crate::commands::run_all;
-use crate::ending::{end, end_numbered, stopped};
-use crate::filling::write_filled;
-use crate::generation::generate_file;
-use crate::opening::{end_bad_design, read_input};
+use crate::checking::check;
+use crate::editing::edit;
+use crate::end::End;
+use crate::generating::generate_file;
+use crate::packing::pack;
 use crate::request::{Request, read_words};
 use crate::status::Status;
-use crate::ways::{Way, run_inputs};
-use dgn_desk::{Desk, ReadEnd, Stop, read_all};
-use dgn_drawing::MOST_DESIGN;
-use dgn_import::Second;
-use dgn_session::Session;
-use edit_script::{Command, MOST_SCRIPT, ScriptFault, read_script};
-use elem_index::{Design, count_elements};
+use dgn_desk::{Desk, say_all};
 use std::alloc::Global;
 
 /// Runs the program with these words, those of the command line behind the program's name, over this
@@ -68,181 +55,60 @@ pub fn run<D: Desk>(alloc: Global, words: &[String], desk: &mut D) -> Status
         → IfSome (D.content desk.old) (λ c. HasFiles (request_of (map string_bytes words.now)) c.files)
         → IsFaultless result }
 {
+    run_words(alloc, words, desk)
+}
+
+// The same, said as one.
+pub(crate) fn run_words<D: Desk>(alloc: Global, words: &[String], desk: &mut D) -> Status
+    ensures { DeskRuns D.Desk (request_of (map string_bytes words.now)) desk.old desk.new result }
+{
     match read_words(words) {
-        Some(
-            Request::Edit {
-                input,
-                script,
-                output,
-            },
-        ) => run_inputs(alloc, desk, input, script, Way::Edit(output)),
-        Some(Request::Check { input }) => check(alloc, desk, input),
-        Some(
-            Request::Gen {
-                seed,
-                count,
-                output,
-            },
-        ) => generate_file(alloc, desk, seed, count, output),
-        Some(
-            Request::Pack {
-                input,
-                script,
-                patch,
-            },
-        ) => run_inputs(alloc, desk, input, script, Way::Pack(patch)),
-        Some(
-            Request::Apply {
-                input,
-                patch,
-                output,
-            },
-        ) => apply(alloc, desk, input, patch, output),
-        None => end(
-            desk,
-            b"usage: dgnedit edit IN SCRIPT OUT, check IN, gen SEED COUNT OUT, pack IN SCRIPT PATCH, apply IN PATCH OUT\n",
-            Status::Usage,
-        ),
+        Some(request) => run_request(alloc, desk, request).status(),
+        None => say_usage(desk),
     }
 }
 
-// Reads IN, and says how many elements it has, or what keeps it from being a design file.
-fn check<D: Desk>(alloc: Global, desk: &mut D, input: &str) -> Status
-    ensures outcome { ComesTo result (λ files. input_outcome (bytes_of files input.now) checked)
-        (D.content desk.old) (D.content desk.new) }
-    ensures counted { IsEnding result → (D.read_faults desk.new ≡ D.read_faults desk.old)
-        × (D.write_faults desk.new ≡ D.write_faults desk.old) }
-    ensures usage { result ≡ Status.Usage → ⊥ }
-    ensures read { result ≡ Status.ReadFault → Rose (D.read_faults desk.old) (D.read_faults desk.new) }
-    ensures unread { result ≡ Status.ReadFault → OnlyLeftDiffers (D.content desk.old) (D.content desk.new) }
-    ensures write { result ≡ Status.WriteFault → Rose (D.write_faults desk.old) (D.write_faults desk.new) }
-    ensures able { IsTrue (D.willing desk.old) → HasFile input.now (D.content desk.old) → IsFaultless result }
+// Runs the form that is asked for.
+fn run_request<D: Desk>(alloc: Global, desk: &mut D, request: Request) -> End
+    requires { IsCounted request }
+    ensures ends { DeskEnds D.Desk (HasFiles (Some (seen request.entry))) (outcome_of (Some (seen request.entry)))
+        desk.old desk.new result }
+    ensures reads { result ≡ End.ReadFault → Reads (Some (seen request.entry)) }
 {
-    let bytes = match read_input(alloc, desk, input) {
-        Ok(bytes) => bytes,
-        Err(status) => return status,
-    };
-    match count_elements(&bytes) {
-        Ok(count) => end_numbered(alloc, desk, b"elements ", count, Status::Done),
-        Err(fault) => end_bad_design(alloc, desk, fault),
+    match request {
+        Request::Edit {
+            input,
+            script,
+            output,
+        } => edit(alloc, desk, input, script, output),
+        Request::Check { input } => check(alloc, desk, input),
+        Request::Gen {
+            seed,
+            count,
+            output,
+        } => End::of(generate_file(alloc, desk, seed, count, output)),
+        Request::Pack {
+            input,
+            script,
+            patch,
+        } => pack(alloc, desk, input, script, patch),
+        Request::Apply {
+            input,
+            patch,
+            output,
+        } => apply(alloc, desk, input, patch, output),
     }
 }
 
-// Reads SCRIPT, and its commands, or ends the run.
-pub(crate) fn read_commands<D: Desk>(
-    alloc: Global,
-    desk: &mut D,
-    script: &str,
-) -> Result<Vec<Command>, Status>
-    ensures read { IfOk result (λ commands. ReadsAs script.now (D.content desk.old) commands.items) }
-    ensures told { OnOk result (OnlyLeftDiffers (D.content desk.old) (D.content desk.new)) }
-    ensures quiet { OnOk result (D.write_faults desk.new ≡ D.write_faults desk.old) }
-    ensures calm { OnOk result (D.read_faults desk.new ≡ D.read_faults desk.old) }
-    ensures stays { OnOk result (StaysWilling (D.willing desk.old) (D.willing desk.new)) }
-    ensures ended { IfErr result (EndsScript script.now (D.content desk.old) (D.content desk.new)) }
-    ensures counted { IfErr result (λ status. IsEnding status → (D.read_faults desk.new ≡ D.read_faults desk.old)
-        × (D.write_faults desk.new ≡ D.write_faults desk.old)) }
-    ensures usage { IsErrOf result Status.Usage → ⊥ }
-    ensures read_fault { IsErrOf result Status.ReadFault → Rose (D.read_faults desk.old) (D.read_faults desk.new) }
-    ensures unread { IsErrOf result Status.ReadFault → OnlyLeftDiffers (D.content desk.old) (D.content desk.new) }
-    ensures write { IsErrOf result Status.WriteFault → Rose (D.write_faults desk.old) (D.write_faults desk.new) }
-    ensures able { IsTrue (D.willing desk.old) → HasFile script.now (D.content desk.old) → IfErr result IsFaultless }
+// Says which forms there are.
+fn say_usage<D: Desk>(desk: &mut D) -> Status
+    ensures { DeskRuns D.Desk None desk.old desk.new result }
 {
-    let text = match read_all(alloc, desk, script, MOST_SCRIPT) {
-        Ok(text) => text,
-        Err(ReadEnd::TooLong) => return Err(end(desk, b"too long script\n", Status::TooLong)),
-        Err(ReadEnd::Fault) => return Err(Status::ReadFault),
-        Err(ReadEnd::Memory) => return Err(Status::Memory),
-    };
-    match read_script(alloc, &text) {
-        Ok(commands) => Ok(commands),
-        Err(ScriptFault::Line { number }) => Err(end_numbered(
-            alloc,
-            desk,
-            b"bad script line ",
-            number,
-            Status::BadScript,
-        )),
-        Err(ScriptFault::Memory) => Err(Status::Memory),
-    }
-}
-
-// Begins a session, and goes on with the commands.
-pub(crate) fn run_script<D: Desk>(
-    alloc: Global,
-    desk: &mut D,
-    design: Design,
-    commands: &[Command],
-    seconds: &mut Vec<Second>,
-    output: &str,
-) -> Status
-    requires whole { IsWhole design }
-    requires sound { AllByRecursion IsSound seconds.old.items }
-    ensures outcome { ComesTo result
-        (λ _. told (opened_of design) (given_all commands.now (waiting seconds.old.items)) output.now)
-        (D.content desk.old) (D.content desk.new) }
-    ensures counted { IsEnding result → (D.read_faults desk.new ≡ D.read_faults desk.old)
-        × (D.write_faults desk.new ≡ D.write_faults desk.old) }
-    ensures usage { result ≡ Status.Usage → ⊥ }
-    ensures read { result ≡ Status.ReadFault → ⊥ }
-    ensures write { result ≡ Status.WriteFault → Rose (D.write_faults desk.old) (D.write_faults desk.new) }
-    ensures able { IsTrue (D.willing desk.old) → IsFaultless result }
-{
-    match Session::start(alloc, design) {
-        Ok(mut session) => finish(alloc, desk, &mut session, commands, seconds, output),
-        Err(_) => Status::Memory,
-    }
-}
-
-// Writes the drawing of a session, whose elements had `before` bytes when it was opened, and what fills its last block.
-pub(crate) fn write_drawing<D: Desk>(
-    desk: &mut D,
-    output: &str,
-    before: usize,
-    session: &Session,
-) -> Result<(), Stop>
-    requires { before ≤ MOST_DESIGN }
-    ensures cause { Counts (D.write_faults desk.old) (D.write_faults desk.new) result }
-    ensures other { D.read_faults desk.new ≡ D.read_faults desk.old }
-    ensures told { FilesAll result output.now
-        (file_made before session.now.tail (spelling (state_of session.now).top))
-        (D.content desk.old) (D.content desk.new) }
-    ensures stays { StaysWilling (D.willing desk.old) (D.willing desk.new) }
-    ensures able { IsTrue (D.willing desk.old) → DoesNotFail result }
-{
-    let design = session.design();
-    write_filled(desk, output, before, &design.body, &design.tail)
-}
-
-// Runs the commands and writes OUT.
-fn finish<D: Desk>(
-    alloc: Global,
-    desk: &mut D,
-    session: &mut Session,
-    commands: &[Command],
-    seconds: &mut Vec<Second>,
-    output: &str,
-) -> Status
-    requires { AllByRecursion IsSound seconds.old.items }
-    ensures outcome { ComesTo result
-        (λ _. told_from (state_of session.old) session.old.tail
-        (given_all commands.now (waiting seconds.old.items)) output.now)
-        (D.content desk.old) (D.content desk.new) }
-    ensures counted { IsEnding result → (D.read_faults desk.new ≡ D.read_faults desk.old)
-        × (D.write_faults desk.new ≡ D.write_faults desk.old) }
-    ensures usage { result ≡ Status.Usage → ⊥ }
-    ensures read { result ≡ Status.ReadFault → ⊥ }
-    ensures write { result ≡ Status.WriteFault → Rose (D.write_faults desk.old) (D.write_faults desk.new) }
-    ensures able { IsTrue (D.willing desk.old) → IsFaultless result }
-{
-    let before = session.design().body.len();
-    let refused = match run_all(alloc, desk, session, commands, seconds) {
-        Ok(refused) => refused,
-        Err(stop) => return stopped(stop),
-    };
-    match write_drawing(desk, output, before, session) {
-        Ok(()) if refused > 0 => Status::SomeRefused,
-        Ok(()) => Status::Done,
-        Err(stop) => stopped(stop),
+    match say_all(
+        desk,
+        b"usage: dgnedit edit IN SCRIPT OUT, check IN, gen SEED COUNT OUT, pack IN SCRIPT PATCH, apply IN PATCH OUT\n",
+    ) {
+        Ok(()) => Status::Usage,
+        Err(stop) => End::Stopped(stop).status(),
     }
 }

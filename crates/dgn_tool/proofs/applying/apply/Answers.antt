@@ -1,21 +1,30 @@
-use Rattle.std.proofs.Common.{List, ℕ, subst}
-use Rattle.dgn_desk.specs.Content.{bytes_of}
+use Rattle.std.proofs.Common.{List, ℕ, refl, subst}
+use Rattle.dgn_desk.specs.Content.{Files, bytes_of}
 use Rattle.dgn_tool.specs.Applied.{body_patched, patched}
-use Rattle.dgn_tool.specs.Outcome.{input_outcome, ComesTo}
-use Rattle.dgn_tool.proofs.Endings.{through, read_twice}
+use Rattle.dgn_tool.specs.Ends.{DeskEnds, Has}
+use Rattle.dgn_tool.specs.Outcome.{input_outcome, HasBoth}
+use Rattle.elem_index.specs.Answers.{opened_of}
+use Rattle.dgn_tool.proofs.InputsRead.{other_there}
+use Rattle.dgn_tool.proofs.Parts.{same_end, then_ends}
 use Rattle.dgn_tool.proofs.PatchEndings.{goes_on}
 use Rattle.dgn_tool.proofs.applying.apply.Goals as goal
 
-pub returns-in-Ok-clause-outcome : goal.returns-in-Ok-clause-outcome
-returns-in-Ok-clause-outcome g c =
-    let opened = c.in-Ok.ensures in
-    through (λ fs. input_outcome (bytes_of fs c.args.input.now) (λ d. patched d (bytes_of fs c.args.patch.now) c.args.output.now)) (λ fs. body_patched c.in-Ok.design.body.items c.in-Ok.design.tail.items (bytes_of fs c.args.patch.now) c.args.output.now) c.apply_patch.result (g.D.Desk.content c.args.desk.now) (g.D.Desk.content c.open_design.new.desk) (g.D.Desk.content c.apply_patch.new.desk) opened.told
-    (goes_on c.args.input.now c.args.patch.now c.args.output.now c.in-Ok.design (g.D.Desk.content c.args.desk.now) opened.whole opened.opened)
-    (subst (λ (t : List ℕ). ComesTo c.apply_patch.result (λ fs. body_patched c.in-Ok.design.body.items t (bytes_of fs c.args.patch.now) c.args.output.now) (g.D.Desk.content c.open_design.new.desk) (g.D.Desk.content c.apply_patch.new.desk)) c.deref.ensures.value c.apply_patch.ensures.outcome)
+pub returns-in-Ok : goal.returns-in-Ok
+returns-in-Ok g c =
+    let input = c.args.input.now in
+    let patch = c.args.patch.now in
+    let output = c.args.output.now in
+    let d = c.in-Ok.design in
+    then_ends c.in-Ok.ensures.opened (HasBoth input patch) (Has patch) (λ files. input_outcome (bytes_of files input) (λ x. patched x (bytes_of files patch) output)) (λ files. body_patched d.body.items d.tail.items (bytes_of files patch) output) c.apply_patch.result
+    (λ files opens. goes_on input patch output d files c.in-Ok.ensures.whole opens)
+    (λ files opens has. other_there input patch (opened_of d) files opens has)
+    (subst (λ (t : List ℕ). DeskEnds g.D.Desk (Has patch) (λ files. body_patched d.body.items t (bytes_of files patch) output) c.open_design.new.desk c.apply_patch.new.desk c.apply_patch.result) c.deref.ensures.value c.apply_patch.ensures)
 
-pub returns-in-Ok-clause-unread : goal.returns-in-Ok-clause-unread
-returns-in-Ok-clause-unread g c =
-    λ fault. read_twice (g.D.Desk.content c.args.desk.now) (g.D.Desk.content c.open_design.new.desk) (g.D.Desk.content c.apply_patch.new.desk) c.in-Ok.ensures.told (c.apply_patch.ensures.unread fault)
-
-pub returns-in-Err-clause-outcome : goal.returns-in-Err-clause-outcome
-returns-in-Err-clause-outcome g c = c.in-Err.ensures.ended (λ fs d. patched d (bytes_of fs c.args.patch.now) c.args.output.now)
+pub returns-in-Err : goal.returns-in-Err
+returns-in-Err g c =
+    let input = c.args.input.now in
+    let patch = c.args.patch.now in
+    let output = c.args.output.now in
+    let o = λ (files : Files). input_outcome (bytes_of files input) (λ x. patched x (bytes_of files patch) output) in
+    same_end (HasBoth input patch) (Has input) o o _ _ _ (λ files. refl) (λ files has. has.0)
+    (c.in-Err.ensures.ended.early (λ files d. patched d (bytes_of files patch) output))

@@ -1,48 +1,48 @@
-use Rattle.std.proofs.Common.{◌≡◌, List, ℕ, Ok, Err, ap, sym, subst, ◌∙◌}
+use Rattle.std.proofs.Common.{◌≡◌, List, ℕ, length, Ok, Err, ap, sym, subst, ◌∙◌}
 use Rattle.std.specs.Prelude.{codes}
 use Rattle.dgn_desk.specs.Content.{bytes_of}
 use Rattle.patch_file.specs.declared.patch_entry.PatchEntry.{PatchEntry}
 use Rattle.patch_file.specs.Answers.{Tells}
 use Rattle.patch_file.specs.PatchView.{all_packed}
 use Rattle.patch_file.specs.Reading.{patch_of, IsBadAt}
-use Rattle.dgn_tool.specs.Applied.{body_patched, entries_outcome}
+use Rattle.dgn_tool.specs.Applied.{body_patched, entries_outcome, reading_outcome}
 use Rattle.dgn_tool.specs.Ended.{ended}
-use Rattle.dgn_tool.specs.Lines.{numbered}
+use Rattle.dgn_tool.specs.Ends.{Has}
+use Rattle.dgn_answers.specs.Lines.{numbered}
 use Rattle.dgn_tool.specs.declared.status.Status.TheVariants as statuses
-use Rattle.dgn_tool.proofs.Endings.{wants, through, items_within}
-use Rattle.dgn_tool.proofs.PatchEndings.{overruns_patch, reads_entries, reads_bad, few_read}
+use Rattle.dgn_tool.proofs.Parts.{then_comes, wants_behind}
+use Rattle.dgn_tool.proofs.PatchEndings.{reads_entries, reads_bad, few_read}
 use Rattle.dgn_tool.proofs.applying.apply_patch.Goals as goal
 
 pub apply_entries-requires-clause-many : goal.apply_entries-requires-clause-many
 apply_entries-requires-clause-many g c = few_read c.in-Ok-read_patch.entries.items c.deref-in-Ok-read_patch.result.now c.deref-in-Ok-read_patch.ensures.value c.in-Ok-read_patch.ensures.found.entries
 
-pub returns-in-Err-TooLong-clause-outcome : goal.returns-in-Err-TooLong-clause-outcome
-returns-in-Err-TooLong-clause-outcome g c =
-    let read = c.in-Err-TooLong.ensures in
-    through (λ fs. body_patched c.args.body.items c.args.tail.now (bytes_of fs c.args.patch.now) c.args.output.now) (λ _. ended statuses.TooLong (codes "too long patch\n")) c.end.result (g.D.Desk.content c.args.desk.now) (g.D.Desk.content c.read_all.new.desk) (g.D.Desk.content c.end.new.desk) read.told
-    (overruns_patch c.args.body.items c.args.tail.now c.args.patch.now c.args.output.now (g.D.Desk.content c.args.desk.now) (read.long (ap Err c.in-Err-TooLong.field-0-is)))
-    c.end.ensures.outcome
+pub returns-in-Err : goal.returns-in-Err
+returns-in-Err g c =
+    c.in-Err.ensures.ended.early (λ _ p. reading_outcome c.args.body.items c.args.tail.now (length {A = ℕ} p) (patch_of p) c.args.output.now)
 
-pub returns-in-Ok-read_patch-clause-outcome : goal.returns-in-Ok-read_patch-clause-outcome
-returns-in-Ok-read_patch-clause-outcome g c =
-    let read = c.in-Ok.ensures in
-    let found : patch_of c.in-Ok.bytes.items ≡ Ok (all_packed c.deref-in-Ok-read_patch.result.now) =
-    ap patch_of (sym c.deref.ensures.value) ∙ c.in-Ok-read_patch.ensures.exactly ∙ ap (λ (es : List PatchEntry). Ok (all_packed es)) (sym c.deref-in-Ok-read_patch.ensures.value) in
-    through (λ fs. body_patched c.args.body.items c.args.tail.now (bytes_of fs c.args.patch.now) c.args.output.now) (λ _. entries_outcome c.args.body.items c.args.tail.now (all_packed c.deref-in-Ok-read_patch.result.now) c.args.output.now) c.apply_entries.result (g.D.Desk.content c.args.desk.now) (g.D.Desk.content c.read_all.new.desk) (g.D.Desk.content c.apply_entries.new.desk) read.told
-    (reads_entries c.args.body.items c.args.tail.now c.args.patch.now c.in-Ok.bytes.items c.args.output.now (all_packed c.deref-in-Ok-read_patch.result.now) (g.D.Desk.content c.args.desk.now) read.whole (items_within c.in-Ok.bytes 134217728 read.within) found)
-    c.apply_entries.ensures.outcome
+pub returns-in-Ok-read_patch : goal.returns-in-Ok-read_patch
+returns-in-Ok-read_patch g c =
+    let b = c.args.body.items in
+    let tail = c.args.tail.now in
+    let patch = c.args.patch.now in
+    let output = c.args.output.now in
+    let es = all_packed c.deref-in-Ok-read_patch.result.now in
+    let found : patch_of c.in-Ok.bytes.items ≡ Ok es =
+    ap patch_of (sym c.deref.ensures.value) ∙ c.in-Ok-read_patch.ensures.exactly ∙ ap (λ (l : List PatchEntry). Ok (all_packed l)) (sym c.deref-in-Ok-read_patch.ensures.value) in
+    then_comes c.in-Ok.ensures.read (Has patch) (λ files. body_patched b tail (bytes_of files patch) output) (entries_outcome b tail es output) c.apply_entries.result c.of.result
+    (λ files is. reads_entries b tail patch c.in-Ok.bytes.items output es files found is) c.of.ensures c.apply_entries.ensures
 
-pub returns-in-Err-At-clause-outcome : goal.returns-in-Err-At-clause-outcome
-returns-in-Err-At-clause-outcome g c =
-    let read = c.in-Ok.ensures in
+pub returns-in-Err-At : goal.returns-in-Err-At
+returns-in-Err-At g c =
+    let b = c.args.body.items in
+    let tail = c.args.tail.now in
+    let patch = c.args.patch.now in
+    let output = c.args.output.now in
     let told : IsBadAt c.deref.result.now c.in-Err-At.offset = subst (λ fault. Tells c.deref.result.now (Err fault)) c.in-Err-At.field-0-is c.in-Err-At.ensures.exactly in
-    let bad : IsBadAt c.in-Ok.bytes.items c.in-Err-At.offset = subst (λ (b : List ℕ). IsBadAt b c.in-Err-At.offset) c.deref.ensures.value told in
-    through (λ fs. body_patched c.args.body.items c.args.tail.now (bytes_of fs c.args.patch.now) c.args.output.now) (λ _. ended statuses.BadPatch (numbered (codes "bad patch at ") c.in-Err-At.offset)) c.end_numbered.result (g.D.Desk.content c.args.desk.now) (g.D.Desk.content c.read_all.new.desk) (g.D.Desk.content c.end_numbered.new.desk) read.told
-    (reads_bad c.args.body.items c.args.tail.now c.args.patch.now c.in-Ok.bytes.items c.args.output.now c.in-Err-At.offset (g.D.Desk.content c.args.desk.now) read.whole (items_within c.in-Ok.bytes 134217728 read.within) bad)
-    c.end_numbered.ensures.outcome
+    let bad : IsBadAt c.in-Ok.bytes.items c.in-Err-At.offset = subst (λ (x : List ℕ). IsBadAt x c.in-Err-At.offset) c.deref.ensures.value told in
+    then_comes c.in-Ok.ensures.read (Has patch) (λ files. body_patched b tail (bytes_of files patch) output) (ended statuses.BadPatch (numbered (codes "bad patch at ") c.in-Err-At.offset)) c.end_numbered.result c.of-in-Err-At.result
+    (λ files is. reads_bad b tail patch c.in-Ok.bytes.items output c.in-Err-At.offset files bad is) c.of-in-Err-At.ensures c.end_numbered.ensures
 
-pub returns-in-Err-Memory-clause-outcome : goal.returns-in-Err-Memory-clause-outcome
-returns-in-Err-Memory-clause-outcome g c = wants (λ fs. body_patched c.args.body.items c.args.tail.now (bytes_of fs c.args.patch.now) c.args.output.now) (g.D.Desk.content c.args.desk.now) (g.D.Desk.content c.read_all.new.desk) c.in-Err-Memory.ensures.told
-
-pub returns-clause-outcome : goal.returns-clause-outcome
-returns-clause-outcome g c = wants (λ fs. body_patched c.args.body.items c.args.tail.now (bytes_of fs c.args.patch.now) c.args.output.now) (g.D.Desk.content c.args.desk.now) (g.D.Desk.content c.read_all.new.desk) c.in-Ok.ensures.told
+pub returns : goal.returns
+returns g c = wants_behind c.in-Ok.ensures.read (Has c.args.patch.now) (λ files. body_patched c.args.body.items c.args.tail.now (bytes_of files c.args.patch.now) c.args.output.now)

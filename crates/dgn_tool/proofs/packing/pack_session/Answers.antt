@@ -1,6 +1,6 @@
 use Rattle.std.proofs.Common.{◌∙◌}
-use Rattle.dgn_tool.specs.Given.{given_all}
-use Rattle.dgn_tool.specs.SecondFiles.{waiting}
+use Rattle.dgn_answers.specs.Given.{given_all}
+use Rattle.dgn_answers.specs.Given.{waiting}
 use Rattle.dgn_tool.proofs.Packed.{packs}
 use Rattle.dgn_tool.proofs.packing.pack_session.Goals as goal
 

@@ -1,17 +1,30 @@
-use Rattle.std.proofs.Common.{Err, ap}
-use Rattle.dgn_tool.proofs.Endings.{wants}
-use Rattle.dgn_tool.proofs.SecondsRead.{too_long_ends}
+use Rattle.std.proofs.Common.{◌∷◌, []}
+use Rattle.std.specs.Prelude.{codes}
+use Rattle.std.proofs.lemmas.Result.{err_from_is_err_and}
+use Rattle.dgn_import.specs.Seconds.{value_of}
+use Rattle.dgn_tool.specs.Ends.{Has}
+use Rattle.dgn_tool.specs.Readings.{whole_file, ComeTo, seconds_in}
+use Rattle.dgn_tool.specs.SecondFiles.{AreThere}
+use Rattle.dgn_tool.proofs.Parts.{known_so, same_end, wants_behind}
+use Rattle.dgn_tool.proofs.SecondsRead.{one_opened, one_ends}
 use Rattle.dgn_tool.proofs.seconds.read_named.Goals as goal
 
-pub returns-in-Err-TooLong-clause-ended : goal.returns-in-Err-TooLong-clause-ended
-returns-in-Err-TooLong-clause-ended g c =
-    let read = c.in-Err-TooLong.ensures in
-    too_long_ends c.args.name.now c.end.result (g.D.Desk.content c.args.desk.now) (g.D.Desk.content c.read_all.new.desk) (g.D.Desk.content c.end.new.desk) read.told (read.long (ap Err c.in-Err-TooLong.field-0-is)) c.end.ensures.outcome
+pub returns-in_err-bytes-clause-ended : goal.returns-in_err-bytes-clause-ended
+returns-in_err-bytes-clause-ended g c =
+    let p = err_from_is_err_and c.from_residual.result c.from_residual.ensures.1 in
+    let name = c.args.name.now in
+    rw (p.1, p.2) (record {
+      early = λ go_on. same_end (AreThere (name ∷ [])) (Has name) (seconds_in (name ∷ []) go_on) (whole_file name 67108864 (codes "too long import\n") (λ fs _. seconds_in (name ∷ []) go_on fs)) _ _ _
+          (λ files. one_ends name files go_on) (λ files there. there.0) (c.in_err-bytes.ensures.ended.early (λ fs _. seconds_in (name ∷ []) go_on fs));
+    })
 
-pub returns-in-Err-Memory-clause-ended : goal.returns-in-Err-Memory-clause-ended
-returns-in-Err-Memory-clause-ended g c =
-    λ o _. wants o (g.D.Desk.content c.args.desk.now) (g.D.Desk.content c.read_all.new.desk) c.in-Err-Memory.ensures.told
+pub returns-in_err-second-clause-ended : goal.returns-in_err-second-clause-ended
+returns-in_err-second-clause-ended g c =
+    let p = err_from_is_err_and c.from_residual-in_err-second.result c.from_residual-in_err-second.ensures.1 in
+    let name = c.args.name.now in
+    rw (p.1, p.2) (record { early = λ go_on. wants_behind c.in_ok-bytes.ensures.read (AreThere (name ∷ [])) (seconds_in (name ∷ []) go_on) })
 
-pub returns-in-Err-clause-ended : goal.returns-in-Err-clause-ended
-returns-in-Err-clause-ended g c =
-    λ o _. wants o (g.D.Desk.content c.args.desk.now) (g.D.Desk.content c.read_all.new.desk) c.in-Ok.ensures.told
+pub returns-clause-read : goal.returns-clause-read
+returns-clause-read g c =
+    known_so c.in_ok-bytes.ensures.read (ComeTo (c.args.name.now ∷ [])) (value_of c.in_ok-second.second ∷ [])
+    (λ files is. one_opened c.args.name.now c.in_ok-bytes.bytes.items (value_of c.in_ok-second.second) files c.in_ok-second.ensures.value is)

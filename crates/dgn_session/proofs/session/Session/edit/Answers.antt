@@ -6,9 +6,10 @@ use Rattle.elem_index.specs.Design.{elements}
 use Rattle.edit_ops.specs.Applying.{Applied, Done, apply}
 use Rattle.edit_ops.specs.Planned.{IsRefused}
 use Rattle.edit_ops.specs.Fields.{edited_fields}
+use Rattle.edit_ops.specs.Laws.{ChangesItsFields}
 use Rattle.dgn_session.specs.State.{SessionValue, state_of, applied, pushed, edited, entry, value_with}
 use Rattle.dgn_session.specs.Kept.{value_of}
-use Rattle.dgn_session.proofs.Carried.{edit_done, edit_made, sound, made_here, done_state, value_after}
+use Rattle.dgn_session.proofs.Carried.{edit_done, edit_made, edit_changes, sound, made_here, done_state, value_after}
 use Rattle.dgn_session.proofs.session.Session.edit.Goals as goal
 
 -- an error that is handed on stands as it came
@@ -44,3 +45,11 @@ pub returns-clause-value : goal.returns-clause-value
 returns-clause-value c =
     subst (λ (v : SessionValue). value_of c.carry.new.design c.carry.new.log c.self.inside.mask c.self.inside.fence ≡ value_with (spelling (elements_of c.carry.new.design.dim c.carry.new.design.body.items)) (v.entries ++ entry v.dim (elements_of v.dim v.body) c.args.e.now ∷ []) v) c.self.view_is
     (value_after c.self.inside.design c.self.inside.log c.self.inside.mask c.self.inside.fence c.self.invariant.back (edited_fields c.self.inside.design.dim (elements c.self.inside.design) c.args.e.now) c.in_ok-plan.ensures.planned.made (edit_made c.self.inside.design c.self.inside.log c.self.inside.mask c.self.inside.fence c.self.invariant.back c.args.e.now c.in_ok-plan.plan c.in_ok-plan.ensures.kept c.in_ok-plan.ensures.planned) c.in_ok-plan.plan c.in_ok-plan.ensures.planned.patches c.in_ok-plan.ensures.planned.append c.carry.new.design c.carry.new.log c.carry.ensures.dim c.in_ok-carry.ensures.body c.carry.ensures.tail c.in_ok-carry.ensures.entries)
+
+pub returns-clause-changed : goal.returns-clause-changed
+returns-clause-changed c =
+    let d = c.self.inside.design in
+    let here = made_here d c.self.inside.log c.self.inside.mask c.self.inside.fence c.self.invariant.back (edited_fields d.dim (elements d) c.args.e.now) c.in_ok-plan.ensures.planned.made (edit_made d c.self.inside.log c.self.inside.mask c.self.inside.fence c.self.invariant.back c.args.e.now c.in_ok-plan.plan c.in_ok-plan.ensures.kept c.in_ok-plan.ensures.planned) c.in_ok-plan.plan c.in_ok-plan.ensures.planned.patches c.in_ok-plan.ensures.planned.append c.carry.new.design c.carry.new.log c.carry.ensures.dim c.in_ok-carry.ensures.body c.carry.ensures.tail c.in_ok-carry.ensures.entries in
+    subst (λ (v : SessionValue). ChangesItsFields v.dim (elements_of v.dim v.body) c.args.e.now (elements_of c.carry.new.design.dim c.carry.new.design.body.items)) c.self.view_is
+    (subst (ChangesItsFields d.dim (elements d) c.args.e.now) (sym here)
+    (edit_changes d c.self.inside.log c.self.inside.mask c.self.inside.fence c.self.invariant.back c.args.e.now c.in_ok-plan.plan c.in_ok-plan.ensures.kept c.in_ok-plan.ensures.planned))

@@ -1,5 +1,5 @@
 use Rattle.std.proofs.Common.{◌≡◌, ℕ, List, ◌++◌, ◌∷◌, [], length, Option, sym, ap, ◌∙◌, subst, arith}
-use Rattle.std.specs.Prelude.{Some, option_map}
+use Rattle.std.specs.Prelude.{Some, IfSome, option_map}
 use Rattle.dgn_drawing.specs.Element.{Element}
 use Rattle.dgn_drawing.specs.Spelling.{spelling}
 use Rattle.dgn_drawing.specs.Opening.{elements_of}
@@ -8,10 +8,11 @@ use Rattle.dgn_fence.specs.Taken.{takes}
 use Rattle.elem_index.specs.Design.{elements}
 use Rattle.elem_index.proofs.Places.{few_elements}
 use Rattle.edit_ops.specs.Applying.{Applied, Done}
-use Rattle.edit_ops.specs.Fenced.{fenced_fields}
+use Rattle.edit_ops.specs.Fenced.{fenced_fields, AreRoots}
+use Rattle.edit_ops.specs.FenceLaws.{ChangesFencedFields}
 use Rattle.dgn_session.specs.State.{SessionValue, state_of, pushed_if, selection, fence_applied, fence_edited, fence_entry, value_with}
 use Rattle.dgn_session.specs.Kept.{value_of}
-use Rattle.dgn_session.proofs.Carried.{fence_made, sound, made_here, done_state, value_after}
+use Rattle.dgn_session.proofs.Carried.{fence_made, fence_changes, sound, made_here, done_state, value_after}
 use Rattle.dgn_import.proofs.TakenRoots.{chosen_few}
 use Rattle.dgn_session.proofs.Chosen.{selection_is, applied_is}
 use Rattle.dgn_session.proofs.session.Session.edit_fence.Goals as goal
@@ -57,3 +58,21 @@ returns-clause-value c =
     c.in_ok-plan.plan c.in_ok-plan.ensures.planned.patches c.in_ok-plan.ensures.planned.append c.carry.new.design c.carry.new.log c.carry.ensures.dim c.in_ok-carry.ensures.body c.carry.ensures.tail c.in_ok-carry.ensures.entries)
     ∙ sym (ap (option_map (λ (ns : List ℕ). value_with (spelling (elements_of c.carry.new.design.dim c.carry.new.design.body.items)) (c.self.inside.log.entries ++ fence_entry c.self.inside.design.dim (elements c.self.inside.design) c.args.e.now ns ∷ []) (value_of c.self.inside.design c.self.inside.log c.self.inside.mask c.self.inside.fence)))
     (selection_is c.self.inside.design c.self.inside.log c.self.inside.mask c.self.inside.fence c.in-Some.fence c.in-Some.is c.args.mode c.deref.result.now (c.deref.ensures.value ∙ c.in_ok-roots.ensures))))
+
+pub returns-clause-changed : goal.returns-clause-changed
+returns-clause-changed c =
+    let d = c.self.inside.design in
+    let l = c.self.inside.log in
+    let mask = c.self.inside.mask in
+    let fence = c.self.inside.fence in
+    let ns = c.deref.result.now in
+    let are = c.deref.ensures.value ∙ c.in_ok-roots.ensures in
+    let roots : AreRoots (elements d) ns = ((λ (n : ℕ). takes c.args.mode c.in-Some.fence (tree_shown d.dim mask (elements d) n)), are) in
+    let here = made_here d l mask fence c.self.invariant.back (fenced_fields d.dim (elements d) c.args.e.now ns) c.in_ok-plan.ensures.planned.made
+    (fence_made d l mask fence c.self.invariant.back ns roots c.args.e.now c.in_ok-plan.plan c.in_ok-plan.ensures.kept c.in_ok-plan.ensures.planned)
+    c.in_ok-plan.plan c.in_ok-plan.ensures.planned.patches c.in_ok-plan.ensures.planned.append c.carry.new.design c.carry.new.log c.carry.ensures.dim c.in_ok-carry.ensures.body c.carry.ensures.tail c.in_ok-carry.ensures.entries in
+    subst (λ (v : SessionValue). IfSome (selection c.args.mode (state_of v)) (λ (xs : List ℕ). ChangesFencedFields v.dim (elements_of v.dim v.body) c.args.e.now xs (elements_of c.carry.new.design.dim c.carry.new.design.body.items))) c.self.view_is
+    (subst (λ (chosen : Option (List ℕ)). IfSome chosen (λ (xs : List ℕ). ChangesFencedFields d.dim (elements d) c.args.e.now xs (elements_of c.carry.new.design.dim c.carry.new.design.body.items)))
+    (sym (selection_is d l mask fence c.in-Some.fence c.in-Some.is c.args.mode ns are))
+    (subst (ChangesFencedFields d.dim (elements d) c.args.e.now ns) (sym here)
+    (fence_changes d l mask fence c.self.invariant.back ns roots c.args.e.now c.in_ok-plan.plan c.in_ok-plan.ensures.kept c.in_ok-plan.ensures.planned)))

@@ -1,0 +1,18 @@
+use Rattle.std.proofs.Common.{◌≡◌, ◌≤◌, drop}
+use Rattle.dgn_session.specs.State.{state_of}
+use Rattle.std.specs.List.{AllByRecursion}
+use Rattle.dgn_import.specs.Seconds.{IsSound}
+use Rattle.dgn_answers.specs.Given.{given_all}
+use Rattle.dgn_answers.specs.Given.{waiting}
+use Rattle.dgn_answers.proofs.Tallied.{Tallied}
+use Rattle.dgn_answers.proofs.Logged.{LogsSo}
+use Rattle.dgn_answers.proofs.tally.run_unsaid.Given as goal
+
+abbrev pub invariant-commands : goal.invariant-commands
+invariant-commands l = record {
+  done : Tallied (given_all l.commands (waiting l.fn.seconds.items)) (given_all (drop l.command-index l.commands) (waiting l.seconds.items)) l.refused l.trees.items (state_of l.fn.session) (state_of l.session);
+  logged : LogsSo (given_all l.commands (waiting l.fn.seconds.items)) (given_all (drop l.command-index l.commands) (waiting l.seconds.items)) l.fn.session l.session;
+  tail : l.session.tail ≡ l.fn.session.tail;
+  sound : AllByRecursion IsSound l.seconds.items;
+  most : l.refused ≤ l.command-index;
+}

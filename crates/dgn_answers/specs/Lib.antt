@@ -1,0 +1,6 @@
+pub mod Lines
+pub mod Commands
+pub mod Imports
+pub mod Given
+pub mod Remaining
+pub mod Logs

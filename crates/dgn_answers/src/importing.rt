@@ -1,0 +1,209 @@
+// What a session answers to an import.
+
+ghost use Rattle.std.specs.Prelude.{◌≡◌, ◌+◌, ◌≤◌, ◌++◌, length, option_map, vec_len, vec_capacity, IfOk, OnOk, OnErr};
+ghost use Rattle.dgn_drawing.specs.Spelling.{spelling};
+ghost use Rattle.dgn_import.specs.Gathering.{AreTrees, Trees};
+ghost use Rattle.dgn_import.specs.Laws.{IsOfATree};
+ghost use Rattle.dgn_import.specs.Seconds.{value_of, IsSound};
+ghost use Rattle.listing_texts.specs.Lines.{AppendsFrontOf};
+ghost use Rattle.dgn_session.specs.State.{state_of};
+ghost use Rattle.dgn_answers.specs.Lines.{numbered};
+ghost use Rattle.dgn_answers.specs.Imports.{fault_said, tree_cause_said, importing, importing_of, import_said, import_refused, import_left, gathering_of, FitsBehind};
+ghost use Rattle.dgn_answers.specs.Logs.{ImportLogsAs};
+
+use crate::answers::{ROOM, put_known};
+use crate::come::Come;
+use crate::fences::put_count;
+use dgn_drawing::Shift;
+use dgn_import::{Gathered, ImportFault, Second, SecondFault, gather};
+use dgn_listing::write_cause;
+use dgn_session::Session;
+use edit_ops::{Cause, EditFault};
+use itoa::Buffer;
+use std::alloc::{AllocError, Global};
+
+/// Appends the trees of a second drawing in a session, displaced where `by` is given (`dgn_import::gather`), appends to
+/// `out` what an import says, and answers whether it was refused. It is one edit for an undo, also where there is no
+/// tree.
+///
+/// It is refused exactly where the second file doesn't open, where it has another dimension than the drawing or `by` is
+/// given for other axes, where the displacement of a tree is refused, or, last of all, where the file would have more
+/// than 67108864 bytes. Where there is no memory, the session is as before, and `out` has grown by some first part of what
+/// the import says.
+pub fn answer_import(
+    alloc: Global,
+    s: &mut Session,
+    second: &Second,
+    by: Option<&Shift>,
+    out: &mut Vec<u8>,
+) -> Result<bool, AllocError>
+    requires sound { IsSound second.now }
+    ensures text { OnOk result (out.new.items ≡ out.old.items
+        ++ import_said (importing_of (state_of s.old) (value_of second.now) (option_map (λ b. b.now) by.entry))) }
+    ensures refused { IfOk result (λ refused. refused
+        ≡ import_refused (importing_of (state_of s.old) (value_of second.now) (option_map (λ b. b.now) by.entry))) }
+    ensures state { OnOk result (state_of s.new
+        ≡ import_left (importing_of (state_of s.old) (value_of second.now) (option_map (λ b. b.now) by.entry)) (state_of s.old)) }
+    ensures logged { OnOk result
+        (ImportLogsAs (importing_of (state_of s.old) (value_of second.now) (option_map (λ b. b.now) by.entry)) s.old s.new) }
+    ensures tail { s.new.tail ≡ s.old.tail }
+    ensures kept { OnErr result (s.new ≡ s.old) }
+    ensures front { OnErr result (AppendsFrontOf
+        (import_said (importing_of (state_of s.old) (value_of second.now) (option_map (λ b. b.now) by.entry)))
+        out.old.items out.new.items) }
+{
+    let come = come_of(alloc, s, second, by)?;
+    answer_come(alloc, s, come, out)
+}
+
+// What comes of a second drawing for an import in a session.
+fn come_of(
+    alloc: Global,
+    s: &Session,
+    second: &Second,
+    by: Option<&Shift>,
+) -> Result<Come, AllocError>
+    requires sound { IsSound second.now }
+    ensures come { IfOk result (λ come. importing (state_of s.now) (gathering_of come)
+        ≡ importing_of (state_of s.now) (value_of second.now) (option_map (λ b. b.now) by.entry)) }
+    ensures fits { IfOk result (FitsBehind s.now.dim) }
+{
+    match gather(alloc, s.design().dim, second, by) {
+        Ok(found) => Ok(Come::Trees(found)),
+        Err(ImportFault::Bad(fault)) => Ok(Come::Bad(fault)),
+        Err(ImportFault::Dimension) => Ok(Come::Dimension),
+        Err(ImportFault::Refused(cause)) => Ok(Come::Refused(cause)),
+        Err(ImportFault::Memory) => Err(AllocError),
+    }
+}
+
+// The same of one that nobody wants any more, whose memory is given back before its trees are appended.
+pub(crate) fn come_of_last(
+    alloc: Global,
+    s: &Session,
+    second: Second,
+    by: Option<&Shift>,
+) -> Result<Come, AllocError>
+    requires sound { IsSound second }
+    ensures come { IfOk result (λ come. importing (state_of s.now) (gathering_of come)
+        ≡ importing_of (state_of s.now) (value_of second) (option_map (λ b. b.now) by.entry)) }
+    ensures fits { IfOk result (FitsBehind s.now.dim) }
+{
+    come_of(alloc, s, &second, by)
+}
+
+// Appends the trees that came of a second drawing, appends to `out` what the import says, and answers whether it was
+// refused.
+pub(crate) fn answer_come(
+    alloc: Global,
+    s: &mut Session,
+    come: Come,
+    out: &mut Vec<u8>,
+) -> Result<bool, AllocError>
+    requires fits { FitsBehind s.old.dim come }
+    ensures text { OnOk result (out.new.items ≡ out.old.items
+        ++ import_said (importing (state_of s.old) (gathering_of come))) }
+    ensures refused { IfOk result (λ refused. refused
+        ≡ import_refused (importing (state_of s.old) (gathering_of come))) }
+    ensures state { OnOk result (state_of s.new
+        ≡ import_left (importing (state_of s.old) (gathering_of come)) (state_of s.old)) }
+    ensures logged { OnOk result (ImportLogsAs (importing (state_of s.old) (gathering_of come)) s.old s.new) }
+    ensures tail { s.new.tail ≡ s.old.tail }
+    ensures kept { OnErr result (s.new ≡ s.old) }
+    ensures front { OnErr result (AppendsFrontOf
+        (import_said (importing (state_of s.old) (gathering_of come))) out.old.items out.new.items) }
+{
+    out.reserve(ROOM)?;
+    // What a session holds is such as its type keeps, which is known where a value of it is read.
+    let _dim = s.design().dim;
+    match come {
+        Come::Trees(found) => append_gathered(alloc, s, &found, out),
+        Come::Bad(fault) => {
+            put_fault(out, fault);
+            Ok(true)
+        }
+        Come::Dimension => {
+            put_known(out, b"refused import dimension\n");
+            Ok(true)
+        }
+        Come::Refused(cause) => {
+            put_tree_cause(out, cause);
+            Ok(true)
+        }
+    }
+}
+
+// Appends trees that were gathered, says so, and answers whether the drawing would have been too long with them.
+fn append_gathered(
+    alloc: Global,
+    s: &mut Session,
+    found: &Gathered,
+    out: &mut Vec<u8>,
+) -> Result<bool, AllocError>
+    requires trees { AreTrees s.old.dim found.now.bytes }
+    requires body { s.old.body ≡ spelling (state_of s.old).top }
+    requires room { vec_len out.old + 64 ≤ vec_capacity out.old }
+    ensures text { OnOk result (out.new.items ≡ out.old.items
+        ++ import_said (importing (state_of s.old) (Trees found.now.bytes found.now.trees))) }
+    ensures refused { IfOk result (λ refused. refused
+        ≡ import_refused (importing (state_of s.old) (Trees found.now.bytes found.now.trees))) }
+    ensures state { OnOk result (state_of s.new
+        ≡ import_left (importing (state_of s.old) (Trees found.now.bytes found.now.trees)) (state_of s.old)) }
+    ensures logged { OnOk result
+        (ImportLogsAs (importing (state_of s.old) (Trees found.now.bytes found.now.trees)) s.old s.new) }
+    ensures tail { s.new.tail ≡ s.old.tail }
+    ensures kept { OnErr result (s.new ≡ s.old) }
+    ensures front { OnErr result (AppendsFrontOf
+        (import_said (importing (state_of s.old) (Trees found.now.bytes found.now.trees))) out.old.items out.new.items) }
+{
+    match s.append_trees(found.bytes.as_slice()) {
+        Ok(()) => {
+            put_count(out, found.trees);
+            Ok(false)
+        }
+        Err(EditFault::Refused(cause)) => {
+            write_cause(alloc, out, &cause)?;
+            Ok(true)
+        }
+        Err(EditFault::Memory) => Err(AllocError),
+    }
+}
+
+// Appends why a second file doesn't open. There is room for it.
+fn put_fault(out: &mut Vec<u8>, fault: SecondFault)
+    requires { vec_len out.old + 64 ≤ vec_capacity out.old }
+    ensures { out.new.items ≡ out.old.items ++ fault_said fault }
+{
+    match fault {
+        SecondFault::NotDesign => put_known(out, b"refused import not-design at 0\n"),
+        SecondFault::Cut { at } => put_line(out, b"refused import cut at ", at),
+        SecondFault::Short { at } => put_line(out, b"refused import short at ", at),
+        SecondFault::Attr { at } => put_line(out, b"refused import attributes at ", at),
+    }
+}
+
+// Appends the cause that refuses the displacement of a tree. There is room for it.
+fn put_tree_cause(out: &mut Vec<u8>, cause: Cause)
+    requires room { vec_len out.old + 64 ≤ vec_capacity out.old }
+    requires of_a_tree { IsOfATree cause }
+    ensures { out.new.items ≡ out.old.items ++ tree_cause_said cause }
+{
+    match cause {
+        Cause::Floating(m) => put_line(out, b"refused import floating ", m),
+        Cause::Opaque(m) => put_line(out, b"refused import opaque ", m),
+        Cause::OffPlane(m) => put_line(out, b"refused import off-plane ", m),
+        _ => unreachable!(),
+    }
+}
+
+// Appends a line of a few words and a number. There is room for it.
+pub(crate) fn put_line(out: &mut Vec<u8>, words: &[u8], number: u32)
+    requires room { vec_len out.old + 64 ≤ vec_capacity out.old }
+    requires few { length words.now ≤ 32 }
+    ensures { out.new.items ≡ out.old.items ++ numbered words.now number }
+{
+    let mut buffer = Buffer::new();
+    put_known(out, words);
+    put_known(out, buffer.format(number).as_bytes());
+    put_known(out, b"\n");
+}

@@ -1,0 +1,61 @@
+// What a session answers to the commands on its stored ranges.
+
+ghost use Rattle.std.specs.Prelude.{◌≡◌, ◌++◌, false, IfOk, OnOk, OnErr};
+ghost use Rattle.listing_texts.specs.Lines.{AppendsFrontOf};
+ghost use Rattle.dgn_session.specs.State.{state_of, is_refused as is_refusal};
+ghost use Rattle.dgn_session.specs.Fits.{fit_applied, fit_made};
+ghost use Rattle.dgn_answers.specs.Commands.{edit_said, text_of};
+ghost use Rattle.dgn_answers.specs.Logs.{LogsAs};
+ghost use Rattle.edit_script.specs.declared.command.Command.{Command};
+
+use crate::answers::{ROOM, put_known};
+use dgn_listing::{write_cause, write_findings};
+use dgn_session::Session;
+use edit_ops::EditFault;
+use std::alloc::{AllocError, Global};
+
+// Appends the elements whose stored range isn't the hull of their parts, and answers that this is never refused.
+pub(crate) fn answer_audit(
+    alloc: Global,
+    s: &Session,
+    out: &mut Vec<u8>,
+) -> Result<bool, AllocError>
+    ensures text { OnOk result (out.new.items ≡ out.old.items ++ text_of (state_of s.now) Command.Audit) }
+    ensures refused { IfOk result (λ refused. refused ≡ false) }
+    ensures front { OnErr result
+        (AppendsFrontOf (text_of (state_of s.now) Command.Audit) out.old.items out.new.items) }
+{
+    let found = s.audit()?;
+    write_findings(alloc, out, &found)?;
+    Ok(false)
+}
+
+// Fits the tree that holds element n, appends what is said of it, and answers whether it was refused.
+pub(crate) fn answer_fit(
+    alloc: Global,
+    s: &mut Session,
+    n: u32,
+    out: &mut Vec<u8>,
+) -> Result<bool, AllocError>
+    ensures text { OnOk result (out.new.items ≡ out.old.items ++ edit_said (fit_applied n (state_of s.old))) }
+    ensures refused { IfOk result (λ refused. refused ≡ is_refusal (fit_applied n (state_of s.old))) }
+    ensures state { OnOk result (state_of s.new ≡ fit_made n (state_of s.old)) }
+    ensures logged { OnOk result (LogsAs (Command.Fit n) s.old s.new) }
+    ensures tail { s.new.tail ≡ s.old.tail }
+    ensures kept { OnErr result (s.new ≡ s.old) }
+    ensures front { OnErr result
+        (AppendsFrontOf (edit_said (fit_applied n (state_of s.old))) out.old.items out.new.items) }
+{
+    out.reserve(ROOM)?;
+    match s.fit(n) {
+        Ok(()) => {
+            put_known(out, b"ok\n");
+            Ok(false)
+        }
+        Err(EditFault::Refused(cause)) => {
+            write_cause(alloc, out, &cause)?;
+            Ok(true)
+        }
+        Err(EditFault::Memory) => Err(AllocError),
+    }
+}

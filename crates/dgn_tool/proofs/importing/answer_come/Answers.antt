@@ -1,9 +1,0 @@
-use Rattle.std.proofs.Common.{sym, ◌∙◌}
-use Rattle.dgn_tool.proofs.Finished.{spelled_with}
-use Rattle.dgn_tool.proofs.importing.answer_come.Goals as goal
-
-pub append_gathered-requires-clause-body : goal.append_gathered-requires-clause-body
-append_gathered-requires-clause-body c =
-    let v = c.args.s.now in
-    let d = c.design in
-    sym d.ensures.body ∙ spelled_with v.dim v.body d.result.now d.ensures.whole d.ensures.dim d.ensures.body

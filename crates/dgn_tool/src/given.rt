@@ -1,0 +1,53 @@
+// A run with the words as the runtime gives them.
+
+ghost use Rattle.std.specs.Prelude.{◌≡◌, [], map, string_bytes, IfOk, IfErr};
+ghost use Rattle.std.specs.Process.{exit_status};
+ghost use Rattle.std.specs.IoError.{error_kind};
+ghost use Rattle.std.specs.declared.io.ErrorKind.TheVariants.{OutOfMemory};
+ghost use Rattle.dgn_tool.specs.Request.{request_of};
+ghost use Rattle.dgn_tool.specs.Runs.{DeskRuns, DeskExits};
+ghost use Rattle.dgn_tool.specs.Status.{number_of};
+
+use crate::status::Status;
+use crate::top::run_words;
+use dgn_desk::Desk;
+use std::alloc::Global;
+use std::io;
+use std::process::ExitCode;
+
+/// Runs the program over this desk (`run`) with the words of the command line behind its name, as the runtime gives them,
+/// and gives what it ends with: the number of how the run ended. Words that aren't text are of no form; where there is no
+/// memory for them, nothing is run.
+pub fn run_given<D: Desk>(alloc: Global, given: io::Result<Vec<String>>, desk: &mut D) -> ExitCode
+    ensures words { IfOk given (λ words. DeskExits D.Desk (request_of (map string_bytes words.items))
+        desk.old desk.new (exit_status result)) }
+    ensures none { IfErr given (λ error. ¬ (error_kind error ≡ OutOfMemory)
+        → DeskExits D.Desk (request_of []) desk.old desk.new (exit_status result)) }
+    ensures memory { IfErr given (λ error. error_kind error ≡ OutOfMemory
+        → (exit_status result ≡ number_of Status.Memory) × (desk.new ≡ desk.old)) }
+{
+    exit_code(end_given(alloc, given, desk))
+}
+
+// The same by its status.
+fn end_given<D: Desk>(alloc: Global, given: io::Result<Vec<String>>, desk: &mut D) -> Status
+    ensures words { IfOk given
+        (λ words. DeskRuns D.Desk (request_of (map string_bytes words.items)) desk.old desk.new result) }
+    ensures none { IfErr given (λ error. ¬ (error_kind error ≡ OutOfMemory)
+        → DeskRuns D.Desk (request_of []) desk.old desk.new result) }
+    ensures memory { IfErr given (λ error. error_kind error ≡ OutOfMemory
+        → (result ≡ Status.Memory) × (desk.new ≡ desk.old)) }
+{
+    match given {
+        Ok(words) => run_words(alloc, &words, desk),
+        Err(error) if error.kind() == io::ErrorKind::OutOfMemory => Status::Memory,
+        Err(_) => run_words(alloc, &[], desk),
+    }
+}
+
+// What the program ends with: the number of the status.
+fn exit_code(status: Status) -> ExitCode
+    ensures { exit_status result ≡ number_of status }
+{
+    ExitCode::from(status.number())
+}
