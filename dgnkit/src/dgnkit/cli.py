@@ -1,0 +1,77 @@
+"""The command: `dgnkit WORD ..`, where each word has a module of its own under `commands`.
+
+Such a module has a function `register`, which is given what `add_parser` is called on: it adds its parser with its
+arguments, and sets the default `run` to a function of the parsed arguments that gives the status."""
+
+from __future__ import annotations
+
+import argparse
+import os
+import pkgutil
+import sys
+from importlib import import_module
+from typing import TYPE_CHECKING, Callable, List, NoReturn, Optional, Sequence
+
+from . import __version__, commands
+from .errors import Mistake
+
+if TYPE_CHECKING:
+    Subparsers = argparse._SubParsersAction['Parser']
+
+ORDER = [
+    'info',
+    'health',
+    'find',
+    'why',
+    'diff',
+    'mend',
+    'relevel',
+    'retext',
+    'lock',
+    'unlock',
+    'merge',
+    'place',
+    'each',
+]
+ORDER += ['geojson', 'script', 'page']
+
+
+class Parser(argparse.ArgumentParser):
+    """A parser that says what is wrong in one line."""
+
+    def error(self, message: str) -> NoReturn:
+        self.exit(2, '%s: %s\n' % (self.prog, message))
+
+
+def module_names() -> List[str]:
+    """The names of the commands' modules, in the order in which they are told."""
+    names = [it.name for it in pkgutil.iter_modules(commands.__path__) if not it.name.startswith('_')]
+    return sorted(names, key=lambda it: (ORDER.index(it) if it in ORDER else len(ORDER), it))
+
+
+def parser_of() -> Parser:
+    """The parser of all commands."""
+    parser = Parser(prog='dgnkit', description='Finds, explains, mends and compares design files; dgnedit writes them.')
+    parser.add_argument('--version', action='version', version='dgnkit ' + __version__)
+    words = parser.add_subparsers(dest='word', metavar='WORD', required=True)
+    for name in module_names():
+        import_module('dgnkit.commands.' + name).register(words)
+    return parser
+
+
+def main(words: Optional[Sequence[str]] = None) -> int:
+    """Runs a command, and gives its status: 0 and 1 as the command says, and 2 where it can't be done."""
+    try:
+        arguments = parser_of().parse_args(words)
+        run: Callable[[argparse.Namespace], int] = arguments.run
+        status = run(arguments)
+        sys.stdout.flush()
+        return status
+    except Mistake as why:
+        print('dgnkit: %s' % why, file=sys.stderr)
+        return 2
+    except BrokenPipeError:
+        os.dup2(os.open(os.devnull, os.O_WRONLY), sys.stdout.fileno())
+        return 2
+    except KeyboardInterrupt:
+        return 130

@@ -1,0 +1,171 @@
+"""A drawing: what the program lists of it, and what the bytes say that no listing does. Nothing here writes one."""
+
+from __future__ import annotations
+
+from functools import cached_property
+from pathlib import Path
+from typing import Dict, Iterable, List, Optional, Tuple
+
+from .element import Element
+from .errors import BadDesign, Mistake
+from .listings import (
+    Finding,
+    Item,
+    Link,
+    Node,
+    Reference,
+    counts_of,
+    elements_of,
+    findings_of,
+    item_of,
+    links_of,
+    references_of,
+)
+from .nesting import Nesting, read_nesting
+from .program import Name, Program
+from .script import Script
+from .tcb import KIND_SAID, Tcb, kind_of
+from .units import Units
+
+Colour = Tuple[int, int, int]
+COLOUR_TABLE_SIZE = 806
+END = b'\xff\xff'
+
+
+class Drawing:
+    """A design file that opens. Each listing is asked for once, when it is first wanted."""
+
+    def __init__(self, path: Name, program: Optional[Program] = None) -> None:
+        """Reads the file. It raises Mistake where it can't be read, and BadDesign where its front is none of a design
+        file; whether it opens is asked by the first listing, which raises BadDesign too."""
+        self.path = str(path)
+        self.data = read_file(path)
+        kind = kind_of(self.data)
+        if kind != 'design':
+            said = ['bad design not-design at 0']
+            raise BadDesign('%s is %s' % (path, KIND_SAID[kind]), 4, said, 'not-design', 0)
+        self.program = program or Program.find()
+
+    @cached_property
+    def _listed(self) -> List[str]:
+        return self.program.edit(self.path, Script().elements())[0].lines
+
+    @cached_property
+    def tcb(self) -> Tcb:
+        if len(self.data) < 1536:
+            self.program.check(self.path)
+        return Tcb.read(self.data)
+
+    @property
+    def units(self) -> Units:
+        return self.tcb.units
+
+    @property
+    def axes(self) -> int:
+        return self.tcb.axes
+
+    @cached_property
+    def elements(self) -> List[Element]:
+        """All elements, each at its number."""
+        return elements_of(self._listed, self.data, self.axes)
+
+    @cached_property
+    def level_counts(self) -> Dict[int, int]:
+        """How many elements each level has, in the order in which they are first seen."""
+        return counts_of(self._listed)[0]
+
+    @cached_property
+    def type_counts(self) -> Dict[int, int]:
+        """How many elements each type has, in the order in which they are first seen."""
+        return counts_of(self._listed)[1]
+
+    @cached_property
+    def items(self) -> List[Item]:
+        """What is shown, in file order."""
+        return [item_of(line) for line in self.program.edit(self.path, Script().show())[0].lines]
+
+    @cached_property
+    def findings(self) -> List[Finding]:
+        """The elements whose stored range isn't what they hold."""
+        return findings_of(self.program.edit(self.path, Script().audit())[0].lines)
+
+    @cached_property
+    def references(self) -> List[Reference]:
+        """The elements that may attach a reference file."""
+        return references_of(self.program.edit(self.path, Script().refs())[0].lines)
+
+    @cached_property
+    def nesting(self) -> Nesting:
+        """Where each element stands in its tree."""
+        return read_nesting(self.program, self.path, self.elements)
+
+    @property
+    def roots(self) -> List[int]:
+        """The roots of all trees, element 0 among them."""
+        return [number for number, depth in enumerate(self.nesting.depths) if depth == 0]
+
+    def tree(self, root: int) -> List[Node]:
+        """An element and all that stands below it."""
+        nesting, made = self.nesting, []
+        for number in nesting.part(root):
+            element, orphan = self.elements[number], number in nesting.orphans
+            knot, depth = nesting.knot(number), nesting.depths[number]
+            made.append(Node(number, depth, element.type, element.level, knot, element.is_deleted, orphan))
+        return made
+
+    @property
+    def trees(self) -> List[List[Node]]:
+        """The trees of all roots, in file order."""
+        return [self.tree(root) for root in self.roots]
+
+    def links(self, numbers: Iterable[int]) -> Dict[int, List[Link]]:
+        """The linkages of elements, by their numbers. Elements without attribute data aren't asked for."""
+        asked = list(numbers)
+        linked = [it for it in asked if self.elements[it].linkage_place < self.elements[it].size]
+        script = Script()
+        for number in linked:
+            script.links(number)
+        made: Dict[int, List[Link]] = {number: [] for number in asked}
+        for number, answer in zip(linked, self.program.edit_all(self.path, script)):
+            made[number] = links_of(answer.lines)
+        return made
+
+    @property
+    def body_length(self) -> int:
+        """How many bytes the elements have, without what stands behind them."""
+        last = self.elements[-1]
+        return last.offset + last.size
+
+    @property
+    def tail(self) -> bytes:
+        """What stands behind the elements: nothing, or an end mark and all behind it."""
+        return self.data[self.body_length :]
+
+    @cached_property
+    def colours(self) -> Optional[List[Colour]]:
+        """The drawing's own colours, of 0 to 255, where it has a table: an element of type 5 on level 1. The first
+        three bytes of a table are the last colour, which is the ground's."""
+        for element in self.elements:
+            if (
+                element.type == 5
+                and element.level == 1
+                and not element.is_deleted
+                and element.size >= COLOUR_TABLE_SIZE
+            ):
+                table = element.content[38:COLOUR_TABLE_SIZE]
+                colours = [(table[at], table[at + 1], table[at + 2]) for at in range(0, len(table), 3)]
+                return colours[1:] + colours[:1]
+        return None
+
+    def live(self, number: int) -> bool:
+        """Whether neither the element nor a header above it is marked deleted."""
+        marks = [number, *self.nesting.above(number)]
+        return not any(self.elements[it].is_deleted for it in marks)
+
+
+def read_file(path: Name) -> bytes:
+    """The bytes of a file. It raises Mistake, with the reason, where it can't be read."""
+    try:
+        return Path(path).read_bytes()
+    except OSError as why:
+        raise Mistake('%s: %s' % (path, (why.strerror or str(why)).lower()))
