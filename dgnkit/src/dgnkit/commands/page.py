@@ -1,0 +1,104 @@
+"""`dgnkit page IN`: a drawing as one HTML file to look at, alone or beside what became of it."""
+
+from __future__ import annotations
+
+import argparse
+import os
+import tempfile
+from pathlib import Path
+from typing import TYPE_CHECKING, Any, Dict, List, Tuple
+
+from ..drawing import Drawing
+from ..errors import Mistake
+from ..page.changes import changes_between
+from ..page.contents import Change, compared, contents_of, title_of
+from ..page.sheet import MARK, page_of
+from ..script import Script
+
+if TYPE_CHECKING:
+    from ..cli import Subparsers
+
+ABOUT = """Writes one HTML file that any browser opens from disk: the drawing to look at, to find numbers in and to write a
+script with. With --after or --script what changed is marked and told instead."""
+
+
+def register(words: Subparsers) -> None:
+    parser = words.add_parser('page', help='write a drawing as a page for a browser', description=ABOUT)
+    parser.add_argument('drawing', metavar='IN', help='the drawing')
+    other = parser.add_mutually_exclusive_group()
+    other.add_argument('--after', metavar='OUT', help='what became of it, to be compared')
+    other.add_argument('--script', metavar='SCRIPT', help='a script that is run into a temporary file, to be compared')
+    parser.add_argument('-o', '--output', metavar='PAGE', help="the page; IN's name with .html in this folder otherwise")
+    parser.set_defaults(run=run)
+
+
+def run(arguments: argparse.Namespace) -> int:
+    """Writes the page, and says its name and how large it is."""
+    place = page_place(arguments)
+    drawing = Drawing(arguments.drawing)
+    if arguments.after:
+        after = Drawing(arguments.after, drawing.program)
+        text = compare_page(drawing, after, {})
+    elif arguments.script:
+        text = script_page(drawing, arguments.script)
+    else:
+        text = page_of(contents_of(drawing), title_of(drawing, None))
+    write(place, text.encode('utf-8'))
+    print('%s: %d bytes; open it in a browser' % (place, place.stat().st_size))
+    return 0
+
+
+def page_place(arguments: argparse.Namespace) -> Path:
+    """Where the page is to stand. It raises Mistake where that is a file that is read, or where a file of that name is
+    there that wasn't asked for by -o and is no such page."""
+    if arguments.output:
+        place = Path(arguments.output)
+    else:
+        place = Path(Path(arguments.drawing).stem + '.html')
+    for name in filter(None, (arguments.drawing, arguments.after, arguments.script)):
+        if place.exists() and os.path.exists(name) and place.samefile(name):
+            raise Mistake('%s is read, and the page would be written over it: name another one by -o' % place)
+    if not arguments.output and place.exists() and not is_page(place):
+        raise Mistake('%s is there and is no page of dgnkit: name the page by -o' % place)
+    return place
+
+
+def is_page(place: Path) -> bool:
+    """Whether a file is a page that this command wrote."""
+    try:
+        with place.open('rb') as file:
+            return MARK.encode('ascii') in file.read(4096)
+    except OSError:
+        return False
+
+
+def compare_page(drawing: Drawing, after: Drawing, more: Dict[str, Any]) -> str:
+    if drawing.axes != after.axes:
+        raise Mistake('%s has %d axes, and %s has %d' % (drawing.path, drawing.axes, after.path, after.axes))
+    changes = changes_between(drawing, after)
+    return page_of({**compared(drawing, after, changes), **more}, title_of(drawing, changes))
+
+
+def script_page(drawing: Drawing, name: str) -> str:
+    """The page of what a script does. What it makes is written to a temporary folder, which is removed."""
+    script = Script.read(name)
+    with tempfile.TemporaryDirectory(prefix='dgnkit-page-') as folder:
+        made = os.path.join(folder, 'after.dgn')
+        answers = drawing.program.edit(drawing.path, script, made)
+        after = Drawing(made, drawing.program)
+        told: List[Tuple[int, str, str]] = []
+        for command, answer in zip(script.commands, answers):
+            told.append((command.line, command.text, 'ok' if answer.cause is None else 'refused ' + answer.cause))
+        return compare_page(drawing, after, {'answers': told})
+
+
+def write(place: Path, content: bytes) -> None:
+    """Writes the page whole: what stood there stays until it is. It raises Mistake where it can't be written."""
+    part = place.with_name(place.name + '.part')
+    try:
+        part.write_bytes(content)
+        os.replace(part, place)
+    except OSError as why:
+        if part.exists():
+            part.unlink()
+        raise Mistake('%s: %s' % (place, (why.strerror or str(why)).lower()))

@@ -1,0 +1,497 @@
+/* The page as a whole: what is seen, what is chosen, and what has to be drawn anew. */
+
+class App {
+    constructor(data) {
+        this.data = data;
+        this.axes = data.axes;
+        this.hovered = -1;
+        this.chosen = -1;
+        this.tool = 'choose';
+        this.drag = null;
+        this.pointer = null;
+        this.showsCentre = false;
+        this.fenceDraft = { corners: [], isOpen: true, pointer: null };
+        this.fenceChosen = [];
+        this.isWaiting = false;
+        this.readScene();
+        this.words = new Words(data, this.scene);
+        this.picker = new Picker(this.scene);
+        this.view = new View(100, 100);
+        this.renderer = new Renderer(byId('drawing'), this.scene, this.view);
+        this.overlay = new Overlay(byId('marks'), this);
+        this.setGround(matchMedia('(prefers-color-scheme: light)').matches ? 'light' : 'dark');
+        this.makePanels();
+        this.listen();
+        this.resize();
+        this.fit();
+    }
+
+    /** Reads the elements, and those that differ behind them where there is a drawing to compare with. */
+    readScene() {
+        const { before, after } = this.data;
+        const records = new Records(this.axes, before.type.length);
+        new Reader(records, before).read();
+        const count = before.type.length;
+        const own = Uint32Array.from({ length: count }, (_, number) => number);
+        this.baseEnd = [records.length, records.pointCount, records.labels.length];
+        this.records = records;
+        this.scene = new Scene(records, new State(records, own));
+        if (after) {
+            const start = new Reader(records, after).read();
+            const recordOf = new Uint32Array(after.count);
+            recordOf.set(own.subarray(0, Math.min(count, after.count)));
+            after.numbers.forEach((number, index) => { recordOf[number] = start + index; });
+            this.scene.mode = 'both';
+            this.scene.setAfter(new State(records, recordOf));
+        }
+    }
+
+    makePanels() {
+        const { data } = this;
+        byId('title').textContent = data.name;
+        byId('summary').textContent = this.summary();
+        this.changes = new Map((data.changes || []).map(([number, kind, words]) => [number, { kind, words }]));
+        this.levelsPanel = new LevelsPanel(this);
+        this.elementPanel = new ElementPanel(this, data);
+        new Search(this);
+        if (data.after) {
+            new ChangesPanel(this);
+            setHidden(byId('script-panel'), true);
+        } else {
+            setHidden(byId('script-panel'), false);
+            this.scriptPanel = new ScriptPanel(this);
+        }
+        this.showModes();
+    }
+
+    summary() {
+        const { data, words } = this;
+        const parts = [counted(this.scene.before.count, 'element'), data.axes + ' dimensions'];
+        if (words.hasMaster) {
+            parts.push('1 ' + words.master + ' = ' + words.unitsOfMaster + ' units');
+        }
+        if (data.ownColours) {
+            parts.push('its own colours');
+        }
+        if (data.against) {
+            parts.push('compared with ' + data.against);
+        }
+        return parts.join(' · ');
+    }
+
+    listen() {
+        new Pointer(byId('marks'), this);
+        byId('zoom-in').addEventListener('click', () => this.zoom(1.5));
+        byId('zoom-out').addEventListener('click', () => this.zoom(1 / 1.5));
+        byId('fit').addEventListener('click', () => this.fit());
+        byId('ground').addEventListener('click', () => this.changeGround());
+        for (const button of byId('modes').children) {
+            button.addEventListener('click', () => this.setMode(button.dataset.mode));
+            button.addEventListener('keydown', (event) => this.keyInModes(event, button));
+        }
+        new ResizeObserver(() => this.resize()).observe(byId('stage'));
+        byId('marks').addEventListener('blur', () => {
+            this.showsCentre = false;
+            this.request();
+        });
+    }
+
+    /* Frames. */
+
+    request() {
+        if (!this.isWaiting) {
+            this.isWaiting = true;
+            requestAnimationFrame(() => this.frame());
+        }
+    }
+
+    frame() {
+        this.isWaiting = false;
+        this.hover();
+        const isMore = this.renderer.frame();
+        this.overlay.draw();
+        if (isMore) {
+            this.request();
+        } else if (!document.documentElement.dataset.ready) {
+            document.documentElement.dataset.ready = String(Math.round(performance.now()));
+        }
+    }
+
+    /** The view has changed. */
+    moved() {
+        this.showScale();
+        this.request();
+    }
+
+    /** What is shown has changed: levels, marks or the state. */
+    sceneChanged() {
+        this.scene.update();
+        setHidden(byId('nothing'), this.scene.order.length > 0);
+        this.fenceChanged();
+        this.elementPanel.show();
+        this.request();
+    }
+
+    resize() {
+        const box = byId('stage').getBoundingClientRect();
+        const isFirst = this.view.width === 100;
+        this.view.width = Math.max(Math.round(box.width), 50);
+        this.view.height = Math.max(Math.round(box.height), 50);
+        const ratio = Math.min(window.devicePixelRatio || 1, 3);
+        this.renderer.resize(ratio);
+        this.overlay.resize(ratio);
+        if (!isFirst) {
+            this.moved();
+        }
+    }
+
+    /* The view. */
+
+    fit() {
+        this.view.fit(this.scene.extent());
+        this.moved();
+    }
+
+    zoom(factor) {
+        this.view.zoom(factor);
+        this.moved();
+    }
+
+    centre() {
+        return [this.view.width / 2, this.view.height / 2];
+    }
+
+    /** Goes to an element: its part, and its old place where it has one. */
+    goTo(number) {
+        if (number < 0) {
+            return;
+        }
+        const box = this.boxOf(number);
+        if (box === null) {
+            this.say('Element ' + number + ' has no place in the drawing.');
+            return;
+        }
+        const side = Math.max(box[2] - box[0], box[3] - box[1]) * this.view.scale;
+        if (side >= 24 && side <= 0.8 * Math.min(this.view.width, this.view.height)) {
+            this.view.x = (box[0] + box[2]) / 2;
+            this.view.y = (box[1] + box[3]) / 2;
+        } else {
+            const most = box[0] === box[2] && box[1] === box[3] ? Math.max(this.view.scale, 1) : GREATEST_SCALE;
+            this.view.fit(box, most, 0.3 * Math.min(this.view.width, this.view.height));
+        }
+        this.moved();
+    }
+
+    boxOf(number) {
+        const { scene } = this;
+        const boxes = [scene.before, scene.after].filter((state) => state && number < state.count)
+            .map((state) => scene.boxOfPart(state, number)).filter((box) => box !== null);
+        return boxes.length === 0 ? null : boxes.reduce(([a, b, c, d], [e, f, g, h]) => (
+            [Math.min(a, e), Math.min(b, f), Math.max(c, g), Math.max(d, h)]));
+    }
+
+    showScale() {
+        const { words, view } = this;
+        const unit = words.hasMaster ? words.unitsOfMaster : 1;
+        const most = 150 / view.scale / unit;
+        const power = 10 ** Math.floor(Math.log10(most));
+        const length = power * ([5, 2, 1].find((it) => it * power <= most) || 1);
+        byId('scale-bar').style.width = Math.round(length * unit * view.scale) + 'px';
+        byId('scale-text').textContent = Number(length.toPrecision(3)) + ' ' + (words.hasMaster ? words.master : 'units');
+    }
+
+    setGround(ground) {
+        this.ground = ground;
+        document.documentElement.dataset.ground = ground;
+        byId('ground').textContent = ground === 'dark' ? 'Light' : 'Dark';
+        this.pens = PENS[ground];
+        this.colours = coloursOn(ground, this.data.colours);
+        this.renderer.setColours(this.colours, this.pens);
+    }
+
+    changeGround() {
+        this.setGround(this.ground === 'dark' ? 'light' : 'dark');
+        this.elementPanel.show();
+        if (this.scriptPanel) {
+            this.scriptPanel.show();
+        }
+        this.request();
+    }
+
+    /* Before, after and both. */
+
+    showModes() {
+        setHidden(byId('modes'), this.scene.after === null);
+        for (const button of byId('modes').children) {
+            const isOn = button.dataset.mode === this.scene.mode;
+            button.setAttribute('aria-checked', String(isOn));
+            button.tabIndex = isOn ? 0 : -1;
+        }
+    }
+
+    setMode(mode) {
+        this.scene.mode = mode;
+        if (this.chosen >= this.scene.state.count) {
+            this.choose(-1);
+        }
+        this.hovered = -1;
+        this.showModes();
+        this.levelsPanel.show();
+        this.sceneChanged();
+    }
+
+    keyInModes(event, button) {
+        const next = { ArrowRight: button.nextElementSibling, ArrowLeft: button.previousElementSibling }[event.key];
+        if (next) {
+            event.preventDefault();
+            this.setMode(next.dataset.mode);
+            next.focus();
+        }
+    }
+
+    /* What is under the pointer, and what is chosen. */
+
+    point(place) {
+        this.pointer = place;
+        this.fenceDraft.pointer = place === null ? null : this.wholePlace(place);
+        this.request();
+    }
+
+    drawingPlace([left, top]) {
+        return [this.view.toDrawingX(left), this.view.toDrawingY(top)];
+    }
+
+    /** The place as whole units, as a script takes it. */
+    wholePlace(place) {
+        return this.drawingPlace(place).map((value) => Math.min(Math.max(Math.round(value), LEAST), GREATEST) || 0);
+    }
+
+    pickAt(place, reach) {
+        const [x, y] = this.drawingPlace(place);
+        return this.picker.pick(x, y, reach / this.view.scale);
+    }
+
+    hover() {
+        const place = this.pointer;
+        const isBusy = this.drag !== null || this.tool === 'fence';
+        this.hovered = place === null || isBusy ? -1 : this.pickAt(place, REACH.mouse);
+        byId('place').textContent = place === null ? '' : this.words.placeOf(this.drawingPlace(place));
+        const said = this.hovered < 0 ? '' : this.words.hoverOf(this.hovered);
+        byId('under').textContent = said;
+        const label = byId('hover');
+        setHidden(label, said === '');
+        if (said !== '') {
+            label.textContent = said;
+            const isRight = place[0] > this.view.width / 2;
+            label.style.left = isRight ? 'auto' : place[0] + 14 + 'px';
+            label.style.right = isRight ? this.view.width - place[0] + 14 + 'px' : 'auto';
+            label.style.top = Math.min(place[1] + 14, this.view.height - 40) + 'px';
+        }
+    }
+
+    click(place, reach) {
+        if (this.tool === 'fence') {
+            this.addCorner(this.wholePlace(place));
+            return;
+        }
+        const record = this.pickAt(place, reach);
+        this.choose(record < 0 ? -1 : this.numberToChoose(this.records.number[record]));
+    }
+
+    /** The tree of what was clicked; the member where its tree is chosen; the tree again where the member is. */
+    numberToChoose(number) {
+        const { state } = this.scene;
+        if (number >= state.count) {
+            return number;
+        }
+        const root = state.rootOf(number);
+        const isInTree = this.chosen >= 0 && this.chosen < state.count && state.rootOf(this.chosen) === root;
+        return isInTree && this.chosen !== number ? number : root;
+    }
+
+    choose(number) {
+        if (number >= this.scene.state.count) {
+            this.setMode(number < this.scene.before.count ? 'before' : 'both');
+        }
+        this.chosen = number;
+        if (number < 0 && this.tool.startsWith('drag')) {
+            this.setTool('choose');
+        }
+        this.elementPanel.show();
+        if (this.scriptPanel) {
+            this.scriptPanel.show();
+        }
+        this.say(number < 0 ? '' : 'Chosen: ' + this.words.nameOf(this.scene.state.record[number]));
+        this.request();
+    }
+
+    /** Chooses the next or the previous tree that is shown. */
+    step(by) {
+        const { state, shown } = this.scene;
+        const from = this.chosen < 0 ? (by > 0 ? 0 : state.count) : state.rootOf(this.chosen);
+        const number = state.neighbour(from, by, shown);
+        if (number < state.count && number !== from) {
+            this.choose(number);
+            this.goTo(number);
+        }
+    }
+
+    /** Gives up what is begun, or else what is chosen. */
+    letGo() {
+        if (this.tool !== 'choose') {
+            this.cancelDrag();
+            if (this.fenceDraft.isOpen) {
+                this.clearFence();
+            }
+            this.setTool('choose');
+        } else if (this.fenceDraft.corners.length > 0) {
+            this.clearFence();
+        } else {
+            this.choose(-1);
+        }
+    }
+
+    say(text) {
+        byId('said').textContent = text;
+    }
+
+    /* The script. */
+
+    /** The drawing as the script leaves it; without lines the drawing as it is. */
+    get session() {
+        if (!this.heldSession) {
+            this.propose([]);
+        }
+        return this.heldSession;
+    }
+
+    /** Runs the commands of a script here, shows what they would make, and gives their answers. */
+    propose(commands) {
+        const { scene, records } = this;
+        records.cut(...this.baseEnd);
+        const session = new Session(records, scene.before, this.data.bytes);
+        const answers = session.run(commands);
+        this.heldSession = session;
+        if (commands.length > 0 || scene.after) {
+            this.showProposal(session, commands.length > 0);
+        }
+        return answers;
+    }
+
+    showProposal(session, isAny) {
+        const { scene, records } = this;
+        const count = session.state.count;
+        const recordOf = new Uint32Array(count);
+        recordOf.set(scene.before.record);
+        for (const number of [...session.touched].sort((a, b) => a - b)) {
+            recordOf[number] = records.append(session.records, session.state.record[number]);
+            records.number[recordOf[number]] = number;
+        }
+        if (!scene.after || !isAny) {
+            scene.mode = isAny ? 'both' : 'before';
+        }
+        if (this.chosen >= (isAny ? count : scene.base)) {
+            this.chosen = -1;
+        }
+        this.hovered = -1;
+        scene.setAfter(isAny ? new State(records, recordOf) : null);
+        this.showModes();
+        this.levelsPanel.show();
+        this.sceneChanged();
+    }
+
+    deleteChosen() {
+        if (this.scriptPanel && !byId('edit-delete').disabled) {
+            this.scriptPanel.addEdit({ word: 'delete' });
+        }
+    }
+
+    setTool(tool) {
+        if (!this.scriptPanel) {
+            return;
+        }
+        this.tool = tool;
+        this.drag = null;
+        if (tool === 'fence') {
+            this.fenceDraft = { corners: [], isOpen: true, pointer: null };
+            this.fenceChosen = [];
+        }
+        for (const [id, name] of [['drag-move', 'drag-move'], ['drag-copy', 'drag-copy'], ['fence-draw', 'fence']]) {
+            byId(id).setAttribute('aria-pressed', String(tool === name));
+        }
+        const hint = { 'drag-move': 'Drag to move element ' + this.chosen, 'drag-copy': 'Drag a copy of element ' + this.chosen,
+            fence: 'Click the corners of the fence; Enter or a double click closes it, Backspace takes one back' }[tool];
+        setHidden(byId('hint'), !hint);
+        byId('hint').textContent = hint || '';
+        byId('marks').classList.toggle('draws', tool !== 'choose');
+        this.scriptPanel.show();
+        this.request();
+    }
+
+    dragTo(start, place) {
+        const from = this.wholePlace(start), to = this.wholePlace(place);
+        this.drag = { from, to, by: [to[0] - from[0], to[1] - from[1], 0].slice(0, this.axes) };
+        byId('hint').textContent = 'by ' + this.drag.by.join(' ') + (this.words.hasMaster
+            ? '  =  ' + this.drag.by.map((value) => this.words.lengthOf(value)).join(', ') : '');
+        this.request();
+    }
+
+    /** Ends a drag: what was dragged is moved or copied by as much. */
+    drop() {
+        const { drag, tool } = this;
+        this.setTool('choose');
+        if (drag !== null) {
+            this.scriptPanel.addEdit({ word: tool === 'drag-copy' ? 'copy' : 'move', by: drag.by });
+        }
+    }
+
+    cancelDrag() {
+        this.drag = null;
+        this.request();
+    }
+
+    addCorner(corner) {
+        const { corners } = this.fenceDraft;
+        const last = corners[corners.length - 1];
+        if (corners.length < MOST_CORNERS && (!last || last[0] !== corner[0] || last[1] !== corner[1])) {
+            corners.push(corner);
+        }
+        this.fenceChanged();
+    }
+
+    dropCorner() {
+        if (this.tool === 'fence') {
+            this.fenceDraft.corners.pop();
+            this.fenceChanged();
+        }
+    }
+
+    closeFence() {
+        if (this.tool !== 'fence') {
+            return;
+        }
+        if (this.fenceDraft.corners.length < 3) {
+            this.say('A fence has three corners at least.');
+            return;
+        }
+        this.fenceDraft.isOpen = false;
+        this.setTool('choose');
+        this.fenceChanged();
+    }
+
+    clearFence() {
+        this.fenceDraft = { corners: [], isOpen: true, pointer: null };
+        this.fenceChanged();
+    }
+
+    /** Finds anew what the fence chooses. */
+    fenceChanged() {
+        if (!this.scriptPanel) {
+            return;
+        }
+        const { corners, isOpen } = this.fenceDraft;
+        this.fenceChosen = isOpen ? [] : this.session.choice(corners, this.scene.levels, byId('fence-mode').value);
+        this.scriptPanel.show();
+        this.request();
+    }
+}

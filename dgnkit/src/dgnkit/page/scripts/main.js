@@ -1,0 +1,3 @@
+/* Starts the page. */
+
+window.page = new App(JSON.parse(byId('data').textContent));
