@@ -38,7 +38,7 @@ def run(arguments: argparse.Namespace) -> int:
     drawing = Drawing(arguments.drawing)
     if arguments.after:
         after = Drawing(arguments.after, drawing.program)
-        text = compare_page(drawing, after, {})
+        text = compare_page(drawing, after, {'against': os.path.basename(arguments.after)})
     elif arguments.script:
         text = script_page(drawing, arguments.script)
     else:
@@ -89,7 +89,7 @@ def script_page(drawing: Drawing, name: str) -> str:
         told: List[Tuple[int, str, str]] = []
         for command, answer in zip(script.commands, answers):
             told.append((command.line, command.text, 'ok' if answer.cause is None else 'refused ' + answer.cause))
-        return compare_page(drawing, after, {'answers': told})
+        return compare_page(drawing, after, {'answers': told, 'against': 'what %s makes of it' % os.path.basename(name)})
 
 
 def write(place: Path, content: bytes) -> None:

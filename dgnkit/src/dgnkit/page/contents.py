@@ -63,5 +63,9 @@ def title_of(drawing: Drawing, changes: Optional[List[Change]]) -> str:
     """The page's title: the drawing's name, and how many elements or changes there are."""
     name = os.path.basename(drawing.path)
     if changes is None:
-        return '%s – %d elements' % (name, len(drawing.elements))
-    return '%s – %d changes' % (name, len(changes))
+        return '%s – %s' % (name, counted(len(drawing.elements), 'element'))
+    return '%s – %s' % (name, counted(len(changes), 'change'))
+
+
+def counted(count: int, word: str) -> str:
+    return '%d %s%s' % (count, word, '' if count == 1 else 's')

@@ -13,6 +13,7 @@ class App {
         this.fenceDraft = { corners: [], isOpen: true, pointer: null };
         this.fenceChosen = [];
         this.isWaiting = false;
+        this.answers = [];
         this.readScene();
         this.words = new Words(data, this.scene);
         this.picker = new Picker(this.scene);
@@ -365,17 +366,16 @@ class App {
         return this.heldSession;
     }
 
-    /** Runs the commands of a script here, shows what they would make, and gives their answers. */
+    /** Runs the commands of a script here, keeps their answers, and shows what they would make. */
     propose(commands) {
         const { scene, records } = this;
         records.cut(...this.baseEnd);
         const session = new Session(records, scene.before, this.data.bytes);
-        const answers = session.run(commands);
+        this.answers = session.run(commands);
         this.heldSession = session;
         if (commands.length > 0 || scene.after) {
             this.showProposal(session, commands.length > 0);
         }
-        return answers;
     }
 
     showProposal(session, isAny) {

@@ -8,7 +8,6 @@ class ScriptPanel {
     constructor(app) {
         this.app = app;
         this.commands = [];
-        this.answers = [];
         this.fillUnits();
         this.listenToEdits();
         this.listenToFence();
@@ -115,7 +114,7 @@ class ScriptPanel {
     }
 
     run() {
-        this.answers = this.app.propose(this.commands);
+        this.app.propose(this.commands);
         this.show();
     }
 
@@ -140,8 +139,8 @@ class ScriptPanel {
         byId('edits-legend').textContent = this.legend();
         const by = this.by(), causes = new Map();
         for (const [edit, name] of EDITS) {
-            const cause = chosen < 0 ? null : this.app.session.causeOf(edit, chosen, 'move copy'.includes(edit) ? by : null);
-            const isMissing = ('move copy'.includes(edit) && by === null) || (edit === 'color' && this.colour() === null);
+            const cause = chosen < 0 ? null : this.app.session.causeOf(edit, chosen, by);
+            const isMissing = (isMoving(edit) && by === null) || (edit === 'color' && this.colour() === null);
             byId('edit-' + edit).disabled = cause !== null || isMissing;
             if (cause !== null) {
                 const why = this.app.words.causeOf(cause);
@@ -151,8 +150,8 @@ class ScriptPanel {
         byId('drag-move').disabled = byId('edit-move').disabled && by !== null;
         byId('drag-copy').disabled = byId('edit-copy').disabled && by !== null;
         const said = [...causes].map(([why, names]) => make('li', {}, names.join(', ') + ' would be refused: ' + why + '.'));
-        fill(byId('refusals'), ...said, ...this.mistakes(by));
-        setHidden(byId('refusals'), chosen < 0 || (said.length === 0 && by !== null && this.colour() !== null));
+        fill(byId('refusals'), ...said);
+        fill(byId('mistakes'), ...this.mistakes(by));
         byId('edit-move').title = scene.after && chosen >= scene.base ? 'a copy that this script makes' : '';
     }
 
@@ -193,9 +192,8 @@ class ScriptPanel {
 
     /** The first cause of the first of the fence's trees, as one refuses them all. */
     fenceCause(edit, by) {
-        const wanted = edit === 'move' || edit === 'copy' ? by : null;
         for (const root of this.app.fenceChosen) {
-            const cause = this.app.session.causeOf(edit, root, wanted);
+            const cause = this.app.session.causeOf(edit, root, by);
             if (cause !== null) {
                 return cause;
             }
@@ -218,7 +216,7 @@ class ScriptPanel {
     }
 
     showLines() {
-        const rows = this.commands.map((command, index) => this.rowOf(command, this.answers[index], index));
+        const rows = this.commands.map((command, index) => this.rowOf(command, this.app.answers[index], index));
         fill(byId('script'), ...rows);
         byId('script-count').textContent = this.commands.length === 0 ? 'no lines yet' : counted(this.commands.length, 'line');
         for (const id of ['script-undo', 'script-copy', 'script-save']) {

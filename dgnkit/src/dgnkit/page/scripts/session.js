@@ -67,13 +67,13 @@ class Session {
 
     /* The causes, in the order in which the program asks for them. */
 
-    /** The first cause against an edit of an element, or null. */
+    /** The first cause against an edit of an element, or null. `by` is the displacement of a move or a copy, if known. */
     causeOf(edit, number, by) {
         if (number >= this.state.count) {
             return { cause: 'unknown', element: number };
         }
         return this.broken(number) || this.deleted(number) || (edit === 'copy' ? null : this.locked(number))
-            || this.unread(edit, number) || (by ? this.offPlane(number, by) : null)
+            || this.unread(edit, number) || (by && isMoving(edit) ? this.offPlane(number, by) : null)
             || (edit === 'copy' && this.isTooLong([number]) ? { cause: 'too-long', element: -1 } : null);
     }
 
@@ -287,6 +287,10 @@ class Session {
         return Math.min(range[0], range[axes]) > highX || Math.min(range[1], range[axes + 1]) > highY
             || Math.max(range[0], range[axes]) < lowX || Math.max(range[1], range[axes + 1]) < lowY;
     }
+}
+
+function isMoving(edit) {
+    return edit === 'move' || edit === 'copy';
 }
 
 /** Why an edit can't write an element of a type: 'floating', 'opaque', or none. */

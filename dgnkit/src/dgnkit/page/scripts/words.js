@@ -48,7 +48,7 @@ class Words {
     nameOf(record) {
         const { records } = this.scene;
         const label = records.labelOf(record);
-        const words = records.number[record] + '  ' + this.typeOf(records.type[record]);
+        const words = records.number[record] + ' ' + this.typeOf(records.type[record]);
         if (label === null) {
             return words;
         }
