@@ -6,6 +6,7 @@ arguments, and sets the default `run` to a function of the parsed arguments that
 from __future__ import annotations
 
 import argparse
+import gc
 import os
 import pkgutil
 import sys
@@ -61,6 +62,7 @@ def parser_of() -> Parser:
 
 def main(words: Optional[Sequence[str]] = None) -> int:
     """Runs a command, and gives its status: 0 and 1 as the command says, and 2 where it can't be done."""
+    gc.disable()  # a drawing is many small objects without cycles: to look for some again and again takes half the time
     try:
         arguments = parser_of().parse_args(words)
         run: Callable[[argparse.Namespace], int] = arguments.run

@@ -78,10 +78,6 @@ class Units:
         whole = self.in_master
         return tuple(float((at - zero) / whole) for at, zero in zip(point, self.origin))
 
-    def from_master(self, values: Sequence[Fraction]) -> Tuple[int, ...]:
-        """A place in master units as the nearest one in units of resolution."""
-        return tuple(rounded(value * self.in_master + zero) for value, zero in zip(values, self.origin))
-
     def length_from_master(self, value: Fraction) -> Fraction:
         """A length in master units, in units of resolution."""
         return value * self.in_master
