@@ -190,7 +190,7 @@ def described(element: Element) -> str:
     """An element in words: its number, what it is, its name or its characters, its level."""
     more = ''
     if element.type == 2:
-        more = ' %s' % element.cell_name
+        more = ' %s' % element.cell_name if element.cell_name else ''
     elif element.type == 17:
         more = ' %r' % element.text
     return '%s %d%s on level %d' % (element.type_name, element.number, more, element.level)

@@ -3,6 +3,7 @@
 from __future__ import annotations
 
 from dataclasses import dataclass
+from decimal import Decimal
 from fractions import Fraction
 from typing import Optional, Sequence, Tuple
 
@@ -106,6 +107,6 @@ def rounded(value: Fraction) -> int:
 
 
 def shortest(value: float) -> str:
-    """A number without a point where it has no fraction, and at most 10 places behind the point."""
-    said = '%.10f' % value
+    """A number with at most 15 digits, without needless ones behind the point, and without an exponent."""
+    said = format(Decimal('%.15g' % value), 'f')
     return said.rstrip('0').rstrip('.') if '.' in said else said
