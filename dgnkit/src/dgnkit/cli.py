@@ -9,9 +9,10 @@ import argparse
 import gc
 import os
 import pkgutil
+import re
 import sys
 from importlib import import_module
-from typing import TYPE_CHECKING, Callable, List, NoReturn, Optional, Sequence
+from typing import TYPE_CHECKING, Any, Callable, List, NoReturn, Optional, Sequence
 
 from . import __version__, commands
 from .errors import Mistake
@@ -19,6 +20,7 @@ from .errors import Mistake
 if TYPE_CHECKING:
     Subparsers = argparse._SubParsersAction['Parser']
 
+NUMBERS = re.compile(r'^-[\d.][\d.,]*-?[\d.,]*$')
 ORDER = [
     'info',
     'health',
@@ -38,7 +40,11 @@ ORDER += ['geojson', 'script', 'page']
 
 
 class Parser(argparse.ArgumentParser):
-    """A parser that says what is wrong in one line."""
+    """A parser that says what is wrong in one line, and takes a place such as -5,3 for no option."""
+
+    def __init__(self, *words: Any, **more: Any) -> None:
+        super().__init__(*words, **more)
+        self._negative_number_matcher = NUMBERS
 
     def error(self, message: str) -> NoReturn:
         self.exit(2, '%s: %s\n' % (self.prog, message))

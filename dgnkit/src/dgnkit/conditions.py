@@ -8,16 +8,16 @@ import math
 import re
 from dataclasses import dataclass
 from fractions import Fraction
-from functools import partial
+from functools import cached_property, partial
 
-from typing import Callable, Dict, FrozenSet, List, Optional, Sequence
+from typing import Callable, FrozenSet, List, Optional, Sequence, Set
 
 from . import classes
 from .drawing import Drawing
 from .element import Element
 from .errors import Mistake
-from .geometry import Box, Outline, outline_of, overlaps, square_distance
-from .nesting import HEADERS
+from .geometry import Box, overlaps, square_distance
+from .hulls import Bounds, Hulls
 from .numbers import Point
 from .places import Scale, coordinates
 
@@ -75,10 +75,10 @@ class Conditions:
         self.takes_trees = bool(arguments.trees)
         self.scale = Scale(drawing.units, arguments.units)
         self.near = near_of(arguments, self.scale)
-        self.outlines: Dict[int, List[Outline]] = {}
+        self.hulls = Hulls(drawing)
         self.tests = [*plain_tests(arguments), *self._standing_tests(arguments), *self._place_tests(arguments)]
-        self.excludes = 'outside' if arguments.outside and arguments.trees else ''
-        self.box = None if not arguments.outside else box_of_words(arguments.outside, self.scale)
+        outside = arguments.outside if arguments.trees else None
+        self.of_trees = [partial(self._is_outside, box_of_words(outside, self.scale))] if outside else []
 
     def chosen(self) -> List[int]:
         """The numbers of the elements that meet all conditions, or with --trees of the roots, in file order."""
@@ -87,13 +87,22 @@ class Conditions:
             return found
         roots = self.drawing.nesting.roots
         taken = sorted({roots[number] for number in found})
-        return [it for it in taken if self._is_outside(self.drawing.elements[it])] if self.excludes else taken
+        return [it for it in taken if all(test(self.drawing.elements[it]) for test in self.of_trees)]
 
     def distance(self, number: int) -> float:
         """How far from the place of --near an element is, in units of resolution."""
         assert self.near is not None
-        squares = [square_distance(it, self.near.place) for it in self._drawn(self.drawing.elements[number])]
+        squares = [square_distance(it, self.near.place) for it in self.hulls.drawn(self.drawing.elements[number])]
         return math.sqrt(min(squares)) if squares else math.inf
+
+    def length_said(self, length: float) -> float:
+        """A length of units of resolution as lengths are written here."""
+        return length / self.drawing.units.in_master if self.scale.is_master else length
+
+    @cached_property
+    def broken_roots(self) -> Set[int]:
+        """The roots of all trees that are broken."""
+        return self.drawing.nesting.broken_roots
 
     def _standing_tests(self, arguments: argparse.Namespace) -> List[Test]:
         """How an element stands: deleted, locked, broken."""
@@ -106,7 +115,7 @@ class Conditions:
         if arguments.locked:
             tests.append(lambda it: it.is_locked)
         if arguments.broken:
-            broken, roots = self.drawing.nesting.broken_roots, self.drawing.nesting.roots
+            broken, roots = self.broken_roots, self.drawing.nesting.roots
             tests.append(lambda it: roots[it.number] in broken)
         return tests
 
@@ -114,51 +123,44 @@ class Conditions:
         tests: List[Test] = []
         if self.near is not None:
             tests.append(partial(self._is_near, self.near, self.near.box))
-        for words, test in [(arguments.inside, self._is_inside), (arguments.overlap, self._overlaps)]:
-            if words:
-                tests.append(partial(test, box_of_words(words, self.scale)))
-        if arguments.outside:
-            tests.append(self._is_outside)
+        asked = [
+            (arguments.inside, self._is_inside),
+            (arguments.overlap, self._overlaps),
+            (arguments.outside, self._is_outside),
+        ]
+        tests.extend(partial(test, box_of_words(words, self.scale)) for words, test in asked if words)
         return tests
 
     def _is_near(self, near: Near, box: Box, element: Element) -> bool:
-        for outline in self._drawn(element):
-            own = outline.box
-            if own is not None and own.meets(box) and square_distance(outline, near.place) <= near.within**2:
-                return True
-        return False
+        bounds = self.hulls.bounds(element)
+        if bounds is None or is_beside(bounds, box):
+            return False
+        return any(square_distance(it, near.place) <= near.within**2 for it in self.hulls.drawn(element))
 
     def _is_inside(self, box: Box, element: Element) -> bool:
-        drawn = self._drawn(element)
-        return bool(drawn) and all(box.holds(point) for outline in drawn for point in outline.points)
+        bounds = self.hulls.bounds(element)
+        return bounds is not None and is_within(bounds, box)
 
     def _overlaps(self, box: Box, element: Element) -> bool:
-        return any(overlaps(it, box) for it in self._drawn(element))
+        bounds = self.hulls.bounds(element)
+        if bounds is None or is_beside(bounds, box):
+            return False
+        return is_within(bounds, box) or any(overlaps(it, box) for it in self.hulls.drawn(element))
 
-    def _is_outside(self, element: Element) -> bool:
-        drawn = self._drawn(element)
-        assert self.box is not None
-        box = self.box
-        return bool(drawn) and not any(overlaps(it, box) for it in drawn)
+    def _is_outside(self, box: Box, element: Element) -> bool:
+        return self.hulls.bounds(element) is not None and not self._overlaps(box, element)
 
-    def _drawn(self, element: Element) -> List[Outline]:
-        """What is drawn of an element: of a header what its live members draw, and where they draw nothing, the origin
-        of a cell or a text node."""
-        if element.type not in HEADERS:
-            outline = outline_of(element)
-            return [] if outline is None else [outline]
-        if element.number not in self.outlines:
-            self.outlines[element.number] = self._drawn_below(element)
-        return self.outlines[element.number]
 
-    def _drawn_below(self, element: Element) -> List[Outline]:
-        part, dead = self.drawing.nesting.part(element.number), self.drawing.dead
-        made = []
-        for number in part:
-            outline = outline_of(self.drawing.elements[number])
-            if outline is not None and (number not in dead or element.number in dead):
-                made.append(outline)
-        return made or [Outline([it], False, False) for it in element.points]
+def is_beside(bounds: Bounds, box: Box) -> bool:
+    """Whether bounds and a box have no point in common."""
+    low_x, low_y, high_x, high_y = bounds
+    return high_x < box.low_x or box.high_x < low_x or high_y < box.low_y or box.high_y < low_y
+
+
+def is_within(bounds: Bounds, box: Box) -> bool:
+    """Whether bounds lie in a box."""
+    low_x, low_y, high_x, high_y = bounds
+    return box.low_x <= low_x and high_x <= box.high_x and box.low_y <= low_y and high_y <= box.high_y
 
 
 def plain_tests(arguments: argparse.Namespace) -> List[Test]:

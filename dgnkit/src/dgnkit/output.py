@@ -39,6 +39,8 @@ def table(head: Sequence[str], rows: Iterable[Sequence[object]], left: Sequence[
 
 def printable(text: str) -> str:
     """Text of a drawing without signs that would steer a terminal: each is an escape instead."""
+    if text.isprintable():
+        return text
     return ''.join(it if it.isprintable() else it.encode('unicode_escape').decode('ascii') for it in text)
 
 
