@@ -6,11 +6,13 @@ arguments, and sets the default `run` to a function of the parsed arguments that
 from __future__ import annotations
 
 import argparse
+import gc
 import os
 import pkgutil
+import re
 import sys
 from importlib import import_module
-from typing import TYPE_CHECKING, Callable, List, NoReturn, Optional, Sequence
+from typing import TYPE_CHECKING, Any, Callable, List, NoReturn, Optional, Sequence
 
 from . import __version__, commands
 from .errors import Mistake
@@ -18,6 +20,7 @@ from .errors import Mistake
 if TYPE_CHECKING:
     Subparsers = argparse._SubParsersAction['Parser']
 
+NUMBERS = re.compile(r'^-[\d.][\d.,]*-?[\d.,]*$')
 ORDER = [
     'info',
     'health',
@@ -37,7 +40,11 @@ ORDER += ['geojson', 'script', 'page']
 
 
 class Parser(argparse.ArgumentParser):
-    """A parser that says what is wrong in one line."""
+    """A parser that says what is wrong in one line, and takes a place such as -5,3 for no option."""
+
+    def __init__(self, *words: Any, **more: Any) -> None:
+        super().__init__(*words, **more)
+        self._negative_number_matcher = NUMBERS
 
     def error(self, message: str) -> NoReturn:
         self.exit(2, '%s: %s\n' % (self.prog, message))
@@ -61,6 +68,7 @@ def parser_of() -> Parser:
 
 def main(words: Optional[Sequence[str]] = None) -> int:
     """Runs a command, and gives its status: 0 and 1 as the command says, and 2 where it can't be done."""
+    gc.disable()  # a drawing is many small objects without cycles: to look for some again and again takes half the time
     try:
         arguments = parser_of().parse_args(words)
         run: Callable[[argparse.Namespace], int] = arguments.run

@@ -4,10 +4,12 @@ from __future__ import annotations
 
 from functools import cached_property
 from pathlib import Path
-from typing import Dict, Iterable, List, Optional, Tuple
+from typing import Dict, Iterable, List, Optional, Set, Tuple
 
+from . import classes
 from .element import Element
 from .errors import BadDesign, Mistake
+from .geometry import DRAWN
 from .listings import (
     Finding,
     Item,
@@ -21,7 +23,8 @@ from .listings import (
     links_of,
     references_of,
 )
-from .nesting import Nesting, read_nesting
+from .nesting import HEADERS, Nesting, read_nesting
+from .numbers import Point
 from .program import Name, Program
 from .script import Script
 from .tcb import KIND_SAID, Tcb, kind_of
@@ -157,10 +160,29 @@ class Drawing:
                 return colours[1:] + colours[:1]
         return None
 
-    def live(self, number: int) -> bool:
-        """Whether neither the element nor a header above it is marked deleted."""
-        marks = [number, *self.nesting.above(number)]
-        return not any(self.elements[it].is_deleted for it in marks)
+    @cached_property
+    def dead(self) -> Set[int]:
+        """The elements that are marked deleted, or stand below a header that is."""
+        marked = [it.number for it in self.elements if it.is_deleted]
+        made = set(marked)
+        for number in marked:
+            if self.elements[number].type in HEADERS:
+                made.update(self.nesting.part(number))
+        return made
+
+    @cached_property
+    def extent(self) -> Optional[Tuple[Point, Point]]:
+        """The least box that holds what is drawn, none where nothing is: by the stored ranges of all live elements that
+        are drawn by themselves, or their hulls where an audit finds that these are others."""
+        hulls = {it.number: (it.hull_low, it.hull_high) for it in self.findings}
+        dead = self.dead
+        ranges = [
+            hulls.get(it.number) or it.range
+            for it in self.elements
+            if it.type in DRAWN and it.number not in dead and (it.type not in classes.VERTICES or it.points_count)
+        ]
+        lows, highs = zip(*[it for it in ranges if it is not None]) if ranges else ((), ())
+        return (tuple(map(min, zip(*lows))), tuple(map(max, zip(*highs)))) if lows else None
 
 
 def read_file(path: Name) -> bytes:

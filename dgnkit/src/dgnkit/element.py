@@ -3,14 +3,16 @@
 from __future__ import annotations
 
 import math
+import struct
 from dataclasses import dataclass
 from typing import List, Optional, Tuple
 
 from . import classes, radix50
-from .numbers import Point, long_at, longs_at, points_of, range_numbers_at, word_at
+from .numbers import OFFSET, Point, long_at, longs_at, points_of, word_at
 
 LINKED = 0x0800
 LOCKED = 0x0100
+RANGE = struct.Struct('<12H')
 TEXT_UNIT = 6.0 / 1000.0  # what one of a text's multipliers stands for, in units of resolution
 
 
@@ -86,10 +88,15 @@ class Element:
     @property
     def range(self) -> Optional[Tuple[Point, Point]]:
         """The low and the high corner of the stored range, none of a silent element."""
-        if self.is_silent:
+        if self.type not in classes.LOUD:
             return None
-        numbers = range_numbers_at(self.data, self.offset + 4, 6)
-        return tuple(numbers[: self.axes]), tuple(numbers[3 : 3 + self.axes])
+        words = RANGE.unpack_from(self.data, self.offset + 4)
+        low = words[0] * 65536 + words[1] - OFFSET, words[2] * 65536 + words[3] - OFFSET
+        high = words[6] * 65536 + words[7] - OFFSET, words[8] * 65536 + words[9] - OFFSET
+        if self.axes == 2:
+            return low, high
+        low_z, high_z = words[4] * 65536 + words[5] - OFFSET, words[10] * 65536 + words[11] - OFFSET
+        return (*low, low_z), (*high, high_z)
 
     @property
     def points(self) -> List[Point]:
@@ -183,7 +190,7 @@ def described(element: Element) -> str:
     """An element in words: its number, what it is, its name or its characters, its level."""
     more = ''
     if element.type == 2:
-        more = ' %s' % element.cell_name
+        more = ' %s' % element.cell_name if element.cell_name else ''
     elif element.type == 17:
         more = ' %r' % element.text
     return '%s %d%s on level %d' % (element.type_name, element.number, more, element.level)

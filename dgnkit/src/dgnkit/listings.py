@@ -14,8 +14,8 @@ Row = TypeVar('Row')
 
 NUMBER = r'-?\d+'
 POINT = r'%s(?:,%s){1,2}' % (NUMBER, NUMBER)
-ELEMENT = re.compile(r'(\d+) (\d+) (\d+) (\d+) (\d+) ([c-])([d-])')
-COUNT = re.compile(r'(level|type) (\d+) (\d+)')
+ELEMENTS = re.compile(r'^\d+ \d+ \d+ \d+ \d+ [c-][d-]$', re.M)
+COUNTS = re.compile(r'^(level|type) (\d+) (\d+)$', re.M)
 ITEM = re.compile(r'(\d+) (\d+) (\d+) (\d+) (\d+) (\d+) (\d+) (path|text|box|cell|node|group)(?: (.*))?', re.S)
 PATH = re.compile(r'%s(?: %s)*' % (POINT, POINT))
 TEXT = re.compile(r'(%s) (.*)' % POINT, re.S)
@@ -101,16 +101,16 @@ def point_of(word: str) -> Point:
 
 def elements_of(lines: Sequence[str], data: bytes, axes: int) -> List[Element]:
     """The rows of `elements`, without its counts, as elements of the file `data`."""
+    text = '\n'.join(lines)
+    rows = ELEMENTS.findall(text)
+    if len(rows) + len(COUNTS.findall(text)) != len(lines):
+        wrong = next(line for line in lines if not ELEMENTS.fullmatch(line) and not COUNTS.fullmatch(line))
+        raise ListingError('dgnedit listed an element as %r, which is not understood' % wrong)
     made = []
-    for line in lines:
-        found = ELEMENT.fullmatch(line)
-        if found:
-            number, offset, size, kind, level, c, d = found.groups()
-            made.append(
-                Element(int(number), int(offset), int(size), int(kind), int(level), c == 'c', d == 'd', data, axes)
-            )
-        elif not COUNT.fullmatch(line):
-            raise ListingError('dgnedit listed an element as %r, which is not understood' % line)
+    for row in rows:
+        number, offset, size, kind, level, signs = row.split(' ')
+        c, d = signs
+        made.append(Element(int(number), int(offset), int(size), int(kind), int(level), c == 'c', d == 'd', data, axes))
     return made
 
 
@@ -118,7 +118,7 @@ def counts_of(lines: Sequence[str]) -> Tuple[Dict[int, int], Dict[int, int]]:
     """The counts of `elements`: how many elements each level has, and each type."""
     counts: Dict[str, Dict[int, int]] = {'level': {}, 'type': {}}
     for line in lines:
-        found = COUNT.fullmatch(line)
+        found = COUNTS.fullmatch(line)
         if found:
             counts[found[1]][int(found[2])] = int(found[3])
     return counts['level'], counts['type']

@@ -3,6 +3,7 @@
 from __future__ import annotations
 
 from dataclasses import dataclass
+from decimal import Decimal
 from fractions import Fraction
 from typing import Optional, Sequence, Tuple
 
@@ -78,10 +79,6 @@ class Units:
         whole = self.in_master
         return tuple(float((at - zero) / whole) for at, zero in zip(point, self.origin))
 
-    def from_master(self, values: Sequence[Fraction]) -> Tuple[int, ...]:
-        """A place in master units as the nearest one in units of resolution."""
-        return tuple(rounded(value * self.in_master + zero) for value, zero in zip(values, self.origin))
-
     def length_from_master(self, value: Fraction) -> Fraction:
         """A length in master units, in units of resolution."""
         return value * self.in_master
@@ -110,6 +107,6 @@ def rounded(value: Fraction) -> int:
 
 
 def shortest(value: float) -> str:
-    """A number without a point where it has no fraction, and at most 10 places behind the point."""
-    said = '%.10f' % value
+    """A number with at most 15 digits, without needless ones behind the point, and without an exponent."""
+    said = format(Decimal('%.15g' % value), 'f')
     return said.rstrip('0').rstrip('.') if '.' in said else said

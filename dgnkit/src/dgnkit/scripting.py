@@ -1,0 +1,124 @@
+"""Scripts of a line for each chosen element. The program is asked which it would refuse, and these are left out."""
+
+from __future__ import annotations
+
+import os
+import tempfile
+from dataclasses import dataclass, field
+from typing import List, Sequence, Tuple
+
+from .drawing import Drawing
+from .errors import BadScript, Mistake
+from .output import counted, few, note, say
+from .script import Script
+from .wording import command_said
+from .writing import edit_command, note_left, write_script
+
+PLACE = '{n}'
+REASONS = {
+    'broken': 'their trees are broken (`dgnkit mend` mends what can be)',
+    'locked': 'they are locked, or what goes along is (`dgnkit unlock` unlocks)',
+    'deleted': 'they are marked deleted, or a header above them is',
+    'floating': 'their coordinates, or those of what goes along, are floating numbers',
+    'opaque': 'what would be written of them, or of what goes along, is not read',
+    'off-plane': 'they would leave the design plane',
+    'too-long': 'the drawing would be too long',
+    'unknown': 'there are no such elements',
+}
+BELOW = 'they stand below another one that is chosen, and go along with it'
+
+
+@dataclass
+class Proposal:
+    """A script, the elements that it names, those that are left out with the reason, and those that go along though
+    they weren't chosen."""
+
+    script: Script = field(default_factory=Script)
+    named: List[int] = field(default_factory=list)
+    left: List[Tuple[int, str]] = field(default_factory=list)
+    along: List[int] = field(default_factory=list)
+
+
+def line_of(template: str, number: int) -> bytes:
+    """A line of the script. It raises Mistake where the template has no place for a number, or more than a line."""
+    if PLACE not in template or '\n' in template:
+        raise Mistake('%r is no line for each element: it has to name it as %s' % (template, PLACE))
+    return template.replace(PLACE, str(number)).encode('utf-8')
+
+
+def propose(drawing: Drawing, numbers: Sequence[int], template: str) -> Proposal:
+    """A line for each element, but not for those below another chosen one, nor for those that the program refuses."""
+    made = Proposal()
+    tops = topmost(drawing, numbers, made)
+    lines = [line_of(template, it) for it in tops]
+    for number, line, cause in zip(tops, lines, causes(drawing, lines)):
+        if cause:
+            word = cause.split(' ')[0]
+            made.left.append((number, REASONS.get(word, 'the program refuses %r' % cause)))
+        else:
+            made.named.append(number)
+            made.script.add(line)
+    chosen = set(numbers)
+    made.along = [it for number in made.named for it in drawing.nesting.part(number) if it not in chosen]
+    return made
+
+
+def topmost(drawing: Drawing, numbers: Sequence[int], made: Proposal) -> List[int]:
+    """Those that stand below no other one; the others are left out, since an edit of that one takes them along."""
+    nesting, chosen = drawing.nesting, set(numbers)
+    tops = []
+    for number in numbers:
+        if nesting.parents[number] >= 0 and not chosen.isdisjoint(nesting.above(number)):
+            made.left.append((number, BELOW))
+        else:
+            tops.append(number)
+    return tops
+
+
+def causes(drawing: Drawing, lines: Sequence[bytes]) -> List[str]:
+    """Why the program refuses each line when all are run in their order, or nothing. It raises Mistake where a line is
+    none of a script."""
+    parts = Script(lines).parts()
+    made: List[str] = []
+    with tempfile.TemporaryDirectory(prefix='dgnkit-') as folder:
+        name = drawing.path
+        for index, part in enumerate(parts):
+            out = os.devnull if index == len(parts) - 1 else os.path.join(folder, '%d.dgn' % index)
+            try:
+                answers = drawing.program.edit(name, part, out)
+            except BadScript as why:
+                raise Mistake('%r is no line of a script' % part.lines[why.line - 1].decode('utf-8', 'replace'))
+            made.extend(it.cause or '' for it in answers)
+            name = out
+    if len(made) != len(lines):
+        raise Mistake('a template is one command, and no comment')
+    return made
+
+
+def note_proposal(drawing: Drawing, made: Proposal) -> None:
+    """Says on standard error what is left out and why, and what goes along."""
+    note_left(made.left)
+    if made.along:
+        counts = counted(len(made.along), 'element')
+        note('goes along: %s below chosen headers that meet no condition by themselves: %s' % (counts, few(made.along)))
+
+
+def give_script(drawing: Drawing, made: Proposal, path: str, is_dry: bool) -> None:
+    """Writes a script, or says it where no file is named; a dry run says its edits in words. What is to be run next is
+    said at the end."""
+    note_proposal(drawing, made)
+    name = path or 'SCRIPT'
+    if is_dry:
+        for command in made.script.commands:
+            say(command_said(drawing, command.text))
+        say('nothing is written; without --dry-run the next command is: ' + edit_command(drawing.path, [name]))
+    elif path:
+        names = write_script(made.script, path)
+        say('%s: %s' % (', '.join(names), counted(len(made.script.commands), 'command')))
+        say('next: ' + edit_command(drawing.path, names))
+    elif len(made.script.parts()) > 1:
+        raise Mistake('the script is longer than the program reads: name a file by -o, and it is written in several')
+    else:
+        for line in made.script.lines:
+            say(line.decode('utf-8'))
+        note('next: ' + edit_command(drawing.path, [name]))
