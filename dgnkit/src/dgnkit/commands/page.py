@@ -10,10 +10,12 @@ from typing import TYPE_CHECKING, Any, Dict, List, Tuple
 
 from ..drawing import Drawing
 from ..errors import Mistake
+from ..output import say
 from ..page.changes import changes_between
-from ..page.contents import Change, compared, contents_of, title_of
+from ..page.contents import compared, contents_of, title_of
 from ..page.sheet import MARK, page_of
 from ..script import Script
+from ..writing import write_file
 
 if TYPE_CHECKING:
     from ..cli import Subparsers
@@ -43,8 +45,8 @@ def run(arguments: argparse.Namespace) -> int:
         text = script_page(drawing, arguments.script)
     else:
         text = page_of(contents_of(drawing), title_of(drawing, None))
-    write(place, text.encode('utf-8'))
-    print('%s: %d bytes; open it in a browser' % (place, place.stat().st_size))
+    write_file(place, text.encode('utf-8'))
+    say('%s: %d bytes; open it in a browser' % (place, place.stat().st_size))
     return 0
 
 
@@ -90,15 +92,3 @@ def script_page(drawing: Drawing, name: str) -> str:
         for command, answer in zip(script.commands, answers):
             told.append((command.line, command.text, 'ok' if answer.cause is None else 'refused ' + answer.cause))
         return compare_page(drawing, after, {'answers': told, 'against': 'what %s makes of it' % os.path.basename(name)})
-
-
-def write(place: Path, content: bytes) -> None:
-    """Writes the page whole: what stood there stays until it is. It raises Mistake where it can't be written."""
-    part = place.with_name(place.name + '.part')
-    try:
-        part.write_bytes(content)
-        os.replace(part, place)
-    except OSError as why:
-        if part.exists():
-            part.unlink()
-        raise Mistake('%s: %s' % (place, (why.strerror or str(why)).lower()))

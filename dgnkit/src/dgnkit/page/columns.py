@@ -2,9 +2,10 @@
 
 from __future__ import annotations
 
-from typing import Any, Dict, Iterable, List, Optional, Sequence, Tuple
+from typing import Any, Dict, Iterable, List, Optional, Sequence, Set, Tuple
 
 from .. import classes
+from ..broken import why_broken
 from ..drawing import Drawing
 from ..element import Element
 from ..nesting import Nesting
@@ -42,7 +43,7 @@ class Writer:
         self.drawing = drawing
         self.nesting: Nesting = drawing.nesting
         self.columns: Columns = {name: [] for name in LISTS}
-        self.columns.update(links={}, groups={})
+        self.columns.update(links={}, groups={}, why={})
         self.last = [0] * drawing.axes
 
     def write(self, numbers: Iterable[int]) -> Columns:
@@ -51,6 +52,7 @@ class Writer:
         for number in chosen:
             self._write_element(self.drawing.elements[number])
         self._write_links(chosen)
+        self._write_causes(set(chosen))
         return self.columns
 
     def _write_element(self, element: Element) -> None:
@@ -104,6 +106,11 @@ class Writer:
             if links:
                 said = ['%s of %d bytes at %d' % (it.kind, it.length, it.place) for it in links]
                 self.columns['links'][number] = '; '.join(said)
+
+    def _write_causes(self, numbers: Set[int]) -> None:
+        for number in self.nesting.broken:
+            if number in numbers:
+                self.columns['why'][number] = why_broken(self.drawing, number)
 
 
 def text_row(element: Element) -> List[Any]:

@@ -7,6 +7,7 @@ from typing import Any, Dict, List, Optional, Tuple
 
 from .. import classes
 from ..drawing import Drawing
+from ..output import counted
 from .colours import colours_of
 from .columns import Columns, Writer, signature
 
@@ -65,7 +66,3 @@ def title_of(drawing: Drawing, changes: Optional[List[Change]]) -> str:
     if changes is None:
         return '%s – %s' % (name, counted(len(drawing.elements), 'element'))
     return '%s – %s' % (name, counted(len(changes), 'change'))
-
-
-def counted(count: int, word: str) -> str:
-    return '%d %s%s' % (count, word, '' if count == 1 else 's')

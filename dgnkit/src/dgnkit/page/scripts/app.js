@@ -8,6 +8,7 @@ class App {
         this.chosen = -1;
         this.tool = 'choose';
         this.drag = null;
+        this.place = null;
         this.pointer = null;
         this.showsCentre = false;
         this.fenceDraft = { corners: [], isOpen: true, pointer: null };
@@ -183,6 +184,17 @@ class App {
         this.moved();
     }
 
+    /** Goes to a place and marks it. */
+    goToPlace([x, y]) {
+        const [lowX, lowY, highX, highY] = this.scene.extent();
+        this.view.x = x;
+        this.view.y = y;
+        this.view.scale = Math.max(this.view.scale, 8 * this.view.width / Math.max(highX - lowX, highY - lowY, 1) / 4);
+        this.place = [x, y];
+        this.say('Marked: ' + this.words.placeOf([x, y]));
+        this.moved();
+    }
+
     boxOf(number) {
         const { scene } = this;
         const boxes = [scene.before, scene.after].filter((state) => state && number < state.count)
@@ -348,6 +360,7 @@ class App {
         } else if (this.fenceDraft.corners.length > 0) {
             this.clearFence();
         } else {
+            this.place = null;
             this.choose(-1);
         }
     }

@@ -25,7 +25,7 @@ class ElementPanel {
         if (chosen < 0) {
             fill(byId('element'), make('p', { class: 'note' },
                 'Click an element to choose its tree, click it again for the member. The search field takes a number, '
-                + 'a text or a cell’s name.'));
+                + 'a text, a cell’s name, or a place as 1500,560.'));
             return;
         }
         const record = scene.state.record[chosen];

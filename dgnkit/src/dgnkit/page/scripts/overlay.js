@@ -34,17 +34,19 @@ class Overlay {
         this.drawFence();
         this.drawDrag();
         if (app.showsCentre) {
-            this.drawCentre();
+            this.drawCross(...app.centre(), app.pens.hover);
+        }
+        if (app.place !== null) {
+            this.drawCross(app.view.toScreenX(app.place[0]), app.view.toScreenY(app.place[1]), app.pens.fence);
         }
     }
 
-    /** A cross at the centre, where keys choose and set corners. */
-    drawCentre() {
-        const [left, top] = this.app.centre();
+    /** A cross: at the centre, where keys choose and set corners, or at a place that was asked for. */
+    drawCross(left, top, colour) {
         this.painter.start(this.app.view, this.ratio);
-        this.painter.setPen(this.app.pens.hover, 1, DASHES[0]);
-        this.painter.traceSegment(left - 12, top, left + 12, top);
-        this.painter.traceSegment(left, top - 12, left, top + 12);
+        this.painter.setPen(colour, 1.5, DASHES[0]);
+        this.painter.traceSegment(left - 14, top, left + 14, top);
+        this.painter.traceSegment(left, top - 14, left, top + 14);
         this.painter.finish();
     }
 

@@ -28,6 +28,28 @@ class Picker {
         return nearest;
     }
 
+    /** The records that are nearest to a place, with their distances in units of resolution, the nearest first. */
+    nearest([x, y], count) {
+        const { records, order } = this.scene;
+        let found = [];
+        for (const record of order) {
+            const drawn = DRAWN_OF[records.type[record]];
+            const last = found.length < count ? Infinity : found[count - 1].square;
+            if (drawn !== DRAWN.cell && drawn !== DRAWN.node && this.squareFromBounds(record, x, y) < last) {
+                found.push({ record, square: this.squareFrom(record, x, y, 0) });
+                found = found.sort((one, other) => one.square - other.square).slice(0, count);
+            }
+        }
+        return found.map(({ record, square }) => ({ record, distance: Math.sqrt(square) }));
+    }
+
+    /** The square of a place's distance from the box of a record, which is no more than that from the record. */
+    squareFromBounds(record, x, y) {
+        const { box } = this.scene.records, at = record * 4;
+        const offX = Math.max(box[at] - x, x - box[at + 2], 0), offY = Math.max(box[at + 1] - y, y - box[at + 3], 0);
+        return offX * offX + offY * offY;
+    }
+
     isAbove(record, other) {
         const { marks } = this.scene;
         return (marks[record] !== MARK.none) === (marks[other] !== MARK.none) ? record > other : marks[record] !== MARK.none;

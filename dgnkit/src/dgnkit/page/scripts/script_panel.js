@@ -236,10 +236,13 @@ class ScriptPanel {
     async copyText() {
         try {
             await navigator.clipboard.writeText(this.text);
-            this.app.say('The script is copied.');
         } catch {
-            this.app.say('The browser doesn’t let this page copy: save the script instead.');
+            if (!copyByField(this.text)) {
+                this.app.say('The browser doesn’t let this page copy: save the script instead.');
+                return;
+            }
         }
+        this.app.say('The script is copied.');
     }
 
     save() {
@@ -249,6 +252,17 @@ class ScriptPanel {
         setTimeout(() => URL.revokeObjectURL(link.href), 10000);
         this.app.say('Saved as ' + this.names.script + '.');
     }
+}
+
+/** Copies a text by a field that is there for as long, for browsers that allow nothing else; says whether it did. */
+function copyByField(text) {
+    const field = make('textarea', { class: 'hidden' });
+    field.value = text;
+    document.body.append(field);
+    field.select();
+    const isDone = document.execCommand('copy');
+    field.remove();
+    return isDone;
 }
 
 /** A displacement that is written in a field, in units of resolution; null where it is none. */

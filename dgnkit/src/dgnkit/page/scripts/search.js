@@ -1,6 +1,7 @@
-/* The search field: a number, a text or a cell's name. */
+/* The search field: a number, a text, a cell's name, or a place. */
 
 const MOST_FOUND = 100;
+const MOST_NEAR = 8;
 
 class Search {
     constructor(app) {
@@ -36,7 +37,7 @@ class Search {
     /** Finds what the field asks for, and lists it. */
     look() {
         const asked = this.field.value.trim();
-        this.found = asked === '' ? [] : this.matches(asked);
+        this.found = asked === '' ? [] : [...this.places(asked), ...this.matches(asked).map((number) => this.entryOf(number))];
         this.at = -1;
         setHidden(this.list, asked === '');
         const more = this.found.length > MOST_FOUND ? ', the first ' + MOST_FOUND + ' are listed' : '';
@@ -44,14 +45,45 @@ class Search {
     }
 
     rows() {
-        const { scene, words } = this.app;
         const list = make('ul');
-        this.found.slice(0, MOST_FOUND).forEach((number, index) => {
-            const row = linkTo(words.nameOf(scene.state.record[number]), () => this.take(index));
+        this.found.slice(0, MOST_FOUND).forEach(({ text }, index) => {
+            const row = linkTo(text, () => this.take(index));
             row.addEventListener('keydown', (event) => this.keyInList(event, row));
             list.append(make('li', {}, row));
         });
         return list;
+    }
+
+    entryOf(number, behind = '') {
+        const { app } = this;
+        return {
+            text: app.words.nameOf(app.scene.state.record[number]) + behind,
+            go: () => {
+                app.choose(number);
+                app.goTo(number);
+            },
+        };
+    }
+
+    /** A place, as 1500,560: in units of resolution and in master units, and what is near it. */
+    places(asked) {
+        const found = /^(-?\d+(?:\.\d+)?)\s*[,; ]\s*(-?\d+(?:\.\d+)?)$/.exec(asked);
+        if (!found) {
+            return [];
+        }
+        const { app } = this, { words } = app, values = [Number(found[1]), Number(found[2])];
+        const made = asked.includes('.') ? [] : this.placeEntries(values, 'units');
+        return words.hasMaster ? made.concat(this.placeEntries(words.fromMaster(values), words.master)) : made;
+    }
+
+    placeEntries(place, unit) {
+        const { app } = this;
+        const near = app.picker.nearest(place, MOST_NEAR).map(({ record, distance }) => {
+            const away = app.words.hasMaster ? app.words.lengthOf(distance) : Math.round(distance) + ' units';
+            return this.entryOf(app.records.number[record], ' · ' + away + ' away');
+        });
+        const text = 'Place ' + this.field.value.trim() + ' in ' + unit;
+        return [{ text, go: () => app.goToPlace(place) }, ...near];
     }
 
     keyInList(event, row) {
@@ -90,7 +122,6 @@ class Search {
             return;
         }
         this.at = (index + this.found.length) % this.found.length;
-        this.app.choose(this.found[this.at]);
-        this.app.goTo(this.found[this.at]);
+        this.found[this.at].go();
     }
 }

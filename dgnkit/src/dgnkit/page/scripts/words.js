@@ -23,6 +23,11 @@ class Words {
         return (value - this.data.origin[axis]) / this.unitsOfMaster;
     }
 
+    /** A place in master units as one in units of resolution. */
+    fromMaster(values) {
+        return values.map((value, axis) => value * this.unitsOfMaster + this.data.origin[axis]);
+    }
+
     /** A coordinate in master units, without their name. */
     masterOf(value, axis) {
         return this.toMaster(value, axis).toFixed(this.digits);
