@@ -55,9 +55,7 @@ class Browser:
         """Makes what is seen of a page this large; a window has an edge, whose size is found so."""
         for _ in range(2):
             inner = self.run('return [innerWidth, innerHeight, outerWidth, outerHeight]')
-            self._ask(
-                '/window/rect', {'width': width + inner[2] - inner[0], 'height': height + inner[3] - inner[1]}
-            )
+            self._ask('/window/rect', {'width': width + inner[2] - inner[0], 'height': height + inner[3] - inner[1]})
 
     def close(self) -> None:
         self._call('DELETE', self.session)

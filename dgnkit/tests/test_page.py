@@ -85,7 +85,9 @@ class WithBrowser(WithProgram):
         return list(self.seen.run("return [...document.querySelectorAll('#script code')].map((it) => it.textContent)"))
 
     def answers(self) -> List[str]:
-        return list(self.seen.run("return [...document.querySelectorAll('#script .answer')].map((it) => it.textContent)"))
+        return list(
+            self.seen.run("return [...document.querySelectorAll('#script .answer')].map((it) => it.textContent)")
+        )
 
     def saved_script(self, name: str) -> str:
         """The script that the browser has saved, once it is there."""
@@ -206,8 +208,9 @@ class Looking(WithBrowser):
         self.seen.click('#levels-all')
         filled = self.seen.run(
             'const context = document.getElementById("drawing").getContext("2d");'
-            'const span = (x, y, wide, high) => { const dots = context.getImageData(page.view.toScreenX(x),'
-            '  page.view.toScreenY(y + high), Math.max(wide * page.view.scale, 1), high * page.view.scale).data;'
+            'const span = (x, y, wide, high) => { const { view } = page;'
+            '  const dots = context.getImageData(view.toScreenX(x), view.toScreenY(y + high),'
+            '    Math.max(wide * view.scale, 1), high * view.scale).data;'
             '  let count = 0; for (let at = 3; at < dots.length; at += 4) count += dots[at] > 60 ? 1 : 0; return count; };'
             'return [span(700, 1000, 300, 1500), span(700, 2500, 300, 1450), span(400, 1050, 250, 1800),'
             '  span(700, 4100, 300, 300)];'
@@ -222,7 +225,8 @@ class Looking(WithBrowser):
         row = self.seen.run(
             'const context = document.getElementById("drawing").getContext("2d");'
             'const left = page.view.toScreenX(0), top = Math.round(page.view.toScreenY(500));'
-            'const dots = context.getImageData(left, top - 1, 1000 * page.view.scale, 3).data; const wide = dots.length / 12;'
+            'const dots = context.getImageData(left, top - 1, 1000 * page.view.scale, 3).data;'
+            'const wide = dots.length / 12;'
             'let changes = 0, was = null;'
             'for (let at = 0; at < wide; at++) { let is = false;'
             '  for (let row = 0; row < 3; row++) is = is || dots[(row * wide + at) * 4 + 3] > 80;'

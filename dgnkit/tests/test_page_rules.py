@@ -119,7 +119,9 @@ def commands(chance: random.Random, drawing: Drawing, count: int, reach: int) ->
         number = chance.randrange(len(drawing.elements) + 2)
         kind = chance.choice(['move', 'copy', 'color', 'delete', 'fence', 'fence', 'levels'])
         if kind == 'fence':
-            corners = [[chance.randrange(-20, reach), chance.randrange(-20, reach)] for _ in range(chance.randrange(3, 7))]
+            corners = [
+                [chance.randrange(-20, reach), chance.randrange(-20, reach)] for _ in range(chance.randrange(3, 7))
+            ]
             word = chance.choice(['fmove', 'fcopy', 'fsym', 'fdelete'])
             mode = chance.choice(['inside', 'overlap', 'void'])
             made.append({'word': 'fence', 'corners': corners})

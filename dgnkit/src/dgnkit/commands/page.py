@@ -6,7 +6,7 @@ import argparse
 import os
 import tempfile
 from pathlib import Path
-from typing import TYPE_CHECKING, Any, Dict, List, Tuple
+from typing import TYPE_CHECKING, Any, Dict, List, Optional, Tuple
 
 from ..drawing import Drawing
 from ..errors import Mistake
@@ -20,8 +20,8 @@ from ..writing import write_file
 if TYPE_CHECKING:
     from ..cli import Subparsers
 
-ABOUT = """Writes one HTML file that any browser opens from disk: the drawing to look at, to find numbers in and to write a
-script with. With --after or --script what changed is marked and told instead."""
+ABOUT = """Writes one HTML file that any browser opens from disk: the drawing to look at, to find numbers in and to write
+a script with. With --after or --script what changed is marked and told instead."""
 
 
 def register(words: Subparsers) -> None:
@@ -30,7 +30,9 @@ def register(words: Subparsers) -> None:
     other = parser.add_mutually_exclusive_group()
     other.add_argument('--after', metavar='OUT', help='what became of it, to be compared')
     other.add_argument('--script', metavar='SCRIPT', help='a script that is run into a temporary file, to be compared')
-    parser.add_argument('-o', '--output', metavar='PAGE', help="the page; IN's name with .html in this folder otherwise")
+    parser.add_argument(
+        '-o', '--output', metavar='PAGE', help="the page; otherwise IN's name with .html, in this folder"
+    )
     parser.set_defaults(run=run)
 
 
@@ -57,8 +59,9 @@ def page_place(arguments: argparse.Namespace) -> Path:
         place = Path(arguments.output)
     else:
         place = Path(Path(arguments.drawing).stem + '.html')
-    for name in filter(None, (arguments.drawing, arguments.after, arguments.script)):
-        if place.exists() and os.path.exists(name) and place.samefile(name):
+    read: List[Optional[str]] = [arguments.drawing, arguments.after, arguments.script]
+    for name in read:
+        if name and place.exists() and os.path.exists(name) and place.samefile(name):
             raise Mistake('%s is read, and the page would be written over it: name another one by -o' % place)
     if not arguments.output and place.exists() and not is_page(place):
         raise Mistake('%s is there and is no page of dgnkit: name the page by -o' % place)
@@ -91,4 +94,5 @@ def script_page(drawing: Drawing, name: str) -> str:
         told: List[Tuple[int, str, str]] = []
         for command, answer in zip(script.commands, answers):
             told.append((command.line, command.text, 'ok' if answer.cause is None else 'refused ' + answer.cause))
-        return compare_page(drawing, after, {'answers': told, 'against': 'what %s makes of it' % os.path.basename(name)})
+        against = 'what %s makes of it' % os.path.basename(name)
+        return compare_page(drawing, after, {'answers': told, 'against': against})

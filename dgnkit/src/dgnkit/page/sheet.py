@@ -10,8 +10,8 @@ from importlib import resources
 from typing import Any, Dict
 
 SCRIPTS = (
-    'format records reading state grid view colours painter scene renderer picker geometry commands session words dom '
-    'overlay levels_panel element_panel search script_panel changes_panel pointer app main'
+    'format records reading state grid_layer grid view colours painter scene picture renderer picker geometry fence '
+    'commands session words dom overlay levels_panel element_panel search script_panel changes_panel pointer app main'
 ).split()
 MARK = '<meta name="generator" content="dgnkit page">'
 

@@ -210,7 +210,8 @@ class App {
         const power = 10 ** Math.floor(Math.log10(most));
         const length = power * ([5, 2, 1].find((it) => it * power <= most) || 1);
         byId('scale-bar').style.width = Math.round(length * unit * view.scale) + 'px';
-        byId('scale-text').textContent = Number(length.toPrecision(3)) + ' ' + (words.hasMaster ? words.master : 'units');
+        const name = words.hasMaster ? words.master : 'units';
+        byId('scale-text').textContent = Number(length.toPrecision(3)) + ' ' + name;
     }
 
     setGround(ground) {
@@ -429,13 +430,14 @@ class App {
             this.fenceDraft = { corners: [], isOpen: true, pointer: null };
             this.fenceChosen = [];
         }
-        for (const [id, name] of [['drag-move', 'drag-move'], ['drag-copy', 'drag-copy'], ['fence-draw', 'fence']]) {
+        for (const [id, name] of TOOLS) {
             byId(id).setAttribute('aria-pressed', String(tool === name));
         }
-        const hint = { 'drag-move': 'Drag to move element ' + this.chosen, 'drag-copy': 'Drag a copy of element ' + this.chosen,
-            fence: 'Click the corners of the fence; Enter or a double click closes it, Backspace takes one back' }[tool];
-        setHidden(byId('hint'), !hint);
-        byId('hint').textContent = hint || '';
+        this.hint({
+            'drag-move': 'Drag to move element ' + this.chosen,
+            'drag-copy': 'Drag a copy of element ' + this.chosen,
+            'fence': 'Click the corners of the fence; Enter or a double click closes it, Backspace takes one back',
+        }[tool] || '');
         byId('marks').classList.toggle('draws', tool !== 'choose');
         this.scriptPanel.show();
         this.request();
@@ -444,9 +446,15 @@ class App {
     dragTo(start, place) {
         const from = this.wholePlace(start), to = this.wholePlace(place);
         this.drag = { from, to, by: [to[0] - from[0], to[1] - from[1], 0].slice(0, this.axes) };
-        byId('hint').textContent = 'by ' + this.drag.by.join(' ') + (this.words.hasMaster
-            ? '  =  ' + this.drag.by.map((value) => this.words.lengthOf(value)).join(', ') : '');
+        this.hint('by ' + this.drag.by.join(' ') + (this.words.hasMaster
+            ? '  =  ' + this.drag.by.map((value) => this.words.lengthOf(value)).join(', ') : ''));
         this.request();
+    }
+
+    /** Says in the drawing what is to be done there. */
+    hint(text) {
+        byId('hint').textContent = text;
+        setHidden(byId('hint'), text === '');
     }
 
     /** Ends a drag: what was dragged is moved or copied by as much. */

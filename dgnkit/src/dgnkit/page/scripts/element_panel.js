@@ -45,7 +45,9 @@ class ElementPanel {
         const { records, state } = this.app.scene;
         const { chosen, words } = this.app;
         const said = [];
-        const add = (word, text) => said.push(make('p', { class: 'badge ' + word }, make('strong', {}, word), ' ', text));
+        const add = (word, text) => {
+            said.push(make('p', { class: 'badge ' + word }, make('strong', {}, word), ' ', text));
+        };
         const change = this.app.changes.get(chosen);
         if (change) {
             add(change.kind, change.words);
@@ -128,7 +130,8 @@ class ElementPanel {
         const range = [...records.rangeOf(record)];
         const text = records.labelOf(record);
         if (records.type[record] === TYPE.text) {
-            list.append(...described('size', this.sizeSaid(text)), ...described('angle', Number(text.degrees.toFixed(4)) + '°'),
+            list.append(...described('size', this.sizeSaid(text)),
+                ...described('angle', Number(text.degrees.toFixed(4)) + '°'),
                 ...described('font', text.font + ', justification ' + text.justification));
         }
         if (records.points[record] > 0) {
@@ -172,7 +175,8 @@ class ElementPanel {
         list.append(...described('bytes', records.size[record] + ' from byte ' + offset));
         const links = this.extra('links', record);
         if (links) {
-            list.append(...described('linkages', ...links.split('; ').map((it) => make('span', { class: 'line number' }, it))));
+            const lines = links.split('; ').map((it) => make('span', { class: 'line number' }, it));
+            list.append(...described('linkages', ...lines));
         }
     }
 
@@ -189,7 +193,7 @@ class ElementPanel {
             row.style.paddingInlineStart = (state.above(at).length - state.above(chosen).length - 1) * 14 + 'px';
             list.append(row);
         }
-        const more = count > MOST_MEMBERS ? [make('p', { class: 'more' }, 'and ' + (count - MOST_MEMBERS) + ' more')] : [];
-        return [make('h3', {}, counted(count, 'member')), list, ...more];
+        const more = make('p', { class: 'more' }, 'and ' + (count - MOST_MEMBERS) + ' more');
+        return [make('h3', {}, counted(count, 'member')), list, ...(count > MOST_MEMBERS ? [more] : [])];
     }
 }

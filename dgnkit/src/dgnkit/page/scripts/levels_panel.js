@@ -59,7 +59,8 @@ class LevelsPanel {
             this.app.scene.levels[level] = box.checked ? 1 : 0;
             this.app.sceneChanged();
         });
-        const only = make('button', { type: 'button', class: 'only', 'aria-label': 'Show level ' + level + ' only' }, 'only');
+        const name = 'Show level ' + level + ' only';
+        const only = make('button', { 'type': 'button', 'class': 'only', 'aria-label': name }, 'only');
         only.addEventListener('click', () => this.setOnly(level));
         return make('li', {}, make('label', {}, box, make('span', { class: 'level' }, String(level)),
             make('span', { class: 'count', title: counted(count, 'element') }, String(count))), only);

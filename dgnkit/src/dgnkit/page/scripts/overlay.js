@@ -109,7 +109,8 @@ class Overlay {
         const last = isOpen ? corners.length - 1 : corners.length;
         for (let corner = 0; corner < last; corner++) {
             const [x, y] = corners[corner], [nextX, nextY] = corners[(corner + 1) % corners.length];
-            this.painter.traceSegment(view.toScreenX(x), view.toScreenY(y), view.toScreenX(nextX), view.toScreenY(nextY));
+            this.painter.traceSegment(view.toScreenX(x), view.toScreenY(y), view.toScreenX(nextX),
+                view.toScreenY(nextY));
         }
         this.painter.finish();
         context.fillStyle = pens.fence;

@@ -211,7 +211,8 @@ class Painter {
 function cutSegment(left, top, right, bottom, lowX, lowY, highX, highY) {
     const along = right - left, down = bottom - top;
     let enter = 0, leave = 1;
-    for (const [step, room] of [[-along, left - lowX], [along, highX - left], [-down, top - lowY], [down, highY - top]]) {
+    const sides = [[-along, left - lowX], [along, highX - left], [-down, top - lowY], [down, highY - top]];
+    for (const [step, room] of sides) {
         if (step === 0 && room < 0) {
             return null;
         }

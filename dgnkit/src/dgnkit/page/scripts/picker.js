@@ -51,8 +51,8 @@ class Picker {
     }
 
     isAbove(record, other) {
-        const { marks } = this.scene;
-        return (marks[record] !== MARK.none) === (marks[other] !== MARK.none) ? record > other : marks[record] !== MARK.none;
+        const isMarked = this.scene.isAbove(record), isOtherMarked = other >= 0 && this.scene.isAbove(other);
+        return isMarked === isOtherMarked ? record > other : isMarked;
     }
 
     squareFrom(record, x, y, within) {
@@ -81,7 +81,8 @@ class Picker {
         return least;
     }
 
-    /** Within a text's characters the distance is a fifth of what is allowed, so that a line in front of it is nearer. */
+    /** Within a text's characters it isn't quite at the text, so that a line there can be pointed at: the larger the
+        text, the less a line has to be met. */
     squareFromText(record, x, y, within) {
         const { records } = this.scene;
         const text = records.labelOf(record);
@@ -89,7 +90,8 @@ class Picker {
         const along = offX * Math.cos(text.angle) + offY * Math.sin(text.angle);
         const up = offY * Math.cos(text.angle) - offX * Math.sin(text.angle);
         const beyond = Math.max(-along, along - text.width, 0), over = Math.max(-up, up - text.height, 0);
-        return Math.max(beyond * beyond + over * over, within * within / 25);
+        const share = Math.min(0.2 + Math.abs(text.height) / (within + 1) / 12, 0.9);
+        return Math.max(beyond * beyond + over * over, (share * within) ** 2);
     }
 
     squareFromBox(record, x, y) {

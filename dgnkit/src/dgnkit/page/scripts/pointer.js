@@ -51,12 +51,18 @@ class Pointer {
         }
         if (this.down.size === 2) {
             this.pinch(event.pointerId, place);
-        } else if (this.pressed.hasMoved || Math.hypot(place[0] - this.pressed.at[0], place[1] - this.pressed.at[1]) > CLICK) {
+        } else if (this.isDragged(place)) {
             this.drag(before, place);
         } else {
             return;
         }
         this.down.set(event.pointerId, place);
+    }
+
+    /** Whether what is pressed has moved further than a click may. */
+    isDragged(place) {
+        const { at, hasMoved } = this.pressed;
+        return hasMoved || Math.hypot(place[0] - at[0], place[1] - at[1]) > CLICK;
     }
 
     drag(before, place) {

@@ -31,8 +31,9 @@ class Scene {
     /** Takes another state to compare with, or none; its own records stand behind those of the drawing. */
     setAfter(after) {
         this.after = after;
-        this.newGrid = after && this.records.length > this.base ? new Grid(this.records, this.base, this.records.length) : null;
-        this.marks = new Uint8Array(this.records.length);
+        const { length } = this.records;
+        this.newGrid = after && length > this.base ? new Grid(this.records, this.base, length) : null;
+        this.marks = new Uint8Array(length);
         if (after) {
             this.mark();
         }

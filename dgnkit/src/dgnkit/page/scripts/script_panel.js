@@ -1,6 +1,7 @@
 /* Edits of what is chosen, and the script that they make. */
 
 const FARTHEST = 4294967295;
+const TOOLS = Object.freeze([['drag-move', 'drag-move'], ['drag-copy', 'drag-copy'], ['fence-draw', 'fence']]);
 const EDITS = Object.freeze([['move', 'Move'], ['copy', 'Copy'], ['color', 'Colour'], ['delete', 'Delete']]);
 
 /** The panel in which lines of a script are written, and the script itself. */
@@ -37,13 +38,12 @@ class ScriptPanel {
         for (const id of ['by-x', 'by-y', 'by-z', 'by-unit']) {
             byId(id).addEventListener('input', () => this.show());
         }
-        for (const tool of ['drag-move', 'drag-copy']) {
-            byId(tool).addEventListener('click', () => this.app.setTool(this.app.tool === tool ? 'choose' : tool));
+        for (const [id, tool] of TOOLS) {
+            byId(id).addEventListener('click', () => this.app.setTool(this.app.tool === tool ? 'choose' : tool));
         }
     }
 
     listenToFence() {
-        byId('fence-draw').addEventListener('click', () => this.app.setTool(this.app.tool === 'fence' ? 'choose' : 'fence'));
         byId('fence-clear').addEventListener('click', () => this.app.clearFence());
         byId('fence-mode').addEventListener('change', () => this.app.fenceChanged());
         byId('fence-move').addEventListener('click', () => this.addFenceEdit({ word: 'fmove', by: this.by() }));
@@ -149,8 +149,7 @@ class ScriptPanel {
         }
         byId('drag-move').disabled = byId('edit-move').disabled && by !== null;
         byId('drag-copy').disabled = byId('edit-copy').disabled && by !== null;
-        const said = [...causes].map(([why, names]) => make('li', {}, names.join(', ') + ' would be refused: ' + why + '.'));
-        fill(byId('refusals'), ...said);
+        fill(byId('refusals'), ...refusalsOf(causes).map((said) => make('li', {}, said)));
         fill(byId('mistakes'), ...this.mistakes(by));
         byId('edit-move').title = scene.after && chosen >= scene.base ? 'a copy that this script makes' : '';
     }
@@ -212,22 +211,24 @@ class ScriptPanel {
                 causes.set(why, [...(causes.get(why) || []), name]);
             }
         }
-        return [count, ...[...causes].map(([why, names]) => names.join(', ') + ' would be refused: ' + why + '.')].join(' ');
+        return [count, ...refusalsOf(causes)].join(' ');
     }
 
     showLines() {
         const rows = this.commands.map((command, index) => this.rowOf(command, this.app.answers[index], index));
         fill(byId('script'), ...rows);
-        byId('script-count').textContent = this.commands.length === 0 ? 'no lines yet' : counted(this.commands.length, 'line');
+        const { length } = this.commands;
+        byId('script-count').textContent = length === 0 ? 'no lines yet' : counted(length, 'line');
         for (const id of ['script-undo', 'script-copy', 'script-save']) {
-            byId(id).disabled = this.commands.length === 0;
+            byId(id).disabled = length === 0;
         }
     }
 
     rowOf(command, answer, index) {
         const said = answer.ok ? 'ok' + (answer.count === undefined ? '' : ' ' + answer.count)
             : 'would be refused: ' + this.app.words.causeOf(answer);
-        const button = make('button', { type: 'button', class: 'remove', 'aria-label': 'Remove line ' + (index + 1) }, '×');
+        const name = 'Remove line ' + (index + 1);
+        const button = make('button', { 'type': 'button', 'class': 'remove', 'aria-label': name }, '×');
         button.addEventListener('click', () => this.remove(index));
         return make('li', { class: answer.ok ? 'ok' : 'refused' }, make('code', {}, lineOf(command)),
             make('span', { class: 'answer' }, said), button);
@@ -252,6 +253,11 @@ class ScriptPanel {
         setTimeout(() => URL.revokeObjectURL(link.href), 10000);
         this.app.say('Saved as ' + this.names.script + '.');
     }
+}
+
+/** Sentences of edits that would be refused, from the names of the edits by their cause. */
+function refusalsOf(causes) {
+    return [...causes].map(([why, names]) => names.join(', ') + ' would be refused: ' + why + '.');
 }
 
 /** Copies a text by a field that is there for as long, for browsers that allow nothing else; says whether it did. */

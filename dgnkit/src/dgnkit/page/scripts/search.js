@@ -24,6 +24,7 @@ class Search {
     key(event) {
         if (event.key === 'Enter') {
             this.take(this.at + (event.shiftKey ? -1 : 1));
+            setHidden(this.list, this.found.length > 0);
         } else if (event.key === 'ArrowDown' && this.found.length > 0) {
             event.preventDefault();
             this.list.querySelector('button').focus();
@@ -37,11 +38,11 @@ class Search {
     /** Finds what the field asks for, and lists it. */
     look() {
         const asked = this.field.value.trim();
-        this.found = asked === '' ? [] : [...this.places(asked), ...this.matches(asked).map((number) => this.entryOf(number))];
+        this.found = asked === '' ? [] : this.places(asked).concat(this.matches(asked).map((it) => this.entryOf(it)));
         this.at = -1;
         setHidden(this.list, asked === '');
         const more = this.found.length > MOST_FOUND ? ', the first ' + MOST_FOUND + ' are listed' : '';
-        fill(this.list, make('p', { class: 'note' }, asked === '' ? '' : this.found.length + ' found' + more), this.rows());
+        fill(this.list, make('p', { class: 'note' }, this.found.length + ' found' + more), this.rows());
     }
 
     rows() {
@@ -87,7 +88,8 @@ class Search {
     }
 
     keyInList(event, row) {
-        const next = { ArrowDown: row.parentElement.nextElementSibling, ArrowUp: row.parentElement.previousElementSibling };
+        const { nextElementSibling, previousElementSibling } = row.parentElement;
+        const next = { ArrowDown: nextElementSibling, ArrowUp: previousElementSibling };
         if (event.key in next) {
             event.preventDefault();
             (next[event.key] ? next[event.key].firstElementChild : this.field).focus();
@@ -123,5 +125,6 @@ class Search {
         }
         this.at = (index + this.found.length) % this.found.length;
         this.found[this.at].go();
+        this.app.say(this.at + 1 + ' of ' + this.found.length + ': ' + this.found[this.at].text);
     }
 }

@@ -67,7 +67,8 @@ class Session {
 
     /* The causes, in the order in which the program asks for them. */
 
-    /** The first cause against an edit of an element, or null. `by` is the displacement of a move or a copy, if known. */
+    /** The first cause against an edit of an element, or null. `by` is the displacement of a move or a copy, or null
+        where it isn't known yet. */
     causeOf(edit, number, by) {
         if (number >= this.state.count) {
             return { cause: 'unknown', element: number };
@@ -124,8 +125,8 @@ class Session {
     /** The first live element with a coordinate that would leave the design plane. */
     offPlane(number, by) {
         for (const at of this.state.live(number)) {
-            const record = this.state.record[at];
-            if (this.spotsOf(record).some(([values, axis]) => values[axis] + by[axis] < LEAST || values[axis] + by[axis] > GREATEST)) {
+            const spots = this.spotsOf(this.state.record[at]);
+            if (spots.some(([values, axis]) => !isOnPlane(values[axis] + by[axis]))) {
                 return { cause: 'off-plane', element: at };
             }
         }
@@ -287,6 +288,10 @@ class Session {
         return Math.min(range[0], range[axes]) > highX || Math.min(range[1], range[axes + 1]) > highY
             || Math.max(range[0], range[axes]) < lowX || Math.max(range[1], range[axes + 1]) < lowY;
     }
+}
+
+function isOnPlane(value) {
+    return value >= LEAST && value <= GREATEST;
 }
 
 function isMoving(edit) {
