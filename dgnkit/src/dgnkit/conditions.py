@@ -54,6 +54,28 @@ def add_conditions(parser: argparse.ArgumentParser) -> None:
     group.add_argument('--units', choices=units, default='auto', help='of places and distances')
 
 
+NAMES = [
+    'number',
+    'level',
+    'type',
+    'color',
+    'weight',
+    'style',
+    'text',
+    'pattern',
+    'cell',
+    'deleted',
+    'locked',
+    'broken',
+]
+NAMES += ['near', 'inside', 'overlap', 'outside']
+
+
+def has_conditions(arguments: argparse.Namespace) -> bool:
+    """Whether at least one condition is given."""
+    return any(getattr(arguments, name) not in (None, False) for name in NAMES)
+
+
 @dataclass(frozen=True)
 class Near:
     """A place, and how far from it something may be, in units of resolution."""
