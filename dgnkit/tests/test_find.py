@@ -79,7 +79,7 @@ class Find(samples.WithProgram):
         self.assertEqual(self.numbers('--near', '10.03,0.04', '--within', '0.05', of=path), [1])
         self.assertEqual(self.numbers('--near', '10.03,0.04', '--within', '0.0499', of=path), [])
         self.assertEqual(self.numbers('--near', '5,2.5', '--within', '2.5', of=path), [1])
-        self.assertEqual(self.numbers('--near', '-1,0', '--within', '0.99', of=path), [])
+        self.assertEqual(self.numbers('--near', '11,0', '--within', '0.99', of=path), [])
 
     def test_the_nearest_comes_first_with_its_distance(self) -> None:
         said = json.loads(

@@ -22,13 +22,15 @@ from .numbers import Point
 from .places import Scale, coordinates
 
 Test = Callable[[Element], bool]
+LAST_NUMBER = 16777215  # a drawing of the greatest length has no more elements
 SPAN = re.compile(r'(\d+)(?:-(\d+))?')
 
 
 def add_conditions(parser: argparse.ArgumentParser) -> None:
     """Adds the conditions to a parser."""
     group = parser.add_argument_group('conditions', 'All that are given have to hold.')
-    group.add_argument('--level', metavar='R', action='append', help='on these levels, as 12 or 3-5,9')
+    group.add_argument('--number', metavar='R', action='append', help='with these numbers, as 12 or 3-5,9')
+    group.add_argument('--level', metavar='R', action='append', help='on these levels')
     group.add_argument('--type', metavar='T', action='append', help='of these types, by number or name, as 3,text')
     group.add_argument('--color', '--colour', metavar='R', action='append', help='of these colours')
     group.add_argument('--weight', metavar='R', action='append', help='of these weights')
@@ -50,6 +52,28 @@ def add_conditions(parser: argparse.ArgumentParser) -> None:
     group.add_argument('--trees', action='store_true', help='take the roots whose header or any member meets them')
     units = ('auto', 'master', 'resolution')
     group.add_argument('--units', choices=units, default='auto', help='of places and distances')
+
+
+NAMES = [
+    'number',
+    'level',
+    'type',
+    'color',
+    'weight',
+    'style',
+    'text',
+    'pattern',
+    'cell',
+    'deleted',
+    'locked',
+    'broken',
+]
+NAMES += ['near', 'inside', 'overlap', 'outside']
+
+
+def has_conditions(arguments: argparse.Namespace) -> bool:
+    """Whether at least one condition is given."""
+    return any(getattr(arguments, name) not in (None, False) for name in NAMES)
 
 
 @dataclass(frozen=True)
@@ -166,6 +190,9 @@ def is_within(bounds: Bounds, box: Box) -> bool:
 def plain_tests(arguments: argparse.Namespace) -> List[Test]:
     """The conditions that ask an element alone."""
     tests: List[Test] = []
+    if arguments.number:
+        numbers = numbers_of('number of an element', arguments.number, LAST_NUMBER)
+        tests.append(lambda it: it.number in numbers)
     if arguments.level:
         levels = numbers_of('level', arguments.level, 63)
         tests.append(lambda it: it.level in levels)
