@@ -211,7 +211,8 @@ class Looking(WithBrowser):
             'const span = (x, y, wide, high) => { const { view } = page;'
             '  const dots = context.getImageData(view.toScreenX(x), view.toScreenY(y + high),'
             '    Math.max(wide * view.scale, 1), high * view.scale).data;'
-            '  let count = 0; for (let at = 3; at < dots.length; at += 4) count += dots[at] > 60 ? 1 : 0; return count; };'
+            '  let count = 0;'
+            '  for (let at = 3; at < dots.length; at += 4) count += dots[at] > 60 ? 1 : 0; return count; };'
             'return [span(700, 1000, 300, 1500), span(700, 2500, 300, 1450), span(400, 1050, 250, 1800),'
             '  span(700, 4100, 300, 300)];'
         )
@@ -443,6 +444,26 @@ class Comparing(WithBrowser):
         for place in ((1000, 500), (2000, 575)):
             left, top = self.screen(*place)
             self.assertTrue(200 < left < 940 and 50 < top < 770, 'both the old and the new place are seen')
+
+    def test_an_element_that_came_between_is_the_only_change(self) -> None:
+        lines = [plan.line(1, (0, 100 * it), (4000, 100 * it)) for it in (0, 0, 10, 20, 30)]
+        more = plan.path(4, 1, [(0, 1500), (1000, 1500), (4000, 1500)])
+        made = self.put('before.dgn', drawings.drawing(*lines))
+        after = self.put('after.dgn', drawings.drawing(lines[0], more, *lines[1:]))
+        self.page(made, '--after', after)
+        self.assertEqual(self.seen.title, 'before.dgn – 1 change')
+        added = [int(it, 16) for it in self.seen.run('return page.pens.added.slice(1).match(/../g)')]
+        self.assertLess(max(abs(a - b) for a, b in zip(self.dot(2000, 1500), added)), 24)
+        for y in (0, 1000, 2000, 3000):
+            self.assertGreater(max(abs(a - b) for a, b in zip(self.dot(2000, y), added)), 60)
+        self.page(after, '--after', made)
+        self.assertIn('gone', self.seen.text('#changes'))
+        self.click_at(2000, 1500)
+        self.assertEqual(self.number(), 'element 2')
+        self.assertIn('deleted', self.seen.text('#element'))
+        self.seen.click('#mode-both')
+        self.click_at(2000, 3000)
+        self.assertEqual(self.number(), 'element 5', 'in what became of it')
 
     def test_two_drawings(self) -> None:
         made = self.example('plan.dgn')

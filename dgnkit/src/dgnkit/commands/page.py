@@ -6,22 +6,25 @@ import argparse
 import os
 import tempfile
 from pathlib import Path
-from typing import TYPE_CHECKING, Any, Dict, List, Optional, Tuple
+from typing import TYPE_CHECKING, Any, Dict, List, Optional, Sequence
 
+from ..answers import Answer
 from ..drawing import Drawing
-from ..errors import Mistake
+from ..errors import Ending, Mistake
+from ..explaining import why_ended
 from ..output import say
 from ..page.changes import changes_between
 from ..page.contents import compared, contents_of, title_of
 from ..page.sheet import MARK, page_of
+from ..refusals import Explainer
 from ..script import Script
 from ..writing import write_file
 
 if TYPE_CHECKING:
     from ..cli import Subparsers
 
-ABOUT = """Writes one HTML file that any browser opens from disk: the drawing to look at, to find numbers in and to write
-a script with. With --after or --script what changed is marked and told instead."""
+ABOUT = """Writes one HTML file that any browser opens from disk: the drawing to look at, to find numbers in, and to
+write a script with. With --after or --script what changed is marked and told instead."""
 
 
 def register(words: Subparsers) -> None:
@@ -89,10 +92,17 @@ def script_page(drawing: Drawing, name: str) -> str:
     script = Script.read(name)
     with tempfile.TemporaryDirectory(prefix='dgnkit-page-') as folder:
         made = os.path.join(folder, 'after.dgn')
-        answers = drawing.program.edit(drawing.path, script, made)
-        after = Drawing(made, drawing.program)
-        told: List[Tuple[int, str, str]] = []
-        for command, answer in zip(script.commands, answers):
-            told.append((command.line, command.text, 'ok' if answer.cause is None else 'refused ' + answer.cause))
+        try:
+            answers = drawing.program.edit(drawing.path, script, made)
+        except Ending as ending:
+            raise Mistake(why_ended(drawing.program, ending, drawing.path, name, made))
         against = 'what %s makes of it' % os.path.basename(name)
-        return compare_page(drawing, after, {'answers': told, 'against': against})
+        more = {'answers': answers_told(drawing, script, answers), 'against': against}
+        return compare_page(drawing, Drawing(made, drawing.program), more)
+
+
+def answers_told(drawing: Drawing, script: Script, answers: Sequence[Answer]) -> List[List[Any]]:
+    """Each command with its line, and where it was refused the cause and a sentence on it."""
+    explainer = Explainer(drawing, script.commands, answers)
+    refused = {it.command.line: [it.cause, explainer.sentence(it)] for it in explainer.refused}
+    return [[it.line, it.text, *refused.get(it.line, [])] for it in script.commands]

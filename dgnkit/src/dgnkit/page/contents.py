@@ -3,15 +3,14 @@
 from __future__ import annotations
 
 import os
-from typing import Any, Dict, List, Optional, Tuple
+from typing import Any, Dict, List, Optional, Set
 
 from .. import classes
 from ..drawing import Drawing
 from ..output import counted
+from .changes import Change
 from .colours import colours_of
 from .columns import Columns, Writer, signature
-
-Change = Tuple[int, str, str]
 
 
 def contents_of(drawing: Drawing) -> Dict[str, Any]:
@@ -45,18 +44,20 @@ def units_of(drawing: Drawing) -> Dict[str, Any]:
 def compared(drawing: Drawing, after: Drawing, changes: List[Change]) -> Dict[str, Any]:
     """The data of a page that compares a drawing with what became of it."""
     data = contents_of(drawing)
-    numbers = differing(drawing, after)
+    told = {number for it in changes for number in (it.before, it.after) if number is not None}
+    numbers = own_numbers(drawing, after, told)
     columns: Columns = Writer(after).write(numbers)
     columns.update(numbers=numbers, count=len(after.elements))
-    data.update(after=columns, changes=changes)
+    data.update(after=columns, changes=[[it.before, it.after, it.kind, it.words] for it in changes])
     data['types'].update((kind, classes.type_name(kind)) for kind in after.type_counts)
     return data
 
 
-def differing(drawing: Drawing, after: Drawing) -> List[int]:
-    """The numbers of elements of `after` that aren't as in the drawing, and of those that it hasn't."""
+def own_numbers(drawing: Drawing, after: Drawing, told: Set[int]) -> List[int]:
+    """The numbers of those elements of `after` that the page holds besides the drawing's: what isn't as the element of
+    that number in the drawing, and whatever a change is told of."""
     both = min(len(drawing.elements), len(after.elements))
-    numbers = [number for number in range(both) if signature(drawing, number) != signature(after, number)]
+    numbers = [it for it in range(both) if it in told or signature(drawing, it) != signature(after, it)]
     return numbers + list(range(both, len(after.elements)))
 
 

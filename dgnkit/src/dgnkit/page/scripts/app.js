@@ -44,7 +44,7 @@ class App {
             recordOf.set(own.subarray(0, Math.min(count, after.count)));
             after.numbers.forEach((number, index) => { recordOf[number] = start + index; });
             this.scene.mode = 'both';
-            this.scene.setAfter(new State(records, recordOf));
+            this.scene.setAfter(new State(records, recordOf), this.data.changes);
         }
     }
 
@@ -52,7 +52,7 @@ class App {
         const { data } = this;
         byId('title').textContent = data.name;
         byId('summary').textContent = this.summary();
-        this.changes = new Map((data.changes || []).map(([number, kind, words]) => [number, { kind, words }]));
+        this.readChanges(data.changes || []);
         this.levelsPanel = new LevelsPanel(this);
         this.elementPanel = new ElementPanel(this, data);
         new Search(this);
@@ -64,6 +64,21 @@ class App {
             this.scriptPanel = new ScriptPanel(this);
         }
         this.showModes();
+    }
+
+    /** Changes by the record that they are of, and what the numbers before became where they aren't kept. */
+    readChanges(changes) {
+        const { before, after } = this.scene;
+        this.changes = new Map();
+        this.became = new Map();
+        for (const [old, now, kind, words] of changes) {
+            for (const record of [old === null ? -1 : before.record[old], now === null ? -1 : after.record[now]]) {
+                this.changes.set(record, { kind, words });
+            }
+            if (old !== now && old !== null) {
+                this.became.set(before.record[old], now);
+            }
+        }
     }
 
     summary() {
@@ -163,14 +178,19 @@ class App {
         return [this.view.width / 2, this.view.height / 2];
     }
 
-    /** Goes to an element: its part, and its old place where it has one. */
+    /** Goes to an element: its part, and its old place where a script proposes to change it. */
     goTo(number) {
         if (number < 0) {
             return;
         }
-        const box = this.boxOf(number);
+        const { scene } = this;
+        const old = this.scriptPanel ? this.boxIn(scene.before, number) : null;
+        this.goToBox(this.joined([old, this.boxIn(scene.state, number)]));
+    }
+
+    goToBox(box) {
         if (box === null) {
-            this.say('Element ' + number + ' has no place in the drawing.');
+            this.say('It has no place in the drawing.');
             return;
         }
         const side = Math.max(box[2] - box[0], box[3] - box[1]) * this.view.scale;
@@ -195,11 +215,15 @@ class App {
         this.moved();
     }
 
-    boxOf(number) {
-        const { scene } = this;
-        const boxes = [scene.before, scene.after].filter((state) => state && number < state.count)
-            .map((state) => scene.boxOfPart(state, number)).filter((box) => box !== null);
-        return boxes.length === 0 ? null : boxes.reduce(([a, b, c, d], [e, f, g, h]) => (
+    /** The box of a part in a state, or null where there is none. */
+    boxIn(state, number) {
+        return state && number !== null && number < state.count ? this.scene.boxOfPart(state, number) : null;
+    }
+
+    /** The least box that holds all of these, or null where none is there. */
+    joined(boxes) {
+        const there = boxes.filter((box) => box !== null);
+        return there.length === 0 ? null : there.reduce(([a, b, c, d], [e, f, g, h]) => (
             [Math.min(a, e), Math.min(b, f), Math.max(c, g), Math.max(d, h)]));
     }
 
@@ -309,7 +333,32 @@ class App {
             return;
         }
         const record = this.pickAt(place, reach);
-        this.choose(record < 0 ? -1 : this.numberToChoose(this.records.number[record]));
+        this.choose(record < 0 ? -1 : this.numberToChoose(this.numberOf(record)));
+    }
+
+    /** The number of a record in the state that numbers are looked up in. What is gone there is looked up before. */
+    numberOf(record) {
+        const number = this.records.number[record];
+        if (this.scene.mode === 'before' || !this.became.has(record)) {
+            return number;
+        }
+        if (this.became.get(record) === null) {
+            this.setMode('before');
+            return number;
+        }
+        return this.became.get(record);
+    }
+
+    /** Chooses what a change is of, and goes to its old and its new place. */
+    goToChange(before, after) {
+        const { scene } = this;
+        if (after === null) {
+            this.setMode('before');
+        } else if (before === null && scene.mode === 'before') {
+            this.setMode('both');
+        }
+        this.choose(scene.mode === 'before' ? before : after);
+        this.goToBox(this.joined([this.boxIn(scene.before, before), this.boxIn(scene.after, after)]));
     }
 
     /** The tree of what was clicked; the member where its tree is chosen; the tree again where the member is. */

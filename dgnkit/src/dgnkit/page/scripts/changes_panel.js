@@ -15,8 +15,8 @@ class ChangesPanel {
 
     show() {
         const wanted = byId('changes-filter').value.trim().toLowerCase();
-        const kept = this.changes.filter(([number, kind, words]) => (number + ' ' + kind + ' ' + words).toLowerCase()
-            .includes(wanted));
+        const kept = this.changes.filter(([before, after, kind, words]) => [before, after, kind, words].join(' ')
+            .toLowerCase().includes(wanted));
         fill(byId('changes'), ...kept.slice(0, MOST_LISTED).map((change) => this.rowOf(change)));
         setHidden(byId('changes-more'), kept.length <= MOST_LISTED);
         byId('changes-more').textContent = 'and ' + (kept.length - MOST_LISTED) + ' more: the field above finds them';
@@ -26,31 +26,26 @@ class ChangesPanel {
         }
     }
 
-    rowOf([number, kind, words]) {
+    rowOf([before, after, kind, words]) {
         const button = make('button', { type: 'button', class: 'entry' }, make('span', { class: 'kind ' + kind }, kind),
-            make('span', { class: 'number' }, String(number)), make('span', {}, words));
-        button.addEventListener('click', () => {
-            this.app.choose(number);
-            this.app.goTo(number);
-        });
+            make('span', { class: 'number' }, this.numbersSaid(before, after)), make('span', {}, words));
+        button.addEventListener('click', () => this.app.goToChange(before, after));
         return make('li', {}, button);
     }
 
-    /** An answer, and where it names a cause and an element what stands against the command. */
-    answerSaid(answer) {
-        const found = /^refused ([a-z-]+) (\d+)$/.exec(answer);
-        return found ? answer + ': ' + this.app.words.causeOf({ cause: found[1], element: Number(found[2]) }) : answer;
+    numbersSaid(before, after) {
+        return before !== null && after !== null && before !== after ? before + ' → ' + after : String(before ?? after);
     }
 
-    /** What was refused of the script that was run. */
+    /** What was refused of the script that was run, and why. */
     showAnswers() {
         const { answers } = this.app.data;
         if (!answers) {
             return;
         }
-        const refused = answers.filter(([, , answer]) => answer.startsWith('refused'));
-        const rows = refused.map(([line, command, answer]) => make('li', { class: 'refused' },
-            make('code', {}, line + '  ' + command), make('span', { class: 'answer' }, this.answerSaid(answer))));
+        const refused = answers.filter(([, , cause]) => cause !== undefined);
+        const rows = refused.map(([line, command, cause, why]) => make('li', { class: 'refused' },
+            make('code', {}, line + '  ' + command), make('span', { class: 'answer' }, 'refused ' + cause + ': ' + why)));
         fill(byId('answers'), make('h3', {}, counted(answers.length, 'command') + ', ' + refused.length + ' refused'),
             make('ol', { class: 'entries lines' }, ...rows));
         setHidden(byId('answers'), false);

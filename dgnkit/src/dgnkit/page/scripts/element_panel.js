@@ -48,7 +48,7 @@ class ElementPanel {
         const add = (word, text) => {
             said.push(make('p', { class: 'badge ' + word }, make('strong', {}, word), ' ', text));
         };
-        const change = this.app.changes.get(chosen);
+        const change = this.app.changes.get(record);
         if (change) {
             add(change.kind, change.words);
         } else if (this.app.scriptPanel && record >= this.app.scene.base) {

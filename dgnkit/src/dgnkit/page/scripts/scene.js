@@ -28,19 +28,33 @@ class Scene {
         return this.after && this.mode !== 'before' ? this.after : this.before;
     }
 
-    /** Takes another state to compare with, or none; its own records stand behind those of the drawing. */
-    setAfter(after) {
+    /**
+     * Takes another state to compare with, or none; its own records stand behind those of the drawing. `changes` are
+     * rows of a number before, a number after and a kind; without them elements of one number are compared.
+     */
+    setAfter(after, changes = null) {
         this.after = after;
         const { length } = this.records;
         this.newGrid = after && length > this.base ? new Grid(this.records, this.base, length) : null;
         this.marks = new Uint8Array(length);
-        if (after) {
-            this.mark();
+        if (after && changes) {
+            changes.forEach((change) => this.markChange(change));
+        } else if (after) {
+            this.markByNumber();
         }
         this.update();
     }
 
-    mark() {
+    markChange([before, after, kind]) {
+        if (before !== null) {
+            this.marks[this.before.record[before]] = kind === 'deleted' ? MARK.deleted : MARK.old;
+        }
+        if (after !== null) {
+            this.marks[this.after.record[after]] = MARK[kind];
+        }
+    }
+
+    markByNumber() {
         const { before, after, marks } = this;
         for (let number = 0; number < Math.max(before.count, after.count); number++) {
             const old = number < before.count ? before.record[number] : -1;
