@@ -13,14 +13,15 @@ import time
 import urllib.error
 import urllib.request
 from pathlib import Path
-from typing import Any, Iterator, List, Optional, Sequence
+from typing import Any, Iterator, List, Optional, Sequence, Tuple
 
 ELEMENT = 'element-6066-11e4-a52e-4f735466cecf'  # the key under which the driver names an element
 CHROMIUM = shutil.which('chromium') or shutil.which('chromium-browser')
 DRIVER = shutil.which('chromedriver')
 MISSING = None if CHROMIUM and DRIVER else 'no browser: chromium and chromedriver (chromium-driver) are not installed'
 FLAGS = ['--headless=new', '--hide-scrollbars', '--disable-background-networking', '--force-device-scale-factor=1']
-KEYS = {'Enter': '\ue007', 'Escape': '\ue00c', 'ArrowDown': '\ue015', 'ArrowRight': '\ue014', 'Tab': '\ue004'}
+KEYS = {'Enter': '\ue007', 'Escape': '\ue00c', 'Backspace': '\ue003', 'Delete': '\ue017'}
+KEYS.update(ArrowLeft='\ue012', ArrowUp='\ue013', ArrowRight='\ue014', ArrowDown='\ue015')
 
 
 class DriverError(Exception):
@@ -122,6 +123,16 @@ class Browser:
         moves = [{'type': 'pointerMove', 'x': round(x), 'y': round(y), 'duration': 20} for x, y in places]
         down, up = {'type': 'pointerDown', 'button': 0}, {'type': 'pointerUp', 'button': 0}
         self._pointer([moves[0], down, *moves[1:], up])
+
+    def pinch(self, *fingers: Tuple[Sequence[float], Sequence[float]]) -> None:
+        """Puts fingers down at their first places at once, and moves each to its second one."""
+        acts = []
+        for number, (start, end) in enumerate(fingers):
+            moves = [{'type': 'pointerMove', 'x': round(x), 'y': round(y), 'duration': 50} for x, y in (start, end)]
+            down, up = {'type': 'pointerDown', 'button': 0}, {'type': 'pointerUp', 'button': 0}
+            finger = {'type': 'pointer', 'id': 'finger%d' % number, 'parameters': {'pointerType': 'touch'}}
+            acts.append({**finger, 'actions': [moves[0], down, moves[1], up]})
+        self._ask('/actions', {'actions': acts})
 
     def hover(self, place: Sequence[float]) -> None:
         self._pointer([{'type': 'pointerMove', 'x': round(place[0]), 'y': round(place[1]), 'duration': 0}])

@@ -13,9 +13,18 @@ from pathlib import Path
 from typing import ClassVar, List, Tuple
 
 from browser import MISSING, Browser, browser
+from page_pictures import PICTURES
 from samples import EXAMPLES, PROGRAM, WithProgram, drawings, plan, with_units
 
+from dgnkit.page import sheet
+from dgnkit.page.colours import usual_colours
+
 HOSTILE = '</script><script>document.title = "taken"</script><img src=x onerror=alert(1)>'
+
+
+def setUpModule() -> None:
+    if MISSING:
+        print('the page is not tested: ' + MISSING, file=sys.stderr)
 
 
 @unittest.skipIf(MISSING, MISSING or '')
@@ -161,6 +170,29 @@ class Looking(WithBrowser):
         self.seen.settle()
         self.assertGreater(self.seen.run('return page.view.scale'), 100, 'single units are seen')
 
+    def test_two_fingers_zoom(self) -> None:
+        self.page(str(EXAMPLES / 'plan.dgn'))
+        before, middle = self.seen.run('return page.view.scale'), self.screen(2000, 1500)
+        x, y = middle
+        self.seen.pinch(((x - 50, y), (x - 150, y)), ((x + 50, y), (x + 150, y)))
+        self.seen.settle()
+        self.assertAlmostEqual(self.seen.run('return page.view.scale') / before, 3, delta=0.3)
+        for was, now in zip(middle, self.screen(2000, 1500)):
+            self.assertAlmostEqual(was, now, delta=12)
+        self.assertEqual(self.number(), 'element')
+
+    def test_far_away_and_near(self) -> None:
+        line = plan.line(1, (-2147483648, -2147483648), (2147483647, 2147483647))
+        self.page(self.put('far.dgn', drawings.drawing(line, plan.line(2, (7, 3), (12, 3)))))
+        self.assertGreater(self.dot(-1000000000, -1000000000)[3], 60)
+        self.seen.type('#search-field', '2')
+        self.seen.key('Enter', 'Escape')
+        self.seen.settle()
+        self.assertGreater(self.seen.run('return page.view.scale'), 20, 'five units are seen')
+        self.assertGreater(self.dot(9, 3)[3], 60)
+        self.assertGreater(self.dot(5, 5)[3], 60, 'the line across the plane passes here, too')
+        self.assertEqual(self.dot(5, 4)[3], 0)
+
     def test_places_in_units_of_resolution_and_in_master_units(self) -> None:
         file = (EXAMPLES / 'valve.dgn').read_bytes()
         self.page(self.put('units.dgn', with_units(file, 100, 1, ('m', 'cm'), (-2147483600, 0, 0))))
@@ -302,6 +334,24 @@ class Reading(WithBrowser):
         left, top = self.screen(3000, 650)
         self.assertTrue(200 < left < 940 and 50 < top < 770, 'it is seen')
 
+    def test_a_place_is_found_with_what_is_near_it(self) -> None:
+        self.page(str(EXAMPLES / 'plan.dgn'))
+        self.seen.type('#search-field', '3500,500')
+        found = self.seen.text('#search-list').split('\n')
+        self.assertEqual(found[1], 'Place 3500,500 in units')
+        # the pipe passes 3500 at 525, and falls 250 over 1000 there
+        self.assertEqual(found[2], '5 line string · 24 units away')
+        self.seen.key('ArrowDown', 'ArrowDown', 'Enter')
+        self.assertEqual(self.number(), 'element 5')
+
+    def test_a_place_in_master_units(self) -> None:
+        file = with_units((EXAMPLES / 'valve.dgn').read_bytes(), 100, 1, ('m', 'cm'), (-1000, 0, 0))
+        self.page(self.put('units.dgn', file))
+        self.seen.type('#search-field', '15.00, 0.5')
+        self.assertEqual(self.seen.text('#search-list').split('\n')[1], 'Place 15.00, 0.5 in m')
+        self.seen.key('Enter')
+        self.assertEqual(self.seen.run('return page.place'), [500, 50])
+
 
 class Writing(WithBrowser):
     """A script is written by hand in the page, saved, and run by the program."""
@@ -383,6 +433,41 @@ class Writing(WithBrowser):
         ran = self.program.run('edit', made, script, self.path('out.dgn'))
         self.assertEqual((ran.status, ran.said), (0, ['ok', 'ok', 'ok 3']))
 
+    def test_a_fence_by_keys(self) -> None:
+        self.page(str(EXAMPLES / 'valve.dgn'))
+        self.seen.run("document.getElementById('marks').focus()")
+        self.seen.key('f', 'ArrowUp', ' ')
+        self.seen.key(*['ArrowDown'] * 2, *['ArrowRight'] * 2, ' ', *['ArrowLeft'] * 4, ' ', 'Enter')
+        self.seen.settle()
+        self.assertIn('It chooses 1 tree', self.seen.text('#fence-text'))
+
+    def test_three_axes(self) -> None:
+        made = self.put('solid.dgn', drawings.DRAWINGS['a line of three axes'])
+        self.page(made)
+        self.click_at(50, 25)
+        self.assertEqual(self.number(), 'element 1')
+        self.assertIn('100, 50, 25', self.seen.text('#element'))
+        self.seen.type('#by-x', '5')
+        self.seen.type('#by-z', '-5')
+        self.seen.click('#edit-move')
+        self.assertEqual(self.script_lines(), ['move 1 5 0 -5'])
+        self.assertEqual(self.answers(), ['ok'])
+
+    def test_a_displacement_in_master_units(self) -> None:
+        file = with_units((EXAMPLES / 'valve.dgn').read_bytes(), 100, 1, ('m', 'cm'), (0, 0, 0))
+        self.page(self.put('units.dgn', file))
+        self.click_at(490, 10)
+        self.seen.run(
+            "const unit = document.getElementById('by-unit'); unit.value = 'master';"
+            "unit.dispatchEvent(new Event('input'));"
+        )
+        self.seen.type('#by-x', '-2.5')
+        self.seen.click('#edit-move')
+        self.assertEqual(self.script_lines(), ['move 2 -250 0'])
+        self.seen.type('#by-y', '1,5')
+        self.assertIn('is a number', self.seen.text('#mistakes'))
+        self.assertTrue(self.seen.run("return document.getElementById('edit-move').disabled"))
+
     def test_by_keys_alone(self) -> None:
         self.page(str(EXAMPLES / 'plan.dgn'))
         self.seen.key('/', *'vlv', 'Enter', 'Escape')
@@ -408,9 +493,10 @@ class Comparing(WithBrowser):
         self.assertEqual(sorted(os.listdir(self.folder)), ['edit.txt', 'page.html', 'plan.dgn'])
         kinds = self.seen.run("return [...document.querySelectorAll('#changes .entry')].map((it) => it.innerText)")
         self.assertTrue(any('changed' in it and '5' in it and 'colour' in it for it in kinds), kinds)
-        self.assertTrue(any('changed' in it and '6' in it and '1000,75' in it for it in kinds), kinds)
+        self.assertTrue(any('changed' in it and '6–8' in it and '1000,75' in it for it in kinds), kinds)
         self.assertTrue(any('deleted' in it and '9' in it for it in kinds), kinds)
         self.assertTrue(any('added' in it and '12' in it for it in kinds), kinds)
+        self.assertIn('10 changes', self.seen.text('#changes-count'))
         self.assertIn('5 commands, 1 refused', self.seen.text('#answers'))
         self.assertIn('locked', self.seen.text('#answers'))
         self.assertTrue(self.seen.run("return document.getElementById('script-panel').hidden"))
@@ -432,6 +518,13 @@ class Comparing(WithBrowser):
         self.assertGreater(self.dot(2040, 615)[3], 100)
         self.assertEqual(self.dot(1040, 540)[3], 0)
         self.assertEqual(self.dot(3040, 690)[3], 0)
+
+    def test_what_has_not_changed_is_faint(self) -> None:
+        script = self.put('edit.txt', 'color 5 1\n')
+        self.page(str(EXAMPLES / 'plan.dgn'), '--script', script)
+        faint = self.dot(0, 1500)[3]
+        self.seen.click('#mode-after')
+        self.assertLess(faint, 0.6 * self.dot(0, 1500)[3])
 
     def test_an_entry_goes_to_its_place(self) -> None:
         script = self.put('edit.txt', 'move 6 1000 75\n')
@@ -473,6 +566,33 @@ class Comparing(WithBrowser):
         self.assertEqual(self.seen.title, 'plan.dgn – 1 change')
         self.page(made, '--after', made)
         self.assertIn('Nothing has changed', self.seen.text('#changes'))
+
+
+class Pictures(WithBrowser):
+    """The pictures of the documents can be made."""
+
+    def test_both_are_made(self) -> None:
+        made = {name: picture(self.seen, str(self.folder)) for name, picture in PICTURES.items()}
+        for name, content in made.items():
+            self.assertEqual(content[:8], b'\x89PNG\r\n\x1a\n', name)
+            self.assertGreater(len(content), 20000, name)
+        self.assertTrue(self.seen.text('#changes-count').startswith('7 changes'))
+
+
+class Sheet(unittest.TestCase):
+    """The page's files."""
+
+    def test_each_script_is_joined_once(self) -> None:
+        folder = Path(sheet.__file__).with_name('scripts')
+        self.assertEqual(sorted(sheet.SCRIPTS), sorted(it.stem for it in folder.glob('*.js')))
+
+    def test_the_usual_colours(self) -> None:
+        table = usual_colours()
+        self.assertEqual(len(table), 256)
+        # rows that other readers of the format have: the first of a row, its orange, its last, and the end
+        self.assertEqual([table[it] for it in (16, 22, 31)], [(240, 240, 240), (240, 122, 0), (0, 225, 225)])
+        self.assertEqual([table[it] for it in (208, 214, 223)], [(60, 60, 60), (60, 62, 0), (0, 45, 45)])
+        self.assertEqual(table[254:], [(192, 192, 192), (28, 0, 100)])
 
 
 class Refusing(WithProgram):

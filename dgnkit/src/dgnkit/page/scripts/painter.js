@@ -24,7 +24,9 @@ class Painter {
         this.width = 0;
         this.dash = null;
         this.fill = null;
+        this.alpha = 1;
         this.inPath = 0;
+        this.context.globalAlpha = 1;
         this.context.setTransform(ratio, 0, 0, ratio, 0, 0);
         this.context.lineJoin = 'round';
         this.context.lineCap = 'butt';
@@ -59,6 +61,14 @@ class Painter {
             context.setLineDash(dash);
         }
         context.beginPath();
+    }
+
+    /** How much is seen of what is drawn from now on, from 0 to 1. */
+    setAlpha(alpha) {
+        if (alpha !== this.alpha) {
+            this.finish();
+            this.context.globalAlpha = this.alpha = alpha;
+        }
     }
 
     setFill(fill) {

@@ -1,7 +1,7 @@
 /* A picture of a scene by one view. */
 
 const MARGIN = 0.25;              // of the screen that is drawn beyond each of its edges
-const FAINT = 0.38;               // how much is left of what hasn't changed where it is compared
+const FAINT = 0.45;               // how much is left of what hasn't changed where it is compared
 
 /** A picture of the scene by a view, with a margin around it, drawn in slices. */
 class Picture {
@@ -68,14 +68,14 @@ class Picture {
         const isDeleted = (records.flags[record] & FLAG.deleted) !== 0;
         const dash = DASHES[records.style[record]], width = widthOf(records.weight[record]);
         if (mark === MARK.old) {
-            this.context.globalAlpha = 0.75;
+            painter.setAlpha(0.75);
             painter.draw(record, pens.old, 0.8, BOX_DASH);
         } else if (mark !== MARK.none) {
-            this.context.globalAlpha = 1;
+            painter.setAlpha(1);
             const pen = mark === MARK.added ? pens.added : mark === MARK.deleted ? pens.deleted : pens.changed;
             painter.draw(record, pen, width + 1.2, mark === MARK.deleted ? DASHES[2] : dash);
         } else {
-            this.context.globalAlpha = isDeleted || scene.mode === 'both' ? FAINT : 1;
+            painter.setAlpha(isDeleted || scene.mode === 'both' ? FAINT : 1);
             painter.draw(record, colours[records.colour[record]], width, dash);
         }
     }
