@@ -96,7 +96,7 @@ class Words {
         const type = state ? this.typeOf(state.typeOf(element)) : 'a copy';
         switch (cause) {
             case 'unknown': return 'there is no ' + number;
-            case 'broken': return number + ' (' + type + ') is broken: its tree isn’t as its header says';
+            case 'broken': return number + ' (' + type + ') is broken; dgnkit mend says whether it can be mended';
             case 'deleted': return number + ' (' + type + ') is marked deleted';
             case 'locked': return number + ' (' + type + ') is locked';
             case 'floating': return number + ' (' + type + ') has coordinates that are floating numbers';
