@@ -446,7 +446,9 @@ class App {
         const count = session.state.count;
         const recordOf = new Uint32Array(count);
         recordOf.set(scene.before.record);
-        for (const number of [...session.touched].sort((a, b) => a - b)) {
+        const touched = Uint32Array.from(session.touched).sort();
+        records.reserve(touched.length, session.records.pointCount);
+        for (const number of touched) {
             recordOf[number] = records.append(session.records, session.state.record[number]);
             records.number[recordOf[number]] = number;
         }

@@ -15,6 +15,7 @@ const COLUMNS = Object.freeze({
     flags: Uint8Array, depth: Uint16Array, size: Uint32Array, number: Uint32Array,
     first: Uint32Array, points: Uint32Array, label: Int32Array,
 });
+const COLUMN_NAMES = Object.freeze(Object.keys(COLUMNS));
 
 /**
  * Records of elements in columns. A record has its element's head, its place in `coordinates` (`first`, counted in
@@ -38,7 +39,10 @@ class Records {
     /** Makes room for so many more records and points. */
     reserve(records, points) {
         const length = this.length + records;
-        for (const name of Object.keys(COLUMNS)) {
+        if (length <= this.type.length && (this.pointCount + points) * this.axes <= this.coordinates.length) {
+            return;
+        }
+        for (const name of COLUMN_NAMES) {
             this[name] = grown(this[name], length);
         }
         this.range = grown(this.range, length * 2 * this.axes);
@@ -57,7 +61,7 @@ class Records {
     clone() {
         const copy = Object.create(Records.prototype);
         Object.assign(copy, this);
-        for (const name of Object.keys(COLUMNS).concat('coordinates', 'range', 'box')) {
+        for (const name of COLUMN_NAMES.concat('coordinates', 'range', 'box')) {
             copy[name] = this[name].slice();
         }
         copy.labels = this.labels.slice();
@@ -68,7 +72,7 @@ class Records {
     append(other, from) {
         this.reserve(1, other.points[from]);
         const to = this.length++;
-        for (const name of Object.keys(COLUMNS)) {
+        for (const name of COLUMN_NAMES) {
             this[name][to] = other[name][from];
         }
         const { axes } = this;
@@ -105,6 +109,21 @@ class Records {
         return this.coordinates[(this.first[record] + point) * this.axes + axis];
     }
 
+    /** Adds a displacement to all coordinates of a record, those of its points and of its range. */
+    shift(record, by) {
+        const { axes } = this;
+        shiftRow(this.coordinates, this.first[record] * axes, this.points[record] * axes, by);
+        shiftRow(this.range, record * 2 * axes, 2 * axes, by);
+        this.setBox(record);
+    }
+
+    /** Whether all coordinates of a record would be on the design plane behind a displacement. */
+    staysOnPlane(record, by) {
+        const { axes } = this;
+        return isRowOnPlane(this.coordinates, this.first[record] * axes, this.points[record] * axes, by)
+            && isRowOnPlane(this.range, record * 2 * axes, 2 * axes, by);
+    }
+
     /** Sets the box that a record is drawn in, of x and y: low x, low y, high x, high y. */
     setBox(record) {
         const { box } = this;
@@ -139,6 +158,23 @@ class Records {
         box[at + 2] = highX;
         box[at + 3] = highY;
     }
+}
+
+/** Adds a displacement to coordinates, axis by axis. */
+function shiftRow(values, start, count, by) {
+    for (let at = start, axis = 0; at < start + count; at++, axis = axis + 1 === by.length ? 0 : axis + 1) {
+        values[at] += by[axis];
+    }
+}
+
+function isRowOnPlane(values, start, count, by) {
+    for (let at = start, axis = 0; at < start + count; at++, axis = axis + 1 === by.length ? 0 : axis + 1) {
+        const value = values[at] + by[axis];
+        if (value < LEAST || value > GREATEST) {
+            return false;
+        }
+    }
+    return true;
 }
 
 /** Widens a text's box, which is its origin, by the corners of its characters. */

@@ -48,7 +48,7 @@ class ScriptPanel {
         byId('fence-mode').addEventListener('change', () => this.app.fenceChanged());
         byId('fence-move').addEventListener('click', () => this.addFenceEdit({ word: 'fmove', by: this.by() }));
         byId('fence-copy').addEventListener('click', () => this.addFenceEdit({ word: 'fcopy', by: this.by() }));
-        byId('fence-sym').addEventListener('click', () => this.addFenceEdit({ word: 'fsym', colour: this.colour() }));
+        byId('fence-color').addEventListener('click', () => this.addFenceEdit({ word: 'fsym', colour: this.colour() }));
         byId('fence-delete').addEventListener('click', () => this.addFenceEdit({ word: 'fdelete' }));
     }
 
@@ -75,9 +75,17 @@ class ScriptPanel {
         this.addEdit({ word, by: this.by() });
     }
 
+    /** Adds an edit of what is chosen, unless it would be refused. */
     addEdit(edit) {
-        if (this.app.chosen >= 0 && edit.by !== null && edit.colour !== null) {
-            this.add([{ ...edit, number: this.app.chosen }]);
+        const { app } = this;
+        if (app.chosen < 0 || edit.by === null || edit.colour === null) {
+            return;
+        }
+        const cause = app.session.causeOf(edit.word, app.chosen, edit.by || null);
+        if (cause === null) {
+            this.add([{ ...edit, number: app.chosen }]);
+        } else {
+            app.say('It would be refused: ' + app.words.causeOf(cause) + '.');
         }
     }
 
@@ -96,8 +104,8 @@ class ScriptPanel {
         if (set !== lineOf({ word: 'fence', corners })) {
             lines.push({ word: 'fence', corners: corners.map((corner) => corner.slice()) });
         }
-        this.add([...lines, { ...edit, mode: byId('fence-mode').value }]);
         this.app.clearFence();
+        this.add([...lines, { ...edit, mode: byId('fence-mode').value }]);
     }
 
     add(commands) {
@@ -142,10 +150,7 @@ class ScriptPanel {
             const cause = chosen < 0 ? null : this.app.session.causeOf(edit, chosen, by);
             const isMissing = (isMoving(edit) && by === null) || (edit === 'color' && this.colour() === null);
             byId('edit-' + edit).disabled = cause !== null || isMissing;
-            if (cause !== null) {
-                const why = this.app.words.causeOf(cause);
-                causes.set(why, [...(causes.get(why) || []), name]);
-            }
+            addCause(causes, cause, name, this.app.words);
         }
         byId('drag-move').disabled = byId('edit-move').disabled && by !== null;
         byId('drag-copy').disabled = byId('edit-copy').disabled && by !== null;
@@ -180,12 +185,14 @@ class ScriptPanel {
         const { fenceDraft, fenceChosen, tool } = this.app;
         const isClosed = !fenceDraft.isOpen && fenceDraft.corners.length > 2;
         byId('fence-clear').disabled = fenceDraft.corners.length === 0;
-        const by = this.by();
-        for (const [id, edit, isReady] of [['fence-move', 'move', by !== null], ['fence-copy', 'copy', by !== null],
-            ['fence-sym', 'color', this.colour() !== null], ['fence-delete', 'delete', true]]) {
-            byId(id).disabled = !isClosed || !isReady || fenceChosen.length === 0 || this.fenceCause(edit, by) !== null;
+        const by = this.by(), causes = new Map();
+        for (const [edit, name] of EDITS) {
+            const cause = isClosed ? this.fenceCause(edit, by) : null;
+            const isMissing = (isMoving(edit) && by === null) || (edit === 'color' && this.colour() === null);
+            byId('fence-' + edit).disabled = !isClosed || isMissing || fenceChosen.length === 0 || cause !== null;
+            addCause(causes, cause, name, this.app.words);
         }
-        byId('fence-text').textContent = isClosed ? this.fenceSaid(by) : tool === 'fence'
+        byId('fence-text').textContent = isClosed ? this.fenceSaid(causes) : tool === 'fence'
             ? 'Click the corners; Enter or a double click closes the fence.' : 'No fence is drawn.';
     }
 
@@ -200,17 +207,8 @@ class ScriptPanel {
         return null;
     }
 
-    fenceSaid(by) {
-        const { fenceChosen, words } = this.app;
-        const count = 'It chooses ' + counted(fenceChosen.length, 'tree') + ' of what is shown.';
-        const causes = new Map();
-        for (const [edit, name] of EDITS) {
-            const cause = this.fenceCause(edit, by);
-            if (cause !== null) {
-                const why = words.causeOf(cause);
-                causes.set(why, [...(causes.get(why) || []), name]);
-            }
-        }
+    fenceSaid(causes) {
+        const count = 'It chooses ' + counted(this.app.fenceChosen.length, 'tree') + ' of what is shown.';
         return [count, ...refusalsOf(causes)].join(' ');
     }
 
@@ -252,6 +250,14 @@ class ScriptPanel {
         link.click();
         setTimeout(() => URL.revokeObjectURL(link.href), 10000);
         this.app.say('Saved as ' + this.names.script + '.');
+    }
+}
+
+/** Adds the name of an edit to those that a cause stands against. */
+function addCause(causes, cause, name, words) {
+    if (cause !== null) {
+        const why = words.causeOf(cause);
+        causes.set(why, [...(causes.get(why) || []), name]);
     }
 }
 

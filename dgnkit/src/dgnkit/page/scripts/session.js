@@ -125,29 +125,11 @@ class Session {
     /** The first live element with a coordinate that would leave the design plane. */
     offPlane(number, by) {
         for (const at of this.state.live(number)) {
-            const spots = this.spotsOf(this.state.record[at]);
-            if (spots.some(([values, axis]) => !isOnPlane(values[axis] + by[axis]))) {
+            if (!this.records.staysOnPlane(this.state.record[at], by)) {
                 return { cause: 'off-plane', element: at };
             }
         }
         return null;
-    }
-
-    /** The coordinates of a record: rows of numbers, and the axis that each is asked on. */
-    spotsOf(record) {
-        const { records } = this, { axes } = records;
-        const range = records.rangeOf(record), spots = [];
-        const rows = [range.subarray(0, axes), range.subarray(axes)];
-        for (let point = 0; point < records.points[record]; point++) {
-            const at = (records.first[record] + point) * axes;
-            rows.push(records.coordinates.subarray(at, at + axes));
-        }
-        for (const row of rows) {
-            for (let axis = 0; axis < axes; axis++) {
-                spots.push([row, axis]);
-            }
-        }
-        return spots;
     }
 
     isTooLong(numbers) {
@@ -166,7 +148,7 @@ class Session {
 
     move(number, by) {
         for (const at of this.state.live(number)) {
-            this.shift(this.state.record[at], by);
+            this.records.shift(this.state.record[at], by);
             this.touched.add(at);
         }
         const moved = this.records.rangeOf(this.state.record[number]);
@@ -174,13 +156,6 @@ class Session {
             this.widen(this.state.record[header], moved);
             this.touched.add(header);
         }
-    }
-
-    shift(record, by) {
-        for (const [row, axis] of this.spotsOf(record)) {
-            row[axis] += by[axis];
-        }
-        this.records.setBox(record);
     }
 
     /** Widens a header's range by that of an element; it is never made narrower. */
@@ -217,7 +192,7 @@ class Session {
             records.depth[record] -= depth;
             records.number[record] = state.count + made.length;
             if (live.has(at)) {
-                this.shift(record, by);
+                records.shift(record, by);
             }
             made.push(record);
         }
@@ -288,10 +263,6 @@ class Session {
         return Math.min(range[0], range[axes]) > highX || Math.min(range[1], range[axes + 1]) > highY
             || Math.max(range[0], range[axes]) < lowX || Math.max(range[1], range[axes + 1]) < lowY;
     }
-}
-
-function isOnPlane(value) {
-    return value >= LEAST && value <= GREATEST;
 }
 
 function isMoving(edit) {
