@@ -20,7 +20,7 @@ CHROMIUM = shutil.which('chromium') or shutil.which('chromium-browser')
 DRIVER = shutil.which('chromedriver')
 MISSING = None if CHROMIUM and DRIVER else 'no browser: chromium and chromedriver (chromium-driver) are not installed'
 FLAGS = ['--headless=new', '--hide-scrollbars', '--disable-background-networking', '--force-device-scale-factor=1']
-KEYS = {'Enter': '\ue007', 'Escape': '\ue00c', 'Backspace': '\ue003', 'Delete': '\ue017'}
+KEYS = {'Tab': '\ue004', 'Enter': '\ue007', 'Escape': '\ue00c', 'Backspace': '\ue003', 'Delete': '\ue017'}
 KEYS.update(ArrowLeft='\ue012', ArrowUp='\ue013', ArrowRight='\ue014', ArrowDown='\ue015')
 
 
@@ -149,6 +149,10 @@ class Browser:
     def screenshot(self) -> bytes:
         """What is seen, as a PNG file."""
         return base64.b64decode(self._call('GET', self.session + '/screenshot'))
+
+    def command(self, name: str, **words: Any) -> Any:
+        """What the browser answers to a command of its debugging protocol."""
+        return self._ask('/goog/cdp/execute', {'cmd': name, 'params': words})
 
     def complaints(self) -> List[str]:
         """The faults and the forbidden doings that the browser has told since it was asked last."""
