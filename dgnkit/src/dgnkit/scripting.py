@@ -5,14 +5,14 @@ from __future__ import annotations
 import os
 import tempfile
 from dataclasses import dataclass, field
-from typing import List, Sequence, Tuple
+from typing import Iterable, List, Sequence, Tuple
 
 from .drawing import Drawing
 from .errors import BadScript, Mistake
 from .output import counted, few, note, say
 from .script import Script
 from .wording import command_said
-from .writing import edit_command, note_left, write_script
+from .writing import edit_command, note_left, script_names, write_script
 
 PLACE = '{n}'
 REASONS = {
@@ -103,22 +103,28 @@ def note_proposal(drawing: Drawing, made: Proposal) -> None:
         note('goes along: %s below chosen headers that meet no condition by themselves: %s' % (counts, few(made.along)))
 
 
-def give_script(drawing: Drawing, made: Proposal, path: str, is_dry: bool) -> None:
+def give_proposal(drawing: Drawing, made: Proposal, path: str, is_dry: bool) -> None:
+    """Gives the script of a proposal, and says what is left out of it."""
+    note_proposal(drawing, made)
+    words = (command_said(drawing, it.text) for it in made.script.commands)
+    give_script(drawing.path, made.script, words, path, is_dry)
+
+
+def give_script(drawing: str, script: Script, words: Iterable[str], path: str, is_dry: bool) -> None:
     """Writes a script, or says it where no file is named; a dry run says its edits in words. What is to be run next is
     said at the end."""
-    note_proposal(drawing, made)
-    name = path or 'SCRIPT'
+    names = script_names(script, path or 'SCRIPT')
     if is_dry:
-        for command in made.script.commands:
-            say(command_said(drawing, command.text))
-        say('nothing is written; without --dry-run the next command is: ' + edit_command(drawing.path, [name]))
+        for line in words:
+            say(line)
+        say('nothing is written; without --dry-run the next command is: ' + edit_command(drawing, names))
     elif path:
-        names = write_script(made.script, path)
-        say('%s: %s' % (', '.join(names), counted(len(made.script.commands), 'command')))
-        say('next: ' + edit_command(drawing.path, names))
-    elif len(made.script.parts()) > 1:
+        write_script(script, path)
+        say('%s: %s' % (', '.join(names), counted(len(script.commands), 'command')))
+        say('next: ' + edit_command(drawing, names))
+    elif len(names) > 1:
         raise Mistake('the script is longer than the program reads: name a file by -o, and it is written in several')
     else:
-        for line in made.script.lines:
-            say(line.decode('utf-8'))
-        note('next: ' + edit_command(drawing.path, [name]))
+        for command in script.lines:
+            say(command.decode('utf-8'))
+        note('next: ' + edit_command(drawing, names))

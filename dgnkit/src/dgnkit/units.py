@@ -8,6 +8,7 @@ from fractions import Fraction
 from typing import Optional, Sequence, Tuple
 
 from .numbers import long_at, vax_double_at
+from .output import counted, printable
 
 # What two characters are known to stand for, in metres; a foot is the international one. Case doesn't count.
 METRES = {
@@ -73,6 +74,22 @@ class Units:
     def name(self) -> str:
         """What a master unit is called here."""
         return self.master_name or 'master units'
+
+    @property
+    def said(self) -> str:
+        """The units in words, in metres too where the master unit's name is known."""
+        if not self.is_known:
+            said = (
+                'none are set (the TCB counts %d subunits and %d units of resolution): places are units of resolution'
+            )
+            return said % (self.subunits, self.resolution)
+        master, sub = (printable(it) or '(no name)' for it in (self.master_name, self.sub_name))
+        fine = counted(self.resolution, 'unit of resolution', 'units of resolution')
+        said = '1 %s = %d %s, 1 %s = %s' % (master, self.subunits, sub, sub, fine)
+        metres = self.master_metres
+        if metres is None:
+            return said + '; %s is no unit whose metres are known' % master
+        return said + '; 1 unit of resolution = %s m' % shortest(float(metres / self.in_master))
 
     def to_master(self, point: Sequence[int]) -> Tuple[float, ...]:
         """A place of the drawing in master units. Only where these are known."""

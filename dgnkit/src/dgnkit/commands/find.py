@@ -10,7 +10,7 @@ from ..drawing import Drawing
 from ..element import Element
 from ..errors import Mistake
 from ..output import counted, note, say, say_json, table
-from ..scripting import give_script, propose
+from ..scripting import give_proposal, propose
 from ..units import shortest
 
 if TYPE_CHECKING:
@@ -39,7 +39,7 @@ def run(arguments: argparse.Namespace) -> int:
     if conditions.near is not None and arguments.script is None:
         chosen.sort(key=lambda it: (conditions.distance(it), it))
     if arguments.script is not None:
-        give_script(drawing, propose(drawing, chosen, arguments.script), arguments.output, arguments.dry_run)
+        give_proposal(drawing, propose(drawing, chosen, arguments.script), arguments.output, arguments.dry_run)
     elif arguments.json:
         say_json([row_of(conditions, drawing.elements[it]) for it in chosen])
     elif arguments.numbers:
