@@ -5,7 +5,8 @@ from __future__ import annotations
 from dataclasses import dataclass
 from decimal import Decimal
 from fractions import Fraction
-from typing import Optional, Sequence, Tuple
+from functools import cached_property
+from typing import List, Optional, Sequence, Tuple, Union
 
 from .numbers import long_at, vax_double_at
 from .output import counted, printable
@@ -93,8 +94,14 @@ class Units:
 
     def to_master(self, point: Sequence[int]) -> Tuple[float, ...]:
         """A place of the drawing in master units. Only where these are known."""
-        whole = self.in_master
-        return tuple(float((at - zero) / whole) for at, zero in zip(point, self.origin))
+        whole, zeros = self._whole
+        return tuple(float((at - zero) / whole) for at, zero in zip(point, zeros))
+
+    @cached_property
+    def _whole(self) -> Tuple[int, Tuple[Union[int, Fraction], ...]]:
+        """The units of resolution of a master unit, and the origin with whole numbers where it has such."""
+        zeros: List[Union[int, Fraction]] = [it.numerator if it.denominator == 1 else it for it in self.origin]
+        return self.in_master, tuple(zeros)
 
     def length_from_master(self, value: Fraction) -> Fraction:
         """A length in master units, in units of resolution."""
