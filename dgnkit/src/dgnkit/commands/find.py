@@ -24,7 +24,11 @@ def register(words: Subparsers) -> None:
     form = parser.add_mutually_exclusive_group()
     form.add_argument('--numbers', action='store_true', help='say the numbers alone, one a line')
     form.add_argument('--json', action='store_true', help='say them as JSON')
-    form.add_argument('--script', metavar='LINE', help="a script's line for each, in which {n} is its number")
+    form.add_argument(
+        '--script',
+        metavar='LINE',
+        help="a script's line for each, with {n} for its number and {2.5} for 2.5 master units",
+    )
     parser.add_argument('-o', '--output', metavar='SCRIPT', default='', help='the file for --script')
     parser.add_argument('--dry-run', action='store_true', help='say in words what the script would do')
     parser.set_defaults(run=run)

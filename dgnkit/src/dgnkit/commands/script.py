@@ -10,7 +10,7 @@ from ..errors import Mistake
 from ..grammar import fault_of
 from ..output import few
 from ..script import Script
-from ..scripting import give_proposal, give_script, line_of, propose
+from ..scripting import give_proposal, give_script, line_of, propose, template_of
 from ..tables import numbers_in
 
 if TYPE_CHECKING:
@@ -19,7 +19,9 @@ if TYPE_CHECKING:
 
 def register(words: Subparsers) -> None:
     parser = words.add_parser('script', help='write a script for elements whose numbers a file has')
-    parser.add_argument('line', metavar='LINE', help="a script's line for each, in which {n} is its number")
+    parser.add_argument(
+        'line', metavar='LINE', help="a script's line for each, with {n} for its number and {2.5} for 2.5 master units"
+    )
     parser.add_argument('--numbers', metavar='FILE', required=True, help='a CSV or GeoJSON file with their numbers')
     parser.add_argument('--field', default='number', help='the field that has them')
     parser.add_argument('--drawing', metavar='IN', help='the drawing, to leave out what it would refuse')
@@ -35,7 +37,8 @@ def run(arguments: argparse.Namespace) -> int:
         ask_numbers(drawing, numbers, arguments.numbers)
         give_proposal(drawing, propose(drawing, sorted(numbers), arguments.line), arguments.output, arguments.dry_run)
         return 0
-    script = Script(line_of(arguments.line, it) for it in numbers)
+    template = template_of(arguments.line, None)
+    script = Script(line_of(template, it) for it in numbers)
     for line in script.lines[:1]:
         fault = fault_of(line)
         if fault or line.lstrip().startswith(b'#'):
