@@ -208,6 +208,18 @@ class Scripts(samples.WithProgram):
         )
         self.assertFalse((self.folder / 's').exists())
 
+    def test_lengths_in_master_units(self) -> None:
+        path = self.put('in.dgn', with_units(drawings.drawing(drawings.line()), 100, 10, ('m', 'cm'), (0, 0, 0)))
+        out, _ = self.script(path, '--level', '1', '--script', 'move {n} {2.5} {-0.0004}')
+        self.assertEqual(out, 'move 1 2500 0\n')
+        bare = self.put('bare.dgn', drawings.drawing(drawings.line()))
+        status, _, err = self.kit('find', bare, '--level', '1', '--script', 'move {n} {2.5} 0')
+        self.assertEqual((status, 'master units' in err), (2, True))
+
+    def test_wrong_ranges_are_fitted(self) -> None:
+        path = self.put('in.dgn', drawings.DRAWINGS['a cell of a line whose range is too small'])
+        self.assertEqual(self.script(path, '--wrong-range', '--script', 'fit {n}')[0], 'fit 2\n')
+
     def test_as_many_files_as_the_limit_of_a_script_wants(self) -> None:
         path = self.gen(1, 100000)
         out, _ = self.script(path, '--type', '3,4,6', '--script', 'sym {n} 1 2 3', '-o', self.path('s.txt'))

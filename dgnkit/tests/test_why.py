@@ -66,6 +66,11 @@ class Why(samples.WithProgram):
         self.assertIn('its total 54 asks for 146 bytes', said)
         self.assertIn('can not mend it', said)
 
+    def test_a_stray_orphan_behind_what_can_be_mended_is_not_mended(self) -> None:
+        chain = drawings.DRAWINGS['a complex chain of the line 2, with bit C']
+        said = self.only(chain[:-2] + drawings.line(True) + b'\xff\xff', 'color 3 1')
+        self.assertIn('can not mend it', said)
+
     def test_causes_of_types(self) -> None:
         arc = drawings.DRAWINGS['a cell of the line 2 and the arc 3']
         self.assertIn('arc 3 on level 1, which goes along with element 1', self.only(arc, 'move 1 5 5'))

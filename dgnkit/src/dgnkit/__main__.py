@@ -1,8 +1,6 @@
 """Runs the command by `python3 -m dgnkit`."""
 
-import sys
-
-from dgnkit.cli import main
+from dgnkit.cli import command
 
 if __name__ == '__main__':
-    sys.exit(main())
+    command()

@@ -56,21 +56,27 @@ def module_names() -> List[str]:
     return sorted(names, key=lambda it: (ORDER.index(it) if it in ORDER else len(ORDER), it))
 
 
-def parser_of() -> Parser:
-    """The parser of all commands."""
+def parser_of(names: Sequence[str]) -> Parser:
+    """The parser of these commands."""
     parser = Parser(prog='dgnkit', description='Finds, explains, mends and compares design files; dgnedit writes them.')
     parser.add_argument('--version', action='version', version='dgnkit ' + __version__)
     words = parser.add_subparsers(dest='word', metavar='WORD', required=True)
-    for name in module_names():
+    for name in names:
         import_module('dgnkit.commands.' + name).register(words)
     return parser
+
+
+def command() -> NoReturn:
+    """Runs the command that the program was called with, and ends with its status."""
+    sys.exit(main())
 
 
 def main(words: Optional[Sequence[str]] = None) -> int:
     """Runs a command, and gives its status: 0 and 1 as the command says, and 2 where it can't be done."""
     gc.disable()  # a drawing is many small objects without cycles: to look for some again and again takes half the time
     try:
-        arguments = parser_of().parse_args(words)
+        given, names = list(sys.argv[1:] if words is None else words), module_names()
+        arguments = parser_of([given[0]] if given and given[0] in names else names).parse_args(given)
         run: Callable[[argparse.Namespace], int] = arguments.run
         status = run(arguments)
         sys.stdout.flush()

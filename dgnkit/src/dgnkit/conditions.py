@@ -44,6 +44,7 @@ def add_conditions(parser: argparse.ArgumentParser) -> None:
     group.add_argument('--deleted', action='store_true', help='marked deleted; else such elements are left out')
     group.add_argument('--locked', action='store_true', help='locked')
     group.add_argument('--broken', action='store_true', help='in a tree that is broken')
+    group.add_argument('--wrong-range', action='store_true', help='whose stored range is not what they hold')
     group.add_argument('--near', metavar='X,Y', help='near this place')
     group.add_argument('--within', metavar='D', help='how near: at most this distance')
     group.add_argument('--inside', metavar='X,Y', nargs=2, help='wholly inside the box with these corners')
@@ -68,7 +69,7 @@ NAMES = [
     'locked',
     'broken',
 ]
-NAMES += ['near', 'inside', 'overlap', 'outside']
+NAMES += ['wrong_range', 'near', 'inside', 'overlap', 'outside']
 
 
 def has_conditions(arguments: argparse.Namespace) -> bool:
@@ -138,6 +139,9 @@ class Conditions:
             tests.append(lambda it: it.number not in dead)
         if arguments.locked:
             tests.append(lambda it: it.is_locked)
+        if arguments.wrong_range:
+            wrong = {it.number for it in self.drawing.findings}
+            tests.append(lambda it: it.number in wrong)
         if arguments.broken:
             broken, roots = self.broken_roots, self.drawing.nesting.roots
             tests.append(lambda it: roots[it.number] in broken)

@@ -19,11 +19,13 @@ PARTS_OF_SPLINES = frozenset([21, 25, 26, 28])
 
 @dataclass
 class Change:
-    """An element's edit: its new bytes by their places in the body, and what it is in words."""
+    """An element's edit: its new bytes by their places in the body, what it is in words, and how many elements behind
+    it are its members then, where it is a header that is mended."""
 
     element: Element
     edits: Dict[int, int]
     words: List[str]
+    members: int = 0
 
 
 @dataclass
@@ -137,7 +139,7 @@ class _Walk:
                 words.append('(though it stands behind a loose header, to which it may belong)')
         if words:
             words.append('it has ' + counted(behind - element.number - 1, 'member'))
-        return Change(element, edits, words) if edits else None
+        return Change(element, edits, words, behind - element.number - 1) if edits else None
 
     def loose(self, element: Element, sums: List[int], is_root: bool) -> int:
         """Tells of a header that stays loose, and gives where to go on."""

@@ -9,7 +9,7 @@ from pathlib import Path
 from typing import Any, Iterable, List, Sequence
 
 
-def say(text: str = '') -> None:
+def say(text: str) -> None:
     """Says a line on standard output."""
     print(text)
 

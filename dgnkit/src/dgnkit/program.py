@@ -58,14 +58,7 @@ class Program:
             raise MissingProgram('%s can not be run: %s' % (self.path, why.strerror))
         if ran.returncode < 0:
             raise ListingError('dgnedit was ended by the signal %d' % -ran.returncode)
-        try:
-            text = ran.stdout.decode('ascii')
-        except UnicodeDecodeError:
-            raise ListingError('dgnedit said what is no ASCII')
-        lines = text.split('\n')
-        if lines.pop() != '':
-            raise ListingError('dgnedit said a line without an end')
-        return Run(ran.returncode, lines)
+        return Run(ran.returncode, lines_of(ran.stdout))
 
     def edit(self, drawing: Name, script: Script, out: Name = NOWHERE) -> List[Answer]:
         """Runs a script, and gives the answers to its commands. It raises an Ending where it wasn't run whole."""
@@ -91,6 +84,17 @@ class Program:
         if ran.status != 0:
             raise ending_of(ran.status, ran.said, str(drawing))
         return counted(word, ran.said)
+
+
+def lines_of(said: bytes) -> List[str]:
+    """The lines that the program said. It raises ListingError where they are no lines of ASCII."""
+    try:
+        lines = said.decode('ascii').split('\n')
+    except UnicodeDecodeError:
+        raise ListingError('dgnedit said what is no ASCII')
+    if lines.pop() != '':
+        raise ListingError('dgnedit said a line without an end')
+    return lines
 
 
 def counted(word: str, said: Sequence[str]) -> int:

@@ -3,13 +3,14 @@
 from __future__ import annotations
 
 from dataclasses import dataclass
-from typing import Callable, Dict, List, Optional, Sequence
+from typing import Callable, Dict, Optional, Sequence
 
 from .answers import Answer
 from .broken import why_broken
 from .drawing import Drawing
 from .element import described
 from .errors import BadDesign, Mistake
+from .mending import mending_of
 from .output import counted
 from .script import Command
 from .tcb import KIND_SAID, kind_of
@@ -71,19 +72,12 @@ class Explainer:
         return 'its tree is broken at %s (%s). %s' % (self.named(rest), why, self.advice_on_broken(number))
 
     def advice_on_broken(self, number: int) -> str:
-        from .mending import mending_of
-
-        mended = {it for change in mending_of(self.drawing).changes for it in self.reach(change.element.number)}
-        if number in mended:
+        mending = mending_of(self.drawing)
+        spans = [(it.element.number, it.element.number + it.members) for it in mending.changes]
+        is_left = any(it.element.number == number for it in mending.left)
+        if not is_left and any(first <= number <= last for first, last in spans):
             return '`dgnkit mend` writes a patch file that mends it'
         return '`dgnkit mend` can not mend it: it says why'
-
-    def reach(self, number: int) -> List[int]:
-        """A header, and the elements with bit C behind it, of which a mended header takes in some."""
-        elements, end = self.drawing.elements, number + 1
-        while end < len(elements) and elements[end].has_c:
-            end += 1
-        return list(range(number, end))
 
     def deleted(self, refusal: Refusal, rest: str) -> str:
         number = int(rest)

@@ -3,18 +3,22 @@
 from __future__ import annotations
 
 import os
+import re
 import tempfile
 from dataclasses import dataclass, field
-from typing import List, Sequence, Tuple
+from fractions import Fraction
+from typing import Iterable, List, Optional, Sequence, Tuple
 
 from .drawing import Drawing
 from .errors import BadScript, Mistake
 from .output import counted, few, note, say
 from .script import Script
+from .units import Units, rounded
 from .wording import command_said
-from .writing import edit_command, note_left, write_script
+from .writing import edit_command, note_left, script_names, write_script
 
 PLACE = '{n}'
+LENGTH = re.compile(r'\{(-?\d+(?:\.\d+)?)\}')
 REASONS = {
     'broken': 'their trees are broken (`dgnkit mend` mends what can be)',
     'locked': 'they are locked, or what goes along is (`dgnkit unlock` unlocks)',
@@ -39,10 +43,18 @@ class Proposal:
     along: List[int] = field(default_factory=list)
 
 
+def template_of(text: str, units: Optional[Units]) -> str:
+    """A line of the script with {n} for a number, in which each {LENGTH}, in master units, is now the nearest number of
+    units of resolution. It raises Mistake where it has no {n}, is more than a line, or the units aren't known."""
+    if PLACE not in text or '\n' in text:
+        raise Mistake('%r is no line for each element: it has to name it as %s' % (text, PLACE))
+    if LENGTH.search(text) and (units is None or not units.is_known):
+        raise Mistake('%r has a length in master units, and what these are is not known' % text)
+    return LENGTH.sub(lambda it: str(rounded(Fraction(it[1]) * (units.in_master if units else 1))), text)
+
+
 def line_of(template: str, number: int) -> bytes:
-    """A line of the script. It raises Mistake where the template has no place for a number, or more than a line."""
-    if PLACE not in template or '\n' in template:
-        raise Mistake('%r is no line for each element: it has to name it as %s' % (template, PLACE))
+    """The line of an element."""
     return template.replace(PLACE, str(number)).encode('utf-8')
 
 
@@ -50,7 +62,8 @@ def propose(drawing: Drawing, numbers: Sequence[int], template: str) -> Proposal
     """A line for each element, but not for those below another chosen one, nor for those that the program refuses."""
     made = Proposal()
     tops = topmost(drawing, numbers, made)
-    lines = [line_of(template, it) for it in tops]
+    ready = template_of(template, drawing.units)
+    lines = [line_of(ready, it) for it in tops]
     for number, line, cause in zip(tops, lines, causes(drawing, lines)):
         if cause:
             word = cause.split(' ')[0]
@@ -103,22 +116,28 @@ def note_proposal(drawing: Drawing, made: Proposal) -> None:
         note('goes along: %s below chosen headers that meet no condition by themselves: %s' % (counts, few(made.along)))
 
 
-def give_script(drawing: Drawing, made: Proposal, path: str, is_dry: bool) -> None:
+def give_proposal(drawing: Drawing, made: Proposal, path: str, is_dry: bool) -> None:
+    """Gives the script of a proposal, and says what is left out of it."""
+    note_proposal(drawing, made)
+    words = (command_said(drawing, it.text) for it in made.script.commands)
+    give_script(drawing.path, made.script, words, path, is_dry)
+
+
+def give_script(drawing: str, script: Script, words: Iterable[str], path: str, is_dry: bool) -> None:
     """Writes a script, or says it where no file is named; a dry run says its edits in words. What is to be run next is
     said at the end."""
-    note_proposal(drawing, made)
-    name = path or 'SCRIPT'
+    names = script_names(script, path or 'SCRIPT')
     if is_dry:
-        for command in made.script.commands:
-            say(command_said(drawing, command.text))
-        say('nothing is written; without --dry-run the next command is: ' + edit_command(drawing.path, [name]))
+        for line in words:
+            say(line)
+        say('nothing is written; without --dry-run the next command is: ' + edit_command(drawing, names))
     elif path:
-        names = write_script(made.script, path)
-        say('%s: %s' % (', '.join(names), counted(len(made.script.commands), 'command')))
-        say('next: ' + edit_command(drawing.path, names))
-    elif len(made.script.parts()) > 1:
+        write_script(script, path)
+        say('%s: %s' % (', '.join(names), counted(len(script.commands), 'command')))
+        say('next: ' + edit_command(drawing, names))
+    elif len(names) > 1:
         raise Mistake('the script is longer than the program reads: name a file by -o, and it is written in several')
     else:
-        for line in made.script.lines:
-            say(line.decode('utf-8'))
-        note('next: ' + edit_command(drawing.path, [name]))
+        for command in script.lines:
+            say(command.decode('utf-8'))
+        note('next: ' + edit_command(drawing, names))

@@ -5,9 +5,11 @@ from __future__ import annotations
 from dataclasses import dataclass
 from decimal import Decimal
 from fractions import Fraction
-from typing import Optional, Sequence, Tuple
+from functools import cached_property
+from typing import List, Optional, Sequence, Tuple, Union
 
 from .numbers import long_at, vax_double_at
+from .output import counted, printable
 
 # What two characters are known to stand for, in metres; a foot is the international one. Case doesn't count.
 METRES = {
@@ -74,10 +76,32 @@ class Units:
         """What a master unit is called here."""
         return self.master_name or 'master units'
 
+    @property
+    def said(self) -> str:
+        """The units in words, in metres too where the master unit's name is known."""
+        if not self.is_known:
+            said = (
+                'none are set (the TCB counts %d subunits and %d units of resolution): places are units of resolution'
+            )
+            return said % (self.subunits, self.resolution)
+        master, sub = (printable(it) or '(no name)' for it in (self.master_name, self.sub_name))
+        fine = counted(self.resolution, 'unit of resolution', 'units of resolution')
+        said = '1 %s = %d %s, 1 %s = %s' % (master, self.subunits, sub, sub, fine)
+        metres = self.master_metres
+        if metres is None:
+            return said + '; %s is no unit whose metres are known' % master
+        return said + '; 1 unit of resolution = %s m' % shortest(float(metres / self.in_master))
+
     def to_master(self, point: Sequence[int]) -> Tuple[float, ...]:
         """A place of the drawing in master units. Only where these are known."""
-        whole = self.in_master
-        return tuple(float((at - zero) / whole) for at, zero in zip(point, self.origin))
+        whole, zeros = self._whole
+        return tuple(float((at - zero) / whole) for at, zero in zip(point, zeros))
+
+    @cached_property
+    def _whole(self) -> Tuple[int, Tuple[Union[int, Fraction], ...]]:
+        """The units of resolution of a master unit, and the origin with whole numbers where it has such."""
+        zeros: List[Union[int, Fraction]] = [it.numerator if it.denominator == 1 else it for it in self.origin]
+        return self.in_master, tuple(zeros)
 
     def length_from_master(self, value: Fraction) -> Fraction:
         """A length in master units, in units of resolution."""

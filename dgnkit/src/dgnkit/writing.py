@@ -87,14 +87,18 @@ def applied(drawing: Drawing, path: str, changes: Sequence[Change]) -> bytes:
     return made
 
 
-def write_script(script: Script, path: str) -> List[str]:
-    """Writes a script in as many files as the program reads, and gives their names: FILE, or FILE with -1, -2 .. behind
-    its stem."""
-    parts = script.parts() or [script]
+def script_names(script: Script, path: str) -> List[str]:
+    """What the files of a script are called: FILE, or FILE with -1, -2 .. behind its stem where it takes several."""
+    count = len(script.parts())
     place = Path(path)
-    names = [str(place.with_name('%s-%d%s' % (place.stem, it, place.suffix))) for it in range(1, len(parts) + 1)]
-    names = names if len(parts) > 1 else [path]
-    for name, part in zip(names, parts):
+    names = [str(place.with_name('%s-%d%s' % (place.stem, it, place.suffix))) for it in range(1, count + 1)]
+    return names if count > 1 else [path]
+
+
+def write_script(script: Script, path: str) -> List[str]:
+    """Writes a script in as many files as the program reads, and gives their names."""
+    names = script_names(script, path)
+    for name, part in zip(names, script.parts() or [script]):
         write_file(name, part.text)
     return names
 

@@ -10,7 +10,7 @@ from ..drawing import Drawing
 from ..element import Element
 from ..errors import Mistake
 from ..output import counted, note, say, say_json, table
-from ..scripting import give_script, propose
+from ..scripting import give_proposal, propose
 from ..units import shortest
 
 if TYPE_CHECKING:
@@ -24,7 +24,11 @@ def register(words: Subparsers) -> None:
     form = parser.add_mutually_exclusive_group()
     form.add_argument('--numbers', action='store_true', help='say the numbers alone, one a line')
     form.add_argument('--json', action='store_true', help='say them as JSON')
-    form.add_argument('--script', metavar='LINE', help="a script's line for each, in which {n} is its number")
+    form.add_argument(
+        '--script',
+        metavar='LINE',
+        help="a script's line for each, with {n} for its number and {2.5} for 2.5 master units",
+    )
     parser.add_argument('-o', '--output', metavar='SCRIPT', default='', help='the file for --script')
     parser.add_argument('--dry-run', action='store_true', help='say in words what the script would do')
     parser.set_defaults(run=run)
@@ -39,7 +43,7 @@ def run(arguments: argparse.Namespace) -> int:
     if conditions.near is not None and arguments.script is None:
         chosen.sort(key=lambda it: (conditions.distance(it), it))
     if arguments.script is not None:
-        give_script(drawing, propose(drawing, chosen, arguments.script), arguments.output, arguments.dry_run)
+        give_proposal(drawing, propose(drawing, chosen, arguments.script), arguments.output, arguments.dry_run)
     elif arguments.json:
         say_json([row_of(conditions, drawing.elements[it]) for it in chosen])
     elif arguments.numbers:

@@ -9,7 +9,7 @@ from ..classes import type_name
 from ..drawing import Drawing
 from ..errors import Mistake
 from ..numbers import Point
-from ..output import counted, note, printable, say, say_json, table
+from ..output import counted, note, say, say_json, table
 from ..program import Program
 from ..units import Units, metres_of, shortest
 
@@ -79,6 +79,7 @@ def units_facts(units: Units) -> Dict[str, Any]:
     master, sub = metres_of(units.master_name), metres_of(units.sub_name)
     return {
         'known': units.is_known,
+        'said': units.said,
         'master': units.master_name,
         'master_metres': None if master is None else float(master),
         'sub': units.sub_name,
@@ -105,7 +106,7 @@ def lines_of(facts: Dict[str, Any]) -> List[str]:
     units = facts['units']
     lines = [
         '%s: design file of version 7, %d dimensions, %d bytes' % (facts['file'], facts['dimension'], facts['bytes']),
-        '  units      ' + units_said(units),
+        '  units      ' + facts['units']['said'],
         '  origin     %s units of resolution' % ','.join(map(shortest, facts['origin'])),
     ]
     name = units['master'] or 'master units'
@@ -121,29 +122,6 @@ def lines_of(facts: Dict[str, Any]) -> List[str]:
         for level, types in facts['levels'].items()
     ]
     return lines + ['  ' + line for line in table(['level', 'elements', 'types'], rows)]
-
-
-def units_said(units: Dict[str, Any]) -> str:
-    if not units['known']:
-        return (
-            'none are set (the TCB counts %d subunits and %d units of resolution): places are units of resolution'
-            % (
-                units['subunits_in_master'],
-                units['resolution_in_subunit'],
-            )
-        )
-    names = [printable(units[it]) or '(no name)' for it in ('master', 'sub')]
-    said = '1 %s = %d %s, 1 %s = %s' % (
-        names[0],
-        units['subunits_in_master'],
-        names[1],
-        names[1],
-        counted(units['resolution_in_subunit'], 'unit of resolution', 'units of resolution'),
-    )
-    whole = units['subunits_in_master'] * units['resolution_in_subunit']
-    if units['master_metres'] is None:
-        return said + '; %s is no unit whose metres are known' % names[0]
-    return said + '; 1 unit of resolution = %s m' % shortest(units['master_metres'] / whole)
 
 
 def place_said(place: List[float]) -> str:
