@@ -147,6 +147,14 @@ class Looking(WithBrowser):
         self.seen.click('#levels-all')
         self.assertGreater(self.dot(500, 550)[3], 100)
 
+    def test_deleted_elements_are_drawn_where_they_are_asked_for(self) -> None:
+        gone = drawings.deleted(plan.line(1, (0, 0), (1000, 0)))
+        self.page(self.put('gone.dgn', drawings.drawing(gone, plan.line(1, (0, 500), (1000, 500)))))
+        self.assertEqual(self.dot(500, 0)[3], 0)
+        self.seen.click('#show-deleted')
+        self.assertGreater(self.dot(500, 0)[3], 30)
+        self.assertLess(self.dot(500, 0)[3], 0.7 * self.dot(500, 500)[3])
+
     def test_wheel_keys_and_drag(self) -> None:
         self.page(str(EXAMPLES / 'plan.dgn'))
         place = self.screen(2600, 1500)

@@ -23,6 +23,7 @@ from ..writing import write_file
 if TYPE_CHECKING:
     from ..cli import Subparsers
 
+MOST_TOLD = 200  # refused commands that the page explains
 ABOUT = """Writes one HTML file that any browser opens from disk: the drawing to look at, to find numbers in, and to
 write a script with. With --after or --script what changed is marked and told instead."""
 
@@ -97,12 +98,14 @@ def script_page(drawing: Drawing, name: str) -> str:
         except Ending as ending:
             raise Mistake(why_ended(drawing.program, ending, drawing.path, name, made))
         against = 'what %s makes of it' % os.path.basename(name)
-        more = {'answers': answers_told(drawing, script, answers), 'against': against}
+        more = {'answers': refusals_told(drawing, script, answers), 'against': against}
         return compare_page(drawing, Drawing(made, drawing.program), more)
 
 
-def answers_told(drawing: Drawing, script: Script, answers: Sequence[Answer]) -> List[List[Any]]:
-    """Each command with its line, and where it was refused the cause and a sentence on it."""
+def refusals_told(drawing: Drawing, script: Script, answers: Sequence[Answer]) -> Dict[str, Any]:
+    """How many commands there were, how many were refused, and of the first of these the line, the command, the cause
+    and a sentence on it."""
     explainer = Explainer(drawing, script.commands, answers)
-    refused = {it.command.line: [it.cause, explainer.sentence(it)] for it in explainer.refused}
-    return [[it.line, it.text, *refused.get(it.line, [])] for it in script.commands]
+    told = explainer.refused[:MOST_TOLD]
+    rows = [[it.command.line, it.command.text, it.cause, explainer.sentence(it)] for it in told]
+    return {'commands': len(answers), 'refused': len(explainer.refused), 'rows': rows}

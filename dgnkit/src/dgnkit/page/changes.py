@@ -3,7 +3,7 @@
 from __future__ import annotations
 
 from dataclasses import dataclass
-from typing import List, Optional
+from typing import List, Optional, Union
 
 from ..comparing import Difference, differences
 from ..drawing import Drawing
@@ -34,3 +34,29 @@ class Change:
 def changes_between(drawing: Drawing, after: Drawing) -> List[Change]:
     """All changes, in the order of the first drawing, and then what the second has more."""
     return [Change.of(it) for it in differences(drawing, after)]
+
+
+def rows_of(changes: List[Change]) -> List[List[Union[int, str, None]]]:
+    """The changes as rows for the page: number before, number after, kind, words, and how many more elements behind one
+    another have the same words, as the members of a cell that has moved."""
+    rows: List[List[Union[int, str, None]]] = []
+    last: Optional[Change] = None
+    more = 0
+    for change in changes:
+        if last is not None and continues(last, change, more + 1):
+            more += 1
+            rows[-1][4] = more
+        else:
+            last, more = change, 0
+            rows.append([change.before, change.after, change.kind, change.words, more])
+    return rows
+
+
+def continues(first: Change, change: Change, place: int) -> bool:
+    """Whether a change is the same as that of the element so many places before it."""
+    is_same = (first.kind, first.words) == (change.kind, change.words)
+    return is_same and follows(first.before, change.before, place) and follows(first.after, change.after, place)
+
+
+def follows(first: Optional[int], number: Optional[int], place: int) -> bool:
+    return number is None if first is None else number == first + place

@@ -8,7 +8,7 @@ from typing import Any, Dict, List, Optional, Set
 from .. import classes
 from ..drawing import Drawing
 from ..output import counted
-from .changes import Change
+from .changes import Change, rows_of
 from .colours import colours_of
 from .columns import Columns, Writer, signature
 
@@ -48,7 +48,7 @@ def compared(drawing: Drawing, after: Drawing, changes: List[Change]) -> Dict[st
     numbers = own_numbers(drawing, after, told)
     columns: Columns = Writer(after).write(numbers)
     columns.update(numbers=numbers, count=len(after.elements))
-    data.update(after=columns, changes=[[it.before, it.after, it.kind, it.words] for it in changes])
+    data.update(after=columns, changes=rows_of(changes))
     data['types'].update((kind, classes.type_name(kind)) for kind in after.type_counts)
     return data
 

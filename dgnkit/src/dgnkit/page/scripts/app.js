@@ -68,14 +68,24 @@ class App {
 
     /** Changes by the record that they are of, and what the numbers before became where they aren't kept. */
     readChanges(changes) {
-        const { before, after } = this.scene;
         this.changes = new Map();
         this.became = new Map();
-        for (const [old, now, kind, words] of changes) {
-            for (const record of [old === null ? -1 : before.record[old], now === null ? -1 : after.record[now]]) {
-                this.changes.set(record, { kind, words });
+        for (const [old, now, kind, words, more] of changes) {
+            const change = { kind, words };
+            for (let place = 0; place <= more; place++) {
+                this.readChange(change, old === null ? null : old + place, now === null ? null : now + place);
             }
-            if (old !== now && old !== null) {
+        }
+    }
+
+    readChange(change, old, now) {
+        const { before, after } = this.scene;
+        if (now !== null) {
+            this.changes.set(after.record[now], change);
+        }
+        if (old !== null) {
+            this.changes.set(before.record[old], change);
+            if (old !== now) {
                 this.became.set(before.record[old], now);
             }
         }

@@ -5,9 +5,10 @@ const MOST_LISTED = 500;
 class ChangesPanel {
     constructor(app) {
         this.app = app;
-        this.changes = folded(app.data.changes);
+        this.changes = app.data.changes;
         byId('changes-filter').addEventListener('input', () => this.show());
-        byId('changes-count').textContent = counted(app.data.changes.length, 'change');
+        const count = this.changes.reduce((sum, [, , , , more]) => sum + 1 + more, 0);
+        byId('changes-count').textContent = counted(count, 'change');
         setHidden(byId('changes-panel'), false);
         this.show();
         this.showAnswers();
@@ -15,7 +16,7 @@ class ChangesPanel {
 
     show() {
         const wanted = byId('changes-filter').value.trim().toLowerCase();
-        const kept = this.changes.filter((change) => change.join(' ').toLowerCase().includes(wanted));
+        const kept = this.changes.filter((change) => hasWords(change, wanted));
         fill(byId('changes'), ...kept.slice(0, MOST_LISTED).map((change) => this.rowOf(change)));
         setHidden(byId('changes-more'), kept.length <= MOST_LISTED);
         byId('changes-more').textContent = 'and ' + (kept.length - MOST_LISTED) + ' more: the field above finds them';
@@ -38,34 +39,24 @@ class ChangesPanel {
         if (!answers) {
             return;
         }
-        const refused = answers.filter(([, , cause]) => cause !== undefined);
-        const rows = refused.map(([line, command, cause, why]) => make('li', { class: 'refused' },
+        const rows = answers.rows.map(([line, command, cause, why]) => make('li', { class: 'refused' },
             make('code', {}, line + '  ' + command),
             make('span', { class: 'answer' }, 'refused ' + cause + ': ' + why)));
-        fill(byId('answers'), make('h3', {}, counted(answers.length, 'command') + ', ' + refused.length + ' refused'),
-            make('ol', { class: 'entries lines' }, ...rows));
+        const more = answers.refused - rows.length;
+        const title = counted(answers.commands, 'command') + ', ' + answers.refused + ' refused';
+        fill(byId('answers'), make('h3', {}, title), make('ol', { class: 'entries lines' }, ...rows),
+            ...(more > 0 ? [make('p', { class: 'more' }, 'and ' + more + ' more')] : []));
         setHidden(byId('answers'), false);
     }
 }
 
-/** Changes, where those with the same words of elements behind one another are one row with how many more they are. */
-function folded(changes) {
-    const rows = [];
-    for (const [before, after, kind, words] of changes) {
-        const last = rows[rows.length - 1];
-        if (last && last[2] === kind && last[3] === words && follows(last[0], before, last[4])
-            && follows(last[1], after, last[4])) {
-            last[4]++;
-        } else {
-            rows.push([before, after, kind, words, 0]);
-        }
+/** Whether a row has these words, or where they are a number whether it is of an element with it. */
+function hasWords([before, after, kind, words, more], wanted) {
+    if (/^\d+$/.test(wanted)) {
+        const number = Number(wanted);
+        return [before, after].some((first) => first !== null && first <= number && number <= first + more);
     }
-    return rows;
-}
-
-/** Whether a number, or none, comes behind so many others from a first one on. */
-function follows(first, number, more) {
-    return first === null ? number === null : number === first + more + 1;
+    return (kind + ' ' + words).toLowerCase().includes(wanted);
 }
 
 function numbersSaid(before, after, more) {

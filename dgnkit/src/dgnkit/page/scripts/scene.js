@@ -30,7 +30,8 @@ class Scene {
 
     /**
      * Takes another state to compare with, or none; its own records stand behind those of the drawing. `changes` are
-     * rows of a number before, a number after and a kind; without them elements of one number are compared.
+     * rows of a number before, a number after, a kind, words, and how many more there are behind these numbers; without
+     * them elements of one number are compared.
      */
     setAfter(after, changes = null) {
         this.after = after;
@@ -45,12 +46,14 @@ class Scene {
         this.update();
     }
 
-    markChange([before, after, kind]) {
-        if (before !== null) {
-            this.marks[this.before.record[before]] = kind === 'deleted' ? MARK.deleted : MARK.old;
-        }
-        if (after !== null) {
-            this.marks[this.after.record[after]] = MARK[kind];
+    markChange([before, after, kind, , more]) {
+        for (let place = 0; place <= more; place++) {
+            if (before !== null) {
+                this.marks[this.before.record[before + place]] = kind === 'deleted' ? MARK.deleted : MARK.old;
+            }
+            if (after !== null) {
+                this.marks[this.after.record[after + place]] = MARK[kind];
+            }
         }
     }
 
