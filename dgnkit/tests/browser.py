@@ -19,6 +19,7 @@ ELEMENT = 'element-6066-11e4-a52e-4f735466cecf'  # the key under which the drive
 CHROMIUM = shutil.which('chromium') or shutil.which('chromium-browser')
 DRIVER = shutil.which('chromedriver')
 MISSING = None if CHROMIUM and DRIVER else 'no browser: chromium and chromedriver (chromium-driver) are not installed'
+CONTROL = '\ue009'
 FLAGS = ['--headless=new', '--hide-scrollbars', '--disable-background-networking', '--force-device-scale-factor=1']
 KEYS = {'Tab': '\ue004', 'Enter': '\ue007', 'Escape': '\ue00c', 'Backspace': '\ue003', 'Delete': '\ue017'}
 KEYS.update(ArrowLeft='\ue012', ArrowUp='\ue013', ArrowRight='\ue014', ArrowDown='\ue015')
@@ -118,11 +119,21 @@ class Browser:
             pressed += [{'type': 'keyDown', 'value': value}, {'type': 'keyUp', 'value': value}]
         self._ask('/actions', {'actions': [{'type': 'key', 'id': 'keys', 'actions': pressed}]})
 
+    def paste(self) -> None:
+        """Pastes what was copied where the focus is."""
+        held = [{'type': kind, 'value': key} for kind, key in (('keyDown', CONTROL), ('keyDown', 'v'), ('keyUp', 'v'))]
+        held.append({'type': 'keyUp', 'value': CONTROL})
+        self._ask('/actions', {'actions': [{'type': 'key', 'id': 'keys', 'actions': held}]})
+
     def drag(self, *places: Sequence[float]) -> None:
         """Presses the mouse at the first place, and lets go at the last one; at one place it is a click."""
         moves = [{'type': 'pointerMove', 'x': round(x), 'y': round(y), 'duration': 20} for x, y in places]
         down, up = {'type': 'pointerDown', 'button': 0}, {'type': 'pointerUp', 'button': 0}
         self._pointer([moves[0], down, *moves[1:], up])
+
+    def double_click(self, place: Sequence[float]) -> None:
+        down, up = {'type': 'pointerDown', 'button': 0}, {'type': 'pointerUp', 'button': 0}
+        self._pointer([{'type': 'pointerMove', 'x': round(place[0]), 'y': round(place[1])}, down, up, down, up])
 
     def pinch(self, *fingers: Tuple[Sequence[float], Sequence[float]]) -> None:
         """Puts fingers down at their first places at once, and moves each to its second one."""

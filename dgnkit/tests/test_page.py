@@ -228,6 +228,14 @@ class Looking(WithBrowser):
         self.page(self.put('usual.dgn', drawings.drawing(bytes(line))))
         self.assertEqual(self.dot(500, 0)[:3], [255, 0, 0])
 
+    def test_a_drawing_of_nothing(self) -> None:
+        self.page(self.put('empty.dgn', drawings.drawing()))
+        self.assertEqual(self.seen.title, 'empty.dgn – 1 element')
+        self.assertEqual(self.seen.text('#nothing'), 'Nothing is shown.')
+        self.seen.key('/', '0', 'Enter')
+        self.assertEqual(self.number(), 'element 0')
+        self.assertIn('design file header', self.seen.text('#element'))
+
     def test_light_and_dark(self) -> None:
         self.page(str(EXAMPLES / 'plan.dgn'))
         grounds = set()
@@ -409,6 +417,16 @@ class Writing(WithBrowser):
         self.seen.click('#script-undo')
         self.assertEqual(self.script_lines(), ['color 6 4'])
 
+    def test_the_script_is_copied(self) -> None:
+        self.page(str(EXAMPLES / 'plan.dgn'))
+        self.click_at(980, 520)
+        self.seen.click('#edit-color')
+        self.seen.click('#script-copy')
+        self.seen.wait("document.getElementById('said').textContent === 'The script is copied.'")
+        self.seen.click('#search-field')
+        self.seen.paste()
+        self.assertEqual(self.seen.run("return document.getElementById('search-field').value").strip(), 'color 6 3')
+
     def test_what_would_be_refused_is_said_before(self) -> None:
         self.page(str(EXAMPLES / 'plan.dgn'))
         self.click_at(0, 1500)
@@ -440,6 +458,20 @@ class Writing(WithBrowser):
         script = self.saved_script('plan-edit.txt')
         ran = self.program.run('edit', made, script, self.path('out.dgn'))
         self.assertEqual((ran.status, ran.said), (0, ['ok', 'ok', 'ok 3']))
+
+    def test_a_double_click_closes_a_fence(self) -> None:
+        self.page(str(EXAMPLES / 'plan.dgn'))
+        self.seen.run("document.getElementById('marks').focus()")
+        self.seen.key('f')
+        for corner in ((700, 800), (2700, 800), (2700, 2300)):
+            self.click_at(*corner)
+        self.seen.double_click(self.screen(700, 2300))
+        self.seen.settle()
+        self.assertEqual(self.seen.run('return [page.tool, page.fenceDraft.corners.length]'), ['choose', 4])
+        self.assertIn('3 trees', self.seen.text('#fence-text'))
+        self.seen.run("document.getElementById('marks').focus()")
+        self.seen.key('Escape')
+        self.assertIn('No fence', self.seen.text('#fence-text'))
 
     def test_a_fence_by_keys(self) -> None:
         self.page(str(EXAMPLES / 'valve.dgn'))

@@ -23,6 +23,7 @@ class App {
         this.overlay = new Overlay(byId('marks'), this);
         this.setGround(matchMedia('(prefers-color-scheme: light)').matches ? 'light' : 'dark');
         this.makePanels();
+        this.showNothing();
         this.listen();
         this.resize();
         this.fit();
@@ -153,10 +154,15 @@ class App {
     /** What is shown has changed: levels, marks or the state. */
     sceneChanged() {
         this.scene.update();
-        setHidden(byId('nothing'), this.scene.order.length > 0);
+        this.showNothing();
         this.fenceChanged();
         this.elementPanel.show();
         this.request();
+    }
+
+    /** Says where nothing is to be seen. */
+    showNothing() {
+        setHidden(byId('nothing'), this.scene.order.length > 0);
     }
 
     resize() {
@@ -535,7 +541,9 @@ class App {
     addCorner(corner) {
         const { corners } = this.fenceDraft;
         const last = corners[corners.length - 1];
-        if (corners.length < MOST_CORNERS && (!last || last[0] !== corner[0] || last[1] !== corner[1])) {
+        if (corners.length === MOST_CORNERS) {
+            this.say('A fence has ' + MOST_CORNERS + ' corners at most.');
+        } else if (!last || last[0] !== corner[0] || last[1] !== corner[1]) {
             corners.push(corner);
         }
         this.fenceChanged();

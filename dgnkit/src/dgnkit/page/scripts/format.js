@@ -13,7 +13,7 @@ const CLASS = Object.freeze({
 /** What an element is drawn as. */
 const DRAWN = Object.freeze({ nothing: 0, path: 1, text: 2, cell: 3, node: 4, group: 5, box: 6 });
 
-const TYPE = Object.freeze({ cell: 2, line: 3, shape: 6, node: 7, text: 17, sharedDefinition: 34 });
+const TYPE = Object.freeze({ line: 3, shape: 6, text: 17 });
 
 const LEAST = -2147483648;
 const GREATEST = 2147483647;

@@ -1,6 +1,6 @@
 /* Draws a scene, a slice of it in each frame where it is large. */
 
-const SLICE = 9;                  // milliseconds of a frame for drawing
+const SLICE = 7;                  // milliseconds of a frame for drawing
 
 /** Keeps a canvas up to date: it shows the newest whole picture, moved to the view, until the next one is whole. */
 class Renderer {

@@ -92,22 +92,29 @@ class Scene {
         if (this.after && this.mode !== 'before') {
             this.after.show(this.shown, this.levels, this.withDeleted);
         }
-        const order = new Uint32Array(this.records.length);
-        let count = 0, plain = 0;
-        for (let record = 0; record < this.records.length; record++) {
-            if (this.shown[record] && DRAWN_OF[this.records.type[record]] !== DRAWN.group && !this.isAbove(record)) {
-                order[count++] = record;
-            }
-        }
-        plain = count;
-        for (let record = 0; record < this.records.length; record++) {
-            if (this.shown[record] && this.isAbove(record)) {
-                order[count++] = record;
-            }
-        }
-        this.order = order.subarray(0, count);
-        this.plain = plain;
+        const visible = this.visible();
+        const marked = visible.filter((record) => this.isAbove(record));
+        this.order = new Uint32Array(visible.length);
+        this.order.set(visible.filter((record) => !this.isAbove(record)));
+        this.order.set(marked, visible.length - marked.length);
         this.version++;
+    }
+
+    /** The records that are drawn, in their order. */
+    visible() {
+        const found = new Uint32Array(this.records.length);
+        let count = 0;
+        for (let record = 0; record < this.records.length; record++) {
+            if (this.isDrawn(record)) {
+                found[count++] = record;
+            }
+        }
+        return found.subarray(0, count);
+    }
+
+    /** Whether something of a record itself is seen; of a group it is its members. */
+    isDrawn(record) {
+        return this.shown[record] === 1 && DRAWN_OF[this.records.type[record]] !== DRAWN.group;
     }
 
     isAbove(record) {
@@ -117,7 +124,7 @@ class Scene {
     /** Calls `visit` with each shown record whose box meets a rectangle. */
     query(rectangle, visit) {
         const see = (record) => {
-            if (this.shown[record] && DRAWN_OF[this.records.type[record]] !== DRAWN.group) {
+            if (this.isDrawn(record)) {
                 visit(record);
             }
         };
@@ -127,7 +134,7 @@ class Scene {
         }
     }
 
-    /** The least box of what is shown, or of these records. */
+    /** The least box of what is shown. */
     extent() {
         return extentOf(this.records, 0, this.records.length, this.shown);
     }
