@@ -467,7 +467,7 @@ class Writing(WithBrowser):
             self.click_at(*corner)
         self.seen.double_click(self.screen(700, 2300))
         self.seen.settle()
-        self.assertEqual(self.seen.run('return [page.tool, page.fenceDraft.corners.length]'), ['choose', 4])
+        self.assertEqual(self.seen.run('return [page.tool, page.fence.corners.length]'), ['choose', 4])
         self.assertIn('3 trees', self.seen.text('#fence-text'))
         self.seen.run("document.getElementById('marks').focus()")
         self.seen.key('Escape')

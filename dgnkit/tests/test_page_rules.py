@@ -20,8 +20,8 @@ return [...Array(state.count).keys()].filter((number) => shown[state.record[numb
 """
 PROPOSE = """
 for (const command of arguments[0]) if (command.levels) command.levels = Uint8Array.from(command.levels);
-page.propose(arguments[0]);
-const { records, state } = page.session;
+page.proposal.run(arguments[0]);
+const { records, state } = page.proposal.session;
 const rows = [];
 for (let number = 0; number < state.count; number++) {
     const record = state.record[number], axes = records.axes;
@@ -31,7 +31,7 @@ for (let number = 0; number < state.count; number++) {
     rows.push([records.type[record], records.level[record], records.colour[record], records.weight[record],
         records.style[record], records.flags[record], [...records.rangeOf(record)], points, state.end[number]]);
 }
-return [arguments[0].map(lineOf_), page.answers, rows];
+return [arguments[0].map(lineOf_), page.proposal.answers, rows];
 """
 
 

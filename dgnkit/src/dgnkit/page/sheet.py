@@ -11,7 +11,8 @@ from typing import Any, Dict
 
 SCRIPTS = (
     'format records reading state grid_layer grid view colours painter scene picture renderer picker geometry fence '
-    'commands session words dom overlay levels_panel element_panel search script_panel changes_panel pointer app main'
+    'commands session proposal words dom overlay fence_draft levels_panel element_panel search script_panel '
+    'changes_panel pointer app main'
 ).split()
 MARK = '<meta name="generator" content="dgnkit page">'
 

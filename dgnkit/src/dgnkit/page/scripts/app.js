@@ -11,11 +11,10 @@ class App {
         this.place = null;
         this.pointer = null;
         this.showsCentre = false;
-        this.fenceDraft = { corners: [], isOpen: true, pointer: null };
-        this.fenceChosen = [];
         this.isWaiting = false;
-        this.answers = [];
         this.readScene();
+        this.fence = new FenceDraft(this);
+        this.proposal = new Proposal(this);
         this.words = new Words(data, this.scene);
         this.picker = new Picker(this.scene);
         this.view = new View(100, 100);
@@ -36,7 +35,6 @@ class App {
         new Reader(records, before).read();
         const count = before.type.length;
         const own = Uint32Array.from({ length: count }, (_, number) => number);
-        this.baseEnd = [records.length, records.pointCount, records.labels.length];
         this.records = records;
         this.scene = new Scene(records, new State(records, own));
         if (after) {
@@ -155,7 +153,7 @@ class App {
     sceneChanged() {
         this.scene.update();
         this.showNothing();
-        this.fenceChanged();
+        this.fence.update();
         this.elementPanel.show();
         this.request();
     }
@@ -307,7 +305,7 @@ class App {
 
     point(place) {
         this.pointer = place;
-        this.fenceDraft.pointer = place === null ? null : this.wholePlace(place);
+        this.fence.pointer = place === null ? null : this.wholePlace(place);
         this.request();
     }
 
@@ -345,7 +343,7 @@ class App {
 
     click(place, reach) {
         if (this.tool === 'fence') {
-            this.addCorner(this.wholePlace(place));
+            this.fence.add(this.wholePlace(place));
             return;
         }
         const record = this.pickAt(place, reach);
@@ -419,12 +417,12 @@ class App {
     letGo() {
         if (this.tool !== 'choose') {
             this.cancelDrag();
-            if (this.fenceDraft.isOpen) {
-                this.clearFence();
+            if (this.fence.isOpen) {
+                this.fence.clear();
             }
             this.setTool('choose');
-        } else if (this.fenceDraft.corners.length > 0) {
-            this.clearFence();
+        } else if (this.fence.corners.length > 0) {
+            this.fence.clear();
         } else {
             this.place = null;
             this.choose(-1);
@@ -437,45 +435,17 @@ class App {
 
     /* The script. */
 
-    /** The drawing as the script leaves it; without lines the drawing as it is. */
-    get session() {
-        if (!this.heldSession) {
-            this.propose([]);
+    /** Shows another state behind the drawing, which a script proposes, or the drawing alone. */
+    showAfter(after) {
+        const { scene } = this;
+        if (!scene.after || !after) {
+            scene.mode = after ? 'both' : 'before';
         }
-        return this.heldSession;
-    }
-
-    /** Runs the commands of a script here, keeps their answers, and shows what they would make. */
-    propose(commands) {
-        const { scene, records } = this;
-        records.cut(...this.baseEnd);
-        const session = new Session(records, scene.before, this.data.bytes);
-        this.answers = session.run(commands);
-        this.heldSession = session;
-        if (commands.length > 0 || scene.after) {
-            this.showProposal(session, commands.length > 0);
-        }
-    }
-
-    showProposal(session, isAny) {
-        const { scene, records } = this;
-        const count = session.state.count;
-        const recordOf = new Uint32Array(count);
-        recordOf.set(scene.before.record);
-        const touched = Uint32Array.from(session.touched).sort();
-        records.reserve(touched.length, session.records.pointCount);
-        for (const number of touched) {
-            recordOf[number] = records.append(session.records, session.state.record[number]);
-            records.number[recordOf[number]] = number;
-        }
-        if (!scene.after || !isAny) {
-            scene.mode = isAny ? 'both' : 'before';
-        }
-        if (this.chosen >= (isAny ? count : scene.base)) {
+        if (this.chosen >= (after ? after.count : scene.base)) {
             this.chosen = -1;
         }
         this.hovered = -1;
-        scene.setAfter(isAny ? new State(records, recordOf) : null);
+        scene.setAfter(after);
         this.showModes();
         this.levelsPanel.show();
         this.sceneChanged();
@@ -494,8 +464,7 @@ class App {
         this.tool = tool;
         this.drag = null;
         if (tool === 'fence') {
-            this.fenceDraft = { corners: [], isOpen: true, pointer: null };
-            this.fenceChosen = [];
+            this.fence.reset();
         }
         for (const [id, name] of TOOLS) {
             byId(id).setAttribute('aria-pressed', String(tool === name));
@@ -535,53 +504,6 @@ class App {
 
     cancelDrag() {
         this.drag = null;
-        this.request();
-    }
-
-    addCorner(corner) {
-        const { corners } = this.fenceDraft;
-        const last = corners[corners.length - 1];
-        if (corners.length === MOST_CORNERS) {
-            this.say('A fence has ' + MOST_CORNERS + ' corners at most.');
-        } else if (!last || last[0] !== corner[0] || last[1] !== corner[1]) {
-            corners.push(corner);
-        }
-        this.fenceChanged();
-    }
-
-    dropCorner() {
-        if (this.tool === 'fence') {
-            this.fenceDraft.corners.pop();
-            this.fenceChanged();
-        }
-    }
-
-    closeFence() {
-        if (this.tool !== 'fence') {
-            return;
-        }
-        if (this.fenceDraft.corners.length < 3) {
-            this.say('A fence has three corners at least.');
-            return;
-        }
-        this.fenceDraft.isOpen = false;
-        this.setTool('choose');
-        this.fenceChanged();
-    }
-
-    clearFence() {
-        this.fenceDraft = { corners: [], isOpen: true, pointer: null };
-        this.fenceChanged();
-    }
-
-    /** Finds anew what the fence chooses. */
-    fenceChanged() {
-        if (!this.scriptPanel) {
-            return;
-        }
-        const { corners, isOpen } = this.fenceDraft;
-        this.fenceChosen = isOpen ? [] : this.session.choice(corners, this.scene.levels, byId('fence-mode').value);
-        this.scriptPanel.show();
         this.request();
     }
 }

@@ -81,16 +81,15 @@ class Overlay {
     }
 
     drawFence() {
-        const { corners, isOpen, pointer } = this.app.fenceDraft;
-        if (corners.length === 0) {
+        const { isOpen, outline, chosen } = this.app.fence;
+        if (outline.length === 0) {
             return;
         }
         const { context } = this;
         const { view, pens } = this.app;
-        const all = isOpen && pointer ? [...corners, pointer] : corners;
         context.beginPath();
-        all.forEach(([x, y]) => context.lineTo(view.toScreenX(x), view.toScreenY(y)));
-        if (!isOpen || all.length > 2) {
+        outline.forEach(([x, y]) => context.lineTo(view.toScreenX(x), view.toScreenY(y)));
+        if (!isOpen || outline.length > 2) {
             context.closePath();
         }
         context.globalAlpha = 0.12;
@@ -98,8 +97,8 @@ class Overlay {
         context.fill();
         context.globalAlpha = 1;
         this.painter.setPen(pens.fence, 1.5, DASHES[0]);
-        this.drawCorners(all, isOpen);
-        for (const number of this.app.fenceChosen.slice(0, MOST_FRAMES)) {
+        this.drawCorners(outline, isOpen);
+        for (const number of chosen.slice(0, MOST_FRAMES)) {
             this.frame(this.app.scene.boxOfPart(this.app.scene.state, number), pens.fence);
         }
     }

@@ -17,7 +17,7 @@ class Pointer {
         canvas.addEventListener('pointerup', (event) => this.release(event));
         canvas.addEventListener('pointercancel', (event) => this.leave(event));
         canvas.addEventListener('pointerleave', () => app.point(null));
-        canvas.addEventListener('dblclick', () => app.closeFence());
+        canvas.addEventListener('dblclick', () => app.fence.close());
         canvas.addEventListener('wheel', (event) => this.wheel(event), { passive: false });
         canvas.addEventListener('keydown', (event) => this.key(event));
         canvas.addEventListener('contextmenu', (event) => event.preventDefault());
@@ -146,9 +146,9 @@ class Pointer {
             'ArrowLeft': pan(step, 0), 'ArrowRight': pan(-step, 0), 'ArrowUp': pan(0, step), 'ArrowDown': pan(0, -step),
             '+': () => app.zoom(1.5), '=': () => app.zoom(1.5), '-': () => app.zoom(1 / 1.5), '0': () => app.fit(),
             'Home': () => app.fit(), 'n': () => app.step(1), 'p': () => app.step(-1), 'f': () => app.setTool('fence'),
-            'Enter': () => (app.tool === 'fence' ? app.closeFence() : app.click(app.centre(), REACH.touch)),
+            'Enter': () => (app.tool === 'fence' ? app.fence.close() : app.click(app.centre(), REACH.touch)),
             ' ': () => app.click(app.centre(), REACH.touch),
-            'Backspace': () => app.dropCorner(), 'Delete': () => app.deleteChosen(), 'Escape': () => app.letGo(),
+            'Backspace': () => app.fence.drop(), 'Delete': () => app.deleteChosen(), 'Escape': () => app.letGo(),
         };
     }
 

@@ -44,8 +44,8 @@ class ScriptPanel {
     }
 
     listenToFence() {
-        byId('fence-clear').addEventListener('click', () => this.app.clearFence());
-        byId('fence-mode').addEventListener('change', () => this.app.fenceChanged());
+        byId('fence-clear').addEventListener('click', () => this.app.fence.clear());
+        byId('fence-mode').addEventListener('change', () => this.app.fence.update());
         byId('fence-move').addEventListener('click', () => this.addFenceEdit({ word: 'fmove', by: this.by() }));
         byId('fence-copy').addEventListener('click', () => this.addFenceEdit({ word: 'fcopy', by: this.by() }));
         byId('fence-color').addEventListener('click', () => this.addFenceEdit({ word: 'fsym', colour: this.colour() }));
@@ -81,7 +81,7 @@ class ScriptPanel {
         if (app.chosen < 0 || edit.by === null || edit.colour === null) {
             return;
         }
-        const cause = app.session.causeOf(edit.word, app.chosen, edit.by || null);
+        const cause = app.proposal.session.causeOf(edit.word, app.chosen, edit.by || null);
         if (cause === null) {
             this.add([{ ...edit, number: app.chosen }]);
         } else {
@@ -91,11 +91,11 @@ class ScriptPanel {
 
     /** An edit of the fence wants the fence set, and the levels as they are shown here. */
     addFenceEdit(edit) {
-        const { corners, isOpen } = this.app.fenceDraft;
-        if (isOpen || corners.length < 3 || edit.by === null || edit.colour === null) {
+        const { corners, isClosed } = this.app.fence;
+        if (!isClosed || edit.by === null || edit.colour === null) {
             return;
         }
-        const { session, scene } = this.app;
+        const { proposal: { session }, scene } = this.app;
         const lines = [], levels = scene.levels.slice();
         if (spansOf(session.levels) !== spansOf(levels)) {
             lines.push({ word: 'levels', levels });
@@ -104,7 +104,7 @@ class ScriptPanel {
         if (set !== lineOf({ word: 'fence', corners })) {
             lines.push({ word: 'fence', corners: corners.map((corner) => corner.slice()) });
         }
-        this.app.clearFence();
+        this.app.fence.clear();
         this.add([...lines, { ...edit, mode: byId('fence-mode').value }]);
     }
 
@@ -122,7 +122,7 @@ class ScriptPanel {
     }
 
     run() {
-        this.app.propose(this.commands);
+        this.app.proposal.run(this.commands);
         this.show();
     }
 
@@ -147,7 +147,7 @@ class ScriptPanel {
         byId('edits-legend').textContent = this.legend();
         const by = this.by(), causes = new Map();
         for (const [edit, name] of EDITS) {
-            const cause = chosen < 0 ? null : this.app.session.causeOf(edit, chosen, by);
+            const cause = chosen < 0 ? null : this.app.proposal.session.causeOf(edit, chosen, by);
             const isMissing = (isMoving(edit) && by === null) || (edit === 'color' && this.colour() === null);
             byId('edit-' + edit).disabled = cause !== null || isMissing;
             addCause(causes, cause, name, this.app.words);
@@ -182,14 +182,13 @@ class ScriptPanel {
     }
 
     showFence() {
-        const { fenceDraft, fenceChosen, tool } = this.app;
-        const isClosed = !fenceDraft.isOpen && fenceDraft.corners.length > 2;
-        byId('fence-clear').disabled = fenceDraft.corners.length === 0;
+        const { fence: { corners, isClosed, chosen }, tool } = this.app;
+        byId('fence-clear').disabled = corners.length === 0;
         const by = this.by(), causes = new Map();
         for (const [edit, name] of EDITS) {
             const cause = isClosed ? this.fenceCause(edit, by) : null;
             const isMissing = (isMoving(edit) && by === null) || (edit === 'color' && this.colour() === null);
-            byId('fence-' + edit).disabled = !isClosed || isMissing || fenceChosen.length === 0 || cause !== null;
+            byId('fence-' + edit).disabled = !isClosed || isMissing || chosen.length === 0 || cause !== null;
             addCause(causes, cause, name, this.app.words);
         }
         byId('fence-text').textContent = isClosed ? this.fenceSaid(causes) : tool === 'fence'
@@ -198,8 +197,8 @@ class ScriptPanel {
 
     /** The first cause of the first of the fence's trees, as one refuses them all. */
     fenceCause(edit, by) {
-        for (const root of this.app.fenceChosen) {
-            const cause = this.app.session.causeOf(edit, root, by);
+        for (const root of this.app.fence.chosen) {
+            const cause = this.app.proposal.session.causeOf(edit, root, by);
             if (cause !== null) {
                 return cause;
             }
@@ -208,12 +207,12 @@ class ScriptPanel {
     }
 
     fenceSaid(causes) {
-        const count = 'It chooses ' + counted(this.app.fenceChosen.length, 'tree') + ' of what is shown.';
+        const count = 'It chooses ' + counted(this.app.fence.chosen.length, 'tree') + ' of what is shown.';
         return [count, ...refusalsOf(causes)].join(' ');
     }
 
     showLines() {
-        const rows = this.commands.map((command, index) => this.rowOf(command, this.app.answers[index], index));
+        const rows = this.commands.map((command, index) => this.rowOf(command, this.app.proposal.answers[index], index));
         fill(byId('script'), ...rows);
         const { length } = this.commands;
         byId('script-count').textContent = length === 0 ? 'no lines yet' : counted(length, 'line');
