@@ -84,6 +84,9 @@ class FieldEdits(samples.WithProgram):
         for old, new in [(utf, 'Stra\u00dfa'.encode('utf-8')), (latin, 'Stra\u00dfa'.encode('latin-1'))]:
             self.changed('retext', drawings.drawing(plan.text(3, (0, 0), old)), 'Stra\u00dfe', 'Stra\u00dfa')
             self.assertEqual(samples.Drawing(self.path('out.dgn'), self.program).elements[1].characters, new)
+        # the signs that stay keep their spelling, whatever is asked for
+        self.changed('retext', drawings.drawing(plan.text(3, (0, 0), utf + b' 7')), '7', '8', '--encoding', 'latin-1')
+        self.assertEqual(samples.Drawing(self.path('out.dgn'), self.program).elements[1].characters, utf + b' 8')
         plain = self.put('plain.dgn', drawings.drawing(plan.text(3, (0, 0), b'Strasse')))
         status, _, err = self.kit('retext', plain, self.path('p'), 'Strasse', 'Stra\u00dfe')
         self.assertEqual((status, '--encoding' in err), (2, True))

@@ -10,6 +10,11 @@ from test_health import linked_cell
 C_CHAIN = drawings.with_bit_c(drawings.chain()) + drawings.line(True)
 
 
+def beside(made: bytes) -> bytes:
+    """The same elements, the first with a range of which x goes to 900."""
+    return made[:16] + plan.range_number(900) + made[20:]
+
+
 class Mend(samples.WithProgram):
     def mended(self, file: bytes) -> tuple[dict, str]:
         """The bytes that differ once the patch is put on, by their places, and what was said on standard error."""
@@ -56,7 +61,7 @@ class Mend(samples.WithProgram):
 
     def test_a_lengthened_member_is_left_and_the_next_group_is_not_taken(self) -> None:
         long_member = drawings.line(True, drawings.LINKED, drawings.LINKAGES)
-        file = drawings.drawing(linked_cell(8, 53, long_member), C_CHAIN)
+        file = drawings.drawing(linked_cell(8, 53, long_member), beside(C_CHAIN))
         changed, err = self.mended(file)
         chain_at = 1536 + 100 + len(long_member)
         self.assertEqual(changed, {chain_at: (0x81, 0x01)})
@@ -64,11 +69,20 @@ class Mend(samples.WithProgram):
         self.assertIn('left: cell 1 ABC on level 20: loose: its total 53 asks for 144 bytes', err)
         self.assertIn('left: line 2 on level 1: orphan', err)
 
+    def test_a_chain_in_the_range_of_a_loose_cell_may_be_its_member(self) -> None:
+        long_member = drawings.line(True, drawings.LINKED, drawings.LINKAGES)
+        changed, err = self.mended(drawings.drawing(linked_cell(8, 53, long_member, C_CHAIN)))
+        self.assertEqual((changed, self.broken()), ({}, [1, 2, 3]))
+        self.assertIn('left: complex chain 3 on level 1: orphan, though its members fit: it may be a member of', err)
+        # behind a chain that is none, nothing is a member any more
+        changed, _ = self.mended(drawings.drawing(linked_cell(8, 53, long_member), beside(C_CHAIN), C_CHAIN))
+        self.assertEqual((list(changed.values()), self.broken()), ([(0x81, 0x01)] * 2, [1, 2]))
+
     def test_a_cell_with_bit_c_behind_a_loose_one_may_be_its_member(self) -> None:
         inner = drawings.with_bit_c(drawings.cell(drawings.line(True)))
         changed, err = self.mended(drawings.drawing(linked_cell(8, 60), inner))
         self.assertEqual(changed, {})
-        self.assertIn('may be a member of the loose header', err)
+        self.assertIn('may be a member of the loose header 1', err)
         changed, _ = self.mended(drawings.drawing(linked_cell(8, 60), drawings.line(), inner))
         self.assertEqual(list(changed.values()), [(0x81, 0x01)])
 

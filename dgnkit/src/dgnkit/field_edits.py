@@ -116,11 +116,11 @@ def replaced(wanted: Replacement, old: str) -> str:
 
 
 def spelled_as(drawing: Drawing, wanted: Replacement, element: Element, text: str) -> bytes:
-    """The bytes of a text. It raises Mistake where it has signs that the encoding lacks, or where no encoding is given
-    and the drawing doesn't show one."""
+    """The bytes of a text. Signs beyond ASCII are spelled as the element's old ones are, or else in the encoding that
+    is given, or else as in other texts. It raises Mistake where none of these is, or a sign can't be spelled so."""
     if text.isascii():
         return text.encode('ascii')
-    encoding = wanted.encoding or encoding_of(drawing, element)
+    encoding = encoding_of([element]) or wanted.encoding or encoding_of(drawing.elements)
     if encoding is None:
         raise Mistake('%r has signs beyond ASCII: say by --encoding how they are spelled, as utf-8 or latin-1' % text)
     try:
@@ -129,9 +129,9 @@ def spelled_as(drawing: Drawing, wanted: Replacement, element: Element, text: st
         raise Mistake('%r can not be spelled in %s: %s' % (text, encoding, why))
 
 
-def encoding_of(drawing: Drawing, element: Element) -> Optional[str]:
-    """How signs beyond ASCII are spelled: as in the element's own text, or else in the drawing's first such text."""
-    for it in [element, *(it for it in drawing.elements if it.type == 17)]:
+def encoding_of(elements: Sequence[Element]) -> Optional[str]:
+    """How signs beyond ASCII are spelled in the first text of elements that has any."""
+    for it in (it for it in elements if it.type == 17):
         characters = it.characters or b''
         if not characters.isascii():
             try:

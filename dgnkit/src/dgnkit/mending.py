@@ -5,7 +5,7 @@ it: anything else is told and left."""
 from __future__ import annotations
 
 from dataclasses import dataclass, field
-from typing import Dict, List, Optional
+from typing import Dict, List
 
 from . import classes
 from .broken import bytes_of, ends_of, fitting_total, own_words, why_loose, wraps
@@ -57,7 +57,7 @@ class _Walk:
     def __init__(self, drawing: Drawing) -> None:
         self.elements = drawing.elements
         self.made = Mending()
-        self.is_behind_loose = False  # whether the last root without bit C was a header that stays loose
+        self.loose: List[Element] = []  # the loose headers whose members the next roots with bit C may be
 
     def members(self, start: int, end: int, is_root: bool) -> None:
         """Walks a list of elements, from `start` to before `end`."""
@@ -65,7 +65,7 @@ class _Walk:
         while at < end:
             element = self.elements[at]
             if is_root and not element.has_c:
-                self.is_behind_loose = False
+                self.loose = []
             if element.type in classes.COUNTED:
                 at = self.header(element, end, is_root)
             elif element.type in (24, 27):
@@ -103,53 +103,57 @@ class _Walk:
         total = element.total or 0
         fitting = total if bytes_of(total) in sums else fitting_total(element, sums)
         if fitting is None:
-            return self.loose(element, sums, is_root)
+            return self.stay_loose(element, sums, is_root)
         behind = element.number + sums.index(bytes_of(fitting)) + 1
-        change = self.change_of(element, fitting, behind, is_root)
-        if change is not None and not self.is_kept(change, is_root):
-            self.made.changes.append(change)
+        self.mend(element, fitting, behind, is_root and element.has_c)
         self.members(element.number + 1, behind, False)
         return behind
 
-    def is_kept(self, change: Change, is_root: bool) -> bool:
-        """Whether a change isn't made: of what is locked, or of a cell or node that may belong to a loose header."""
-        element = change.element
-        if element.is_locked:
-            self.made.left.append(Left(element, 'it is locked: unlock it first'))
-            return True
-        if is_root and element.has_c and self.is_behind_loose and element.type not in COMPLEX:
-            self.made.left.append(Left(element, 'it may be a member of the loose header before it'))
-            return True
-        return False
-
-    def change_of(self, element: Element, total: int, behind: int, is_root: bool) -> Optional[Change]:
-        """The edits that a header wants so that it holds the elements up to `behind`."""
-        edits: Dict[int, int] = {}
-        words = []
+    def mend(self, element: Element, total: int, behind: int, is_orphan: bool) -> None:
+        """Makes the change of a header that wants one so that it holds the elements up to `behind`. What is locked
+        stays, and so does bit C of what may be a member of a loose header before it."""
+        change = Change(element, {}, [], behind - element.number - 1)
         if total != element.total:
-            edits.update({element.offset + 36: total & 0xFF, element.offset + 37: total >> 8})
-            own = 2 * own_words(element)
-            words.append(
-                'its total %d becomes %d, with its own %d bytes of attribute data' % (element.total or 0, total, own)
-            )
-        if is_root and element.has_c:
-            edits[element.offset] = element.content[0] & 0x7F
-            words.append('bit C is cleared')
-            if self.is_behind_loose:
-                words.append('(though it stands behind a loose header, to which it may belong)')
-        if words:
-            words.append('it has ' + counted(behind - element.number - 1, 'member'))
-        return Change(element, edits, words, behind - element.number - 1) if edits else None
+            change.edits.update({element.offset + 36: total & 0xFF, element.offset + 37: total >> 8})
+            said = 'its total %d becomes %d, with its own %d bytes of attribute data'
+            change.words.append(said % (element.total or 0, total, 2 * own_words(element)))
+        if is_orphan and not self.may_belong(element):
+            self.loose = []
+            change.edits[element.offset] = element.content[0] & 0x7F
+            change.words.append('bit C is cleared')
+        if change.edits and element.is_locked:
+            said = 'it is locked, and so it stays as it is, with %s: unlock it first'
+            self.made.left.append(Left(element, said % counted(change.members, 'member')))
+        elif change.edits:
+            change.words.append('it has ' + counted(change.members, 'member'))
+            self.made.changes.append(change)
 
-    def loose(self, element: Element, sums: List[int], is_root: bool) -> int:
+    def may_belong(self, element: Element) -> bool:
+        """Whether an orphan may be a member of a loose header before it, and then is left. A complex chain, shape,
+        surface or solid that doesn't lie in that header's range is none; GDAL sets bit C of each such at the root."""
+        if not self.loose or (element.type in COMPLEX and not any(holds(it, element) for it in self.loose)):
+            return False
+        said = 'orphan, though its members fit: it may be a member of the loose header %d before it'
+        self.made.left.append(Left(element, said % self.loose[-1].number))
+        return True
+
+    def stay_loose(self, element: Element, sums: List[int], is_root: bool) -> int:
         """Tells of a header that stays loose, and gives where to go on."""
         self.made.left.append(Left(element, why_loose(element, sums)))
         members = wraps(element, sums)
         if members is not None:
             return element.number + members + 1
         if is_root:
-            self.is_behind_loose = True
+            self.loose.append(element)
         return element.number + 1
+
+
+def holds(header: Element, element: Element) -> bool:
+    """Whether an element's stored range lies in that of a header."""
+    outer, inner = header.range, element.range
+    if outer is None or inner is None:
+        return True
+    return all(a <= b for a, b in zip(outer[0], inner[0])) and all(a >= b for a, b in zip(outer[1], inner[1]))
 
 
 def in_words(change: Change) -> str:

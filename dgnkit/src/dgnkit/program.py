@@ -38,9 +38,10 @@ class Program:
         MissingProgram where there is none."""
         named = os.environ.get('DGNEDIT')
         if named:
-            if not os.access(named, os.X_OK) or os.path.isdir(named):
+            place = shutil.which(named)
+            if not place:
                 raise MissingProgram('$DGNEDIT names %s, which is no program that can be run' % named)
-            return cls(os.path.abspath(named))
+            return cls(os.path.abspath(place))
         beside = Path(sys.argv[0]).resolve().parent / 'dgnedit'
         if beside.is_file() and os.access(beside, os.X_OK):
             return cls(beside)

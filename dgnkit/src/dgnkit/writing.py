@@ -64,27 +64,26 @@ def propose_patch(drawing: Drawing, changes: Sequence[Change], words: Sequence[s
             say(line)
         say('nothing is written; without --dry-run the next command is: ' + command)
         return
+    applied(drawing, patch, changes)
     write_file(path, patch.to_bytes())
-    applied(drawing, path, changes)
     say('%s: %s' % (path, counted(len(patch.entries), 'entry', 'entries')))
     say('next: ' + command)
 
 
-def applied(drawing: Drawing, path: str, changes: Sequence[Change]) -> bytes:
-    """What the program makes of a drawing by a patch file. It raises ListingError where that isn't the drawing with
-    these changes and no other byte changed."""
+def applied(drawing: Drawing, patch: Patch, changes: Sequence[Change]) -> None:
+    """Asks the program what it makes of a drawing by a patch file. It raises ListingError where that isn't the drawing
+    with these changes and no other byte changed."""
     expected = bytearray(drawing.data)
     for change in changes:
         for place, value in change.edits.items():
             expected[place] = value
     with tempfile.TemporaryDirectory(prefix='dgnkit-') as folder:
-        out = os.path.join(folder, 'out.dgn')
-        drawing.program.apply(drawing.path, path, out)
-        made = read_file(out)
-        if made != expected:
-            raise ListingError('dgnedit made another drawing of %s than the one that was meant' % path)
+        name, out = os.path.join(folder, 'patch'), os.path.join(folder, 'out.dgn')
+        Path(name).write_bytes(patch.to_bytes())
+        drawing.program.apply(drawing.path, name, out)
+        if read_file(out) != expected:
+            raise ListingError('dgnedit made another drawing by the patch file than the one that was meant')
         drawing.program.check(out)
-    return made
 
 
 def script_names(script: Script, path: str) -> List[str]:

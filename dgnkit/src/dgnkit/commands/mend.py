@@ -44,8 +44,9 @@ def run(arguments: argparse.Namespace) -> int:
         say('%s before, %d after' % (counted(len(drawing.nesting.broken_roots), 'broken tree'), after))
         propose_patch(drawing, mending.changes, [], arguments.patch, arguments.dry_run)
     elif not arguments.dry_run:
-        write_file(arguments.patch, patch_of(drawing, mending.changes).to_bytes())
-        applied(drawing, arguments.patch, mending.changes)
+        patch = patch_of(drawing, mending.changes)
+        applied(drawing, patch, mending.changes)
+        write_file(arguments.patch, patch.to_bytes())
     return 0
 
 
