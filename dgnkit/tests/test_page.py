@@ -497,16 +497,21 @@ class Writing(WithBrowser):
         file = with_units((EXAMPLES / 'valve.dgn').read_bytes(), 100, 1, ('m', 'cm'), (0, 0, 0))
         self.page(self.put('units.dgn', file))
         self.click_at(490, 10)
-        self.seen.run(
-            "const unit = document.getElementById('by-unit'); unit.value = 'master';"
-            "unit.dispatchEvent(new Event('input'));"
-        )
         self.seen.type('#by-x', '-2.5')
         self.seen.click('#edit-move')
         self.assertEqual(self.script_lines(), ['move 2 -250 0'])
         self.seen.type('#by-y', '1,5')
         self.assertIn('is a number', self.seen.text('#mistakes'))
         self.assertTrue(self.seen.run("return document.getElementById('edit-move').disabled"))
+        self.seen.run(
+            "const unit = document.getElementById('by-unit'); unit.value = 'resolution';"
+            "unit.dispatchEvent(new Event('input'));"
+        )
+        self.assertIn('is a whole number', self.seen.text('#mistakes'))
+        self.seen.type('#by-x', '-2')
+        self.seen.type('#by-y', '15')
+        self.seen.click('#edit-copy')
+        self.assertEqual(self.script_lines()[1:], ['copy 2 -2 15'])
 
     def test_by_keys_alone(self) -> None:
         self.page(str(EXAMPLES / 'plan.dgn'))

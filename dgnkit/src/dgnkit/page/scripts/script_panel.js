@@ -26,7 +26,7 @@ class ScriptPanel {
         if (words.hasMaster) {
             options.push(make('option', { value: 'master' }, words.master));
         }
-        fill(byId('by-unit'), ...options);
+        fill(byId('by-unit'), ...options.reverse());
     }
 
     listenToEdits() {

@@ -66,15 +66,15 @@ class Search {
         };
     }
 
-    /** A place, as 1500,560: in units of resolution and in master units, and what is near it. */
+    /** A place, as 1500,560: in master units where they are known, in units of resolution, and what is near it. */
     places(asked) {
         const found = /^(-?\d+(?:\.\d+)?)\s*[,; ]\s*(-?\d+(?:\.\d+)?)$/.exec(asked);
         if (!found) {
             return [];
         }
         const { app } = this, { words } = app, values = [Number(found[1]), Number(found[2])];
-        const made = asked.includes('.') ? [] : this.placeEntries(values, 'units');
-        return words.hasMaster ? made.concat(this.placeEntries(words.fromMaster(values), words.master)) : made;
+        const master = words.hasMaster ? this.placeEntries(words.fromMaster(values), words.master) : [];
+        return asked.includes('.') ? master : master.concat(this.placeEntries(values, 'units'));
     }
 
     placeEntries(place, unit) {
