@@ -156,6 +156,7 @@ class ScriptPanel {
         byId('drag-copy').disabled = byId('edit-copy').disabled && by !== null;
         fill(byId('refusals'), ...refusalsOf(causes).map((said) => make('li', {}, said)));
         fill(byId('mistakes'), ...this.mistakes(by));
+        byId('by-said').textContent = by !== null && byId('by-unit').value === 'master' ? '= ' + by.join(' ') : '';
         byId('edit-move').title = scene.after && chosen >= scene.base ? 'a copy that this script makes' : '';
     }
 
