@@ -17,15 +17,16 @@ class App {
         this.proposal = new Proposal(this);
         this.words = new Words(data, this.scene);
         this.picker = new Picker(this.scene);
-        this.view = new View(100, 100);
+        this.view = new View(0, 0);
         this.renderer = new Renderer(byId('drawing'), this.scene, this.view);
         this.overlay = new Overlay(byId('marks'), this);
         this.setGround(matchMedia('(prefers-color-scheme: light)').matches ? 'light' : 'dark');
         this.makePanels();
         this.showNothing();
         this.listen();
-        this.resize();
+        this.takeRoom();
         this.fit();
+        this.frame();
     }
 
     /** Reads the elements, and those that differ behind them where there is a drawing to compare with. */
@@ -127,12 +128,14 @@ class App {
     request() {
         if (!this.isWaiting) {
             this.isWaiting = true;
-            requestAnimationFrame(() => this.frame());
+            requestAnimationFrame(() => {
+                this.isWaiting = false;
+                this.frame();
+            });
         }
     }
 
     frame() {
-        this.isWaiting = false;
         this.hover();
         const isMore = this.renderer.frame();
         this.overlay.draw();
@@ -163,16 +166,26 @@ class App {
         setHidden(byId('nothing'), this.scene.order.length > 0);
     }
 
-    resize() {
+    /** Fits the canvases to the room that they have, and says whether it has changed; they then show nothing. */
+    takeRoom() {
+        const { view } = this;
         const box = byId('stage').getBoundingClientRect();
-        const isFirst = this.view.width === 100;
-        this.view.width = Math.max(Math.round(box.width), 50);
-        this.view.height = Math.max(Math.round(box.height), 50);
+        const width = Math.max(Math.round(box.width), 50), height = Math.max(Math.round(box.height), 50);
         const ratio = Math.min(window.devicePixelRatio || 1, 3);
+        if (width === view.width && height === view.height && ratio === this.renderer.ratio) {
+            return false;
+        }
+        view.width = width;
+        view.height = height;
         this.renderer.resize(ratio);
         this.overlay.resize(ratio);
-        if (!isFirst) {
-            this.moved();
+        return true;
+    }
+
+    resize() {
+        if (this.takeRoom()) {
+            this.showScale();
+            this.frame();
         }
     }
 
