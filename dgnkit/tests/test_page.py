@@ -131,6 +131,9 @@ class Looking(WithBrowser):
         self.assertIn('2 members', self.seen.text('#element'))
         self.click_at(490, 10)
         self.assertEqual(self.number(), 'element 4')
+        self.seen.click('#element .facts button')
+        self.assertEqual(self.number(), 'element 2')
+        self.assertEqual(self.seen.run('return document.activeElement.id'), 'element-title')
         self.click_at(900, 300)
         self.assertEqual(self.number(), 'element')
 
@@ -414,8 +417,12 @@ class Writing(WithBrowser):
         self.assertIn('marked deleted', self.seen.text('#refusals'))
         self.seen.click('#script li:nth-child(3) .remove')
         self.assertFalse(self.seen.run("return document.getElementById('edit-move').disabled"))
+        self.assertEqual(self.seen.run('return document.activeElement.ariaLabel'), 'Remove line 2')
         self.seen.click('#script-undo')
         self.assertEqual(self.script_lines(), ['color 6 4'])
+        self.assertFalse(self.seen.run("return document.getElementById('modes').hidden"))
+        self.seen.click('#script-undo')
+        self.assertTrue(self.seen.run("return document.getElementById('modes').hidden"), 'nothing is proposed')
 
     def test_the_script_is_copied(self) -> None:
         self.page(str(EXAMPLES / 'plan.dgn'))

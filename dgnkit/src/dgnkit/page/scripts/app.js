@@ -236,7 +236,7 @@ class App {
         const [lowX, lowY, highX, highY] = this.scene.extent();
         this.view.x = x;
         this.view.y = y;
-        this.view.scale = Math.max(this.view.scale, 8 * this.view.width / Math.max(highX - lowX, highY - lowY, 1) / 4);
+        this.view.scale = Math.max(this.view.scale, 2 * this.view.width / Math.max(highX - lowX, highY - lowY, 1));
         this.place = [x, y];
         this.say('Marked: ' + this.words.placeOf([x, y]));
         this.moved();

@@ -108,7 +108,13 @@ class ElementPanel {
 
     linkToNumber(number) {
         const { scene, words } = this.app;
-        return linkTo(words.nameOf(scene.state.record[number]), () => this.app.choose(number));
+        return linkTo(words.nameOf(scene.state.record[number]), () => this.goOn(number));
+    }
+
+    /** Chooses what a link of the panel names; the focus goes to the panel's title, since the link is gone. */
+    goOn(number) {
+        this.app.choose(number);
+        byId('element-title').focus();
     }
 
     addLook(list, record) {
@@ -189,7 +195,7 @@ class ElementPanel {
         }
         const list = make('ul', { class: 'members' });
         for (let at = chosen + 1; at <= chosen + Math.min(count, MOST_MEMBERS); at++) {
-            const row = make('li', {}, linkTo(words.nameOf(state.record[at]), () => this.app.choose(at)));
+            const row = make('li', {}, linkTo(words.nameOf(state.record[at]), () => this.goOn(at)));
             row.style.paddingInlineStart = (state.above(at).length - state.above(chosen).length - 1) * 14 + 'px';
             list.append(row);
         }

@@ -24,7 +24,7 @@ class Proposal {
         records.cut(...this.ends);
         this.held = new Session(records, scene.before, data.bytes);
         this.answers = this.held.run(commands);
-        if (commands.length > 0) {
+        if (this.held.touched.size > 0) {
             this.app.showAfter(this.after());
         } else if (scene.after) {
             this.app.showAfter(null);

@@ -119,6 +119,8 @@ class ScriptPanel {
         const [dropped] = this.commands.splice(index, 1);
         this.run();
         this.app.say('Removed: ' + lineOf(dropped));
+        const buttons = byId('script').querySelectorAll('.remove');
+        (buttons[Math.min(index, buttons.length - 1)] || byId('marks')).focus();
     }
 
     run() {
@@ -142,22 +144,22 @@ class ScriptPanel {
 
     /** What can be done with what is chosen, and why not what can't. */
     showEdits() {
-        const { chosen, scene } = this.app;
+        const { chosen, proposal } = this.app;
         byId('edits').disabled = chosen < 0;
         byId('edits-legend').textContent = this.legend();
         const by = this.by(), causes = new Map();
         for (const [edit, name] of EDITS) {
-            const cause = chosen < 0 ? null : this.app.proposal.session.causeOf(edit, chosen, by);
+            const cause = chosen < 0 ? null : proposal.session.causeOf(edit, chosen, by);
             const isMissing = (isMoving(edit) && by === null) || (edit === 'color' && this.colour() === null);
             byId('edit-' + edit).disabled = cause !== null || isMissing;
             addCause(causes, cause, name, this.app.words);
         }
-        byId('drag-move').disabled = byId('edit-move').disabled && by !== null;
-        byId('drag-copy').disabled = byId('edit-copy').disabled && by !== null;
+        for (const edit of ['move', 'copy']) {
+            byId('drag-' + edit).disabled = chosen < 0 || proposal.session.causeOf(edit, chosen, null) !== null;
+        }
         fill(byId('refusals'), ...refusalsOf(causes).map((said) => make('li', {}, said)));
         fill(byId('mistakes'), ...this.mistakes(by));
         byId('by-said').textContent = by !== null && byId('by-unit').value === 'master' ? '= ' + by.join(' ') : '';
-        byId('edit-move').title = scene.after && chosen >= scene.base ? 'a copy that this script makes' : '';
     }
 
     legend() {
@@ -213,8 +215,8 @@ class ScriptPanel {
     }
 
     showLines() {
-        const rows = this.commands.map((command, index) => this.rowOf(command, this.app.proposal.answers[index], index));
-        fill(byId('script'), ...rows);
+        const { answers } = this.app.proposal;
+        fill(byId('script'), ...this.commands.map((command, index) => this.rowOf(command, answers[index], index)));
         const { length } = this.commands;
         byId('script-count').textContent = length === 0 ? 'no lines yet' : counted(length, 'line');
         for (const id of ['script-undo', 'script-copy', 'script-save']) {
