@@ -14,10 +14,10 @@ from typing import Callable, FrozenSet, List, Optional, Sequence, Set
 
 from . import classes
 from .drawing import Drawing
-from .element import Element
+from .element import Bounds, Element
 from .errors import Mistake
 from .geometry import Box, overlaps, square_distance
-from .hulls import Bounds, Hulls
+from .hulls import Hulls
 from .numbers import Point
 from .places import Scale, coordinates
 
@@ -107,7 +107,10 @@ class Conditions:
 
     def chosen(self) -> List[int]:
         """The numbers of the elements that meet all conditions, or with --trees of the roots, in file order."""
-        found = [it.number for it in self.drawing.elements if all(test(it) for test in self.tests)]
+        met = self.drawing.elements
+        for test in self.tests:
+            met = [it for it in met if test(it)]
+        found = [it.number for it in met]
         if not self.takes_trees:
             return found
         roots = self.drawing.nesting.roots

@@ -4,16 +4,14 @@ the others the range is taken, and points are only read where it doesn't decide.
 from __future__ import annotations
 
 from functools import cached_property
-from typing import Dict, List, Optional, Tuple
+from typing import Dict, List, Optional
 
 from . import classes
 from .drawing import Drawing
-from .element import Element
+from .element import Bounds, Element
 from .geometry import BY_RANGE, Box, Outline, box_of, outline_of
 from .nesting import HEADERS
 from .numbers import Point
-
-Bounds = Tuple[int, int, int, int]
 
 
 def bounds_of(low: Point, high: Point) -> Bounds:
@@ -25,7 +23,7 @@ class Hulls:
     """Outlines of elements, and the boxes around these."""
 
     def __init__(self, drawing: Drawing) -> None:
-        self.drawing = drawing
+        self.drawing, self.dead = drawing, drawing.dead
         self.outlines: Dict[int, List[Outline]] = {}
 
     @cached_property
@@ -35,13 +33,9 @@ class Hulls:
 
     def bounds(self, element: Element) -> Optional[Bounds]:
         """The low x and y and the high x and y of what is drawn of an element, none where nothing is."""
-        found = self.found.get(element.number)
-        if found is not None:
-            return found
-        if self._is_stored(element):
-            stored = element.range
-            return None if stored is None else bounds_of(*stored)
-        return self._of_points(element)
+        if element.number in self.found:
+            return self.found[element.number]
+        return element.bounds if self._is_stored(element) else self._of_points(element)
 
     def drawn(self, element: Element) -> List[Outline]:
         """What is drawn of an element: of a header what its live members draw, or where they draw nothing, the origin
@@ -55,10 +49,10 @@ class Hulls:
 
     def _is_stored(self, element: Element) -> bool:
         """Whether the stored range of an element that no audit found is the box around what is drawn of it."""
-        if element.number in self.drawing.dead:
+        if element.number in self.dead:
             return False
         if element.type in classes.VERTICES:
-            return element.points_count > 0
+            return element.has_points
         return element.type in BY_RANGE or (element.type in classes.COUNTED and self._has_drawn_member(element))
 
     def _has_drawn_member(self, element: Element) -> bool:
