@@ -102,6 +102,7 @@ class Scripts(samples.WithProgram):
             ('level\n5\n', ['color {n} 3'], "no column is called 'number'"),
             ('5\n', ['color {n} red'], "'red' is not a colour"),
             ('5\n', ['color 5 3'], '{n}'),
+            ('6\n7\n', ['move {n} 5 5'], 'would be edited twice'),
             ('5\n99\n', ['color {n} 3', '--drawing', self.example('plan.dgn')], 'none 99'),
             ('{"features": 3}', ['color {n} 3'], 'no GeoJSON'),
             ('{"features": [{"properties": {"number": "a"}}]}', ['color {n} 3'], 'feature 1'),
