@@ -31,6 +31,16 @@ class GeoJson(samples.WithProgram):
         self.assertEqual((text['text'], text['height'], text['angle']), ('HOUSE 7', 120, 0))
         self.assertEqual((made[1]['properties']['locked'], pipe['locked']), (True, False))
 
+    def test_a_text_that_is_turned_in_three_axes(self) -> None:
+        # a turn of 90 degrees against the clock: the cosine and the sine of minus half of it
+        half = 1518500249
+        turn = b''.join(map(plan.long, (half, 0, 0, -half)))
+        behind = (
+            bytes([1, 0]) + plan.long(1000) * 2 + turn + b''.join(map(plan.long, (1, 2, 3))) + bytes([2, 0]) + b'ab'
+        )
+        made = self.features(drawings.drawing(plan.display(17, 3, (0, 0), (0, 0), behind), axes=3))[1]
+        self.assertEqual((made['properties']['angle'], made['geometry']['coordinates']), (90, [1, 2, 3]))
+
     def test_master_units_and_units_of_resolution(self) -> None:
         file = with_units(drawings.drawing(plan.line(1, (1500, 0), (2500, -250))), 100, 10, ('m', 'cm'), (500, 0, 0))
         self.assertEqual(self.features(file)[1]['geometry']['coordinates'], [[1.0, 0.0], [2.0, -0.25]])
@@ -102,6 +112,7 @@ class Scripts(samples.WithProgram):
             ('level\n5\n', ['color {n} 3'], "no column is called 'number'"),
             ('5\n', ['color {n} red'], "'red' is not a colour"),
             ('5\n', ['color 5 3'], '{n}'),
+            ('6\n7\n', ['move {n} 5 5'], 'would be edited twice'),
             ('5\n99\n', ['color {n} 3', '--drawing', self.example('plan.dgn')], 'none 99'),
             ('{"features": 3}', ['color {n} 3'], 'no GeoJSON'),
             ('{"features": [{"properties": {"number": "a"}}]}', ['color {n} 3'], 'feature 1'),
@@ -135,6 +146,14 @@ class OfOgr(samples.WithProgram):
         self.assertEqual(
             {it: found[it] for it in found if it not in cells}, {it: wanted[it] for it in wanted if it not in cells}
         )
+
+    def test_heights_and_angles_of_texts_are_those_of_ogr(self) -> None:
+        text = bytearray(plan.text(3, (10, 20), b'HOUSE 7'))
+        text[42:50] = plan.long(10000) + plan.long(30 * 360000)
+        path = self.put('in.dgn', with_units(drawings.drawing(bytes(text)), 10, 1, ('m', 'dm'), (0, 0, 0)))
+        self.assertIn('s:6g,f:WORKING,a:30)', ''.join(ogr.features_of(self, path)))
+        made = json.loads(self.said('geojson', path))['features'][0]['properties']
+        self.assertEqual((made['height'], made['angle']), (6, 30))
 
     def test_a_selection_comes_back(self) -> None:
         source = ogr.made(self, ogr.roads() + ogr.labels())

@@ -72,7 +72,8 @@ def _listing(word: str, said: Sequence[str], at: int) -> Answer:
     if end == len(said) or not said[end][len(front) :].isdigit():
         raise ListingError('dgnedit did not end a listing with %r and a number' % word)
     answer = Answer(list(said[at:end]), count=int(said[end][len(front) :]))
-    listed = sum(line[:1].isdigit() for line in answer.lines)
+    # `elements` lists counts of levels and types too, which begin with a word
+    listed = sum(line[:1].isdigit() for line in answer.lines) if word == 'elements' else len(answer.lines)
     if listed != answer.count:
         raise ListingError('dgnedit listed %d lines and counts %d' % (listed, answer.count or 0))
     return answer

@@ -7,6 +7,7 @@ from __future__ import annotations
 
 import argparse
 import gc
+import io
 import os
 import pkgutil
 import re
@@ -73,6 +74,9 @@ def command() -> NoReturn:
 
 def main(words: Optional[Sequence[str]] = None) -> int:
     """Runs a command, and gives its status: 0 and 1 as the command says, and 2 where it can't be done."""
+    for stream in (sys.stdout, sys.stderr):
+        if isinstance(stream, io.TextIOWrapper):
+            stream.reconfigure(errors='backslashreplace')  # of texts a terminal may lack some signs
     gc.disable()  # a drawing is many small objects without cycles: to look for some again and again takes half the time
     try:
         given, names = list(sys.argv[1:] if words is None else words), module_names()

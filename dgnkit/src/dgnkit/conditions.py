@@ -10,14 +10,14 @@ from dataclasses import dataclass
 from fractions import Fraction
 from functools import cached_property, partial
 
-from typing import Callable, FrozenSet, List, Optional, Sequence, Set
+from typing import Callable, FrozenSet, List, Optional, Sequence, Set, Tuple
 
 from . import classes
 from .drawing import Drawing
 from .element import Element
 from .errors import Mistake
 from .geometry import Box, overlaps, square_distance
-from .hulls import Bounds, Hulls
+from .hulls import Hulls, is_beside, is_within
 from .numbers import Point
 from .places import Scale, coordinates
 
@@ -101,13 +101,19 @@ class Conditions:
         self.scale = Scale(drawing.units, arguments.units)
         self.near = near_of(arguments, self.scale)
         self.hulls = Hulls(drawing)
-        self.tests = [*plain_tests(arguments), *self._standing_tests(arguments), *self._place_tests(arguments)]
+        self.tests = [*plain_tests(arguments), *self._standing_tests(arguments)]
+        self.boxed = self._place_tests(arguments)
         outside = arguments.outside if arguments.trees else None
         self.of_trees = [partial(self._is_outside, box_of_words(outside, self.scale))] if outside else []
 
     def chosen(self) -> List[int]:
         """The numbers of the elements that meet all conditions, or with --trees of the roots, in file order."""
-        found = [it.number for it in self.drawing.elements if all(test(it) for test in self.tests)]
+        met = self.drawing.elements
+        for test in self.tests:
+            met = [it for it in met if test(it)]
+        for box, test in self.boxed:
+            met = [it for it in (met if box is None else self.hulls.meeting(met, box)) if test(it)]
+        found = [it.number for it in met]
         if not self.takes_trees:
             return found
         roots = self.drawing.nesting.roots
@@ -147,16 +153,17 @@ class Conditions:
             tests.append(lambda it: roots[it.number] in broken)
         return tests
 
-    def _place_tests(self, arguments: argparse.Namespace) -> List[Test]:
-        tests: List[Test] = []
+    def _place_tests(self, arguments: argparse.Namespace) -> List[Tuple[Optional[Box], Test]]:
+        """The tests on places, each with the box that what meets it has something in, where there is one."""
+        tests: List[Tuple[Optional[Box], Test]] = []
         if self.near is not None:
-            tests.append(partial(self._is_near, self.near, self.near.box))
-        asked = [
-            (arguments.inside, self._is_inside),
-            (arguments.overlap, self._overlaps),
-            (arguments.outside, self._is_outside),
-        ]
-        tests.extend(partial(test, box_of_words(words, self.scale)) for words, test in asked if words)
+            tests.append((self.near.box, partial(self._is_near, self.near, self.near.box)))
+        for words, test in [(arguments.inside, self._is_inside), (arguments.overlap, self._overlaps)]:
+            if words:
+                box = box_of_words(words, self.scale)
+                tests.append((box, partial(test, box)))
+        if arguments.outside:
+            tests.append((None, partial(self._is_outside, box_of_words(arguments.outside, self.scale))))
         return tests
 
     def _is_near(self, near: Near, box: Box, element: Element) -> bool:
@@ -177,18 +184,6 @@ class Conditions:
 
     def _is_outside(self, box: Box, element: Element) -> bool:
         return self.hulls.bounds(element) is not None and not self._overlaps(box, element)
-
-
-def is_beside(bounds: Bounds, box: Box) -> bool:
-    """Whether bounds and a box have no point in common."""
-    low_x, low_y, high_x, high_y = bounds
-    return high_x < box.low_x or box.high_x < low_x or high_y < box.low_y or box.high_y < low_y
-
-
-def is_within(bounds: Bounds, box: Box) -> bool:
-    """Whether bounds lie in a box."""
-    low_x, low_y, high_x, high_y = bounds
-    return box.low_x <= low_x and high_x <= box.high_x and box.low_y <= low_y and high_y <= box.high_y
 
 
 def plain_tests(arguments: argparse.Namespace) -> List[Test]:

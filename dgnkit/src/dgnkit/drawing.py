@@ -179,7 +179,7 @@ class Drawing:
         ranges = [
             hulls.get(it.number) or it.range
             for it in self.elements
-            if it.type in DRAWN and it.number not in dead and (it.type not in classes.VERTICES or it.points_count)
+            if it.type in DRAWN and it.number not in dead and (it.type not in classes.VERTICES or it.has_points)
         ]
         lows, highs = zip(*[it for it in ranges if it is not None]) if ranges else ((), ())
         return (tuple(map(min, zip(*lows))), tuple(map(max, zip(*highs)))) if lows else None

@@ -13,6 +13,8 @@ from .numbers import OFFSET, Point, long_at, longs_at, points_of, word_at
 LINKED = 0x0800
 LOCKED = 0x0100
 RANGE = struct.Struct('<12H')
+RANGE_XY = struct.Struct('<4H4x4H')
+Bounds = Tuple[int, int, int, int]
 TEXT_UNIT = 6.0 / 1000.0  # what one of a text's multipliers stands for, in units of resolution
 
 
@@ -97,6 +99,18 @@ class Element:
             return low, high
         low_z, high_z = words[4] * 65536 + words[5] - OFFSET, words[10] * 65536 + words[11] - OFFSET
         return (*low, low_z), (*high, high_z)
+
+    @property
+    def bounds(self) -> Bounds:
+        """The stored range on x and y, low and high. Only of an element that isn't silent."""
+        words = RANGE_XY.unpack_from(self.data, self.offset + 4)
+        low = words[0] * 65536 + words[1] - OFFSET, words[2] * 65536 + words[3] - OFFSET
+        return (*low, words[4] * 65536 + words[5] - OFFSET, words[6] * 65536 + words[7] - OFFSET)
+
+    @property
+    def has_points(self) -> bool:
+        """Whether a line, string, shape or curve has a point."""
+        return self.type == 3 or self.data[self.offset + 36] > 0 or self.data[self.offset + 37] > 0
 
     @property
     def points(self) -> List[Point]:

@@ -9,7 +9,6 @@ from .drawing import Drawing
 from .element import Element
 from .geometry import BY_RANGE, Box
 from .numbers import Point
-from .units import shortest
 
 Geometry = Optional[Dict[str, Any]]
 Place = Callable[[Point], List[float]]
@@ -54,8 +53,8 @@ class Features:
             'weight': element.weight,
             'style': element.style,
             'text': element.text,
-            'height': None if size is None else float(shortest(size[1] * self.scale)),
-            'angle': None if angle is None else float(shortest(angle)),
+            'height': None if size is None else round(size[1] * self.scale, 9),
+            'angle': None if angle is None else round(angle, 6),
             'cell': element.cell_name,
             'locked': element.is_locked,
             'broken': nesting.roots[number] in self.broken_roots,

@@ -4,16 +4,14 @@ the others the range is taken, and points are only read where it doesn't decide.
 from __future__ import annotations
 
 from functools import cached_property
-from typing import Dict, List, Optional, Tuple
+from typing import Dict, Iterable, List, Optional
 
 from . import classes
 from .drawing import Drawing
-from .element import Element
-from .geometry import BY_RANGE, Box, Outline, box_of, outline_of
+from .element import RANGE_XY, Bounds, Element
+from .geometry import BY_RANGE, DRAWN, Box, Outline, box_of, outline_of
 from .nesting import HEADERS
-from .numbers import Point
-
-Bounds = Tuple[int, int, int, int]
+from .numbers import OFFSET, Point
 
 
 def bounds_of(low: Point, high: Point) -> Bounds:
@@ -25,7 +23,7 @@ class Hulls:
     """Outlines of elements, and the boxes around these."""
 
     def __init__(self, drawing: Drawing) -> None:
-        self.drawing = drawing
+        self.drawing, self.dead = drawing, drawing.dead
         self.outlines: Dict[int, List[Outline]] = {}
 
     @cached_property
@@ -35,13 +33,27 @@ class Hulls:
 
     def bounds(self, element: Element) -> Optional[Bounds]:
         """The low x and y and the high x and y of what is drawn of an element, none where nothing is."""
-        found = self.found.get(element.number)
-        if found is not None:
-            return found
-        if self._is_stored(element):
-            stored = element.range
-            return None if stored is None else bounds_of(*stored)
-        return self._of_points(element)
+        if element.number in self.found:
+            return self.found[element.number]
+        return element.bounds if self._is_stored(element) else self._of_points(element)
+
+    def meeting(self, elements: Iterable[Element], box: Box) -> List[Element]:
+        """Those of which something may lie in a box: all whose bounds have a point in common with it. Most are asked
+        here by their range's words alone, in which each number has an offset."""
+        left, low, right, high = (it + OFFSET for it in (box.low_x, box.low_y, box.high_x, box.high_y))
+        made = []
+        for element in elements:
+            if element.type not in DRAWN or element.number in self.found or not self._is_stored(element):
+                bounds = self.bounds(element)
+                if bounds is not None and not is_beside(bounds, box):
+                    made.append(element)
+                continue
+            words = RANGE_XY.unpack_from(element.data, element.offset + 4)
+            if words[4] * 65536 + words[5] < left or right < words[0] * 65536 + words[1]:
+                continue
+            if words[6] * 65536 + words[7] >= low and high >= words[2] * 65536 + words[3]:
+                made.append(element)
+        return made
 
     def drawn(self, element: Element) -> List[Outline]:
         """What is drawn of an element: of a header what its live members draw, or where they draw nothing, the origin
@@ -55,10 +67,10 @@ class Hulls:
 
     def _is_stored(self, element: Element) -> bool:
         """Whether the stored range of an element that no audit found is the box around what is drawn of it."""
-        if element.number in self.drawing.dead:
+        if element.number in self.dead:
             return False
         if element.type in classes.VERTICES:
-            return element.points_count > 0
+            return element.has_points
         return element.type in BY_RANGE or (element.type in classes.COUNTED and self._has_drawn_member(element))
 
     def _has_drawn_member(self, element: Element) -> bool:
@@ -86,3 +98,15 @@ class Hulls:
             if outline is not None and (number not in dead or element.number in dead):
                 made.append(outline)
         return made or [Outline([it], False, False) for it in element.points]
+
+
+def is_beside(bounds: Bounds, box: Box) -> bool:
+    """Whether bounds and a box have no point in common."""
+    low_x, low_y, high_x, high_y = bounds
+    return high_x < box.low_x or box.high_x < low_x or high_y < box.low_y or box.high_y < low_y
+
+
+def is_within(bounds: Bounds, box: Box) -> bool:
+    """Whether bounds lie in a box."""
+    low_x, low_y, high_x, high_y = bounds
+    return box.low_x <= low_x and high_x <= box.high_x and box.low_y <= low_y and high_y <= box.high_y

@@ -14,7 +14,7 @@ Row = TypeVar('Row')
 
 NUMBER = r'-?\d+'
 POINT = r'%s(?:,%s){1,2}' % (NUMBER, NUMBER)
-ELEMENTS = re.compile(r'^\d+ \d+ \d+ \d+ \d+ [c-][d-]$', re.M)
+ELEMENTS = re.compile(r'^(\d+) (\d+) (\d+) (\d+) (\d+) ([c-])([d-])$', re.M)
 COUNTS = re.compile(r'^(level|type) (\d+) (\d+)$', re.M)
 ITEM = re.compile(r'(\d+) (\d+) (\d+) (\d+) (\d+) (\d+) (\d+) (path|text|box|cell|node|group)(?: (.*))?', re.S)
 PATH = re.compile(r'%s(?: %s)*' % (POINT, POINT))
@@ -106,12 +106,10 @@ def elements_of(lines: Sequence[str], data: bytes, axes: int) -> List[Element]:
     if len(rows) + len(COUNTS.findall(text)) != len(lines):
         wrong = next(line for line in lines if not ELEMENTS.fullmatch(line) and not COUNTS.fullmatch(line))
         raise ListingError('dgnedit listed an element as %r, which is not understood' % wrong)
-    made = []
-    for row in rows:
-        number, offset, size, kind, level, signs = row.split(' ')
-        c, d = signs
-        made.append(Element(int(number), int(offset), int(size), int(kind), int(level), c == 'c', d == 'd', data, axes))
-    return made
+    return [
+        Element(int(number), int(offset), int(size), int(kind), int(level), c == 'c', d == 'd', data, axes)
+        for number, offset, size, kind, level, c, d in rows
+    ]
 
 
 def counts_of(lines: Sequence[str]) -> Tuple[Dict[int, int], Dict[int, int]]:

@@ -3,7 +3,8 @@
 from __future__ import annotations
 
 from dataclasses import dataclass
-from typing import Callable, Dict, Optional, Sequence
+from functools import cached_property
+from typing import Callable, Dict, Optional, Sequence, Set
 
 from .answers import Answer
 from .broken import why_broken
@@ -72,12 +73,17 @@ class Explainer:
         return 'its tree is broken at %s (%s). %s' % (self.named(rest), why, self.advice_on_broken(number))
 
     def advice_on_broken(self, number: int) -> str:
-        mending = mending_of(self.drawing)
-        spans = [(it.element.number, it.element.number + it.members) for it in mending.changes]
-        is_left = any(it.element.number == number for it in mending.left)
-        if not is_left and any(first <= number <= last for first, last in spans):
+        if number in self.mended:
             return '`dgnkit mend` writes a patch file that mends it'
         return '`dgnkit mend` can not mend it: it says why'
+
+    @cached_property
+    def mended(self) -> Set[int]:
+        """The elements of the headers that can be mended, but those that are left."""
+        mending = mending_of(self.drawing)
+        spans = [range(it.element.number, it.element.number + it.members + 1) for it in mending.changes]
+        left = {it.element.number for it in mending.left}
+        return {number for span in spans for number in span} - left
 
     def deleted(self, refusal: Refusal, rest: str) -> str:
         number = int(rest)

@@ -135,9 +135,10 @@ def give_script(drawing: str, script: Script, words: Iterable[str], path: str, i
         write_script(script, path)
         say('%s: %s' % (', '.join(names), counted(len(script.commands), 'command')))
         say('next: ' + edit_command(drawing, names))
-    elif len(names) > 1:
-        raise Mistake('the script is longer than the program reads: name a file by -o, and it is written in several')
+    elif len(names) > 1 or not script.text.isascii():
+        why = 'is longer than the program reads' if len(names) > 1 else 'has signs beyond ASCII'
+        raise Mistake('the script %s: name a file for it by -o' % why)
     else:
         for command in script.lines:
-            say(command.decode('utf-8'))
+            say(command.decode('ascii'))
         note('next: ' + edit_command(drawing, names))

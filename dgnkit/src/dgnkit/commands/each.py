@@ -126,7 +126,8 @@ class Runs:
             lines = lines_of(said)
             if status not in (0, 1):
                 return Outcome(name, status, str(ending_of(status, lines, name)), 0, '')
-            refused = 0 if self.is_patch else sum(it.is_refused for it in answers_of(self.commands, lines))
+            asks = status == 1 and not self.is_patch
+            refused = sum(it.is_refused for it in answers_of(self.commands, lines)) if asks else 0
         except Mistake as why:
             return Outcome(name, -1, str(why), 0, '')
         os.replace(out, target)

@@ -16,6 +16,8 @@ from ..tables import numbers_in
 if TYPE_CHECKING:
     from ..cli import Subparsers
 
+TWICE = ('move', 'copy')  # what an edit of a header does to its members, and does once more where these are named too
+
 
 def register(words: Subparsers) -> None:
     parser = words.add_parser('script', help='write a script for elements whose numbers a file has')
@@ -38,6 +40,8 @@ def run(arguments: argparse.Namespace) -> int:
         give_proposal(drawing, propose(drawing, sorted(numbers), arguments.line), arguments.output, arguments.dry_run)
         return 0
     template = template_of(arguments.line, None)
+    if template.split()[0] in TWICE:
+        raise Mistake('%s wants --drawing: what stands below another one would be edited twice' % template.split()[0])
     script = Script(line_of(template, it) for it in numbers)
     for line in script.lines[:1]:
         fault = fault_of(line)
