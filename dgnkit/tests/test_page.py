@@ -115,9 +115,9 @@ class Looking(WithBrowser):
         self.assertEqual(self.seen.title, 'plan.dgn – 12 elements')
         self.assertEqual(self.seen.text('#title'), 'plan.dgn')
         self.assertIn('12 elements', self.seen.text('#summary'))
-        counts = self.seen.text('#levels').split()
-        self.assertEqual(counts[:2], ['1', '1'])
-        self.assertEqual(counts[-2:], ['11', '4'])
+        rows = self.seen.run("return [...document.querySelectorAll('#levels label')].map((it) => it.innerText)")
+        counts = [row.split() for row in rows]
+        self.assertEqual(counts, [['1', '1'], ['2', '2'], ['3', '1'], ['8', '1'], ['10', '3'], ['11', '4']])
 
     def test_the_valve_is_2(self) -> None:
         self.page(str(EXAMPLES / 'valve.dgn'))
@@ -149,6 +149,9 @@ class Looking(WithBrowser):
         self.assertTrue(self.seen.run("return !document.getElementById('nothing').hidden"))
         self.seen.click('#levels-all')
         self.assertGreater(self.dot(500, 550)[3], 100)
+        self.seen.click('#levels li:nth-child(5) .only')
+        self.assertGreater(self.dot(500, 550)[3], 100)
+        self.assertEqual(self.dot(0, 1500)[3], 0)
 
     def test_deleted_elements_are_drawn_where_they_are_asked_for(self) -> None:
         gone = drawings.deleted(plan.line(1, (0, 0), (1000, 0)))

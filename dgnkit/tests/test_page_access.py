@@ -21,7 +21,7 @@ const groundOf = (element) => { for (let at = element; at; at = at.parentElement
 const seen = [];
 for (const element of document.querySelectorAll('body *')) {
     const own = [...element.childNodes].some((it) => it.nodeType === 3 && it.textContent.trim() !== '');
-    if (!own || element.closest('[hidden], .hidden, script, noscript, :disabled, .only, option')) continue;
+    if (!own || element.closest('[hidden], .hidden, script, noscript, :disabled, option')) continue;
     const [one, other] = [light(getComputedStyle(element).color), light(groundOf(element))].sort((a, b) => b - a);
     seen.push([(one + 0.05) / (other + 0.05), element.textContent.trim().slice(0, 40)]);
 }

@@ -9,11 +9,12 @@ const EM = 100;                   // pixels of the font that texts are measured 
 const CAPITAL = 0.72;             // height of a capital letter in it, of an em
 const FONT = EM + 'px "Helvetica Neue", Arial, "Liberation Sans", sans-serif';
 
-/** Draws records by a view. What has the same pen is stroked at once. */
+/** Draws records by a view. What has the same pen is stroked at once. Dots go to `dots`, where these are given. */
 class Painter {
-    constructor(records, context) {
+    constructor(records, context, dots = null) {
         this.records = records;
         this.context = context;
+        this.dots = dots;
     }
 
     /** Begins a picture. `ratio` is how many dots of the canvas a pixel has. */
@@ -102,8 +103,13 @@ class Painter {
     }
 
     drawDot(left, top, colour, width) {
-        this.setFill(colour);
-        this.context.fillRect(left, top, Math.max(width, 1.2), Math.max(width, 1.2));
+        const size = Math.max(Math.round(width * this.ratio), 1);
+        if (this.dots === null) {
+            this.setFill(colour);
+            this.context.fillRect(left, top, size / this.ratio, size / this.ratio);
+        } else {
+            this.dots.set(Math.round(left * this.ratio), Math.round(top * this.ratio), size, colour, this.alpha);
+        }
     }
 
     drawPath(record, colour, width, dash, isFar) {

@@ -8,6 +8,7 @@ class Picture {
     constructor() {
         this.canvas = document.createElement('canvas');
         this.context = this.canvas.getContext('2d');
+        this.dots = new Dots();
         this.view = null;
         this.version = -1;
         this.next = 0;
@@ -28,7 +29,7 @@ class Picture {
         this.next = 0;
         this.spent = 0;
         this.clear();
-        this.painter = new Painter(scene.records, this.context);
+        this.painter = new Painter(scene.records, this.context, this.dots);
         this.painter.start(this.view, ratio);
     }
 
@@ -41,6 +42,7 @@ class Picture {
             this.context.setTransform(1, 0, 0, 1, 0, 0);
             this.context.clearRect(0, 0, width, height);
         }
+        this.dots.start(width, height);
     }
 
     get isDone() {
@@ -57,6 +59,9 @@ class Picture {
             }
         }
         this.painter.finish();
+        if (this.isDone) {
+            this.dots.put(this.context);
+        }
         this.spent += performance.now() - start;
         return this.isDone;
     }

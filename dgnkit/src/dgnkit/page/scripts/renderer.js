@@ -1,6 +1,12 @@
 /* Draws a scene, a slice of it in each frame where it is large. */
 
-const SLICE = 7;                  // milliseconds of a frame for drawing
+// Milliseconds of a frame for drawing: while the view stands still; the least and the most while it moves; and how long a
+// frame may be then before less is drawn in the next one.
+const STILL_SLICE = 24;
+const LEAST_SLICE = 2;
+const MOST_SLICE = 9;
+const LONG_FRAME = 25;
+const PAUSE = 200;
 
 /** Keeps a canvas up to date: it shows the newest whole picture, moved to the view, until the next one is whole. */
 class Renderer {
@@ -12,9 +18,11 @@ class Renderer {
         this.whole = null;
         this.making = null;
         this.spare = null;
-        this.composed = null;
         this.ratio = 1;
         this.isQuick = false;
+        this.slice = MOST_SLICE;
+        this.lastFrame = 0;
+        this.lastView = null;
     }
 
     setColours(colours, pens) {
@@ -43,14 +51,31 @@ class Renderer {
         if (this.making === null || this.isUseless(this.making)) {
             this.begin();
         }
-        if (this.making.draw(this.isQuick ? 3 * SLICE : SLICE)) {
-            this.isQuick = this.making.spent < SLICE;
+        const budget = this.budget();
+        if (this.making.draw(this.isQuick ? STILL_SLICE : budget)) {
+            this.isQuick = this.making.spent < MOST_SLICE;
             this.spare = this.whole;
             this.whole = this.making;
             this.making = null;
         }
         this.compose();
         return true;
+    }
+
+    /** How long to draw in this frame: less while the view moves, and then as much as lets the frames come in time. */
+    budget() {
+        const now = performance.now(), interval = now - this.lastFrame;
+        const isMoving = this.lastView !== null && !this.lastView.equals(this.view);
+        this.lastFrame = now;
+        this.lastView = this.view.copy();
+        if (!isMoving) {
+            return STILL_SLICE;
+        }
+        if (interval < PAUSE) {
+            const wanted = interval > LONG_FRAME ? 0.7 * this.slice : 1.1 * this.slice;
+            this.slice = Math.min(Math.max(wanted, LEAST_SLICE), MOST_SLICE);
+        }
+        return this.slice;
     }
 
     begin() {
