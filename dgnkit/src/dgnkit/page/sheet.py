@@ -10,8 +10,8 @@ from importlib import resources
 from typing import Any, Dict
 
 SCRIPTS = (
-    'format records reading state grid_layer grid view colours dots painter scene picture renderer picker geometry fence '
-    'commands session proposal words dom overlay fence_draft levels_panel element_panel search script_panel '
+    'format records reading state grid_layer grid view colours dots painter scene picture renderer picker geometry '
+    'fence commands session proposal words dom overlay fence_draft levels_panel element_panel search script_panel '
     'changes_panel pointer app main'
 ).split()
 MARK = '<meta name="generator" content="dgnkit page">'
