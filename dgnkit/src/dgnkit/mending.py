@@ -5,27 +5,17 @@ it: anything else is told and left."""
 from __future__ import annotations
 
 from dataclasses import dataclass, field
-from typing import Dict, List
+from typing import List
 
 from . import classes
 from .broken import bytes_of, ends_of, fitting_total, own_words, why_loose, wraps
+from .changes import Change
 from .drawing import Drawing
-from .element import Element, described
+from .element import Element
 from .output import counted
 
 COMPLEX = frozenset([12, 14, 18, 19])
 PARTS_OF_SPLINES = frozenset([21, 25, 26, 28])
-
-
-@dataclass
-class Change:
-    """An element's edit: its new bytes by their places in the body, what it is in words, and how many elements behind
-    it are its members then, where it is a header that is mended."""
-
-    element: Element
-    edits: Dict[int, int]
-    words: List[str]
-    members: int = 0
 
 
 @dataclass
@@ -154,7 +144,3 @@ def holds(header: Element, element: Element) -> bool:
     if outer is None or inner is None:
         return True
     return all(a <= b for a, b in zip(outer[0], inner[0])) and all(a >= b for a, b in zip(outer[1], inner[1]))
-
-
-def in_words(change: Change) -> str:
-    return '%s: %s' % (described(change.element), ', '.join(change.words))
