@@ -26,6 +26,7 @@ from .listings import (
 from .nesting import HEADERS, Nesting, read_nesting
 from .numbers import Point
 from .program import Name, Program
+from .reach import Rows
 from .script import Script
 from .tcb import KIND_SAID, Tcb, kind_of
 from .units import Units
@@ -101,6 +102,11 @@ class Drawing:
     def nesting(self) -> Nesting:
         """Where each element stands in its tree."""
         return read_nesting(self.program, self.path, self.elements)
+
+    @cached_property
+    def rows(self) -> Rows:
+        """Where all elements begin, and how far those with bit C run."""
+        return Rows(self.elements)
 
     @property
     def roots(self) -> List[int]:

@@ -8,11 +8,12 @@ from dataclasses import dataclass, field
 from typing import List
 
 from . import classes
-from .broken import bytes_of, ends_of, fitting_total, own_words, why_loose, wraps
+from .broken import why_loose
 from .changes import Change
 from .drawing import Drawing
 from .element import Element
 from .output import counted
+from .reach import Reach, bytes_of
 
 COMPLEX = frozenset([12, 14, 18, 19])
 PARTS_OF_SPLINES = frozenset([21, 25, 26, 28])
@@ -45,7 +46,7 @@ class _Walk:
     """A walk through lists of elements: that of all, and those of the members of headers."""
 
     def __init__(self, drawing: Drawing) -> None:
-        self.elements = drawing.elements
+        self.elements, self.rows = drawing.elements, drawing.rows
         self.made = Mending()
         self.loose: List[Element] = []  # the loose headers whose members the next roots with bit C may be
 
@@ -89,12 +90,12 @@ class _Walk:
 
     def header(self, element: Element, end: int, is_root: bool) -> int:
         """Mends a counted header where it can, walks its members, and gives where they end."""
-        sums = ends_of(self.elements, element.number, end)
-        total = element.total or 0
-        fitting = total if bytes_of(total) in sums else fitting_total(element, sums)
-        if fitting is None:
-            return self.stay_loose(element, sums, is_root)
-        behind = element.number + sums.index(bytes_of(fitting)) + 1
+        reach = Reach(self.rows, element.number, end)
+        fitting = reach.total if reach.count_of(bytes_of(reach.total)) is not None else reach.fitting_total()
+        members = None if fitting is None else reach.count_of(bytes_of(fitting))
+        if fitting is None or members is None:
+            return self.stay_loose(element, reach, is_root)
+        behind = element.number + members + 1
         self.mend(element, fitting, behind, is_root and element.has_c)
         self.members(element.number + 1, behind, False)
         return behind
@@ -106,7 +107,7 @@ class _Walk:
         if total != element.total:
             change.edits.update({element.offset + 36: total & 0xFF, element.offset + 37: total >> 8})
             said = 'its total %d becomes %d, with its own %d bytes of attribute data'
-            change.words.append(said % (element.total or 0, total, 2 * own_words(element)))
+            change.words.append(said % (element.total or 0, total, element.size - element.linkage_place))
         if is_orphan and not self.may_belong(element):
             self.loose = []
             change.edits[element.offset] = element.content[0] & 0x7F
@@ -127,10 +128,10 @@ class _Walk:
         self.made.left.append(Left(element, said % self.loose[-1].number))
         return True
 
-    def stay_loose(self, element: Element, sums: List[int], is_root: bool) -> int:
+    def stay_loose(self, element: Element, reach: Reach, is_root: bool) -> int:
         """Tells of a header that stays loose, and gives where to go on."""
-        self.made.left.append(Left(element, why_loose(element, sums)))
-        members = wraps(element, sums)
+        self.made.left.append(Left(element, why_loose(reach)))
+        members = reach.wrapped()
         if members is not None:
             return element.number + members + 1
         if is_root:
