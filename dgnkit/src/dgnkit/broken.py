@@ -27,6 +27,7 @@ def why_broken(drawing: Drawing, number: int) -> str:
 
 
 def why_orphan(drawing: Drawing, element: Element) -> str:
+    """Why an orphan is one, in words."""
     said = 'orphan: bit C says that it belongs to a header before it, and none takes it in'
     below = len(drawing.nesting.part(element.number)) - 1
     if element.type in classes.COUNTED and drawing.nesting.knot(element.number) == 'group':

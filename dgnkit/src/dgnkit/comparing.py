@@ -27,6 +27,7 @@ class Difference:
     words: List[str] = field(default_factory=list)
 
     def add(self, name: str, facts: Any, words: str) -> None:
+        """Adds a change."""
         self.changes[name] = facts
         self.words.append(words)
 
@@ -148,6 +149,7 @@ class _Comparison:
         self.made.add('moved', self.shift_facts(shift), 'moved by ' + self.units.shift_said(shift))
 
     def shift_facts(self, shift: Point) -> Dict[str, Any]:
+        """A displacement in all units that are known."""
         facts: Dict[str, Any] = {'resolution': list(shift), 'master': None, 'metres': None}
         if self.units.is_known:
             facts['master'] = [it / self.units.in_master for it in shift]
@@ -227,8 +229,10 @@ def shift_of(olds: Sequence[Point], news: Sequence[Point]) -> Optional[Point]:
 
 
 def point_said(point: Point) -> str:
+    """A point in words."""
     return ','.join(map(str, point))
 
 
 def box_said(low: Point, high: Point) -> str:
+    """Two corners in words."""
     return '%s %s' % (point_said(low), point_said(high))

@@ -56,16 +56,19 @@ class Drawing:
 
     @cached_property
     def tcb(self) -> Tcb:
+        """What the first element says."""
         if len(self.data) < 1536:
             self.program.check(self.path)
         return Tcb.read(self.data)
 
     @property
     def units(self) -> Units:
+        """What a unit of the drawing is."""
         return self.tcb.units
 
     @property
     def axes(self) -> int:
+        """How many axes the drawing has, 2 or 3."""
         return self.tcb.axes
 
     @cached_property

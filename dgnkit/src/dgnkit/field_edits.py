@@ -26,6 +26,7 @@ class FieldEdits:
     left: List[Tuple[int, str]] = field(default_factory=list)
 
     def leave(self, element: Element, reason: str) -> None:
+        """Leaves an element out, with the reason."""
         self.left.append((element.number, reason))
 
     def change(self, element: Element, place: int, new: bytes, words: str) -> None:

@@ -70,6 +70,7 @@ class _Walk:
                 at += 1
 
     def behind_spline(self, at: int, end: int) -> int:
+        """Where the parts of a B-spline end."""
         at += 1
         while at < end and self.elements[at].has_c and self.elements[at].type in PARTS_OF_SPLINES:
             at += 1

@@ -70,6 +70,7 @@ class Nesting:
         return found
 
     def knot(self, number: int) -> str:
+        """What an element is in its tree: leaf, group, run or loose."""
         return self.knots.get(number, 'leaf')
 
     @property
