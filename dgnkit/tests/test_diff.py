@@ -79,6 +79,32 @@ class Diff(samples.WithProgram):
         swapped = self.found(drawings.drawing(*lines), drawings.drawing(*lines[:2], *lines[3:]))['elements']
         self.assertEqual([(it['before'], it['after'], list(it['changes'])) for it in swapped], [(3, None, ['gone'])])
 
+    def numbers(self, before: list, after: list) -> list:
+        """Of the elements that differ the number in the first drawing, that in the second, and the changes."""
+        found = self.found(drawings.drawing(*before), drawings.drawing(*after))['elements']
+        return [(it['before'], it['after'], sorted(it['changes'])) for it in found]
+
+    def test_elements_that_came_and_went_and_changed(self) -> None:
+        lines = [plan.line(1, (it, 0), (it, 9)) for it in range(8)]
+        text, new = plan.text(3, (1, 1), b'new'), plan.text(3, (1, 1), b'newer')
+        coloured = [it[:35] + b'\7' + it[36:] for it in lines]
+        # one came before a line that changed
+        after = [*lines[:2], text, coloured[2], *lines[3:]]
+        self.assertEqual(self.numbers(lines, after), [(None, 3, ['appended']), (3, 4, ['recoloured'])])
+        # one went, and one behind it changed
+        after = [lines[0], *lines[2:5], coloured[5], *lines[6:]]
+        self.assertEqual(self.numbers(lines, after), [(2, None, ['gone']), (6, 5, ['recoloured'])])
+        # one is another now, and some are moved behind it
+        before = [lines[0], text, *lines[1:]]
+        after = [lines[0], new, *lines[1:]]
+        self.assertEqual(self.numbers(before, after), [(2, None, ['gone']), (None, 2, ['appended'])])
+
+    def test_the_same_elements_many_times(self) -> None:
+        same, other = [plan.line(1, (0, 0), (0, 9))] * 5, plan.line(1, (3, 0), (3, 9))
+        self.assertEqual(self.numbers([*same, other], [*same[:3], other]), [(4, None, ['gone']), (5, None, ['gone'])])
+        text = plan.text(3, (1, 1), b'new')
+        self.assertEqual(self.numbers([*same, other], [*same[:3], text, *same[3:], other]), [(None, 4, ['appended'])])
+
     def test_marks_of_the_head(self) -> None:
         line = drawings.line()
         for other, changes in [

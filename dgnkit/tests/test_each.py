@@ -80,10 +80,10 @@ class Each(samples.WithProgram):
         command = [sys.executable, '-m', 'dgnkit', 'each', self.script, *self.names, '--into', self.into, '--jobs', '3']
         place = {**os.environ, 'DGNEDIT': slow, 'PYTHONPATH': str(samples.TOP / 'dgnkit' / 'src')}
         child = subprocess.Popen(command, env=place, stdout=subprocess.DEVNULL, stderr=subprocess.DEVNULL)
-        for _ in range(100):
+        for _ in range(1200):
             time.sleep(0.05)
             if len(list((self.folder).glob('out/.dgnkit-*/*'))) == 3:
                 break
         child.send_signal(signal.SIGTERM)
-        self.assertEqual(child.wait(timeout=20), 130)
+        self.assertEqual(child.wait(timeout=60), 130)
         self.assertEqual(self.written(), [])

@@ -102,6 +102,12 @@ class Mend(samples.WithProgram):
         self.assertEqual(list(changed.values()), [(0x81, 0x01)])
         self.assertIn('more than 65535 words', err)
 
+    def test_many_chains_in_a_row(self) -> None:
+        # each is an orphan, and all that stands behind it has bit C
+        changed, err = self.mended(drawings.drawing(*[C_CHAIN] * 3000))
+        self.assertEqual((len(changed), set(changed.values()), err), (3000, {(0x81, 0x01)}, ''))
+        self.assertEqual(self.broken(), [])
+
     def test_a_sound_drawing_gets_an_empty_patch(self) -> None:
         self.assertEqual(self.mended((samples.EXAMPLES / 'plan.dgn').read_bytes()), ({}, ''))
 

@@ -32,6 +32,7 @@ class Answer:
 
     @property
     def is_refused(self) -> bool:
+        """Whether the command was refused, and so changed nothing."""
         return self.cause is not None
 
 

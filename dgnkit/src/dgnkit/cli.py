@@ -48,6 +48,7 @@ class Parser(argparse.ArgumentParser):
         self._negative_number_matcher = NUMBERS
 
     def error(self, message: str) -> NoReturn:
+        """Says what is wrong with the words, and ends with 2."""
         self.exit(2, '%s: %s\n' % (self.prog, message))
 
 

@@ -2,20 +2,17 @@
 
 from __future__ import annotations
 
-import hashlib
 from dataclasses import dataclass, field
-from difflib import SequenceMatcher
-from typing import Any, Callable, Dict, Iterator, List, Optional, Sequence, Set, Tuple
+from typing import Any, Callable, Dict, List, Optional, Sequence, Set
 
 from . import classes
+from .aligning import Pair, agree, aligned
 from .drawing import Drawing
 from .element import Element, described
 from .fields import field_name, points_span
 from .numbers import Point
 from .output import counted
 from .units import Units
-
-Pair = Tuple[Optional[int], Optional[int]]
 
 
 @dataclass
@@ -30,6 +27,7 @@ class Difference:
     words: List[str] = field(default_factory=list)
 
     def add(self, name: str, facts: Any, words: str) -> None:
+        """Adds a change."""
         self.changes[name] = facts
         self.words.append(words)
 
@@ -62,42 +60,17 @@ def pairs(first: Sequence[Element], second: Sequence[Element]) -> Sequence[Pair]
     the longest runs that agree are found, from the first on that doesn't agree or from the front, whichever tells of
     fewer elements."""
     common = min(len(first), len(second))
-    same = next((it for it in range(common) if not _agree(first[it], second[it])), common)
+    same = next((it for it in range(common) if not agree(first[it], second[it])), common)
     if same == len(first):
         return [*((it, it) for it in range(same)), *((None, it) for it in range(same, len(second)))]
-    aligned = [*((it, it) for it in range(same)), *_aligned(first, second, same)]
-    return min(aligned, list(_aligned(first, second, 0)), key=lambda it: _told(first, second, it))
+    numbered: List[Pair] = [(it, it) for it in range(same)]
+    ways = [[*numbered, *aligned(first, second, same)], list(aligned(first, second, 0))]
+    return min(ways, key=lambda it: _told(first, second, it))
 
 
 def _told(first: Sequence[Element], second: Sequence[Element], found: Sequence[Pair]) -> int:
     """Of how many elements a difference would be told."""
     return sum(a is None or b is None or first[a].content != second[b].content for a, b in found)
-
-
-def _agree(one: Element, other: Element) -> bool:
-    return one.type == other.type and one.size == other.size
-
-
-def _aligned(first: Sequence[Element], second: Sequence[Element], start: int) -> Iterator[Pair]:
-    """Pairs from a place on, by the longest runs of elements whose bytes are the same; what lies between two such runs
-    is paired one by one where type and size agree."""
-    keys = [[hashlib.md5(it.content).digest() for it in row[start:]] for row in (first, second)]
-    matcher = SequenceMatcher(None, keys[0], keys[1], autojunk=False)
-    for tag, a, a_end, b, b_end in matcher.get_opcodes():
-        olds, news = range(a + start, a_end + start), range(b + start, b_end + start)
-        if tag == 'equal':
-            yield from zip(olds, news)
-        else:
-            yield from _between(first, second, list(olds), list(news))
-
-
-def _between(first: Sequence[Element], second: Sequence[Element], olds: List[int], news: List[int]) -> Iterator[Pair]:
-    for old in olds:
-        if news and _agree(first[old], second[news[0]]):
-            yield old, news.pop(0)
-        else:
-            yield old, None
-    yield from ((None, it) for it in news)
 
 
 class _Comparison:
@@ -176,6 +149,7 @@ class _Comparison:
         self.made.add('moved', self.shift_facts(shift), 'moved by ' + self.units.shift_said(shift))
 
     def shift_facts(self, shift: Point) -> Dict[str, Any]:
+        """A displacement in all units that are known."""
         facts: Dict[str, Any] = {'resolution': list(shift), 'master': None, 'metres': None}
         if self.units.is_known:
             facts['master'] = [it / self.units.in_master for it in shift]
@@ -255,8 +229,10 @@ def shift_of(olds: Sequence[Point], news: Sequence[Point]) -> Optional[Point]:
 
 
 def point_said(point: Point) -> str:
+    """A point in words."""
     return ','.join(map(str, point))
 
 
 def box_said(low: Point, high: Point) -> str:
+    """Two corners in words."""
     return '%s %s' % (point_said(low), point_said(high))

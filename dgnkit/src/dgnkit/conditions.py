@@ -9,7 +9,6 @@ import re
 from dataclasses import dataclass
 from fractions import Fraction
 from functools import cached_property, partial
-
 from typing import Callable, FrozenSet, List, Optional, Sequence, Set, Tuple
 
 from . import classes
@@ -55,21 +54,8 @@ def add_conditions(parser: argparse.ArgumentParser) -> None:
     group.add_argument('--units', choices=units, default='auto', help='of places and distances')
 
 
-NAMES = [
-    'number',
-    'level',
-    'type',
-    'color',
-    'weight',
-    'style',
-    'text',
-    'pattern',
-    'cell',
-    'deleted',
-    'locked',
-    'broken',
-]
-NAMES += ['wrong_range', 'near', 'inside', 'overlap', 'outside']
+NAMES = 'number level type color weight style text pattern cell deleted locked broken wrong_range near inside'.split()
+NAMES += ['overlap', 'outside']
 
 
 def has_conditions(arguments: argparse.Namespace) -> bool:
@@ -86,6 +72,7 @@ class Near:
 
     @property
     def box(self) -> Box:
+        """The box around all that is so near."""
         reach = math.ceil(self.within)
         x, y = self.place[:2]
         return Box(x - reach, y - reach, x + reach, y + reach)
@@ -262,6 +249,7 @@ def types_of(words: Sequence[str]) -> FrozenSet[int]:
 
 
 def near_of(arguments: argparse.Namespace, scale: Scale) -> Optional[Near]:
+    """The place of --near with the distance of --within, none without them. It raises Mistake where one is missing."""
     if (arguments.near is None) != (arguments.within is None):
         raise Mistake('--near and --within are given together')
     if arguments.near is None:

@@ -54,6 +54,7 @@ def runs_of_zeros(drawing: Drawing) -> List[Stretch]:
 
 
 def may_have_zeros(element: Element) -> bool:
+    """Whether runs of zeros are nothing odd in an element: it is not drawn."""
     return element.is_silent and element.type != 0
 
 

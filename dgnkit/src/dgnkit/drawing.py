@@ -26,6 +26,7 @@ from .listings import (
 from .nesting import HEADERS, Nesting, read_nesting
 from .numbers import Point
 from .program import Name, Program
+from .reach import Rows
 from .script import Script
 from .tcb import KIND_SAID, Tcb, kind_of
 from .units import Units
@@ -55,16 +56,19 @@ class Drawing:
 
     @cached_property
     def tcb(self) -> Tcb:
+        """What the first element says."""
         if len(self.data) < 1536:
             self.program.check(self.path)
         return Tcb.read(self.data)
 
     @property
     def units(self) -> Units:
+        """What a unit of the drawing is."""
         return self.tcb.units
 
     @property
     def axes(self) -> int:
+        """How many axes the drawing has, 2 or 3."""
         return self.tcb.axes
 
     @cached_property
@@ -101,6 +105,11 @@ class Drawing:
     def nesting(self) -> Nesting:
         """Where each element stands in its tree."""
         return read_nesting(self.program, self.path, self.elements)
+
+    @cached_property
+    def rows(self) -> Rows:
+        """Where all elements begin, and how far those with bit C run."""
+        return Rows(self.elements)
 
     @property
     def roots(self) -> List[int]:

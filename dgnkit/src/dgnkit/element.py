@@ -53,26 +53,32 @@ class Element:
 
     @property
     def is_silent(self) -> bool:
+        """Whether the type has no display header, so that of the bytes only the head is read."""
         return self.type not in classes.LOUD
 
     @property
     def colour(self) -> int:
+        """The colour, 0 to 255. Only of an element that is not silent; so are weight and style."""
         return self.data[self.offset + 35]
 
     @property
     def weight(self) -> int:
+        """The weight, 0 to 31."""
         return self.data[self.offset + 34] >> 3
 
     @property
     def style(self) -> int:
+        """The style, 0 to 7."""
         return self.data[self.offset + 34] & 7
 
     @property
     def properties(self) -> int:
+        """The word of properties, 0 of a silent element."""
         return 0 if self.is_silent else word_at(self.data, self.offset + 32)
 
     @property
     def is_locked(self) -> bool:
+        """Whether the element is locked."""
         return bool(self.properties & LOCKED)
 
     @property
@@ -123,6 +129,7 @@ class Element:
 
     @property
     def points_count(self) -> int:
+        """How many points there are, or 1 for an origin."""
         if self.type == 3:
             return 2
         if self.type in classes.VERTICES:
@@ -189,14 +196,17 @@ class Element:
 
     @property
     def font(self) -> Optional[int]:
+        """The font of a text."""
         return self.data[self.offset + 36] if self.type == 17 else None
 
     @property
     def justification(self) -> Optional[int]:
+        """The justification of a text."""
         return self.data[self.offset + 37] if self.type == 17 else None
 
     @property
     def type_name(self) -> str:
+        """The type in words."""
         return classes.type_name(self.type)
 
 

@@ -65,6 +65,7 @@ def why_ended(program: Program, ending: Ending, drawing: str, script: str, out: 
 
 
 def why_usage(drawing: str, script: str, out: str) -> str:
+    """Why the arguments were not taken."""
     if drawing == out:
         return (
             '%s is named as the drawing that is read and as the file that is written: name another one to write' % out
@@ -73,6 +74,7 @@ def why_usage(drawing: str, script: str, out: str) -> str:
 
 
 def why_bad_line(script: str, number: int) -> str:
+    """What makes the first bad line of a script bad."""
     line = Script.read(script).lines[number - 1]
     said = line.decode('latin-1')
     return 'line %d of %s is bad, so nothing has run: %r: %s' % (
@@ -84,6 +86,7 @@ def why_bad_line(script: str, number: int) -> str:
 
 
 def why_bad_design(drawing: str, ending: BadDesign) -> str:
+    """Why a file is no design file."""
     try:
         kind = kind_of(Path(drawing).read_bytes()[:4])
     except OSError:
@@ -104,6 +107,7 @@ def imports_of(script: str) -> List[str]:
 
 
 def why_not_read(names: Sequence[str]) -> str:
+    """Which of these files can not be read, and why."""
     for name in names:
         try:
             with open(name, 'rb') as file:
@@ -114,6 +118,7 @@ def why_not_read(names: Sequence[str]) -> str:
 
 
 def why_not_written(out: str) -> str:
+    """Why a file could not be written."""
     folder = os.path.dirname(os.path.abspath(out))
     if not os.path.isdir(folder):
         return '%s can not be written: there is no folder %s' % (out, folder)
@@ -127,6 +132,7 @@ def why_not_written(out: str) -> str:
 
 
 def why_too_long(what: str, drawing: str, script: str) -> str:
+    """Which file is too long."""
     names = {'design': [drawing], 'import': imports_of(script)}.get(what, [script])
     for name in names:
         if os.path.exists(name) and os.path.getsize(name) > LIMITS[what]:
@@ -151,18 +157,21 @@ def why_refused(program: Program, name: str, patch_name: str, number: int) -> st
 
 
 def put_on(body: bytearray, entry: Entry) -> None:
+    """Puts an entry on a body."""
     for field in entry.fields:
         body[field.place : field.place + len(field.new)] = field.new
     body.extend(entry.appended)
 
 
 def why_length(entry: Entry, length: int) -> str:
+    """Why an entry does not stand on a body of another length."""
     said = 'it was made for a drawing whose elements have %d bytes, and here they have %d, %d %s. '
     said += 'It is another drawing, or elements were appended'
     return said % (entry.length, length, abs(length - entry.length), 'more' if length > entry.length else 'fewer')
 
 
 def why_bytes(drawing: Drawing, body: bytearray, field: Field) -> str:
+    """Why an entry does not stand where a field has other bytes."""
     there = bytes(body[field.place : field.place + len(field.old)])
     said = 'at byte %d it wants %s, and there stands %s' % (field.place, field.old.hex(' '), there.hex(' '))
     for element in drawing.elements:

@@ -40,6 +40,7 @@ class Features:
                     covered = self.drawing.nesting.part(number).stop - 1
 
     def properties(self, element: Element) -> Dict[str, Any]:
+        """What a feature says of its element."""
         nesting, number, size = self.drawing.nesting, element.number, element.text_size
         angle = element.text_angle
         return {
@@ -89,6 +90,7 @@ class Features:
         return {'type': 'LineString', 'coordinates': [self.place(it) for it in points]}
 
     def ring(self, points: Sequence[Point]) -> Geometry:
+        """An outline through points."""
         whole = list(points) if points[0] == points[-1] and len(points) > 1 else [*points, points[0]]
         return {'type': 'Polygon', 'coordinates': [[self.place(it) for it in whole]]}
 

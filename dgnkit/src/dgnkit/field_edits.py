@@ -7,10 +7,10 @@ import re
 from dataclasses import dataclass, field
 from typing import List, Optional, Sequence, Tuple
 
+from .changes import Change
 from .drawing import Drawing
-from .element import Element, described
+from .element import Element
 from .errors import Mistake
-from .mending import Change
 
 LOCK_BYTE = 33  # the high byte of the properties, whose lowest bit says locked
 SILENT = 'their types have no level of a drawing and no lock'
@@ -26,6 +26,7 @@ class FieldEdits:
     left: List[Tuple[int, str]] = field(default_factory=list)
 
     def leave(self, element: Element, reason: str) -> None:
+        """Leaves an element out, with the reason."""
         self.left.append((element.number, reason))
 
     def change(self, element: Element, place: int, new: bytes, words: str) -> None:
@@ -140,7 +141,3 @@ def encoding_of(elements: Sequence[Element]) -> Optional[str]:
             except UnicodeDecodeError:
                 return 'latin-1'
     return None
-
-
-def in_words(change: Change) -> str:
-    return '%s: %s' % (described(change.element), ', '.join(change.words))

@@ -26,6 +26,7 @@ class Box:
     high_y: int
 
     def holds(self, point: Sequence[int]) -> bool:
+        """Whether a point lies in the box."""
         return self.low_x <= point[0] <= self.high_x and self.low_y <= point[1] <= self.high_y
 
     def meets(self, other: Box) -> bool:
@@ -34,6 +35,7 @@ class Box:
         return not beside and not (other.high_y < self.low_y or self.high_y < other.low_y)
 
     def joined(self, other: Optional[Box]) -> Box:
+        """The least box that holds both."""
         if other is None:
             return self
         low = min(self.low_x, other.low_x), min(self.low_y, other.low_y)
@@ -41,6 +43,7 @@ class Box:
 
     @property
     def corners(self) -> List[Point]:
+        """The four corners, in their order around the box."""
         left, low, right, high = self.low_x, self.low_y, self.high_x, self.high_y
         return [(left, low), (right, low), (right, high), (left, high)]
 

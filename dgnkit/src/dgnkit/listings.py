@@ -96,6 +96,7 @@ class Finding:
 
 
 def point_of(word: str) -> Point:
+    """A point `x,y` or `x,y,z`."""
     return tuple(map(int, word.split(',')))
 
 

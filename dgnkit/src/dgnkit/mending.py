@@ -5,27 +5,18 @@ it: anything else is told and left."""
 from __future__ import annotations
 
 from dataclasses import dataclass, field
-from typing import Dict, List
+from typing import List
 
 from . import classes
-from .broken import bytes_of, ends_of, fitting_total, own_words, why_loose, wraps
+from .broken import why_loose
+from .changes import Change
 from .drawing import Drawing
-from .element import Element, described
+from .element import Element
 from .output import counted
+from .reach import Reach, bytes_of
 
 COMPLEX = frozenset([12, 14, 18, 19])
 PARTS_OF_SPLINES = frozenset([21, 25, 26, 28])
-
-
-@dataclass
-class Change:
-    """An element's edit: its new bytes by their places in the body, what it is in words, and how many elements behind
-    it are its members then, where it is a header that is mended."""
-
-    element: Element
-    edits: Dict[int, int]
-    words: List[str]
-    members: int = 0
 
 
 @dataclass
@@ -55,7 +46,7 @@ class _Walk:
     """A walk through lists of elements: that of all, and those of the members of headers."""
 
     def __init__(self, drawing: Drawing) -> None:
-        self.elements = drawing.elements
+        self.elements, self.rows = drawing.elements, drawing.rows
         self.made = Mending()
         self.loose: List[Element] = []  # the loose headers whose members the next roots with bit C may be
 
@@ -79,6 +70,7 @@ class _Walk:
                 at += 1
 
     def behind_spline(self, at: int, end: int) -> int:
+        """Where the parts of a B-spline end."""
         at += 1
         while at < end and self.elements[at].has_c and self.elements[at].type in PARTS_OF_SPLINES:
             at += 1
@@ -99,12 +91,12 @@ class _Walk:
 
     def header(self, element: Element, end: int, is_root: bool) -> int:
         """Mends a counted header where it can, walks its members, and gives where they end."""
-        sums = ends_of(self.elements, element.number, end)
-        total = element.total or 0
-        fitting = total if bytes_of(total) in sums else fitting_total(element, sums)
-        if fitting is None:
-            return self.stay_loose(element, sums, is_root)
-        behind = element.number + sums.index(bytes_of(fitting)) + 1
+        reach = Reach(self.rows, element.number, end)
+        fitting = reach.total if reach.count_of(bytes_of(reach.total)) is not None else reach.fitting_total()
+        members = None if fitting is None else reach.count_of(bytes_of(fitting))
+        if fitting is None or members is None:
+            return self.stay_loose(element, reach, is_root)
+        behind = element.number + members + 1
         self.mend(element, fitting, behind, is_root and element.has_c)
         self.members(element.number + 1, behind, False)
         return behind
@@ -116,7 +108,7 @@ class _Walk:
         if total != element.total:
             change.edits.update({element.offset + 36: total & 0xFF, element.offset + 37: total >> 8})
             said = 'its total %d becomes %d, with its own %d bytes of attribute data'
-            change.words.append(said % (element.total or 0, total, 2 * own_words(element)))
+            change.words.append(said % (element.total or 0, total, element.size - element.linkage_place))
         if is_orphan and not self.may_belong(element):
             self.loose = []
             change.edits[element.offset] = element.content[0] & 0x7F
@@ -137,10 +129,10 @@ class _Walk:
         self.made.left.append(Left(element, said % self.loose[-1].number))
         return True
 
-    def stay_loose(self, element: Element, sums: List[int], is_root: bool) -> int:
+    def stay_loose(self, element: Element, reach: Reach, is_root: bool) -> int:
         """Tells of a header that stays loose, and gives where to go on."""
-        self.made.left.append(Left(element, why_loose(element, sums)))
-        members = wraps(element, sums)
+        self.made.left.append(Left(element, why_loose(reach)))
+        members = reach.wrapped()
         if members is not None:
             return element.number + members + 1
         if is_root:
@@ -154,7 +146,3 @@ def holds(header: Element, element: Element) -> bool:
     if outer is None or inner is None:
         return True
     return all(a <= b for a, b in zip(outer[0], inner[0])) and all(a >= b for a, b in zip(outer[1], inner[1]))
-
-
-def in_words(change: Change) -> str:
-    return '%s: %s' % (described(change.element), ', '.join(change.words))

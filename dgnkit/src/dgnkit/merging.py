@@ -116,10 +116,12 @@ def _extents_said(first: Drawing, merge: Merge) -> List[str]:
 
 
 def moved(point: Point, shift: Point) -> Point:
+    """A point, moved."""
     return tuple(a + b for a, b in zip(point, shift))
 
 
 def extent_said(units: Units, extent: Extent) -> str:
+    """Two corners in words, in master units where these are known."""
     if not units.is_known:
         return '%s to %s units of resolution' % tuple(','.join(map(str, it)) for it in extent)
     corners = [','.join(map(shortest, units.to_master(it))) for it in extent]

@@ -3,6 +3,7 @@
 from __future__ import annotations
 
 from dataclasses import dataclass, field
+from functools import cached_property
 from typing import Dict, Iterable, List, Sequence, Set
 
 from . import classes
@@ -44,12 +45,21 @@ class Nesting:
             if node.is_orphan:
                 self.orphans.add(node.number)
 
+    @cached_property
+    def ends(self) -> List[int]:
+        """Of each element the number behind the last that stands below it. Only once all trees are taken in."""
+        count = len(self.depths)
+        made = list(range(1, count + 1))
+        for number in range(count - 1, -1, -1):
+            end = number + 1
+            while end < count and self.depths[end] > self.depths[number]:
+                end = made[end]
+            made[number] = end
+        return made
+
     def part(self, number: int) -> range:
         """The element and all that stands below it, which are numbered in a row."""
-        end = number + 1
-        while end < len(self.depths) and self.depths[end] > self.depths[number]:
-            end += 1
-        return range(number, end)
+        return range(number, self.ends[number])
 
     def above(self, number: int) -> List[int]:
         """The headers above an element, from the nearest to the root."""
@@ -60,6 +70,7 @@ class Nesting:
         return found
 
     def knot(self, number: int) -> str:
+        """What an element is in its tree: leaf, group, run or loose."""
         return self.knots.get(number, 'leaf')
 
     @property

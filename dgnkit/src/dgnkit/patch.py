@@ -79,6 +79,7 @@ class _Reader:
         self.file, self.at = file, 0
 
     def entries(self) -> List[Entry]:
+        """All entries of the file."""
         if self.taken(len(MARK), 0) != MARK:
             raise _bad(0)
         count = self.number(8)
@@ -88,6 +89,7 @@ class _Reader:
         return made
 
     def entry(self) -> Entry:
+        """The next entry."""
         start = self.at
         length, count, appended = (self.number(start) for _ in range(3))
         fields: List[Field] = []
@@ -99,6 +101,7 @@ class _Reader:
         return Entry(length, tuple(fields), self.taken(appended, self.at))
 
     def field(self, length: int, end: int) -> Field:
+        """The next field of an entry."""
         start = self.at
         place = self.number(start)
         size = self.taken(1, start)[0]
@@ -107,6 +110,7 @@ class _Reader:
         return Field(place, self.taken(size, start), self.taken(size, start))
 
     def number(self, start: int) -> int:
+        """The next number; where it is cut off, the piece that begins at `start` is bad."""
         return int(struct.unpack('<I', self.taken(4, start))[0])
 
     def taken(self, count: int, start: int) -> bytes:

@@ -34,6 +34,7 @@ class Scale:
 
     @property
     def name(self) -> str:
+        """What places are written in."""
         return self.units.name if self.is_master else 'units of resolution'
 
     def exact(self, words: Sequence[str]) -> List[Fraction]:

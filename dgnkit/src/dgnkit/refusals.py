@@ -164,6 +164,7 @@ class Explainer:
 
 
 def import_fault(name: str, rest: str) -> str:
+    """The place of a fault of an imported file, and what it is where it is no design file at all."""
     try:
         with open(name, 'rb') as file:
             kind = kind_of(file.read(4))
@@ -199,4 +200,5 @@ EXPLAIN: Dict[str, Callable[[Explainer, Refusal, str], str]] = {
 
 
 def summary(count: int, refused: int) -> str:
+    """How many commands there are, and how many were refused."""
     return '%s, %d refused' % (counted(count, 'command'), refused)

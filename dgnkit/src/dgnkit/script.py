@@ -26,14 +26,17 @@ class Command:
 
     @property
     def words(self) -> List[str]:
+        """The pieces between blanks."""
         return self.text.split(' ')
 
     @property
     def text(self) -> str:
+        """The line without the blanks around it."""
         return self.spelling.decode('latin-1').strip(' ')
 
     @property
     def name(self) -> str:
+        """The first piece: what the command is."""
         return self.text.split(' ', 1)[0]
 
 
@@ -84,21 +87,27 @@ class Script:
         return self
 
     def comment(self, text: str) -> Script:
+        """Appends a comment."""
         return self.add(b'# ' + text.encode('utf-8'))
 
     def move(self, number: int, *shift: int) -> Script:
+        """Moves the part of an element, by units of resolution along each axis."""
         return self.add(' '.join(['move %d' % number, *map(str, shift)]))
 
     def copy(self, number: int, *shift: int) -> Script:
+        """Appends a copy of the part of an element, moved."""
         return self.add(' '.join(['copy %d' % number, *map(str, shift)]))
 
     def color(self, number: int, colour: int) -> Script:
+        """Gives a colour."""
         return self.add('color %d %d' % (number, colour))
 
     def sym(self, number: int, colour: Change, weight: Change, style: Change) -> Script:
+        """Gives a colour, a weight and a style, each none where it stays."""
         return self.add('sym %d %s' % (number, _changes(colour, weight, style)))
 
     def delete(self, number: int) -> Script:
+        """Marks the part of an element deleted."""
         return self.add('delete %d' % number)
 
     def line(self, look: Sequence[int], start: Corner, end: Corner) -> Script:
@@ -106,9 +115,11 @@ class Script:
         return self.add(' '.join(['line', *map(str, look), _point(start), _point(end)]))
 
     def string(self, look: Sequence[int], points: Sequence[Corner]) -> Script:
+        """A line string."""
         return self.add(' '.join(['string', *map(str, look), *map(_point, points)]))
 
     def shape(self, look: Sequence[int], points: Sequence[Corner]) -> Script:
+        """A shape."""
         return self.add(' '.join(['shape', *map(str, look), *map(_point, points)]))
 
     def write_text(self, look: Sequence[int], font: Sequence[int], origin: Corner, characters: bytes) -> Script:
@@ -121,9 +132,11 @@ class Script:
         return self.add(' '.join(['import', importable(name), *map(str, shift)]))
 
     def fit(self, number: int) -> Script:
+        """Sets the ranges of the tree of an element to what it holds."""
         return self.add('fit %d' % number)
 
     def undo(self) -> Script:
+        """Takes the last accepted edit back."""
         return self.add('undo')
 
     def levels(self, *spans: Union[int, str]) -> Script:
@@ -131,42 +144,55 @@ class Script:
         return self.add(' '.join(['levels', *map(str, spans)]))
 
     def show(self) -> Script:
+        """Lists what is shown."""
         return self.add('show')
 
     def tree(self, number: int) -> Script:
+        """Lists the tree of an element."""
         return self.add('tree %d' % number)
 
     def elements(self) -> Script:
+        """Lists all elements."""
         return self.add('elements')
 
     def refs(self) -> Script:
+        """Lists what may attach a reference file."""
         return self.add('refs')
 
     def links(self, number: int) -> Script:
+        """Lists the linkages of an element."""
         return self.add('links %d' % number)
 
     def audit(self) -> Script:
+        """Lists the elements whose range is not what they hold."""
         return self.add('audit')
 
     def fence(self, corners: Sequence[Corner]) -> Script:
+        """Sets the fence, by its corners."""
         return self.add(' '.join(['fence', *('%d,%d' % (it[0], it[1]) for it in corners)]))
 
     def nofence(self) -> Script:
+        """Clears the fence."""
         return self.add('nofence')
 
     def select(self, mode: str) -> Script:
+        """Lists what the fence chooses, by the mode inside, overlap or void."""
         return self.add('select ' + mode)
 
     def fmove(self, mode: str, *shift: int) -> Script:
+        """Moves what the fence chooses."""
         return self.add(' '.join(['fmove', mode, *map(str, shift)]))
 
     def fcopy(self, mode: str, *shift: int) -> Script:
+        """Appends copies of what the fence chooses, moved."""
         return self.add(' '.join(['fcopy', mode, *map(str, shift)]))
 
     def fsym(self, mode: str, colour: Change, weight: Change, style: Change) -> Script:
+        """Gives what the fence chooses a colour, a weight and a style."""
         return self.add('fsym %s %s' % (mode, _changes(colour, weight, style)))
 
     def fdelete(self, mode: str) -> Script:
+        """Marks what the fence chooses deleted."""
         return self.add('fdelete ' + mode)
 
     def parts(self) -> List[Script]:

@@ -22,6 +22,7 @@ class Row:
     fields: List[str]
 
     def mistake(self, why: object) -> Mistake:
+        """What is wrong with this row, with its file and line."""
         return Mistake('%s, row %d: %s' % (self.file, self.line, why))
 
     def field(self, column: int) -> str:

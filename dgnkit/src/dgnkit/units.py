@@ -65,10 +65,12 @@ class Units:
 
     @property
     def is_known(self) -> bool:
+        """Whether the drawing says what a master unit is."""
         return self.in_master > 0
 
     @property
     def master_metres(self) -> Optional[Fraction]:
+        """How many metres a master unit has, none where that is not known."""
         return metres_of(self.master_name) if self.is_known else None
 
     @property

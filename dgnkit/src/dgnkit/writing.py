@@ -7,9 +7,9 @@ import tempfile
 from pathlib import Path
 from typing import List, Sequence
 
+from .changes import Change
 from .drawing import Drawing, read_file
 from .errors import ListingError, Mistake
-from .mending import Change
 from .output import counted, few, note, out_name, quoted, say
 from .patch import Patch
 from .program import Name

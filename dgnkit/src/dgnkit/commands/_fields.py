@@ -8,7 +8,7 @@ from typing import TYPE_CHECKING, Callable, List, Sequence
 from ..conditions import Conditions, add_conditions, has_conditions
 from ..drawing import Drawing
 from ..errors import Mistake
-from ..field_edits import FieldEdits, in_words
+from ..field_edits import FieldEdits
 from ..output import counted, printable, say
 from ..writing import note_left, propose_patch
 
@@ -36,7 +36,7 @@ def run_edit(arguments: argparse.Namespace, edit: Edit, asks: bool) -> int:
     conditions = Conditions(drawing, arguments)
     made = edit(drawing, with_members(conditions), arguments)
     note_left(made.left)
-    words = [printable(in_words(it)) for it in made.changes]
+    words = [printable(it.in_words()) for it in made.changes]
     said = 'would be changed' if arguments.dry_run else 'changed'
     say('%d of %s: %s' % (len(made.changes), counted(len(drawing.elements), 'element'), said))
     propose_patch(drawing, made.changes, words, arguments.patch, arguments.dry_run)

@@ -7,9 +7,10 @@ import os
 import tempfile
 from typing import TYPE_CHECKING, Sequence
 
+from ..changes import Change
 from ..drawing import Drawing
 from ..element import described
-from ..mending import Change, in_words, mending_of
+from ..mending import mending_of
 from ..output import counted, note, printable, say, say_json
 from ..writing import applied, patch_of, propose_patch, write_file
 
@@ -29,10 +30,10 @@ def register(words: Subparsers) -> None:
 def run(arguments: argparse.Namespace) -> int:
     drawing = Drawing(arguments.drawing)
     mending = mending_of(drawing)
-    words = [printable(in_words(it)) for it in mending.changes]
+    words = [printable(it.in_words()) for it in mending.changes]
     after = broken_after(drawing, mending.changes)
     if arguments.json:
-        mended = [{'element': it.element.number, 'words': in_words(it)} for it in mending.changes]
+        mended = [{'element': it.element.number, 'words': it.in_words()} for it in mending.changes]
         left = [{'element': it.element.number, 'why': it.why} for it in mending.left]
         say_json({'mended': mended, 'left': left, 'before': len(drawing.nesting.broken_roots), 'after': after})
     else:
