@@ -1,9 +1,7 @@
 # Builds, checks, installs and packs dgnedit. `make help` lists what there is.
 
 PREFIX  = /usr/local
-VERSION = $(shell cat VERSION)
 PROGRAM = crates/dgnedit/out/dgnedit
-ARCHIVE = dgnedit-$(VERSION)-x86_64
 
 BIN = $(DESTDIR)$(PREFIX)/bin
 MAN = $(DESTDIR)$(PREFIX)/share/man/man1
@@ -20,15 +18,16 @@ check:          ## proves everything, tries the planted bugs, runs the tests and
 examples: build ## runs every example of the documents on the program
 	tools/run_examples
 
-install: build  ## installs the program, its man page and documents below PREFIX (/usr/local)
+install: build  ## installs the program, the companion dgnkit, man pages and documents below PREFIX (/usr/local)
 	install -d "$(BIN)" "$(MAN)" "$(DOC)/examples"
 	install -m 755 $(PROGRAM) "$(BIN)/dgnedit"
-	install -m 644 docs/man/dgnedit.1 "$(MAN)/dgnedit.1"
-	install -m 644 README.md CHANGELOG.md LICENSE docs/*.md docs/*.svg "$(DOC)"
+	tools/make_dgnkit "$(BIN)/dgnkit"
+	install -m 644 docs/man/*.1 "$(MAN)"
+	install -m 644 README.md CHANGELOG.md LICENSE docs/*.md docs/*.svg docs/*.png "$(DOC)"
 	install -m 644 examples/*.dgn examples/*.txt "$(DOC)/examples"
 
 uninstall:      ## removes what install has installed
-	rm -f "$(BIN)/dgnedit" "$(MAN)/dgnedit.1"
+	rm -f "$(BIN)/dgnedit" "$(BIN)/dgnkit" "$(MAN)/dgnedit.1" "$(MAN)/dgnkit.1"
 	rm -rf "$(DOC)"
 
 dist: build     ## makes dist/: an archive of the built program, and a Debian package where dpkg-deb is

@@ -1,0 +1,1 @@
+"""The commands of dgnkit, each a module with a function `register`."""

@@ -1,0 +1,21 @@
+"""`dgnkit lock IN PATCH`: a patch file that locks elements."""
+
+from __future__ import annotations
+
+import argparse
+from typing import TYPE_CHECKING, Sequence
+
+from ..drawing import Drawing
+from ..field_edits import FieldEdits, set_lock
+from ._fields import register_edit
+
+if TYPE_CHECKING:
+    from ..cli import Subparsers
+
+
+def register(words: Subparsers) -> None:
+    register_edit(words, 'lock', 'write a patch file that locks elements', edit)
+
+
+def edit(drawing: Drawing, numbers: Sequence[int], arguments: argparse.Namespace) -> FieldEdits:
+    return set_lock(drawing, numbers, True)

@@ -1,0 +1,60 @@
+"""`dgnkit mend IN PATCH`: a patch file that mends what can be mended of broken trees."""
+
+from __future__ import annotations
+
+import argparse
+import os
+import tempfile
+from typing import TYPE_CHECKING, Sequence
+
+from ..changes import Change
+from ..drawing import Drawing
+from ..element import described
+from ..mending import mending_of
+from ..output import counted, note, printable, say, say_json
+from ..writing import applied, patch_of, propose_patch, write_file
+
+if TYPE_CHECKING:
+    from ..cli import Subparsers
+
+
+def register(words: Subparsers) -> None:
+    parser = words.add_parser('mend', help='write a patch file that mends broken trees')
+    parser.add_argument('drawing', metavar='IN')
+    parser.add_argument('patch', metavar='PATCH')
+    parser.add_argument('--dry-run', action='store_true', help='say what it would do, and write nothing')
+    parser.add_argument('--json', action='store_true', help='say it as JSON')
+    parser.set_defaults(run=run)
+
+
+def run(arguments: argparse.Namespace) -> int:
+    drawing = Drawing(arguments.drawing)
+    mending = mending_of(drawing)
+    words = [printable(it.in_words()) for it in mending.changes]
+    after = broken_after(drawing, mending.changes)
+    if arguments.json:
+        mended = [{'element': it.element.number, 'words': it.in_words()} for it in mending.changes]
+        left = [{'element': it.element.number, 'why': it.why} for it in mending.left]
+        say_json({'mended': mended, 'left': left, 'before': len(drawing.nesting.broken_roots), 'after': after})
+    else:
+        for line in words:
+            say(line)
+    for it in mending.left:
+        note(printable('left: %s: %s' % (described(it.element), it.why)))
+    if not arguments.json:
+        say('%s before, %d after' % (counted(len(drawing.nesting.broken_roots), 'broken tree'), after))
+        propose_patch(drawing, mending.changes, [], arguments.patch, arguments.dry_run)
+    elif not arguments.dry_run:
+        patch = patch_of(drawing, mending.changes)
+        applied(drawing, patch, mending.changes)
+        write_file(arguments.patch, patch.to_bytes())
+    return 0
+
+
+def broken_after(drawing: Drawing, changes: Sequence[Change]) -> int:
+    """How many trees are broken in the drawing with these changes, as the program says."""
+    with tempfile.TemporaryDirectory(prefix='dgnkit-') as folder:
+        patch, out = os.path.join(folder, 'patch'), os.path.join(folder, 'out.dgn')
+        write_file(patch, patch_of(drawing, changes).to_bytes())
+        drawing.program.apply(drawing.path, patch, out)
+        return len(Drawing(out, drawing.program).nesting.broken_roots)

@@ -1,0 +1,60 @@
+"""`dgnkit merge A B ..`: the script that imports drawings into one."""
+
+from __future__ import annotations
+
+import argparse
+from typing import TYPE_CHECKING, Callable
+
+from ..drawing import Drawing
+from ..element import described
+from ..errors import Mistake
+from ..merging import Merge, left_of, merge_of, words_of
+from ..output import note, printable, say
+from ..program import Program
+from ..script import Script
+from ..scripting import give_script
+
+if TYPE_CHECKING:
+    from ..cli import Subparsers
+
+
+def register(words: Subparsers) -> None:
+    parser = words.add_parser('merge', help='write the script that imports other drawings')
+    parser.add_argument('drawing', metavar='A')
+    parser.add_argument('others', metavar='B', nargs='+')
+    parser.add_argument('-o', '--output', metavar='SCRIPT', default='', help='the script, else standard output')
+    parser.add_argument('--dry-run', action='store_true', help='say what it would do, and write nothing')
+    parser.set_defaults(run=run)
+
+
+def run(arguments: argparse.Namespace) -> int:
+    program = Program.find()
+    first = Drawing(arguments.drawing, program)
+    merges = [merge_of(first, Drawing(name, program)) for name in arguments.others]
+    script = Script()
+    for merge in merges:
+        ask_import(first, merge)
+        script.add(merge.line)
+        for line in left_of(merge):
+            note(printable(line))
+    tell: Callable[[str], None] = say if arguments.output or arguments.dry_run else note
+    for line in (line for merge in merges for line in words_of(first, merge)):
+        tell(printable(line))
+    give_script(first.path, script, [], arguments.output, arguments.dry_run)
+    return 0
+
+
+def ask_import(first: Drawing, merge: Merge) -> None:
+    """Asks the program whether it takes the import. It raises Mistake where it refuses it."""
+    answer = first.program.edit(first.path, Script().add(merge.line))[0]
+    if answer.cause is None:
+        if answer.count != len(merge.taken):
+            raise Mistake(
+                '%s: dgnedit takes %s trees, and not %d' % (merge.drawing.path, answer.count, len(merge.taken))
+            )
+        return
+    words = answer.cause.split(' ')
+    if len(words) == 3 and words[1] in ('floating', 'opaque', 'off-plane'):
+        said = '%s can not be imported: its origin is another one, so all has to be moved, and %s can not (%s)'
+        raise Mistake(said % (merge.drawing.path, described(merge.drawing.elements[int(words[2])]), words[1]))
+    raise Mistake('%s can not be imported: dgnedit says %r' % (merge.drawing.path, answer.cause))

@@ -1,0 +1,125 @@
+"""`dgnkit place IN CELL CSV`: the script that copies a cell to places."""
+
+from __future__ import annotations
+
+import argparse
+from dataclasses import dataclass
+from typing import TYPE_CHECKING, List, Optional, Sequence
+
+from ..drawing import Drawing
+from ..element import Element, described
+from ..errors import Mistake
+from ..numbers import Point
+from ..output import few, note
+from ..places import Scale
+from ..script import Script
+from ..scripting import REASONS, causes, give_script
+from ..tables import Row, columns_of, is_head, rows_of
+
+if TYPE_CHECKING:
+    from ..cli import Subparsers
+
+FARTHEST = 4294967295
+
+
+@dataclass(frozen=True)
+class Spot:
+    """A row of the file, and the place that it says, of two or three coordinates."""
+
+    row: Row
+    point: Point
+
+
+def register(words: Subparsers) -> None:
+    parser = words.add_parser('place', help='write the script that copies a cell to places')
+    parser.add_argument('drawing', metavar='IN')
+    parser.add_argument('cell', metavar='CELL', help="the cell's name, as a person writes it")
+    parser.add_argument('places', metavar='CSV', help='rows x,y or x,y,z; a first row may name the columns')
+    parser.add_argument('--number', type=int, help='the number of the cell to copy, where several have the name')
+    parser.add_argument('--units', choices=('auto', 'master', 'resolution'), default='auto', help='of the places')
+    parser.add_argument('-o', '--output', metavar='SCRIPT', default='', help='the script, else standard output')
+    parser.add_argument('--dry-run', action='store_true', help='say what it would do, and write nothing')
+    parser.set_defaults(run=run)
+
+
+def run(arguments: argparse.Namespace) -> int:
+    drawing = Drawing(arguments.drawing)
+    cell = cell_of(drawing, arguments.cell, arguments.number)
+    spots = spots_of(drawing, arguments.places, Scale(drawing.units, arguments.units))
+    script = Script()
+    for spot in spots:
+        script.copy(cell.number, *shift_to(cell, spot))
+    ask(drawing, cell, script, spots)
+    words = ['row %d: %s to %s' % (it.row.line, described(cell), ','.join(map(str, it.point))) for it in spots]
+    give_script(drawing.path, script, words, arguments.output, arguments.dry_run)
+    return 0
+
+
+def cell_of(drawing: Drawing, name: str, number: Optional[int]) -> Element:
+    """The first cell of a name that can be copied, or the one with a number. It raises Mistake where there is none."""
+    cells = [it for it in drawing.elements if it.type == 2 and it.number not in drawing.dead]
+    named = [it for it in cells if (it.cell_name or '').upper() == name.strip().upper()]
+    if not named:
+        names = sorted({it.cell_name or '' for it in cells})
+        raise Mistake(
+            'no cell is called %r: %s' % (name, 'there are ' + ', '.join(names) if names else 'there is none')
+        )
+    roots, broken = drawing.nesting.roots, drawing.nesting.broken_roots
+    whole = [it for it in named if roots[it.number] not in broken and number in (None, it.number)]
+    if not whole and number is not None:
+        raise Mistake(
+            'element %d is no cell %s that can be copied: these are %s' % (number, name, few(_numbers(named)))
+        )
+    if not whole:
+        raise Mistake('all cells %s are in broken trees (%s): `dgnkit mend` first' % (name, few(_numbers(named))))
+    if len(whole) > 1:
+        note('copied is the first of %d cells %s, element %d' % (len(whole), name, whole[0].number))
+    return whole[0]
+
+
+def _numbers(cells: Sequence[Element]) -> List[int]:
+    return [it.number for it in cells]
+
+
+def spots_of(drawing: Drawing, file: str, scale: Scale) -> List[Spot]:
+    """The places of a file. It raises Mistake with the row where one can't be read."""
+    rows = rows_of(file)
+    columns: List[Optional[int]] = [0, 1, 2]
+    if is_head(rows[0]):
+        columns = columns_of(rows[0], ['x', 'y', 'z'])
+        if columns[0] is None or columns[1] is None:
+            raise rows[0].mistake('it names no columns x and y: %s' % ', '.join(rows[0].fields))
+        rows = rows[1:]
+    made = []
+    for row in rows:
+        words = [row.field(it) for it in columns[:2] if it is not None]
+        z = columns[2]
+        if drawing.axes == 3 and z is not None and z < len(row.fields) and row.field(z):
+            words.append(row.field(z))
+        made.append(_spot(row, words, scale))
+    return made
+
+
+def _spot(row: Row, words: Sequence[str], scale: Scale) -> Spot:
+    try:
+        return Spot(row, scale.nearest(words))
+    except Mistake as why:
+        raise row.mistake(why)
+
+
+def shift_to(cell: Element, spot: Spot) -> Point:
+    """By what a cell is moved so that its origin comes to a place; a place without z keeps the cell's."""
+    origin = cell.points[0]
+    target = (*spot.point, *origin[len(spot.point) :])
+    shift = tuple(b - a for a, b in zip(origin, target))
+    if any(abs(it) > FARTHEST for it in shift):
+        raise spot.row.mistake('it is too far from the cell')
+    return shift
+
+
+def ask(drawing: Drawing, cell: Element, script: Script, spots: Sequence[Spot]) -> None:
+    """It raises Mistake where the program refuses a copy."""
+    for cause, spot in zip(causes(drawing, script.lines), spots):
+        if cause:
+            reason = REASONS.get(cause.split(' ')[0], cause).replace('they', 'it', 1)
+            raise spot.row.mistake('%s can not be copied there (%s): %s' % (described(cell), cause, reason))

@@ -1,0 +1,28 @@
+"""`dgnkit retext IN PATCH OLD NEW`: a patch file that exchanges characters of texts in place."""
+
+from __future__ import annotations
+
+import argparse
+from typing import TYPE_CHECKING, Sequence
+
+from ..conditions import form_of, word_form
+from ..drawing import Drawing
+from ..field_edits import FieldEdits, Replacement, retext
+from ._fields import register_edit
+
+if TYPE_CHECKING:
+    from ..cli import Subparsers
+
+
+def register(words: Subparsers) -> None:
+    parser = register_edit(words, 'retext', 'write a patch file that exchanges characters of texts', edit, False)
+    parser.add_argument('old', metavar='OLD', help='the word to be replaced, not in the midst of another one')
+    parser.add_argument('new', metavar='NEW', help='what stands in its place')
+    parser.add_argument('--regex', action='store_true', help='OLD is a regular expression, and NEW may name its groups')
+    parser.add_argument('--encoding', help='how signs beyond ASCII are spelled, as utf-8 or latin-1')
+
+
+def edit(drawing: Drawing, numbers: Sequence[int], arguments: argparse.Namespace) -> FieldEdits:
+    form = (form_of if arguments.regex else word_form)(arguments.old, arguments.ignore_case)
+    new = arguments.new if arguments.regex else arguments.new.replace('\\', '\\\\')
+    return retext(drawing, numbers, Replacement(form, new, arguments.encoding))

@@ -1,0 +1,169 @@
+/* Mouse, pen, fingers and keys on the drawing. */
+
+const CLICK = 4;                  // pixels that a click may move
+const REACH = Object.freeze({ mouse: 7, pen: 9, touch: 16 });
+const STEP = 80;                  // pixels of an arrow key
+
+/** Takes what is done on the canvas to the app. */
+class Pointer {
+    constructor(canvas, app) {
+        this.canvas = canvas;
+        this.app = app;
+        this.down = new Map();
+        this.pressed = null;
+        this.reach = REACH.mouse;
+        canvas.addEventListener('pointerdown', (event) => this.press(event));
+        canvas.addEventListener('pointermove', (event) => this.move(event));
+        canvas.addEventListener('pointerup', (event) => this.release(event));
+        canvas.addEventListener('pointercancel', (event) => this.leave(event));
+        canvas.addEventListener('pointerleave', () => app.point(null));
+        canvas.addEventListener('dblclick', () => app.fence.close());
+        canvas.addEventListener('wheel', (event) => this.wheel(event), { passive: false });
+        canvas.addEventListener('keydown', (event) => this.key(event));
+        canvas.addEventListener('contextmenu', (event) => event.preventDefault());
+        document.addEventListener('keydown', (event) => this.keyAnywhere(event));
+    }
+
+    placeOf(event) {
+        const box = this.canvas.getBoundingClientRect();
+        return [event.clientX - box.left, event.clientY - box.top];
+    }
+
+    press(event) {
+        this.canvas.focus({ preventScroll: true });
+        this.canvas.setPointerCapture(event.pointerId);
+        this.reach = REACH[event.pointerType] || REACH.mouse;
+        this.down.set(event.pointerId, this.placeOf(event));
+        if (this.down.size === 1) {
+            const isDrag = event.button === 0 && this.app.tool.startsWith('drag');
+            this.pressed = { at: this.placeOf(event), isDrag, hasMoved: false, isMain: event.button === 0 };
+        } else if (this.pressed) {
+            this.pressed.hasMoved = true;
+        }
+        event.preventDefault();
+    }
+
+    move(event) {
+        const place = this.placeOf(event), before = this.down.get(event.pointerId);
+        if (!before) {
+            this.app.point(place);
+            return;
+        }
+        if (this.down.size === 2) {
+            this.pinch(event.pointerId, place);
+        } else if (this.isDragged(place)) {
+            this.drag(before, place);
+        } else {
+            return;
+        }
+        this.down.set(event.pointerId, place);
+    }
+
+    /** Whether what is pressed has moved further than a click may. */
+    isDragged(place) {
+        const { at, hasMoved } = this.pressed;
+        return hasMoved || Math.hypot(place[0] - at[0], place[1] - at[1]) > CLICK;
+    }
+
+    drag(before, place) {
+        const { app, pressed } = this;
+        if (pressed.isDrag) {
+            app.dragTo(pressed.at, place);
+        } else {
+            const start = pressed.hasMoved ? before : pressed.at;
+            app.view.pan(place[0] - start[0], place[1] - start[1]);
+            app.moved();
+        }
+        pressed.hasMoved = true;
+        app.point(place);
+    }
+
+    /** Two fingers: what is between them stays between them. */
+    pinch(moving, place) {
+        const { view } = this.app;
+        const before = this.down.get(moving);
+        const [, other] = [...this.down].find(([id]) => id !== moving);
+        const factor = Math.hypot(place[0] - other[0], place[1] - other[1])
+            / Math.max(Math.hypot(before[0] - other[0], before[1] - other[1]), 1);
+        view.pan((place[0] - before[0]) / 2, (place[1] - before[1]) / 2);
+        view.zoom(factor, (place[0] + other[0]) / 2, (place[1] + other[1]) / 2);
+        this.app.moved();
+    }
+
+    release(event) {
+        const { app, pressed } = this;
+        const place = this.placeOf(event);
+        this.down.delete(event.pointerId);
+        if (this.down.size > 0 || pressed === null) {
+            return;
+        }
+        this.pressed = null;
+        if (pressed.isDrag && pressed.hasMoved) {
+            app.drop();
+        } else if (!pressed.hasMoved && pressed.isMain) {
+            app.click(place, this.reach);
+        }
+        app.point(event.pointerType === 'mouse' ? place : null);
+    }
+
+    leave(event) {
+        this.down.delete(event.pointerId);
+        this.pressed = null;
+        this.app.cancelDrag();
+    }
+
+    wheel(event) {
+        event.preventDefault();
+        const lines = event.deltaMode === 1 ? 16 : 1;
+        const speed = event.ctrlKey ? 0.01 : 0.0016;
+        const amount = Math.min(Math.max(event.deltaY * lines, -400), 400);
+        const place = this.placeOf(event);
+        this.app.view.zoom(Math.exp(-amount * speed), place[0], place[1]);
+        this.app.moved();
+        this.app.point(place);
+    }
+
+    key(event) {
+        if (event.ctrlKey || event.metaKey || event.altKey) {
+            return;
+        }
+        const act = this.acts(event.shiftKey ? STEP / 8 : STEP)[event.key];
+        if (act) {
+            event.preventDefault();
+            act();
+        }
+    }
+
+    /** What each key does while the drawing has the focus. */
+    acts(step) {
+        const { app } = this;
+        const pan = (right, down) => () => {
+            app.showsCentre = true;
+            app.view.pan(right, down);
+            app.moved();
+        };
+        return {
+            'ArrowLeft': pan(step, 0), 'ArrowRight': pan(-step, 0), 'ArrowUp': pan(0, step), 'ArrowDown': pan(0, -step),
+            '+': () => app.zoom(1.5), '=': () => app.zoom(1.5), '-': () => app.zoom(1 / 1.5), '0': () => app.fit(),
+            'Home': () => app.fit(), 'n': () => app.step(1), 'p': () => app.step(-1), 'f': () => app.setTool('fence'),
+            'Enter': () => (app.tool === 'fence' ? app.fence.close() : app.click(app.centre(), REACH.touch)),
+            ' ': () => app.click(app.centre(), REACH.touch),
+            'Backspace': () => app.fence.drop(), 'Delete': () => app.deleteChosen(), 'Escape': () => app.letGo(),
+        };
+    }
+
+    /** Keys that hold wherever the focus is, but in a field. */
+    keyAnywhere(event) {
+        const isField = /^(INPUT|SELECT|TEXTAREA)$/.test(event.target.tagName) && event.target.type !== 'checkbox';
+        if (isField || event.ctrlKey || event.metaKey || event.altKey) {
+            return;
+        }
+        if (event.key === '/') {
+            event.preventDefault();
+            byId('search-field').focus();
+            byId('search-field').select();
+        } else if (event.key === 'g') {
+            this.app.changeGround();
+        }
+    }
+}

@@ -1,0 +1,46 @@
+"""What the TCB, the first element of a drawing, says."""
+
+from __future__ import annotations
+
+from dataclasses import dataclass
+
+from .units import Units
+
+SIZE = 1536
+FRONTS = (b'\x08\x09\xfe\x02', b'\xc8\x09\xfe\x02')
+COMPOUND = b'\xd0\xcf\x11\xe0'
+LIBRARY = b'\x08\x05\x17\x00'
+
+
+@dataclass(frozen=True)
+class Tcb:
+    """The number of axes, the units, and whether the file says by its first byte that it is one of three axes."""
+
+    axes: int
+    units: Units
+    first_byte: int
+
+    @classmethod
+    def read(cls, data: bytes) -> Tcb:
+        """Reads it from the front of a design file."""
+        return cls(3 if data[1214] & 0x40 else 2, Units.read(data), data[0])
+
+
+def kind_of(data: bytes) -> str:
+    """What a file's first bytes say that it is: `design`, `v8`, `library`, `empty` or `other`."""
+    front = data[:4]
+    if front in FRONTS:
+        return 'design'
+    if front == COMPOUND:
+        return 'v8'
+    if front == LIBRARY:
+        return 'library'
+    return 'other' if data else 'empty'
+
+
+KIND_SAID = {
+    'v8': 'a compound file, as MicroStation V8 writes (DGN version 8), and no drawing of version 7: save it as that',
+    'library': 'a cell library of MicroStation, and no drawing: attach it there, and save its cells in a drawing',
+    'empty': 'an empty file, and no drawing',
+    'other': 'no design file of version 7: it does not begin as one',
+}

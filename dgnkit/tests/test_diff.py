@@ -1,0 +1,165 @@
+"""`diff`: each change by itself, as the editor makes it or by hand, and in words."""
+
+import json
+import unittest
+
+import samples
+from samples import drawings, plan, with_units
+
+METRIC = (100, 1, ('m', 'cm'), (0, 0, 0))
+
+
+class Diff(samples.WithProgram):
+    def found(self, before: bytes, after: bytes, status: int = 1) -> dict:
+        names = self.put('a.dgn', before), self.put('b.dgn', after)
+        return json.loads(self.said('diff', *names, '--json', status=status))
+
+    def changes(self, before: bytes, after: bytes) -> dict:
+        """The changes of each element that differs, by its number."""
+        return {it['before']: it['changes'] for it in self.found(before, after)['elements']}
+
+    def edited(self, file: bytes, *lines: str) -> bytes:
+        source, out = self.put('in.dgn', file), self.path('out.dgn')
+        answers = self.program.edit(source, samples.Script(it.encode() for it in lines), out)
+        self.assertEqual([it.cause for it in answers if it.is_refused], [])
+        return (self.folder / 'out.dgn').read_bytes()
+
+    def by_edit(self, file: bytes, *lines: str) -> dict:
+        return self.changes(file, self.edited(file, *lines))
+
+    valve = (samples.EXAMPLES / 'valve.dgn').read_bytes()
+
+    def test_the_same(self) -> None:
+        self.assertEqual(self.found(self.valve, self.valve, 0), {'elements': [], 'tail': []})
+        self.assertEqual(self.said('diff', self.put('a', self.valve), self.put('b', self.valve)), 'no difference\n')
+
+    def test_moved(self) -> None:
+        moved = {'moved': {'resolution': [50, -10], 'master': None, 'metres': None}}
+        self.assertEqual(self.by_edit(self.valve, 'move 2 50 -10'), {2: moved, 3: moved, 4: moved})
+        metric = with_units(self.valve, *METRIC)
+        self.assertEqual(self.by_edit(metric, 'move 1 250 0')[1]['moved']['metres'], [2.5, 0.0])
+        feet = with_units(self.valve, 10, 10, ('ft', 'x'), (0, 0, 0))
+        self.assertEqual(
+            self.by_edit(feet, 'move 1 250 0')[1]['moved'],
+            {'resolution': [250, 0], 'master': [2.5, 0.0], 'metres': [0.762, 0.0]},
+        )
+        solid = drawings.DRAWINGS['a line of three axes']
+        self.assertEqual(self.by_edit(solid, 'move 1 5 0 -5')[1]['moved']['resolution'], [5, 0, -5])
+
+    def test_a_moved_member_widens_its_header(self) -> None:
+        found = self.by_edit(self.valve, 'move 3 100 0')
+        self.assertEqual(found[2], {'widened': {'from': [[480, -20], [520, 20]], 'to': [[480, -20], [620, 20]]}})
+        self.assertEqual(list(found[3]), ['moved'])
+        narrowed = self.changes(self.edited(self.valve, 'move 3 100 0', 'move 3 -100 0'), self.valve)
+        self.assertEqual(list(narrowed[2]), ['range'])
+
+    def test_looks(self) -> None:
+        self.assertEqual(self.by_edit(self.valve, 'color 1 7'), {1: {'recoloured': {'colour': [0, 7]}}})
+        self.assertEqual(self.by_edit(self.valve, 'sym 1 - 3 5'), {1: {'looks': {'weight': [0, 3], 'style': [0, 5]}}})
+
+    def test_deleted_and_back(self) -> None:
+        gone = self.edited(self.valve, 'delete 1')
+        self.assertEqual(self.changes(self.valve, gone), {1: {'deleted': True}})
+        self.assertEqual(self.changes(gone, self.valve), {1: {'deleted': False}})
+
+    def test_appended_and_gone(self) -> None:
+        more = self.edited(self.valve, 'copy 2 0 100')
+        found = self.found(self.valve, more)['elements']
+        self.assertEqual(
+            [(it['before'], it['after'], it['changes']) for it in found],
+            [(None, it, {'appended': True}) for it in (5, 6, 7)],
+        )
+        self.assertEqual([it['before'] for it in self.found(more, self.valve)['elements']], [5, 6, 7])
+
+    def test_an_element_in_the_midst(self) -> None:
+        lines = [plan.line(1, (it, 0), (it, 9)) for it in range(6)]
+        text = plan.text(3, (1, 1), b'new')
+        found = self.found(drawings.drawing(*lines), drawings.drawing(*lines[:2], text, *lines[2:]))['elements']
+        self.assertEqual([(it['before'], it['after'], list(it['changes'])) for it in found], [(None, 3, ['appended'])])
+        swapped = self.found(drawings.drawing(*lines), drawings.drawing(*lines[:2], *lines[3:]))['elements']
+        self.assertEqual([(it['before'], it['after'], list(it['changes'])) for it in swapped], [(3, None, ['gone'])])
+
+    def numbers(self, before: list, after: list) -> list:
+        """Of the elements that differ the number in the first drawing, that in the second, and the changes."""
+        found = self.found(drawings.drawing(*before), drawings.drawing(*after))['elements']
+        return [(it['before'], it['after'], sorted(it['changes'])) for it in found]
+
+    def test_elements_that_came_and_went_and_changed(self) -> None:
+        lines = [plan.line(1, (it, 0), (it, 9)) for it in range(8)]
+        text, new = plan.text(3, (1, 1), b'new'), plan.text(3, (1, 1), b'newer')
+        coloured = [it[:35] + b'\7' + it[36:] for it in lines]
+        # one came before a line that changed
+        after = [*lines[:2], text, coloured[2], *lines[3:]]
+        self.assertEqual(self.numbers(lines, after), [(None, 3, ['appended']), (3, 4, ['recoloured'])])
+        # one went, and one behind it changed
+        after = [lines[0], *lines[2:5], coloured[5], *lines[6:]]
+        self.assertEqual(self.numbers(lines, after), [(2, None, ['gone']), (6, 5, ['recoloured'])])
+        # one is another now, and some are moved behind it
+        before = [lines[0], text, *lines[1:]]
+        after = [lines[0], new, *lines[1:]]
+        self.assertEqual(self.numbers(before, after), [(2, None, ['gone']), (None, 2, ['appended'])])
+
+    def test_the_same_elements_many_times(self) -> None:
+        same, other = [plan.line(1, (0, 0), (0, 9))] * 5, plan.line(1, (3, 0), (3, 9))
+        self.assertEqual(self.numbers([*same, other], [*same[:3], other]), [(4, None, ['gone']), (5, None, ['gone'])])
+        text = plan.text(3, (1, 1), b'new')
+        self.assertEqual(self.numbers([*same, other], [*same[:3], text, *same[3:], other]), [(None, 4, ['appended'])])
+
+    def test_marks_of_the_head(self) -> None:
+        line = drawings.line()
+        for other, changes in [
+            (bytes([21]) + line[1:], {'level': [1, 21]}),
+            (drawings.locked(line), {'locked': True}),
+            (drawings.with_bit_c(line), {'bit_c': True}),
+        ]:
+            self.assertEqual(self.changes(drawings.drawing(line), drawings.drawing(other)), {1: changes})
+
+    def test_texts(self) -> None:
+        one, other = plan.text(3, (1, 1), b'DN 150'), plan.text(3, (1, 1), b'DN 200')
+        self.assertEqual(
+            self.changes(drawings.drawing(one), drawings.drawing(other)), {1: {'text': ['DN 150', 'DN 200']}}
+        )
+        short = one[:58] + bytes([4]) + one[59:]
+        self.assertEqual(
+            self.changes(drawings.drawing(one), drawings.drawing(short)), {1: {'text': ['DN 150', 'DN 1']}}
+        )
+
+    def test_single_points(self) -> None:
+        one = plan.path(4, 1, [(0, 0), (5, 5), (9, 9)])
+        other = one[:38] + plan.path(4, 1, [(0, 0), (5, 6), (9, 9)])[38:]
+        points = [{'point': 2, 'from': [5, 5], 'to': [5, 6]}]
+        self.assertEqual(self.changes(drawings.drawing(one), drawings.drawing(other)), {1: {'points': points}})
+
+    def test_other_bytes_have_their_places(self) -> None:
+        one = plan.text(3, (1, 1), b'DN 150')
+        other = one[:36] + b'\x07' + one[37:48] + b'\x05' + one[49:]
+        self.assertEqual(self.changes(drawings.drawing(one), drawings.drawing(other)), {1: {'bytes': [36, 48]}})
+        names = self.put('a', drawings.drawing(one)), self.put('b', drawings.drawing(other))
+        said = self.said('diff', *names, status=1)
+        self.assertIn("text 1 'DN 150' on level 3: other bytes at 36, 48 (2 bytes: body, rotation)", said)
+
+    def test_the_tail(self) -> None:
+        self.assertEqual(
+            self.found(self.valve, self.valve + b'x')['tail'], ['behind the elements: 2 bytes, and then 3 bytes']
+        )
+
+    def test_every_byte_that_differs_is_told(self) -> None:
+        # a change of any one byte of the plan is a difference, but of what opens no more
+        file = (samples.EXAMPLES / 'plan.dgn').read_bytes()
+        opened = self.opened(file)
+        for element in opened.elements[1:6]:
+            for place in range(4, element.size, 3):
+                made = bytearray(file)
+                made[element.offset + place] ^= 0x01
+                try:
+                    status, out, _ = self.kit('diff', self.put('a', file), self.put('b', bytes(made)), '--json')
+                except AssertionError:
+                    continue
+                if status == 1:
+                    self.assertIn(element.number, [it['before'] for it in json.loads(out)['elements']], place)
+                else:
+                    self.assertEqual(status, 2)
+
+
+if __name__ == '__main__':
+    unittest.main()

@@ -1,0 +1,111 @@
+"""What makes a line of a script bad, beside what the program says."""
+
+import random
+import unittest
+
+import samples
+from dgnkit.errors import BadScript
+from dgnkit.grammar import FORMS, fault_of
+
+# the bad lines of docs/EDITING.md, and the word that tells why
+BAD = {
+    'move 1 +5 0': '+5',
+    'move 1 05 0': '05',
+    'move 1 -0 5': '-0',
+    'move 1 5': '3 to 4 pieces',
+    'color 1 256': '255',
+    'color -1 3': 'number of an element',
+    'sym 1 3 32 0': '31',
+    'delete 1 2': '1 piece behind',
+    'line 1 0 0 0 0,0 1,1,1': 'as many numbers',
+    'shape 1 0 0 0 0,0 1,1': '7 to 105',
+    'levels': 'at least one level',
+    'levels 7-5': 'first is greater',
+    'undo 2': '0 pieces',
+    'import': 'a name behind it',
+    'import lib.dgn 5': 'a name behind it',
+    'fit': '1 piece behind',
+    'audit 1': '0 pieces',
+    'fence': 'at least 1',
+    'fence 0,0,0 1,0,0 1,1,0': 'no point',
+    'fmove outside 1 1': 'no mode',
+    'Show': 'small letters',
+    'pipe 1': "'pipe' is no command",
+    'color 1\t3': 'tab',
+    'text 1 0 0 0 1 0 9 9 0,0': 'characters',
+    'text 1 0 0 0 1 0 9 9 0,0 ': 'characters',
+}
+GOOD = [
+    '',
+    '  ',
+    '  # a comment',
+    'move 1 5 -5',
+    ' move  1 5 0 -4294967295 ',
+    'sym 1 - - -',
+    'sym 4294967295 255 31 7',
+    'levels all',
+    'levels 3 5-9 63',
+    'levels 7-7',
+    'text 1 0 0 0 1 0 9 9 0,0 a b ',
+    'text 1 0 0 0 1 0 9 9 0,0  ',
+    'fence -5,3',
+    'string 1 0 0 0 0,0 1,1',
+    'select void',
+    'fsym void - 3 -',
+]
+PIECES = [
+    '0',
+    '1',
+    '-1',
+    '63',
+    '64',
+    '255',
+    '256',
+    '-',
+    '0,0',
+    '1,2',
+    '1,2,3',
+    'inside',
+    'void',
+    '5-9',
+    '9-5',
+    '+1',
+    '01',
+    '',
+]
+PIECES += ['4294967295', '-4294967295', '4294967296', '-0', 'all', 'x', '-5,3', '2147483648,0', '\t']
+
+
+class Grammar(samples.WithProgram):
+    def is_bad(self, lines: list) -> bool:
+        try:
+            self.program.edit(samples.EXAMPLES / 'valve.dgn', samples.Script(it.encode('latin-1') for it in lines))
+        except BadScript:
+            return True
+        return False
+
+    def test_bad_lines_and_why(self) -> None:
+        for line, word in BAD.items():
+            self.assertIn(word, fault_of(line.encode()) or '', line)
+            self.assertTrue(self.is_bad([line]), line)
+
+    def test_good_lines(self) -> None:
+        self.assertEqual([fault_of(it.encode()) for it in GOOD], [None] * len(GOOD))
+        self.assertFalse(self.is_bad(GOOD))
+
+    def test_lines_of_random_pieces(self) -> None:
+        dice = random.Random(37)
+        names = [*FORMS, 'levels', 'text', 'Move']
+        good = []
+        for _ in range(1500):
+            line = ' '.join([dice.choice(names), *(dice.choice(PIECES) for _ in range(dice.randrange(7)))])
+            if fault_of(line.encode()) is None:
+                good.append(line)
+            elif dice.random() < 0.2:
+                self.assertTrue(self.is_bad([line]), line)
+        self.assertGreater(len(good), 50)
+        self.assertFalse(self.is_bad(good))
+
+
+if __name__ == '__main__':
+    unittest.main()
