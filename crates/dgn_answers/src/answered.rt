@@ -8,6 +8,11 @@ pub struct Answered {
 }
 
 impl Answered {
+    /// A command that was done, and is no edit of all that the fence chooses.
+    pub const DONE: Answered = Answered {
+        refused: false,
+        trees: 0,
+    };
     /// A command that was refused.
     pub const REFUSED: Answered = Answered {
         refused: true,

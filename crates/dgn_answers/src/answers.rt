@@ -39,29 +39,11 @@ pub fn answer(
     ensures kept { OnErr result (s.new ≡ s.old) }
     ensures front { OnErr result (AppendsFrontOf (text_of (state_of s.old) c.now) out.old.items out.new.items) }
 {
-    match c {
-        Command::Edit(edit) => answer_edit(alloc, s, edit, out),
-        Command::Undo => answer_undo(s, out),
-        Command::Levels(levels) => answer_levels(s, *levels, out),
-        Command::Fence(corners) => answer_fence(alloc, s, corners.as_slice(), out),
-        Command::NoFence => answer_no_fence(s, out),
-        Command::Show => answer_show(alloc, s, out),
-        Command::Tree(n) => answer_tree(alloc, s.design(), s.nesting(), *n, out),
-        Command::Elements => answer_elements(alloc, s.design(), out),
-        Command::Refs => answer_refs(alloc, s.design(), out),
-        Command::Links(n) => answer_links(alloc, s.design(), *n, out),
-        Command::Select(mode) => answer_select(alloc, s, *mode, out),
-        Command::Fenced(mode, edit) => {
-            let answered = answer_fenced(alloc, s, *mode, edit, out)?;
-            Ok(answered.refused)
-        }
-        Command::Audit => answer_audit(alloc, s, out),
-        Command::Fit(n) => answer_fit(alloc, s, *n, out),
-        Command::Import(_, _) => unreachable!(),
-    }
+    let answered = respond(alloc, s, c, out)?;
+    Ok(answered.refused)
 }
 
-// The same, with how many trees an edit of all that the fence chooses has changed or copied.
+// The same, with how many trees an edit of all that the fence chooses has changed or copied. A step of a run is this.
 pub(crate) fn respond(
     alloc: Global,
     s: &mut Session,
@@ -79,18 +61,29 @@ pub(crate) fn respond(
     ensures front { OnErr result (AppendsFrontOf (text_of (state_of s.old) c.now) out.old.items out.new.items) }
 {
     match c {
+        Command::Edit(edit) => answer_edit(alloc, s, edit, out),
+        Command::Undo => answer_undo(s, out),
+        Command::Levels(levels) => answer_levels(s, *levels, out),
+        Command::Fence(corners) => answer_fence(alloc, s, corners.as_slice(), out),
+        Command::NoFence => answer_no_fence(s, out),
+        Command::Show => answer_show(alloc, s, out),
+        Command::Tree(n) => answer_tree(alloc, s.design(), s.nesting(), *n, out),
+        Command::Elements => answer_elements(alloc, s.design(), out),
+        Command::Refs => answer_refs(alloc, s.design(), out),
+        Command::Links(n) => answer_links(alloc, s.design(), *n, out),
+        Command::Select(mode) => answer_select(alloc, s, *mode, out),
         Command::Fenced(mode, edit) => answer_fenced(alloc, s, *mode, edit, out),
-        _ => {
-            let refused = answer(alloc, s, c, out)?;
-            Ok(Answered { refused, trees: 0 })
-        }
+        Command::Audit => answer_audit(alloc, s, out),
+        Command::Fit(n) => answer_fit(alloc, s, *n, out),
+        Command::Import(_, _) => unreachable!(),
     }
 }
 
-// Shows these levels from now on, says so, and answers that this is never refused.
-fn answer_levels(s: &mut Session, levels: Mask, out: &mut Vec<u8>) -> Result<bool, AllocError>
+// Shows these levels from now on, says so, and answers that this is done.
+fn answer_levels(s: &mut Session, levels: Mask, out: &mut Vec<u8>) -> Result<Answered, AllocError>
     ensures text { OnOk result (out.new.items ≡ out.old.items ++ codes "ok\n") }
-    ensures refused { IfOk result (λ refused. refused ≡ false) }
+    ensures refused { IfOk result (λ a. a.refused ≡ false) }
+    ensures trees { IfOk result (λ a. a.trees ≡ 0) }
     ensures state { OnOk result (state_of s.new ≡ with_mask levels (state_of s.old)) }
     ensures logged { OnOk result (LogsAs (Command.Levels levels) s.old s.new) }
     ensures tail { s.new.tail ≡ s.old.tail }
@@ -100,18 +93,19 @@ fn answer_levels(s: &mut Session, levels: Mask, out: &mut Vec<u8>) -> Result<boo
     out.reserve(ROOM)?;
     s.set_mask(levels);
     put_known(out, b"ok\n");
-    Ok(false)
+    Ok(Answered::DONE)
 }
 
-// Makes an edit, appends what is said of it, and answers whether it was refused.
+// Makes an edit, appends what is said of it, and answers what it came to.
 fn answer_edit(
     alloc: Global,
     s: &mut Session,
     edit: &Edit,
     out: &mut Vec<u8>,
-) -> Result<bool, AllocError>
+) -> Result<Answered, AllocError>
     ensures text { OnOk result (out.new.items ≡ out.old.items ++ edit_said (applied edit.now (state_of s.old))) }
-    ensures refused { IfOk result (λ refused. refused ≡ is_refusal (applied edit.now (state_of s.old))) }
+    ensures refused { IfOk result (λ a. a.refused ≡ is_refusal (applied edit.now (state_of s.old))) }
+    ensures trees { IfOk result (λ a. a.trees ≡ 0) }
     ensures state { OnOk result (state_of s.new ≡ edited edit.now (state_of s.old)) }
     ensures logged { OnOk result (LogsAs (Command.Edit edit.now) s.old s.new) }
     ensures tail { s.new.tail ≡ s.old.tail }
@@ -123,20 +117,21 @@ fn answer_edit(
     match s.edit(edit) {
         Ok(()) => {
             put_known(out, b"ok\n");
-            Ok(false)
+            Ok(Answered::DONE)
         }
         Err(EditFault::Refused(cause)) => {
             write_cause(alloc, out, &cause)?;
-            Ok(true)
+            Ok(Answered::REFUSED)
         }
         Err(EditFault::Memory) => Err(AllocError),
     }
 }
 
-// Takes the last edit back, appends what is said of it, and answers whether it was refused.
-fn answer_undo(s: &mut Session, out: &mut Vec<u8>) -> Result<bool, AllocError>
+// Takes the last edit back, appends what is said of it, and answers what it came to.
+fn answer_undo(s: &mut Session, out: &mut Vec<u8>) -> Result<Answered, AllocError>
     ensures text { OnOk result (out.new.items ≡ out.old.items ++ undo_said (undo_refused (state_of s.old))) }
-    ensures refused { IfOk result (λ refused. refused ≡ undo_refused (state_of s.old)) }
+    ensures refused { IfOk result (λ a. a.refused ≡ undo_refused (state_of s.old)) }
+    ensures trees { IfOk result (λ a. a.trees ≡ 0) }
     ensures state { OnOk result (state_of s.new ≡ undone (state_of s.old)) }
     ensures logged { OnOk result (LogsAs Command.Undo s.old s.new) }
     ensures tail { s.new.tail ≡ s.old.tail }
@@ -147,11 +142,11 @@ fn answer_undo(s: &mut Session, out: &mut Vec<u8>) -> Result<bool, AllocError>
     match s.undo() {
         Ok(()) => {
             put_known(out, b"ok\n");
-            Ok(false)
+            Ok(Answered::DONE)
         }
         Err(_) => {
             put_known(out, b"refused nothing\n");
-            Ok(true)
+            Ok(Answered::REFUSED)
         }
     }
 }

@@ -4,7 +4,8 @@ ghost use Rattle.std.specs.Prelude.{◌≡◌, ◌+◌, ◌≤◌, ◌++◌, cod
 ghost use Rattle.listing_texts.specs.Lines.{AppendsFrontOf};
 ghost use Rattle.dgn_session.specs.State.{state_of, selection, fence_applied, fence_edited, with_fence};
 ghost use Rattle.dgn_answers.specs.Lines.{numbered};
-ghost use Rattle.dgn_answers.specs.Commands.{fenced_said, fenced_refused, trees_edited, selection_said, selection_refused, fence_said, fence_refused, fence_set};
+ghost use Rattle.dgn_answers.specs.Commands.{fenced_said, fenced_refused, trees_edited, fence_said, fence_refused, fence_set};
+ghost use Rattle.dgn_answers.specs.Commands.{selection_said, selection_refused};
 ghost use Rattle.dgn_answers.specs.Logs.{LogsAs};
 ghost use Rattle.edit_script.specs.declared.command.Command.{Command};
 
@@ -71,15 +72,16 @@ pub(crate) fn put_count(out: &mut Vec<u8>, count: u32)
     put_known(out, b"\n");
 }
 
-// Sets the fence to these corners, appends what is said of it, and answers whether it was refused.
+// Sets the fence to these corners, appends what is said of it, and answers what it came to.
 pub(crate) fn answer_fence(
     alloc: Global,
     s: &mut Session,
     corners: &[Pt],
     out: &mut Vec<u8>,
-) -> Result<bool, AllocError>
+) -> Result<Answered, AllocError>
     ensures text { OnOk result (out.new.items ≡ out.old.items ++ fence_said corners.now) }
-    ensures refused { IfOk result (λ refused. refused ≡ fence_refused corners.now) }
+    ensures refused { IfOk result (λ a. a.refused ≡ fence_refused corners.now) }
+    ensures trees { IfOk result (λ a. a.trees ≡ 0) }
     ensures state { OnOk result (state_of s.new ≡ fence_set corners.now (state_of s.old)) }
     ensures logged { OnOk result (LogsAs (Command.Fence corners.now) s.old s.new) }
     ensures tail { s.new.tail ≡ s.old.tail }
@@ -91,24 +93,25 @@ pub(crate) fn answer_fence(
         Ok(made) => {
             s.set_fence(made);
             put_known(out, b"ok\n");
-            Ok(false)
+            Ok(Answered::DONE)
         }
         Err(FenceFault::Few) => {
             put_known(out, b"refused few\n");
-            Ok(true)
+            Ok(Answered::REFUSED)
         }
         Err(FenceFault::Many) => {
             put_known(out, b"refused many\n");
-            Ok(true)
+            Ok(Answered::REFUSED)
         }
         Err(FenceFault::Memory) => Err(AllocError),
     }
 }
 
-// Clears the fence, says so, and answers that this is never refused.
-pub(crate) fn answer_no_fence(s: &mut Session, out: &mut Vec<u8>) -> Result<bool, AllocError>
+// Clears the fence, says so, and answers that this is done.
+pub(crate) fn answer_no_fence(s: &mut Session, out: &mut Vec<u8>) -> Result<Answered, AllocError>
     ensures text { OnOk result (out.new.items ≡ out.old.items ++ codes "ok\n") }
-    ensures refused { IfOk result (λ refused. refused ≡ false) }
+    ensures refused { IfOk result (λ a. a.refused ≡ false) }
+    ensures trees { IfOk result (λ a. a.trees ≡ 0) }
     ensures state { OnOk result (state_of s.new ≡ with_fence None (state_of s.old)) }
     ensures logged { OnOk result (LogsAs Command.NoFence s.old s.new) }
     ensures tail { s.new.tail ≡ s.old.tail }
@@ -118,29 +121,30 @@ pub(crate) fn answer_no_fence(s: &mut Session, out: &mut Vec<u8>) -> Result<bool
     out.reserve(ROOM)?;
     s.clear_fence();
     put_known(out, b"ok\n");
-    Ok(false)
+    Ok(Answered::DONE)
 }
 
-// Appends the numbers of the roots that the fence chooses, and answers whether there is no fence.
+// Appends the numbers of the roots that the fence chooses, and answers what it came to.
 pub(crate) fn answer_select(
     alloc: Global,
     s: &Session,
     mode: Mode,
     out: &mut Vec<u8>,
-) -> Result<bool, AllocError>
+) -> Result<Answered, AllocError>
     ensures text { OnOk result (out.new.items ≡ out.old.items ++ selection_said (selection mode (state_of s.now))) }
-    ensures refused { IfOk result (λ refused. refused ≡ selection_refused (selection mode (state_of s.now))) }
+    ensures refused { IfOk result (λ a. a.refused ≡ selection_refused (selection mode (state_of s.now))) }
+    ensures trees { IfOk result (λ a. a.trees ≡ 0) }
     ensures front { OnErr result
         (AppendsFrontOf (selection_said (selection mode (state_of s.now))) out.old.items out.new.items) }
 {
     match s.select(mode) {
         Ok(found) => {
             write_selected(alloc, out, &found)?;
-            Ok(false)
+            Ok(Answered::DONE)
         }
         Err(SelectFault::NoFence) => {
             out.extend_from_slice(b"refused no-fence\n")?;
-            Ok(true)
+            Ok(Answered::REFUSED)
         }
         Err(SelectFault::Memory) => Err(AllocError),
     }

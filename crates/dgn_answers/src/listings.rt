@@ -10,6 +10,7 @@ ghost use Rattle.dgn_session.specs.State.{state_of};
 ghost use Rattle.dgn_answers.specs.Commands.{tree_said, links_said, text_of};
 ghost use Rattle.edit_script.specs.declared.command.Command.{Command};
 
+use crate::answered::Answered;
 use dgn_listing::{write_cause, write_elements, write_items, write_links, write_refs, write_tree};
 use dgn_session::Session;
 use edit_ops::Cause;
@@ -17,94 +18,103 @@ use elem_index::Design;
 use nest_tree::types::Nest;
 use std::alloc::{AllocError, Global};
 
-// Appends the items that are shown, and answers that this is never refused.
-pub(crate) fn answer_show(alloc: Global, s: &Session, out: &mut Vec<u8>) -> Result<bool, AllocError>
+// Appends the items that are shown, and answers that this is done.
+pub(crate) fn answer_show(
+    alloc: Global,
+    s: &Session,
+    out: &mut Vec<u8>,
+) -> Result<Answered, AllocError>
     ensures text { OnOk result (out.new.items ≡ out.old.items ++ text_of (state_of s.now) Command.Show) }
-    ensures refused { IfOk result (λ refused. refused ≡ false) }
+    ensures refused { IfOk result (λ a. a.refused ≡ false) }
+    ensures trees { IfOk result (λ a. a.trees ≡ 0) }
     ensures front { OnErr result
         (AppendsFrontOf (text_of (state_of s.now) Command.Show) out.old.items out.new.items) }
 {
     let items = s.show()?;
     write_items(alloc, out, &items)?;
-    Ok(false)
+    Ok(Answered::DONE)
 }
 
-// Appends what `tree` says of element n, and answers whether there is none.
+// Appends what `tree` says of element n, and answers what it came to.
 pub(crate) fn answer_tree(
     alloc: Global,
     design: &Design,
     nesting: &Nest,
     n: u32,
     out: &mut Vec<u8>,
-) -> Result<bool, AllocError>
+) -> Result<Answered, AllocError>
     requires whole { IsWhole design.now }
     requires nesting { nesting.now.rows ≡ map row_of (elements design.now) }
     ensures text { OnOk result (out.new.items ≡ out.old.items ++ tree_said (elements design.now) n) }
-    ensures refused { IfOk result (λ refused. refused ≡ not (nat_lt n (length (elements design.now)))) }
+    ensures refused { IfOk result (λ a. a.refused ≡ not (nat_lt n (length (elements design.now)))) }
+    ensures trees { IfOk result (λ a. a.trees ≡ 0) }
     ensures front { OnErr result
         (AppendsFrontOf (tree_said (elements design.now) n) out.old.items out.new.items) }
 {
     if n < design.count() {
         write_tree(alloc, out, design, nesting, n)?;
-        Ok(false)
+        Ok(Answered::DONE)
     } else {
         write_cause(alloc, out, &Cause::Unknown(n))?;
-        Ok(true)
+        Ok(Answered::REFUSED)
     }
 }
 
-// Appends the lines of all elements, and answers that this is never refused.
+// Appends the lines of all elements, and answers that this is done.
 pub(crate) fn answer_elements(
     alloc: Global,
     design: &Design,
     out: &mut Vec<u8>,
-) -> Result<bool, AllocError>
+) -> Result<Answered, AllocError>
     requires { IsWhole design.now }
     ensures text { OnOk result (out.new.items ≡ out.old.items ++ elements_text (elements design.now)) }
-    ensures refused { IfOk result (λ refused. refused ≡ false) }
+    ensures refused { IfOk result (λ a. a.refused ≡ false) }
+    ensures trees { IfOk result (λ a. a.trees ≡ 0) }
     ensures front { OnErr result
         (AppendsFrontOf (elements_text (elements design.now)) out.old.items out.new.items) }
 {
     write_elements(alloc, out, design)?;
-    Ok(false)
+    Ok(Answered::DONE)
 }
 
-// Appends the lines of the reference attachments, and answers that this is never refused.
+// Appends the lines of the reference attachments, and answers that this is done.
 pub(crate) fn answer_refs(
     alloc: Global,
     design: &Design,
     out: &mut Vec<u8>,
-) -> Result<bool, AllocError>
+) -> Result<Answered, AllocError>
     requires { IsWhole design.now }
     ensures text { OnOk result (out.new.items ≡ out.old.items ++ refs_text (elements design.now)) }
-    ensures refused { IfOk result (λ refused. refused ≡ false) }
+    ensures refused { IfOk result (λ a. a.refused ≡ false) }
+    ensures trees { IfOk result (λ a. a.trees ≡ 0) }
     ensures front { OnErr result (AppendsFrontOf (refs_text (elements design.now)) out.old.items out.new.items) }
 {
     write_refs(alloc, out, design)?;
-    Ok(false)
+    Ok(Answered::DONE)
 }
 
-// Appends the lines of the linkages of element n, and answers whether there is no such element.
+// Appends the lines of the linkages of element n, and answers what it came to.
 pub(crate) fn answer_links(
     alloc: Global,
     design: &Design,
     n: u32,
     out: &mut Vec<u8>,
-) -> Result<bool, AllocError>
+) -> Result<Answered, AllocError>
     requires { IsWhole design.now }
     ensures text { OnOk result (out.new.items ≡ out.old.items ++ links_said (elements design.now) n) }
-    ensures refused { IfOk result (λ refused. refused ≡ not (nat_lt n (length (elements design.now)))) }
+    ensures refused { IfOk result (λ a. a.refused ≡ not (nat_lt n (length (elements design.now)))) }
+    ensures trees { IfOk result (λ a. a.trees ≡ 0) }
     ensures front { OnErr result
         (AppendsFrontOf (links_said (elements design.now) n) out.old.items out.new.items) }
 {
     match design.element(n) {
         Some(bytes) => {
             write_links(alloc, out, bytes)?;
-            Ok(false)
+            Ok(Answered::DONE)
         }
         None => {
             write_cause(alloc, out, &Cause::Unknown(n))?;
-            Ok(true)
+            Ok(Answered::REFUSED)
         }
     }
 }

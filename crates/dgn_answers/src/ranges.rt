@@ -8,37 +8,40 @@ ghost use Rattle.dgn_answers.specs.Commands.{edit_said, text_of};
 ghost use Rattle.dgn_answers.specs.Logs.{LogsAs};
 ghost use Rattle.edit_script.specs.declared.command.Command.{Command};
 
+use crate::answered::Answered;
 use crate::answers::{ROOM, put_known};
 use dgn_listing::{write_cause, write_findings};
 use dgn_session::Session;
 use edit_ops::EditFault;
 use std::alloc::{AllocError, Global};
 
-// Appends the elements whose stored range isn't the hull of their parts, and answers that this is never refused.
+// Appends the elements whose stored range isn't the hull of their parts, and answers that this is done.
 pub(crate) fn answer_audit(
     alloc: Global,
     s: &Session,
     out: &mut Vec<u8>,
-) -> Result<bool, AllocError>
+) -> Result<Answered, AllocError>
     ensures text { OnOk result (out.new.items ≡ out.old.items ++ text_of (state_of s.now) Command.Audit) }
-    ensures refused { IfOk result (λ refused. refused ≡ false) }
+    ensures refused { IfOk result (λ a. a.refused ≡ false) }
+    ensures trees { IfOk result (λ a. a.trees ≡ 0) }
     ensures front { OnErr result
         (AppendsFrontOf (text_of (state_of s.now) Command.Audit) out.old.items out.new.items) }
 {
     let found = s.audit()?;
     write_findings(alloc, out, &found)?;
-    Ok(false)
+    Ok(Answered::DONE)
 }
 
-// Fits the tree that holds element n, appends what is said of it, and answers whether it was refused.
+// Fits the tree that holds element n, appends what is said of it, and answers what it came to.
 pub(crate) fn answer_fit(
     alloc: Global,
     s: &mut Session,
     n: u32,
     out: &mut Vec<u8>,
-) -> Result<bool, AllocError>
+) -> Result<Answered, AllocError>
     ensures text { OnOk result (out.new.items ≡ out.old.items ++ edit_said (fit_applied n (state_of s.old))) }
-    ensures refused { IfOk result (λ refused. refused ≡ is_refusal (fit_applied n (state_of s.old))) }
+    ensures refused { IfOk result (λ a. a.refused ≡ is_refusal (fit_applied n (state_of s.old))) }
+    ensures trees { IfOk result (λ a. a.trees ≡ 0) }
     ensures state { OnOk result (state_of s.new ≡ fit_made n (state_of s.old)) }
     ensures logged { OnOk result (LogsAs (Command.Fit n) s.old s.new) }
     ensures tail { s.new.tail ≡ s.old.tail }
@@ -50,11 +53,11 @@ pub(crate) fn answer_fit(
     match s.fit(n) {
         Ok(()) => {
             put_known(out, b"ok\n");
-            Ok(false)
+            Ok(Answered::DONE)
         }
         Err(EditFault::Refused(cause)) => {
             write_cause(alloc, out, &cause)?;
-            Ok(true)
+            Ok(Answered::REFUSED)
         }
         Err(EditFault::Memory) => Err(AllocError),
     }

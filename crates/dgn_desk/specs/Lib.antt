@@ -4,3 +4,4 @@ pub mod Seen
 pub mod FileLaws
 pub mod FileMap
 pub mod NumberedDesk
+pub mod PieceDesk

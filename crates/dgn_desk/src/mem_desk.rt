@@ -42,14 +42,15 @@ impl Model for MemDesk {
     ghost coded = { coded_desk };
 
     ghost view = { λ d. record {
-      content = record d.under { target = if d.begun then d.under.target else None };
+      content = record d.under.content { target = if d.begun then d.under.content.target else None };
+      piece = d.under.piece;
       fails = d.fails.items;
       acts = d.acts.items;
       read_faults = d.read_faults;
       write_faults = d.write_faults;
     } };
 
-    ghost invariant = { λ d. IsSome d.under.target };
+    ghost invariant = { λ d. IsSome d.under.content.target };
 }
 
 impl MemDesk {
@@ -59,6 +60,7 @@ impl MemDesk {
         requires { 1 ≤ piece }
         ensures { result ≡ record {
           content = record { files = maps.empty; left = []; target = None; said = [] };
+          piece = piece;
           fails = [];
           acts = [];
           read_faults = 0;
@@ -163,6 +165,7 @@ impl Desk for MemDesk {
         ensures bytes { IfOk result (λ count. TakesFirst self.old.content.left buf.new count) }
         ensures stays { StaysWilling (none_ahead self.old) (none_ahead self.new) }
         ensures able { IsTrue (none_ahead self.old) → DoesNotFail result }
+        ensures few { IfOk result (λ count. count ≤ self.old.piece) }
         ensures exact { Answers act.Read (is_listed self.old) consumed result self.old self.new }
     {
         self.acts.reserve(1)?;
@@ -199,6 +202,7 @@ impl Desk for MemDesk {
         ensures taken { IfOk result (TakesSome bytes.now) }
         ensures stays { StaysWilling (none_ahead self.old) (none_ahead self.new) }
         ensures able { IsTrue (none_ahead self.old) → HasTarget (Some self.old.content) → DoesNotFail result }
+        ensures few { IfOk result (λ count. count ≤ self.old.piece) }
         ensures exact { Answers act.Write (is_listed self.old || has_no_target self.old.content)
             (λ count. written (take count bytes.now)) result self.old self.new }
     {
@@ -218,6 +222,7 @@ impl Desk for MemDesk {
         ensures taken { IfOk result (TakesSome bytes.now) }
         ensures stays { StaysWilling (none_ahead self.old) (none_ahead self.new) }
         ensures able { IsTrue (none_ahead self.old) → DoesNotFail result }
+        ensures few { IfOk result (λ count. count ≤ self.old.piece) }
         ensures exact { Answers act.Say (is_listed self.old) (λ count. spoken (take count bytes.now)) result self.old self.new }
     {
         self.acts.reserve(1)?;

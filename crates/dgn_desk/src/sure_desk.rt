@@ -1,8 +1,9 @@
-ghost use Rattle.std.specs.Prelude.{◌≡◌, ◌≤◌, [], Some, OnOk, OnErr, true};
+ghost use Rattle.std.specs.Prelude.{◌≡◌, ◌≤◌, [], length, take, Some, IfOk, OnOk, OnErr, true};
 ghost use Rattle.std.proofs.Common.{rules};
 ghost use Rattle.std.specs.Option.{option_copied};
 ghost use Rattle.std.specs.FinMap as maps;
-ghost use Rattle.dgn_desk.specs.Content.{with_file};
+ghost use Rattle.dgn_desk.specs.Content.{with_file, opened, consumed, filed, written, spoken};
+ghost use Rattle.dgn_desk.specs.Desk.{Changes, TakesFirst, TakesSome, DoesNotFail};
 
 use crate::desk::Desk;
 use crate::file_map::FileMap;
@@ -27,17 +28,20 @@ pub struct SureDesk {
 
 impl Model for SureDesk {
     ghost use Rattle.std.specs.Prelude.{◌≤◌, Some, drop, vec_len, string_bytes};
-    ghost use Rattle.dgn_desk.specs.Content.{Content, coded_content};
+    ghost use Rattle.dgn_desk.specs.PieceDesk.{PieceDesk, coded_pieces};
 
-    ghost Value = { Content };
+    ghost Value = { PieceDesk };
 
-    ghost coded = { coded_content };
+    ghost coded = { coded_pieces };
 
     ghost view = { λ d. record {
-      files = d.files;
-      left = drop d.at d.reading.items;
-      target = Some (string_bytes d.target);
-      said = d.said.items;
+      content = record {
+        files = d.files;
+        left = drop d.at d.reading.items;
+        target = Some (string_bytes d.target);
+        said = d.said.items;
+      };
+      piece = d.piece;
     } };
 
     ghost invariant = { λ d. (d.at ≤ vec_len d.reading) × (1 ≤ d.piece) };
@@ -48,7 +52,10 @@ impl SureDesk {
     /// `piece` bytes at once.
     pub fn new(alloc: Global, piece: usize) -> SureDesk
         requires { 1 ≤ piece }
-        ensures { result ≡ record { files = maps.empty; left = []; target = Some []; said = [] } }
+        ensures { result ≡ record {
+          content = record { files = maps.empty; left = []; target = Some []; said = [] };
+          piece = piece;
+        } }
     {
         SureDesk {
             alloc,
@@ -64,7 +71,11 @@ impl SureDesk {
     /// Sets a file. A reading of it that was begun goes on over its former bytes.
     /// There is an error exactly where there is no memory.
     pub fn add(&mut self, name: &str, bytes: Vec<u8>) -> Result<(), AllocError>
-        ensures ok { OnOk result (self.new ≡ record self.old { files = with_file name.now bytes.items self.old.files }) }
+        ensures ok { OnOk result (self.new ≡ record self.old {
+          content = record self.old.content {
+            files = with_file name.now bytes.items self.old.content.files;
+          };
+        }) }
         ensures err { OnErr result (self.new ≡ self.old) }
     {
         self.files.set(name, bytes)
@@ -72,14 +83,14 @@ impl SureDesk {
 
     /// The bytes of a file. None exactly where it isn't there.
     pub fn file(&self, name: &str) -> Option<&[u8]>
-        ensures { option_copied result ≡ maps.get self.now.files name.now }
+        ensures { option_copied result ≡ maps.get self.now.content.files name.now }
     {
         self.files.get(name)
     }
 
     /// All that was said.
     pub fn said(&self) -> &[u8]
-        ensures { result.now ≡ self.now.said }
+        ensures { result.now ≡ self.now.content.said }
     {
         self.said.as_slice()
     }
@@ -90,20 +101,31 @@ impl Desk for SureDesk {
 
     ghost write_faults = { λ _. 0 };
 
-    ghost content = { λ c. Some c };
+    ghost content = { λ d. Some d.content };
 
     ghost willing = { λ _. true };
 
     ghost tells = { Prim.search rules };
 
-    fn begin_read(&mut self, name: &str) -> Result<(), Stop> {
+    fn begin_read(&mut self, name: &str) -> Result<(), Stop>
+        ensures told { Changes result (λ _. opened name.now) (Some self.old.content) (Some self.new.content) }
+        ensures able { DoesNotFail result }
+        ensures piece { self.new.piece ≡ self.old.piece }
+    {
         let bytes = self.files.get(name).unwrap_or(&[]);
         self.reading = Vec::from_slice(self.alloc, bytes)?;
         self.at = 0;
         Ok(())
     }
 
-    fn read(&mut self, buf: &mut [u8]) -> Result<usize, Stop> {
+    fn read(&mut self, buf: &mut [u8]) -> Result<usize, Stop>
+        ensures within { IfOk result (λ count. count ≤ length buf.new) }
+        ensures bytes { IfOk result (λ count. TakesFirst self.old.content.left buf.new count) }
+        ensures told { Changes result consumed (Some self.old.content) (Some self.new.content) }
+        ensures able { DoesNotFail result }
+        ensures few { IfOk result (λ count. count ≤ self.old.piece) }
+        ensures piece { self.new.piece ≡ self.old.piece }
+    {
         let (_, left) = self.reading.as_slice().split_at(self.at);
         let count = left.len().min(buf.len()).min(self.piece);
         let (front, _) = left.split_at(count);
@@ -112,21 +134,37 @@ impl Desk for SureDesk {
         Ok(count)
     }
 
-    fn begin_write(&mut self, name: &str) -> Result<(), Stop> {
+    fn begin_write(&mut self, name: &str) -> Result<(), Stop>
+        ensures told { Changes result (λ _. filed name.now []) (Some self.old.content) (Some self.new.content) }
+        ensures able { DoesNotFail result }
+        ensures piece { self.new.piece ≡ self.old.piece }
+    {
         let target = String::from_str(self.alloc, name)?;
         self.files.set(name, Vec::new(self.alloc))?;
         self.target = target;
         Ok(())
     }
 
-    fn write(&mut self, bytes: &[u8]) -> Result<usize, Stop> {
+    fn write(&mut self, bytes: &[u8]) -> Result<usize, Stop>
+        ensures taken { IfOk result (TakesSome bytes.now) }
+        ensures told { Changes result (λ count. written (take count bytes.now)) (Some self.old.content) (Some self.new.content) }
+        ensures able { DoesNotFail result }
+        ensures few { IfOk result (λ count. count ≤ self.old.piece) }
+        ensures piece { self.new.piece ≡ self.old.piece }
+    {
         let count = bytes.len().min(self.piece);
         let (front, _) = bytes.split_at(count);
         self.files.append(self.target.as_str(), front)?;
         Ok(count)
     }
 
-    fn say(&mut self, bytes: &[u8]) -> Result<usize, Stop> {
+    fn say(&mut self, bytes: &[u8]) -> Result<usize, Stop>
+        ensures taken { IfOk result (TakesSome bytes.now) }
+        ensures told { Changes result (λ count. spoken (take count bytes.now)) (Some self.old.content) (Some self.new.content) }
+        ensures able { DoesNotFail result }
+        ensures few { IfOk result (λ count. count ≤ self.old.piece) }
+        ensures piece { self.new.piece ≡ self.old.piece }
+    {
         let count = bytes.len().min(self.piece);
         let (front, _) = bytes.split_at(count);
         self.said.extend_from_slice(front)?;

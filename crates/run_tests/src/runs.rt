@@ -1,5 +1,6 @@
 // Runs over a desk of memory, on worked drawings.
 
+mod commands;
 mod faults;
 mod fences;
 mod hostile;

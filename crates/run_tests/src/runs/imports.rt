@@ -115,7 +115,7 @@ fn imports_at_the_limits(rt: HostRuntime) -> Result<(), Fail> {
 }
 
 // A session on the design file of a line.
-fn begun(alloc: Global) -> Option<Session> {
+pub(super) fn begun(alloc: Global) -> Option<Session> {
     match design(alloc, 0, &[&LINE, &END]) {
         Ok(bytes) if bytes.len() <= MOST_DESIGN => match read_design(alloc, bytes) {
             Ok(drawing) => Session::start(alloc, drawing).ok(),

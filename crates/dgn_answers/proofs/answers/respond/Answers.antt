@@ -1,4 +1,4 @@
-use Rattle.dgn_answers.proofs.answers.answer.Goals as goal
+use Rattle.dgn_answers.proofs.answers.respond.Goals as goal
 
 pub returns-in-Edit : goal.returns-in-Edit
 returns-in-Edit c = rw c.in-Edit.is c.answer_edit.ensures
@@ -68,3 +68,21 @@ returns-in-Audit-clause-refused c = rw c.in-Audit.is c.answer_audit.ensures.refu
 
 pub returns-in-Audit-clause-front : goal.returns-in-Audit-clause-front
 returns-in-Audit-clause-front c = rw c.in-Audit.is c.answer_audit.ensures.front
+
+pub returns-in-Undo-clause-trees : goal.returns-in-Undo-clause-trees
+returns-in-Undo-clause-trees c = rw c.in-Undo.is c.answer_undo.ensures.trees
+
+pub returns-in-Levels-clause-trees : goal.returns-in-Levels-clause-trees
+returns-in-Levels-clause-trees c = rw c.in-Levels.is c.answer_levels.ensures.trees
+
+pub returns-in-NoFence-clause-trees : goal.returns-in-NoFence-clause-trees
+returns-in-NoFence-clause-trees c = rw c.in-NoFence.is c.answer_no_fence.ensures.trees
+
+pub returns-in-Show-clause-trees : goal.returns-in-Show-clause-trees
+returns-in-Show-clause-trees c = rw c.in-Show.is c.answer_show.ensures.trees
+
+pub returns-in-Select-clause-trees : goal.returns-in-Select-clause-trees
+returns-in-Select-clause-trees c = rw c.in-Select.is c.answer_select.ensures.trees
+
+pub returns-in-Audit-clause-trees : goal.returns-in-Audit-clause-trees
+returns-in-Audit-clause-trees c = rw c.in-Audit.is c.answer_audit.ensures.trees
