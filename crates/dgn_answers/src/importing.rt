@@ -29,7 +29,7 @@ use std::alloc::{AllocError, Global};
 ///
 /// It is refused exactly where the second file doesn't open, where it has another dimension than the drawing or `by` is
 /// given for other axes, where the displacement of a tree is refused, or, last of all, where the file would have more
-/// than 67108864 bytes. Where there is no memory, the session is as before, and `out` has grown by some first part of what
+/// than `MOST_DESIGN` bytes. Where there is no memory, the session is as before, and `out` has grown by some first part of what
 /// the import says.
 pub fn answer_import(
     alloc: Global,

@@ -23,6 +23,8 @@ use Rattle.dgn_tool.specs.Ended.{file_after}
 use Rattle.dgn_tool.specs.Applied.{AllFit}
 use Rattle.dgn_tool.specs.Packing.{packed_after}
 use Rattle.dgn_answers.specs.Remaining.{Made, remaining, fields_made}
+use Rattle.dgn_drawing.specs.declared.limits.TheConstants.{MOST_DESIGN}
+use Rattle.patch_file.specs.declared.limits.TheConstants.{MOST_PATCH}
 
 -- the place is in no field that it writes
 abbrev pub IsOutside : ℕ → ℕ → Made → Type 0
@@ -74,10 +76,10 @@ pub record PacksAgain (s : State) (t : List ℕ) (gs : List Given) : Type 0 wher
   pub stand : AllStand (spelling s.top) (packed_after gs s)
   pub gives : put_all (spelling s.top) (packed_after gs s) ≡ spelling (after_all gs s).top
   pub fit : AllFit (length t) (spelling s.top) (packed_after gs s)
-  pub entries : length (patch_spelling (packed_after gs s)) ≤ 134217728 → AreEntries (packed_after gs s)
+  pub entries : length (patch_spelling (packed_after gs s)) ≤ MOST_PATCH → AreEntries (packed_after gs s)
 
 abbrev pub AppliedGivesTheSame : Type 0
 AppliedGivesTheSame =
     (f : List ℕ) (d : Opened) (cs : List Command) (files : List (List ℕ))
-    → Opens f d.dim d.elements d.tail → length f ≤ 67108864 → All IsEditIn cs → All IsBytes files
+    → Opens f d.dim d.elements d.tail → length f ≤ MOST_DESIGN → All IsEditIn cs → All IsBytes files
     → PacksAgain (begun d) d.tail (steps_of cs files)

@@ -23,6 +23,8 @@ use Rattle.dgn_answers.specs.Given.{Given, texts_of, refused_count}
 use Rattle.dgn_tool.specs.SecondFiles.{stepped, HasSeconds}
 use Rattle.dgn_tool.specs.declared.status.Status.{Status}
 use Rattle.dgn_tool.specs.declared.status.Status.TheVariants as statuses
+use Rattle.dgn_drawing.specs.declared.limits.TheConstants.{MOST_DESIGN}
+use Rattle.edit_script.specs.declared.limits.TheConstants.{MOST_SCRIPT}
 
 -- what the steps come to in a state, with this tail: their texts, and the file of the drawing after them
 abbrev pub told_from : State → List ℕ → List Given → List ℕ → Outcome
@@ -41,7 +43,7 @@ script_outcome (Err faults.Memory) go_on = ended statuses.Memory []
 -- what these bytes of SCRIPT come to, where its commands go on so
 abbrev pub scripted : List ℕ → (List Command → Outcome) → Outcome
 scripted script go_on =
-    if nat_lt 1048576 (length script) then ended statuses.TooLong (codes "too long script\n")
+    if nat_lt MOST_SCRIPT (length script) then ended statuses.TooLong (codes "too long script\n")
     else script_outcome (commands_of script) go_on
 
 -- what `check` comes to on a drawing
@@ -63,7 +65,7 @@ opened_outcome (Err fault) go_on = ended statuses.BadDesign (fault_line fault)
 -- what these bytes of IN come to, where a drawing goes on so
 abbrev pub input_outcome : List ℕ → (Opened → Outcome) → Outcome
 input_outcome input go_on =
-    if nat_lt 67108864 (length input) then ended statuses.TooLong (codes "too long design\n")
+    if nat_lt MOST_DESIGN (length input) then ended statuses.TooLong (codes "too long design\n")
     else opened_outcome (opening input) go_on
 
 -- what a run comes to that reads IN, SCRIPT and the second files of its imports, where it goes on so
@@ -166,7 +168,7 @@ IsFaultless _ = ⊤
 
 -- whether another file is read after this IN: IN is within its limit and opens
 abbrev pub comes_to_script : List ℕ → Bool
-comes_to_script input = nat_le (length input) 67108864 && is_ok (opening input)
+comes_to_script input = nat_le (length input) MOST_DESIGN && is_ok (opening input)
 
 -- IN is there, and so is SCRIPT, or PATCH, where it is read after IN
 abbrev pub HasBoth : List ℕ → List ℕ → Files → Type 0
@@ -176,7 +178,7 @@ HasBoth input script files = IsSome (maps.get files input) × (IsTrue (comes_to_
 abbrev pub HasAll : List ℕ → List ℕ → Files → Type 0
 HasAll input script files =
     HasBoth input script files
-    × (IsTrue (comes_to_script (bytes_of files input)) → length (bytes_of files script) ≤ 1048576 → HasSeconds (commands_of (bytes_of files script)) files)
+    × (IsTrue (comes_to_script (bytes_of files input)) → length (bytes_of files script) ≤ MOST_SCRIPT → HasSeconds (commands_of (bytes_of files script)) files)
 
 -- the files that a run with this request comes to read are there
 abbrev pub HasFiles : Option Request → Files → Type 0

@@ -14,6 +14,8 @@ use Rattle.dgn_answers.specs.Given.{Given}
 use Rattle.dgn_tool.specs.Outcome.{fault_line, scripted, input_outcome, run_outcome}
 use Rattle.dgn_tool.specs.SecondFiles.{files_named, is_within, seconded}
 use Rattle.dgn_tool.specs.declared.status.Status.TheVariants as statuses
+use Rattle.dgn_drawing.specs.declared.limits.TheConstants.{MOST_DESIGN}
+use Rattle.edit_script.specs.declared.limits.TheConstants.{MOST_SCRIPT}
 
 -- A whole file of at most so many bytes; one that has more ends the run with a line.
 
@@ -26,7 +28,7 @@ whole_file name limit line = λ go_on files. if nat_lt limit (length (bytes_of f
 -- IN: within its limit it opens as a drawing.
 
 abbrev pub OpensAs : List ℕ → Files → Opened → Type 0
-OpensAs name files d = (length (bytes_of files name) ≤ 67108864) × (opening (bytes_of files name) ≡ Ok d)
+OpensAs name files d = (length (bytes_of files name) ≤ MOST_DESIGN) × (opening (bytes_of files name) ≡ Ok d)
 
 abbrev pub opening_in : List ℕ → Reading Opened
 opening_in name = λ go_on files. input_outcome (bytes_of files name) (go_on files)
@@ -42,7 +44,7 @@ FaultSays OpenFault.Memory line = ⊥
 -- SCRIPT: within its limit it reads as commands.
 
 abbrev pub ReadsAs : List ℕ → Files → List Command → Type 0
-ReadsAs name files cs = (length (bytes_of files name) ≤ 1048576) × (commands_of (bytes_of files name) ≡ Ok cs)
+ReadsAs name files cs = (length (bytes_of files name) ≤ MOST_SCRIPT) × (commands_of (bytes_of files name) ≡ Ok cs)
 
 abbrev pub script_in : List ℕ → Reading (List Command)
 script_in name = λ go_on files. scripted (bytes_of files name) (go_on files)

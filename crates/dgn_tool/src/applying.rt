@@ -16,11 +16,9 @@ use crate::saying::{end, end_numbered};
 use crate::writing::file_filled;
 use dgn_answers::numbered_line;
 use dgn_desk::{Desk, Stop};
-use patch_file::{PatchEntry, PatchFault, read_patch};
+use dgn_drawing::MOST_DESIGN;
+use patch_file::{MOST_PATCH, PatchEntry, PatchFault, read_patch};
 use std::alloc::Global;
-
-// The most bytes that a patch file may have.
-pub(crate) const MOST_PATCH: usize = 134217728;
 
 // Reads and opens IN, and goes on with it.
 pub(crate) fn apply<D: Desk>(
@@ -49,7 +47,7 @@ fn apply_patch<D: Desk>(
     patch: &str,
     output: &str,
 ) -> End
-    requires { length body.items + length tail.now ≤ 67108864 }
+    requires { length body.items + length tail.now ≤ MOST_DESIGN }
     ensures { DeskEnds D.Desk (Has patch.now)
         (λ files. body_patched body.items tail.now (bytes_of files patch.now) output.now) desk.old desk.new result }
 {
@@ -79,7 +77,7 @@ fn apply_entries<D: Desk>(
     entries: &[PatchEntry],
     output: &str,
 ) -> Result<Ending, Stop>
-    requires few { length body.items + length tail.now ≤ 67108864 }
+    requires few { length body.items + length tail.now ≤ MOST_DESIGN }
     requires many { length entries.now < 2 ^ 32 }
     ensures { DeskComes D.Desk (λ _. entries_outcome body.items tail.now (all_packed entries.now) output.now)
         desk.old desk.new result }

@@ -12,6 +12,7 @@ use crate::ending::Ending;
 use crate::writing::{file_filled, filling_len};
 use dgn_answers::{Tally, push_numbered, run_unsaid};
 use dgn_desk::{Desk, Stop};
+use dgn_drawing::MOST_DESIGN;
 use dgn_generator::generate;
 use dgn_session::Session;
 use edit_script::{Command, ScriptFault, read_script};
@@ -79,7 +80,7 @@ fn try_drawing<D: Desk>(
 // Runs the fixed script on the drawing of a session, whose elements have `before` bytes, and gives its summary.
 fn summarize(alloc: Global, session: &mut Session, before: usize) -> Result<Vec<u8>, AllocError>
     requires before { before ≡ length (spelling (state_of session.old).top) }
-    requires few { before ≤ 67108864 }
+    requires few { before ≤ MOST_DESIGN }
     ensures text { IfOk result (λ text. text.items ≡ summary (state_of session.old) session.old.tail) }
     ensures state { OnOk result (state_of session.new ≡ after_all fixed_steps (state_of session.old)) }
     ensures tail { OnOk result (session.new.tail ≡ session.old.tail) }
@@ -110,7 +111,7 @@ fn push_sizes(
     session: &Session,
     before: usize,
 ) -> Result<(), AllocError>
-    requires { before ≤ 67108864 }
+    requires { before ≤ MOST_DESIGN }
     ensures { OnOk result (text.new.items
         ≡ text.old.items ++ sizes_of before session.now.tail (state_of session.now)) }
 {

@@ -28,11 +28,8 @@ use dgn_import::Second;
 use dgn_session::Session;
 use edit_script::Command;
 use elem_index::Design;
-use patch_file::{PatchEntry, patch_len, take_entry, write_patch};
+use patch_file::{MOST_PATCH, PatchEntry, patch_len, take_entry, write_patch};
 use std::alloc::{AllocError, Global};
-
-// The most bytes that a patch file may have.
-const MOST_PATCH: u64 = 134217728;
 
 // What the commands of a script did.
 #[derive(Drop)]
@@ -82,7 +79,7 @@ fn pack_commands<D: Desk>(
         desk.old desk.new result }
 {
     let did = pack_edits(alloc, design, commands, seconds)?;
-    if patch_len(&did.entries) > MOST_PATCH {
+    if patch_len(&did.entries) > MOST_PATCH as u64 {
         return end(desk, b"too long patch\n", Ending::TooLong);
     }
     file_entries(alloc, desk, &did.entries, did.refused, patch)
@@ -168,7 +165,7 @@ fn file_entries<D: Desk>(
     refused: u64,
     patch: &str,
 ) -> Result<Ending, Stop>
-    requires { length (patch_spelling (all_packed entries.now)) ≤ 134217728 }
+    requires { length (patch_spelling (all_packed entries.now)) ≤ MOST_PATCH }
     ensures { DeskComes D.Desk (λ _. filed_patch (all_packed entries.now) refused patch.now) desk.old desk.new result }
 {
     let file = spell_entries(alloc, entries)?;
@@ -186,7 +183,7 @@ fn file_entries<D: Desk>(
 
 // The patch file of these entries.
 fn spell_entries(alloc: Global, entries: &[PatchEntry]) -> Result<Vec<u8>, AllocError>
-    requires { length (patch_spelling (all_packed entries.now)) ≤ 134217728 }
+    requires { length (patch_spelling (all_packed entries.now)) ≤ MOST_PATCH }
     ensures { IfOk result (λ file. file.items ≡ patch_spelling (all_packed entries.now)) }
 {
     let mut file = Vec::new(alloc);

@@ -5,14 +5,14 @@ ghost use Rattle.patch_file.specs.PatchView.{packed_of, all_packed};
 ghost use Rattle.dgn_tool.specs.Applied.{put_from, Puts};
 
 use crate::put_end::PutEnd;
-use crate::reading::MOST_DESIGN;
+use dgn_drawing::MOST_DESIGN;
 use patch_file::{PatchEntry, apply_entry, stands};
 
 // Puts an entry on a body where it stands there, and the body keeps the limit with so many bytes behind it.
 fn put_entry(body: &mut Vec<u8>, tail: usize, entry: &PatchEntry, number: u32) -> Result<(), PutEnd>
-    requires { length body.old.items + tail ≤ 67108864 }
+    requires { length body.old.items + tail ≤ MOST_DESIGN }
     ensures put { Puts result (put_from tail number body.old.items (packed_of entry.now ∷ [])) body.new.items }
-    ensures few { OnOk result (length body.new.items + tail ≤ 67108864) }
+    ensures few { OnOk result (length body.new.items + tail ≤ MOST_DESIGN) }
 {
     if !stands(body, entry) {
         return Err(PutEnd::Refused { number });
@@ -33,9 +33,9 @@ pub(crate) fn put_entries(
     entries: &[PatchEntry],
 ) -> Result<(), PutEnd>
     requires many { length entries.now < 2 ^ 32 }
-    requires few { length body.old.items + tail ≤ 67108864 }
+    requires few { length body.old.items + tail ≤ MOST_DESIGN }
     ensures put { Puts result (put_from tail 1 body.old.items (all_packed entries.now)) body.new.items }
-    ensures few { OnOk result (length body.new.items + tail ≤ 67108864) }
+    ensures few { OnOk result (length body.new.items + tail ≤ MOST_DESIGN) }
 {
     let mut number = 0;
     'entries: for entry in entries {

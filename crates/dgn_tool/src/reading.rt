@@ -16,15 +16,10 @@ use crate::ending::Ending;
 use crate::saying::{end, end_numbered};
 use dgn_answers::numbered_line;
 use dgn_desk::{Desk, ReadEnd, Stop, read_all};
-use edit_script::{Command, ScriptFault, read_script};
+use dgn_drawing::MOST_DESIGN;
+use edit_script::{Command, MOST_SCRIPT, ScriptFault, read_script};
 use elem_index::{Design, OpenFault, read_design};
 use std::alloc::{AllocError, Global};
-
-// The most bytes that a design file may have.
-pub(crate) const MOST_DESIGN: usize = 67108864;
-
-// The most bytes that a script may have.
-const MOST_SCRIPT: usize = 1048576;
 
 // Reads the named file whole, of at most so many bytes, or ends the run, with this line where it has more.
 pub(crate) fn read_file<D: Desk>(
@@ -50,11 +45,11 @@ pub(crate) fn read_file<D: Desk>(
 
 // Reads IN whole, or ends the run.
 pub(crate) fn read_input<D: Desk>(alloc: Global, desk: &mut D, input: &str) -> Result<Vec<u8>, End>
-    ensures within { IfOk result (λ bytes. vec_len bytes ≤ 67108864) }
+    ensures within { IfOk result (λ bytes. vec_len bytes ≤ MOST_DESIGN) }
     ensures read { IfOk result
-        (λ bytes. DeskReads D.Desk (IsWholeFile input.now 67108864) desk.old desk.new bytes.items) }
+        (λ bytes. DeskReads D.Desk (IsWholeFile input.now MOST_DESIGN) desk.old desk.new bytes.items) }
     ensures ended { IfErr result (DeskEndsEarly D.Desk (Has input.now)
-        (whole_file input.now 67108864 (codes "too long design\n")) desk.old desk.new) }
+        (whole_file input.now MOST_DESIGN (codes "too long design\n")) desk.old desk.new) }
 {
     read_file(alloc, desk, input, MOST_DESIGN, b"too long design\n")
 }

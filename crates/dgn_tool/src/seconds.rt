@@ -10,8 +10,9 @@ ghost use Rattle.dgn_tool.specs.SecondFiles.{text_named, names_of, names_in, Are
 ghost use Rattle.dgn_answers.specs.Given.{waiting};
 
 use crate::end::End;
-use crate::reading::{MOST_DESIGN, read_file};
+use crate::reading::read_file;
 use dgn_desk::{Desk, Stop};
+use dgn_drawing::MOST_DESIGN;
 use dgn_import::{Second, read_second};
 use edit_script::Command;
 use patch_bytes::ByteList;

@@ -13,6 +13,7 @@ use crate::ending::Ending;
 use crate::saying::end;
 use crate::status::Status;
 use dgn_desk::{Desk, Stop, write_file};
+use dgn_drawing::MOST_DESIGN;
 use dgn_session::Session;
 
 // How many bytes a block has.
@@ -21,9 +22,9 @@ const BLOCK: usize = 512;
 // How many zero bytes stand behind the tail, where the elements of the file that was read had `before` bytes and have
 // `now`: where that file is of whole blocks and has a tail, the fewest that make the one that is written so.
 pub(crate) fn filling_len(before: usize, tail: &[u8], now: usize) -> usize
-    requires before { before ≤ 67108864 }
-    requires tail { length tail.now ≤ 67108864 }
-    requires now { now ≤ 67108864 }
+    requires before { before ≤ MOST_DESIGN }
+    requires tail { length tail.now ≤ MOST_DESIGN }
+    requires now { now ≤ MOST_DESIGN }
     ensures exact { result ≡ (if is_blocks before tail.now then left_in_block (now + length tail.now) else 0) }
     ensures few { result < 512 }
 {
@@ -43,9 +44,9 @@ fn write_filled<D: Desk>(
     body: &[u8],
     tail: &[u8],
 ) -> Result<(), Stop>
-    requires before { before ≤ 67108864 }
-    requires tail { length tail.now ≤ 67108864 }
-    requires now { length body.now ≤ 67108864 }
+    requires before { before ≤ MOST_DESIGN }
+    requires tail { length tail.now ≤ MOST_DESIGN }
+    requires now { length body.now ≤ MOST_DESIGN }
     ensures { DeskWrites D.Desk result (FilesAll result output.now (file_made before tail.now body.now)) desk.old desk.new }
 {
     let zeros = [0; BLOCK];
@@ -60,7 +61,7 @@ pub(crate) fn write_drawing<D: Desk>(
     before: usize,
     session: &Session,
 ) -> Result<(), Stop>
-    requires { before ≤ 67108864 }
+    requires { before ≤ MOST_DESIGN }
     ensures { DeskWrites D.Desk result
         (FilesAll result output.now (file_made before session.now.tail (spelling (state_of session.now).top)))
         desk.old desk.new }
@@ -96,9 +97,9 @@ pub(crate) fn file_filled<D: Desk>(
     tail: &[u8],
     text: &[u8],
 ) -> Result<Ending, Stop>
-    requires before { before ≤ 67108864 }
-    requires tail { length tail.now ≤ 67108864 }
-    requires now { length body.now ≤ 67108864 }
+    requires before { before ≤ MOST_DESIGN }
+    requires tail { length tail.now ≤ MOST_DESIGN }
+    requires now { length body.now ≤ MOST_DESIGN }
     ensures { DeskComes D.Desk
         (λ _. filed_then_said Status.Done text.now output.now (file_made before tail.now body.now)) desk.old desk.new result }
 {
