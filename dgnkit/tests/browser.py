@@ -173,8 +173,8 @@ class Browser:
 
 @contextlib.contextmanager
 def browser(downloads: str, width: int = 1280, height: int = 800) -> Iterator[Browser]:
-    """A browser of this size, which puts what is saved into a folder. It ends with its driver, and what the two keep for
-    themselves goes with them."""
+    """A browser of this size, which puts what is saved into a folder. It ends with its driver, and what the two keep
+    for themselves goes with them."""
     own = tempfile.mkdtemp(prefix='dgnkit-browser-')
     places = {name: own for name in ('TMPDIR', 'XDG_CONFIG_HOME', 'XDG_CACHE_HOME')}
     driver = subprocess.Popen(
