@@ -9,6 +9,7 @@ import os
 import re
 import shutil
 import subprocess
+import tempfile
 import time
 import urllib.error
 import urllib.request
@@ -172,8 +173,17 @@ class Browser:
 
 @contextlib.contextmanager
 def browser(downloads: str, width: int = 1280, height: int = 800) -> Iterator[Browser]:
-    """A browser of this size, which puts what is saved into a folder. It ends with its driver."""
-    driver = subprocess.Popen([str(DRIVER), '--port=0'], stdout=subprocess.PIPE, stderr=subprocess.DEVNULL, text=True)
+    """A browser of this size, which puts what is saved into a folder. It ends with its driver, and what the two keep
+    for themselves goes with them."""
+    own = tempfile.mkdtemp(prefix='dgnkit-browser-')
+    places = {name: own for name in ('TMPDIR', 'XDG_CONFIG_HOME', 'XDG_CACHE_HOME')}
+    driver = subprocess.Popen(
+        [str(DRIVER), '--port=0'],
+        stdout=subprocess.PIPE,
+        stderr=subprocess.DEVNULL,
+        text=True,
+        env={**os.environ, **places},
+    )
     try:
         made = Browser(port_of(driver), width, height, downloads)
         try:
@@ -185,6 +195,7 @@ def browser(downloads: str, width: int = 1280, height: int = 800) -> Iterator[Br
         driver.wait()
         if driver.stdout:
             driver.stdout.close()
+        shutil.rmtree(own, ignore_errors=True)
 
 
 def port_of(driver: subprocess.Popen[str]) -> int:
