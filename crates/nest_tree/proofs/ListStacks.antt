@@ -62,6 +62,14 @@ going_ends rows at f going = within_rows rows at f going.stack going.stands
 pub going_deep : (rows : List Row) (at : ℕ) (f : OpenList) → Going rows at f → f.depth ≤ at
 going_deep rows at f going = not_deep rows at f going.stack going.stands
 
+-- a list of which nothing is left has no marks
+skipped : (f : OpenList) (fs : List OpenList) (at : ℕ) (l : List Row) → f.end ≤ at → resume (f ∷ fs) at l ≡ resume fs at l
+skipped f fs at l past =
+    let none : f.end - at ≡ 0 = omega arith in
+    ap (λ (k : ℕ). marks (nest itself (defined_scope f.scope) (take k l)) at f.depth f.parent ++ resume fs (at + k) (drop k l)) none
+    ∙ ap (λ (t : Forest Row). marks t at f.depth f.parent ++ resume fs (at + 0) l) (nest_nil itself (defined_scope f.scope))
+    ∙ (let e : at + 0 ≡ at = omega arith in ap (λ (k : ℕ). resume fs k l) e)
+
 -- a list that has ended is one below a header, and reading goes on in the list around it
 pub record Leaves (rows : List Row) (at : ℕ) (f : OpenList) (n : ℕ) : Type 0 where
   pub before : n < at
@@ -89,13 +97,7 @@ leaves_inside rows at f g gs n within past inside stands left is =
     let parent : g.parent ≡ parent_in rows n = ap (λ (x : OpenList). x.parent) around ∙ list_in-parent rows (parent_in rows n) (depth_in rows n) in
     let before = inside.before in
     let deeper : f.depth ≡ g.depth + 1 = ap (λ (x : OpenList). x.depth) inside.list in
-    let none : f.end - at ≡ 0 = omega arith in
-    let skipped : resume (f ∷ (g ∷ gs)) at (drop at rows) ≡ resume (g ∷ gs) at (drop at rows) =
-    ap (λ (k : ℕ). marks (nest itself (defined_scope f.scope) (take k (drop at rows))) at f.depth f.parent
-    ++ resume (g ∷ gs) (at + k) (drop k (drop at rows))) none
-    ∙ ap (λ (t : Forest Row). marks t at f.depth f.parent ++ resume (g ∷ gs) (at + 0) (drop at rows)) (nest_nil itself (defined_scope f.scope))
-    ∙ (let e : at + 0 ≡ at = omega arith in ap (λ (k : ℕ). resume (g ∷ gs) k (drop at rows)) e) in
-    let onward : Going rows at g = record { stack = gs; stands = stands; left = left ∙ skipped } in
+    let onward : Going rows at g = record { stack = gs; stands = stands; left = left ∙ skipped f (g ∷ gs) at (drop at rows) past } in
     record {
       before = omega arith;
       above = subst (λ (o : Option ℕ). IfSome o (λ p. p < at)) parent (header_of rows at g gs stands);
@@ -216,3 +218,11 @@ module _ (rows : List Row) (at : ℕ) (f : OpenList) (going : Going rows at f) (
           left = marks_more;
         } in
         subst (Going rows (at + 1)) list_said entered
+
+    -- where it has nothing below it, reading goes on in the list that it stands in
+    pub going_past : s.count ≡ 0 → Going rows (at + 1) f
+    going_past none = record {
+      stack = going.stack;
+      stands = stands_on rows at f going.stack going.stands;
+      left = marks_more ∙ skipped list_read (f ∷ going.stack) (at + 1) r (let e = end_read in omega arith);
+    }

@@ -46,11 +46,15 @@ pub(crate) fn read_on(
         let end = (at + 1 + shape.count) as u32;
         ends.push_reserved(end);
         links.push(Link::new(around.parent, around.depth, shape.knot));
-        list = OpenList {
-            scope: shape.inside,
-            end,
-            depth: around.depth + 1,
-            parent: Some(at as u32),
-        };
+        // Where it has nothing below it, no list is entered.
+        list = around;
+        if shape.count != 0 {
+            list = OpenList {
+                scope: shape.inside,
+                end,
+                depth: around.depth + 1,
+                parent: Some(at as u32),
+            };
+        }
     }
 }

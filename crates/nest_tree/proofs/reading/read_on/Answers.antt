@@ -1,4 +1,4 @@
-use Rattle.std.proofs.Common.{◌≡◌, ◌<◌, ◌≤◌, sym, ap, ◌∙◌, ◌++◌, ◌∷◌, [], ◌+◌, ℕ, List, drop, length, subst, arith, Fits, w32, w64}
+use Rattle.std.proofs.Common.{◌≡◌, ◌<◌, ◌≤◌, sym, ap, ◌∙◌, ◌++◌, ◌∷◌, [], ◌+◌, ℕ, List, drop, length, subst, arith, Fits, w32, w64, IfSome}
 use borrow.Author.Count.{falls}
 use Rattle.std.proofs.lemmas.List.{length_push, length-drop}
 use Rattle.dgn_drawing.specs.declared.row.Row.{Row}
@@ -7,9 +7,10 @@ use Rattle.std.specs.List.{AllByRecursion}
 use Rattle.nest_tree.specs.Places.{marks_in, ArePlaces, Going}
 use Rattle.nest_tree.specs.declared.open_list.OpenList.{OpenList}
 use Rattle.nest_tree.proofs.HeadersApart.{parent_small, NotBefore, reached}
-use Rattle.nest_tree.proofs.ListStacks.{going_on, going_deep, going_ends}
+use Rattle.nest_tree.proofs.ListStacks.{going_on, going_past, going_deep, going_ends}
 use Rattle.nest_tree.proofs.OpenLists.{length-ends, length-links, between, shaped, end_fits, one_more}
 use Rattle.nest_tree.proofs.reading.read_on.Goals as goal
+use Rattle.nest_tree.proofs.reading.read_on.Goals.{then-shape-ne0, else-shape-ne0}
 
 -- an element whose place is still to be found is one of the list
 seen_at : (list rows : List Row) (kept len first at : ℕ) → rows ≡ drop kept list → kept ≤ length list → first ≡ len → len ≡ kept → at < first + length rows
@@ -98,17 +99,28 @@ loop-at-preserved c =
     c.list_at-around.ensures.inside c.requires.few c.loop-at.auto.at c.shape_at-shape.result c.shape_at-shape.ensures in
     let more = one_more c.args.seen.now.list c.loop-at.at c.list_at-around.result c.list_at-around.ensures.going c.list_at-around.ensures.inside
     c.shape_at-shape.result shape c.loop-at.ends.items c.loop-at.links.items c.loop-at.invariant.0 in
-    let on = going_on c.args.seen.now.list c.loop-at.at c.list_at-around.result c.list_at-around.ensures.going c.list_at-around.ensures.inside
-    c.shape_at-shape.result shape in
+    let on : Going c.args.seen.now.list (c.loop-at.at + 1) c.if-shape-ne0.list × IfSome c.if-shape-ne0.list.parent (λ p. c.len-first.result ≤ p) =
+    elim c.if-shape-ne0.branch [
+      | then-shape-ne0 w ↦ (
+        subst (Going c.args.seen.now.list (c.loop-at.at + 1)) (sym w.list-is) (going_on c.args.seen.now.list c.loop-at.at c.list_at-around.result
+            c.list_at-around.ensures.going c.list_at-around.ensures.inside c.shape_at-shape.result shape),
+        subst (λ (o : OpenList). IfSome o.parent (λ p. c.len-first.result ≤ p)) (sym w.list-is) c.loop-at.auto.at,
+      )
+      | else-shape-ne0 w ↦ (
+        subst (Going c.args.seen.now.list (c.loop-at.at + 1)) (sym w.list-is) (going_past c.args.seen.now.list c.loop-at.at c.list_at-around.result
+            c.list_at-around.ensures.going c.list_at-around.ensures.inside c.shape_at-shape.result shape w.if-shape-ne0.false),
+        subst (λ (o : OpenList). IfSome o.parent (λ p. c.len-first.result ≤ p)) (sym w.list-is) c.list_at-around.ensures.header,
+      )
+    ] in
     let ends = c.push_reserved.ensures.items in
     let links = c.push.ensures.items ∙ ap (λ (x : Link). c.loop-at.links.items ++ x ∷ []) c.new.ensures in (
       subst (λ (l : List ℕ). ArePlaces c.args.seen.now.list (c.loop-at.at + 1) l c.push.new.self.items) (sym ends)
           (subst (λ (l : List Link). ArePlaces c.args.seen.now.list (c.loop-at.at + 1)
           (c.loop-at.ends.items ++ (c.loop-at.at + 1 + c.shape_at-shape.result.count) ∷ []) l) (sym links) more),
-      on,
+      on.0,
       omega (arith, c.loop-at.invariant.2, c.push_reserved.ensures.capacity),
       omega (arith, c.loop-at.invariant.3, c.push.ensures.room, ap (length {A = Link}) c.push.ensures.items, length_push c.loop-at.links.items c.new.result),
-      c.loop-at.auto.at,
+      on.1,
     )
 
 pub list_at-around-requires-clause-header : goal.list_at-around-requires-clause-header
