@@ -20,7 +20,7 @@ use patch_file::{PatchEntry, PatchFault, read_patch};
 use std::alloc::Global;
 
 // The most bytes that a patch file may have.
-pub(crate) const MOST_PATCH: usize = 134217728;
+const MOST_PATCH: usize = 134217728;
 
 // Reads and opens IN, and goes on with it.
 pub(crate) fn apply<D: Desk>(
