@@ -1,6 +1,6 @@
 // Packing what the commands of a script do to a drawing.
 
-ghost use Rattle.std.specs.Prelude.{◌≡◌, ◌≤◌, ◌<◌, ◌++◌, [], length, reverse, IfOk, OnOk};
+ghost use Rattle.std.specs.Prelude.{◌≡◌, ◌≤◌, ◌<◌, [], length, reverse, IfOk};
 ghost use Rattle.std.specs.List.{AllByRecursion};
 ghost use Rattle.dgn_import.specs.Seconds.{IsSound as IsSoundSecond};
 ghost use Rattle.elem_index.specs.Design.{IsWhole};
