@@ -11,6 +11,9 @@ use std::test::Fail;
 
 const NAME: &str = "desk_test.tmp";
 
+// A name in a folder that isn't there.
+const IN_NO_FOLDER: &str = "no_folder/desk_test.tmp";
+
 // What the calls over a desk answer. No test rests on more of them, so none has to carry what they say of the desk.
 fn read<D: Desk>(alloc: Global, desk: &mut D, name: &str, limit: u8) -> Result<Vec<u8>, ReadEnd> {
     read_all(alloc, desk, name, usize::from(limit))
@@ -70,6 +73,21 @@ fn host_desk_writes_reads_and_says(rt: HostRuntime) -> Result<(), Fail> {
     fs::remove_file(&rt, NAME)?;
     assert!(rt; reads(alloc, &mut desk, NAME, 9, Err(ReadEnd::Fault)));
     assert!(rt; say(&mut desk, b"said\n") == Ok(()));
+    Ok(())
+}
+
+// Shows that a folder isn't read as a file that ends at once, and that a file isn't begun in a folder that isn't there.
+fn has_no_folders<R: Abort + Alloc<A = Global>, D: Desk>(rt: &R, desk: &mut D) {
+    assert!(rt; reads(rt.alloc(), desk, ".", 9, Err(ReadEnd::Fault)));
+    assert!(rt; write(desk, IN_NO_FOLDER, b"", b"", b"") == Err(Stop::Failed));
+}
+
+// A desk that takes a failed read for the end of a file would read a folder as an empty one. Of a file that can't be made
+// not even nothing is written.
+#[test]
+fn host_desk_on_folders(rt: HostRuntime) -> Result<(), Fail> {
+    let mut desk = HostDesk::new(rt.clone()?);
+    has_no_folders(&rt, &mut desk);
     Ok(())
 }
 

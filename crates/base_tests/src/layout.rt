@@ -2,6 +2,8 @@
 
 ghost use Rattle.std.specs.Prelude.{◌≡◌, ◌⊎◌, ◌<◌};
 
+mod sound;
+
 use dgn_layout::types::Class::{Boxed, Counted, Floating, Run, Silent, Vertices, Words};
 use dgn_layout::*;
 use std::alloc::{AllocError, Global};

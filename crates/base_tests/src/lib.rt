@@ -26,4 +26,6 @@ mod signs;
 #[cfg(test)]
 mod texts;
 #[cfg(test)]
+mod undo;
+#[cfg(test)]
 mod words;

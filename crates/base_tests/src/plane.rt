@@ -1,6 +1,8 @@
 // Sides, segments and polygons at known places, the ends of the design plane among them.
 
 use plane_geom::*;
+use std::alloc::{AllocError, Global};
+use std::test::Fail;
 
 // The ends of the design plane on each axis.
 const LOW: i32 = -2147483648;
@@ -83,4 +85,22 @@ fn points_within(rt: HostRuntime) {
         assert!(rt; within(p, &plane) == wanted);
     }
     assert!(rt; !within(at(0, 0), &[]));
+}
+
+// A list of these points, put behind each other.
+fn listed(alloc: Global, points: &[Pt]) -> Result<PtList, AllocError> {
+    let mut list = PtList::new(alloc);
+    for point in points {
+        list.push(*point)?;
+    }
+    Ok(list)
+}
+
+// A list has the points that it was given, the first first.
+#[test]
+fn points_of_a_list(rt: HostRuntime) -> Result<(), Fail> {
+    let points = [at(LOW, HIGH), at(0, 0), at(LOW, HIGH)];
+    let list = listed(rt.alloc(), &points)?;
+    assert!(rt; list.as_slice() == points.as_slice());
+    Ok(())
 }

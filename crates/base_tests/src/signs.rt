@@ -22,3 +22,11 @@ fn words_and_signs(rt: HostRuntime) {
         assert!(rt; pack(bytes) == None);
     }
 }
+
+// From 64000 on a word stands for no signs: one that took any word would say three of them of the first.
+#[test]
+fn words_without_signs(rt: HostRuntime) {
+    for word in [64000, 65535] {
+        assert!(rt; unpack(word) == None, "at {word}");
+    }
+}

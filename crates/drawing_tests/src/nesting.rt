@@ -1,13 +1,15 @@
 // Worked drawings: the rows of their elements, and the place of each one.
 
-ghost use Rattle.std.specs.Prelude.{◌≡◌, ◌<◌, ◌≤◌, length};
+ghost use Rattle.std.specs.Prelude.{◌≡◌, ◌+◌, ◌<◌, ◌≤◌, length};
 ghost use Rattle.std.specs.List.{AllByRecursion};
+ghost use Rattle.dgn_drawing.specs.Nesting.{BeginsFree, itself};
 ghost use Rattle.nest_tree.specs.Shapes.{IsRow};
 
 use dgn_drawing::Row;
 use nest_tree::types::Nest;
 use nest_tree::*;
-use std::alloc::Global;
+use std::alloc::{AllocError, Global};
+use std::test::Fail;
 
 // A row by its size, type, bit C and total.
 fn row(size: u32, kind: u8, cbit: bool, total: u16) -> Row
@@ -133,4 +135,34 @@ fn runs(rt: HostRuntime) {
         row(52, 3, true, 0),
     ];
     assert!(rt; has_places(rt.alloc(), &rows, &RUNS));
+}
+
+// The ends after room is made for more elements, and after the elements of the second rows are put into it.
+fn ends_of_both(
+    alloc: Global,
+    rows: &[Row],
+    more: &[Row],
+) -> Result<(Vec<u32>, Vec<u32>), AllocError>
+    requires some { 0 < length rows.now }
+    requires few { length rows.now + length more.now < 4294967295 }
+    requires each { AllByRecursion IsRow rows.now }
+    requires each_more { AllByRecursion IsRow more.now }
+    requires free { BeginsFree itself more.now }
+{
+    let mut nested = nest(alloc, rows)?;
+    nested.reserve(more.len() as u32)?;
+    let before = Vec::from_slice(alloc, nested.ends())?;
+    nested.grow(more);
+    Ok((before, Vec::from_slice(alloc, nested.ends())?))
+}
+
+// Room changes no place, and is enough for a cell and its member.
+#[test]
+fn room_for_elements(rt: HostRuntime) -> Result<(), Fail> {
+    let rows = [tcb(), row(52, 3, false, 0)];
+    let more = [row(92, 2, false, 53), row(52, 3, true, 0)];
+    let (before, after) = ends_of_both(rt.alloc(), &rows, &more)?;
+    assert!(rt; before.as_slice() == [1, 2].as_slice());
+    assert!(rt; after.as_slice() == [1, 2, 4, 4].as_slice());
+    Ok(())
 }

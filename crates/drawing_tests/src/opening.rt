@@ -340,3 +340,23 @@ fn rows_of_a_file(rt: HostRuntime) -> Result<(), AllocError> {
     }
     Ok(())
 }
+
+// Room for what is kept of more elements changes no byte of a design.
+fn is_as_read_with_room(mut design: Design, body: &[u8], tail: &[u8]) -> Result<bool, AllocError> {
+    design.reserve_index(4097)?;
+    Ok(design.body.as_slice() == body && design.tail.as_slice() == tail)
+}
+
+#[test]
+fn room_for_elements(rt: HostRuntime) -> Result<(), AllocError> {
+    let alloc = rt.alloc();
+    let tail = [0xFF, 0xFF, 0x00];
+    let body = drawing(alloc, 0x08, 0, &[&LINE])?;
+    let bytes = file(alloc, 0x08, 0, &[&LINE], &tail)?;
+    assert!(rt; bytes.len() <= MOST_DESIGN);
+    match read_design(alloc, bytes) {
+        Ok(design) => assert!(rt; is_as_read_with_room(design, &body, &tail)?),
+        Err(fault) => panic!(rt; "{fault}"),
+    }
+    Ok(())
+}

@@ -6,6 +6,8 @@ mod audits;
 #[cfg(test)]
 mod edits;
 #[cfg(test)]
+mod fenced;
+#[cfg(test)]
 mod imports;
 #[cfg(test)]
 mod joined;

@@ -1,4 +1,5 @@
 mod causes;
+mod findings;
 mod items;
 mod listings;
 mod selected;

@@ -1,5 +1,8 @@
 // A session on a cell and its member: edits, their entries, and their undoing.
 
+ghost use Rattle.std.specs.Prelude.{IfSome};
+ghost use Rattle.elem_index.specs.Design.{IsWhole};
+
 use crate::shifts::along;
 use dgn_drawing::types::Item;
 use dgn_drawing::{Edit, MOST_DESIGN, Mask, New, NewShape};
@@ -7,10 +10,11 @@ use dgn_import::{gather, read_second};
 use dgn_session::*;
 use edit_ops::{Cause, EditFault};
 use elem_head::types::Symb;
-use elem_index::read_design;
+use elem_index::{Design, read_design};
+use level_view::nest_design;
 use patch_bytes::Patch;
 use plane_geom::PointList;
-use sample_elements::{CELL, LINE, MEMBER, drawing, with_byte};
+use sample_elements::{CELL, LINE, MEMBER, SPLINE, drawing, with_byte};
 use std::alloc::{AllocError, Global};
 
 // A session on a drawing of two axes: a TCB, the cell with this total, its member, and a tail.
@@ -138,6 +142,33 @@ fn has_offsets(session: &Session, offsets: &[u32]) -> bool {
     session.design().offsets() == offsets
 }
 
+// The drawing of the same elements and tail, opened anew.
+fn opened_anew(alloc: Global, session: &Session) -> Option<Design>
+    ensures { IfSome result IsWhole }
+{
+    let mut bytes = Vec::from_slice(alloc, session.body()).ok()?;
+    bytes.extend_from_slice(session.tail()).ok()?;
+    if bytes.len() > MOST_DESIGN {
+        return None;
+    }
+    read_design(alloc, bytes).ok()
+}
+
+// Whether elements begin, have their types and bits C, and nest as those of the same bytes do, opened anew.
+fn is_as_anew(alloc: Global, session: &Session) -> bool {
+    let Some(design) = opened_anew(alloc, session) else {
+        return false;
+    };
+    match nest_design(alloc, &design) {
+        Ok(nesting) => {
+            session.design().offsets() == design.offsets()
+                && session.design().kind_bytes() == design.kind_bytes()
+                && session.nesting().ends() == nesting.ends()
+        }
+        Err(_) => false,
+    }
+}
+
 // How many items there are.
 fn count_of(items: Result<Vec<Item>, AllocError>) -> Option<usize> {
     match items {
@@ -189,6 +220,8 @@ enum Step {
     Offsets(&'static [u32]),
     // So many items are shown.
     Shows(usize),
+    // Elements begin and nest as those of the same bytes, opened anew.
+    AsAnew,
 }
 
 // Whether a step that changes the drawing comes to what it has to; `None` where it changes none.
@@ -220,6 +253,7 @@ fn is_so(alloc: Global, session: &Session, step: &Step) -> bool {
         Step::Ends(ends) => has_ends(session, ends),
         Step::Offsets(offsets) => has_offsets(session, offsets),
         Step::Shows(count) => shows(session, *count),
+        Step::AsAnew => is_as_anew(alloc, session),
         _ => false,
     }
 }
@@ -311,4 +345,44 @@ const LEVELS: [Step; 7] = [
 #[test]
 fn levels_stay(rt: HostRuntime) {
     assert!(rt; done(rt.alloc(), 53, &LEVELS) == 7);
+}
+
+// Edits in place, appended elements and trees, and undos of all of these: what is kept of the elements follows each of
+// them. A session that forgets to keep the new ones, or keeps those that an undo took away, differs at the next step.
+const FOLLOWED: [Step; 19] = [
+    Step::Move(1, 5, 7, Ok(())),
+    Step::AsAnew,
+    Step::Copy(1),
+    Step::AsAnew,
+    Step::Delete(1),
+    Step::AsAnew,
+    Step::Line,
+    Step::AsAnew,
+    Step::Import(&SPLINE),
+    Step::AsAnew,
+    Step::Undo(Ok(())),
+    Step::AsAnew,
+    Step::Undo(Ok(())),
+    Step::Undo(Ok(())),
+    Step::AsAnew,
+    Step::Undo(Ok(())),
+    Step::AsAnew,
+    Step::Import(&LINE),
+    Step::AsAnew,
+];
+
+// The same where the cell's total is none that members have, so that its nesting is broken.
+const FOLLOWED_BROKEN: [Step; 6] = [
+    Step::AsAnew,
+    Step::Line,
+    Step::Import(&SPLINE),
+    Step::AsAnew,
+    Step::Undo(Ok(())),
+    Step::AsAnew,
+];
+
+#[test]
+fn kept_places_follow(rt: HostRuntime) {
+    assert!(rt; done(rt.alloc(), 53, &FOLLOWED) == 19);
+    assert!(rt; done(rt.alloc(), 52, &FOLLOWED_BROKEN) == 6);
 }

@@ -1,10 +1,14 @@
 // Runs over a desk of memory, on worked drawings.
 
+mod absent;
 mod commands;
 mod faults;
 mod fences;
+mod generating;
 mod hostile;
 mod imports;
+mod limits;
+mod nested;
 mod packing;
 mod patches;
 mod ranges;
