@@ -12,15 +12,18 @@ use Rattle.listing_texts.specs.LinkTexts.{links_text_in}
 use Rattle.listing_texts.proofs.AttributeData.{links-spell}
 use Rattle.dgn_answers.specs.Commands.{links_told, links_said}
 
-said_of : (dim n : ℕ) (b : List ℕ) (found : Option Element) → IsDimension dim → ((e : Element) → found ≡ Some e → IsWellFormed dim e) → Some b ≡ option_map spell found → links_text_in b ≡ links_told n found
+said_of : (dim n : ℕ) (b : List ℕ) (found : Option Element) → IsDimension dim → ((e : Element) → found ≡ Some e → IsWellFormed dim e)
+    → Some b ≡ option_map spell found → links_text_in b ≡ links_told n found
 said_of dim n b None axes good is = absurd (let f = is in cc)
 said_of dim n b (Some e) axes good is =
     let same : b ≡ spell e = cc in
     ap links_text_in same ∙ links-spell dim e axes (good e refl)
 
-pub said_so : (d : Design) → IsWhole d → (n : ℕ) (b : List ℕ) → Some b ≡ option_map spell (slice_get (elements d) n) → links_text_in b ≡ links_said (elements d) n
+pub said_so : (d : Design) → IsWhole d → (n : ℕ) (b : List ℕ) → Some b ≡ option_map spell (slice_get (elements d) n)
+    → links_text_in b ≡ links_said (elements d) n
 said_so d whole n b is =
-    said_of d.dim n b (slice_get (elements d) n) (subst IsDimension (sym whole.is_open.opens.axes) (dimension_is (d.body.items ++ d.tail.items))) (λ e found. each_at (IsWellFormed d.dim) (elements d) n e whole.is_open.opens.each found) is
+    said_of d.dim n b (slice_get (elements d) n) (subst IsDimension (sym whole.is_open.opens.axes) (dimension_is (d.body.items ++ d.tail.items)))
+    (λ e found. each_at (IsWellFormed d.dim) (elements d) n e whole.is_open.opens.each found) is
 
 -- what is known is known where there is an error
 pub errs : {T E P : Type 0} (r : Result T E) → P → OnErr r P

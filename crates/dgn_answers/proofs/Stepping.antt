@@ -5,7 +5,8 @@ use Rattle.edit_script.specs.declared.command.Command.{Command}
 use Rattle.dgn_answers.specs.Given.{given, seconds_behind, given_all}
 
 -- the first of those that are left, and the others
-pub next_step : (cs : List Command) (i : ℕ) (c : Command) (vs vs' : List SecondValue) → drop i cs ≡ c ∷ drop (i + 1) cs → vs' ≡ seconds_behind c vs → given_all (drop i cs) vs ≡ given c vs ∷ given_all (drop (i + 1) cs) vs'
+pub next_step : (cs : List Command) (i : ℕ) (c : Command) (vs vs' : List SecondValue) → drop i cs ≡ c ∷ drop (i + 1) cs → vs' ≡ seconds_behind c vs
+    → given_all (drop i cs) vs ≡ given c vs ∷ given_all (drop (i + 1) cs) vs'
 next_step cs i c vs vs' split behind =
     ap (λ (l : List Command). given_all l vs) split ∙ ap (λ (ws : List SecondValue). given c vs ∷ given_all (drop (i + 1) cs) ws) (sym behind)
 

@@ -18,7 +18,8 @@ sum_zero : (a : ℕ) → a + 0 ≡ a
 sum_zero a = omega arith
 
 -- one more command
-pub tallied_more : (all left : List Given) (g : Given) (refused : ℕ) (was : Bool) (trees : List ℕ) (count : ℕ) (from s new : State) → Tallied all (g ∷ left) refused trees from s
+pub tallied_more : (all left : List Given) (g : Given) (refused : ℕ) (was : Bool) (trees : List ℕ) (count : ℕ) (from s new : State)
+    → Tallied all (g ∷ left) refused trees from s
     → new ≡ after_step s g → was ≡ step_refused s g → count ≡ step_trees s g
     → Tallied all left (refused + from_bool was) (trees ++ count ∷ []) from new
 tallied_more all left g refused was trees count from s new done new_is was_is count_is = record {
@@ -34,14 +35,17 @@ tallied_more all left g refused was trees count from s new done new_is was_is co
 }
 
 -- where no command is left, all is done
-pub tallied_count : (all left : List Given) (refused : ℕ) (trees : List ℕ) (from s : State) → Tallied all left refused trees from s → left ≡ [] → refused ≡ refused_count all from
+pub tallied_count : (all left : List Given) (refused : ℕ) (trees : List ℕ) (from s : State) → Tallied all left refused trees from s → left ≡ []
+    → refused ≡ refused_count all from
 tallied_count all left refused trees from s done none =
     sym (done.count ∙ ap (λ (gs : List Given). refused + refused_count gs s) none ∙ sum_zero refused)
 
-pub tallied_trees : (all left : List Given) (refused : ℕ) (trees : List ℕ) (from s : State) → Tallied all left refused trees from s → left ≡ [] → trees ≡ trees_of_all all from
+pub tallied_trees : (all left : List Given) (refused : ℕ) (trees : List ℕ) (from s : State) → Tallied all left refused trees from s → left ≡ []
+    → trees ≡ trees_of_all all from
 tallied_trees all left refused trees from s done none =
     sym (done.edited ∙ ap (λ (gs : List Given). trees ++ trees_of_all gs s) none ∙ append-nil trees)
 
-pub tallied_state : (all left : List Given) (refused : ℕ) (trees : List ℕ) (from s : State) → Tallied all left refused trees from s → left ≡ [] → s ≡ after_all all from
+pub tallied_state : (all left : List Given) (refused : ℕ) (trees : List ℕ) (from s : State) → Tallied all left refused trees from s → left ≡ []
+    → s ≡ after_all all from
 tallied_state all left refused trees from s done none =
     sym (done.state ∙ ap (λ (gs : List Given). after_all gs s) none)

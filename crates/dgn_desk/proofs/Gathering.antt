@@ -1,5 +1,6 @@
 -- A file that is read piece by piece: what was gathered so far and what is left make the whole.
-use Rattle.std.proofs.Common.{◌≡◌, ℕ, ◌+◌, ◌≤◌, List, [], ◌++◌, length, take, drop, Option, Some, None, option_map, IfSome, Result, Err, refl, sym, ap, ◌∙◌, inr, append_assoc, arith}
+use Rattle.std.proofs.Common.{◌≡◌, ℕ, ◌+◌, ◌≤◌, List, [], ◌++◌, length, take, drop, Option, Some, None, option_map, IfSome, Result, Err, refl, sym, ap, ◌∙◌}
+use Rattle.std.proofs.Common.{inr, append_assoc, arith}
 use Rattle.std.proofs.Math.Seq.{drop-append_seam}
 use Rattle.std.proofs.lemmas.List.{take-append-drop, length-append, length-take}
 use Rattle.dgn_desk.specs.Content.{Content, with_left, consumed, opened, bytes_of, OnlyLeftDiffers}
@@ -20,7 +21,8 @@ gathered_none None = record { left = []; told = refl; split = tt }
 gathered_none (Some c) = record { left = c.left; told = refl; split = refl }
 
 -- one more piece
-pub gathered_more : (old now new : Option Content) (all buffer : List ℕ) (count : ℕ) → IsGathered old now all → IfSome now (λ c. TakesFirst c.left buffer count) → new ≡ option_map (consumed count) now → IsGathered old new (all ++ take count buffer)
+pub gathered_more : (old now new : Option Content) (all buffer : List ℕ) (count : ℕ) → IsGathered old now all
+    → IfSome now (λ c. TakesFirst c.left buffer count) → new ≡ option_map (consumed count) now → IsGathered old new (all ++ take count buffer)
 gathered_more None now new all buffer count so_far piece change =
     record { left = []; told = change ∙ ap (option_map (consumed count)) so_far.told; split = tt }
 gathered_more (Some c) now new all buffer count so_far piece change =
@@ -28,7 +30,9 @@ gathered_more (Some c) now new all buffer count so_far piece change =
     record {
       left = drop count so_far.left;
       told = change ∙ ap (option_map (consumed count)) so_far.told;
-      split = so_far.split ∙ ap (λ bytes. all ++ bytes) (sym (take-append-drop count so_far.left)) ∙ sym (append_assoc all (take count so_far.left) (drop count so_far.left)) ∙ ap (λ piece. (all ++ piece) ++ drop count so_far.left) (sym first.same);
+      split = so_far.split ∙ ap (λ bytes. all ++ bytes) (sym (take-append-drop count so_far.left))
+          ∙ sym (append_assoc all (take count so_far.left) (drop count so_far.left))
+          ∙ ap (λ piece. (all ++ piece) ++ drop count so_far.left) (sym first.same);
     }
 
 -- whatever was gathered, only what is left differs
@@ -52,11 +56,13 @@ left_behind (Some c) now all so_far =
     rw so_far.told (sym (drop-append_seam all so_far.left) ∙ ap (drop (length all)) (sym so_far.split))
 
 -- so where the reading stops, it is what stands behind so many bytes
-part_behind : {T : Type 0} (result : Result T ReadEnd) (stop : Stop) (limit : ℕ) (bytes before now : List ℕ) (count : ℕ) → result ≡ Err (end_of stop) → count ≤ limit + 1 → now ≡ drop count bytes → LeftAfter result limit bytes before now
+part_behind : {T : Type 0} (result : Result T ReadEnd) (stop : Stop) (limit : ℕ) (bytes before now : List ℕ) (count : ℕ) → result ≡ Err (end_of stop)
+    → count ≤ limit + 1 → now ≡ drop count bytes → LeftAfter result limit bytes before now
 part_behind result Failed limit bytes before now count ends most behind = rw ends (inr (count, most, behind))
 part_behind result Memory limit bytes before now count ends most behind = rw ends (inr (count, most, behind))
 
-pub left_stopped : {T : Type 0} (result : Result T ReadEnd) (stop : Stop) (limit : ℕ) (old now : Option Content) (all : List ℕ) → result ≡ Err (end_of stop) → IsGathered old now all → length all ≤ limit + 1 → Leaves result limit (λ c. c.left) old now
+pub left_stopped : {T : Type 0} (result : Result T ReadEnd) (stop : Stop) (limit : ℕ) (old now : Option Content) (all : List ℕ) → result ≡ Err (end_of stop)
+    → IsGathered old now all → length all ≤ limit + 1 → Leaves result limit (λ c. c.left) old now
 left_stopped result stop limit None now all ends so_far most = tt
 left_stopped result stop limit (Some c) None all ends so_far most = tt
 left_stopped result stop limit (Some c) (Some n) all ends so_far most =

@@ -39,5 +39,6 @@ pub wanted : {U : Type 0} {Q : Option Content → Option Content → Type 0} (ol
 wanted old so = record { cause = refl; other = refl; told = so; stays = λ willing. willing; able = λ _. tt }
 
 -- a call that came to its end leaves the same, whatever it answers
-pub done_with : {T U : Type 0} {P : Option Content → Option Content → Type 0} {old new : Seen} (x : T) (y : U) → Writes (Ok x) P old new → Writes (Ok y) P old new
+pub done_with : {T U : Type 0} {P : Option Content → Option Content → Type 0} {old new : Seen} (x : T) (y : U) → Writes (Ok x) P old new
+    → Writes (Ok y) P old new
 done_with x y did = record { cause = did.cause; other = did.other; told = did.told; stays = did.stays; able = λ _. tt }

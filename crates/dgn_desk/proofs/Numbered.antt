@@ -23,16 +23,19 @@ none_there next (n ∷ numbers) none =
     or_from (n == next) (list_any (λ n. n == next) numbers) (grind arith) (none_there next numbers both.1)
 
 -- a call more leaves a willing desk willing
-pub stays_ahead : (fails later : List ℕ) (acts more : List Act) (act : Act) → later ≡ fails → more ≡ acts ++ act ∷ [] → IsTrue (not (list_any (λ n. nat_le (next_number acts) n) fails)) → IsTrue (not (list_any (λ n. nat_le (next_number more) n) later))
+pub stays_ahead : (fails later : List ℕ) (acts more : List Act) (act : Act) → later ≡ fails → more ≡ acts ++ act ∷ []
+    → IsTrue (not (list_any (λ n. nat_le (next_number acts) n) fails)) → IsTrue (not (list_any (λ n. nat_le (next_number more) n) later))
 stays_ahead fails later acts more act same longer willing =
-    rw (same, longer) (not_from_false _ (none_higher (next_number acts) (next_number (acts ++ act ∷ [])) fails (omega (arith, length-append acts (act ∷ []))) (not-true _ willing)))
+    rw (same, longer) (not_from_false _
+    (none_higher (next_number acts) (next_number (acts ++ act ∷ [])) fails (omega (arith, length-append acts (act ∷ []))) (not-true _ willing)))
 
 -- and the next call of a willing desk isn't on its list
 pub unlisted : (d : NumberedDesk) → IsTrue (none_ahead d) → is_listed d ≡ false
 unlisted d willing = none_there (next_number d.acts) d.fails (not-true _ willing)
 
 -- so the call doesn't fail
-pub unfailing : (d : NumberedDesk) (fails : List ℕ) (acts : List Act) → fails ≡ d.fails → acts ≡ d.acts → IsTrue (none_ahead d) → list_any (λ n. n == next_number acts) fails ≡ true → ⊥
+pub unfailing : (d : NumberedDesk) (fails : List ℕ) (acts : List Act) → fails ≡ d.fails → acts ≡ d.acts → IsTrue (none_ahead d)
+    → list_any (λ n. n == next_number acts) fails ≡ true → ⊥
 unfailing d fails acts same longer willing listed =
     let none = unlisted d willing in
     let there = rw (same, longer) at listed in

@@ -24,7 +24,9 @@ coded_bytes = coded_list coded_ℕ
 -- a content as data: its fields in order
 abbrev pub coded_content : Coded Content
 coded_content =
-    code_by (Files × (List ℕ × (Option (List ℕ) × List ℕ))) (coded× (maps.code coded_bytes coded_bytes) (coded× coded_bytes (coded× (coded_option coded_bytes) coded_bytes))) (λ c. (c.files, (c.left, (c.target, c.said)))) (λ p. record { files = p.0; left = p.1.0; target = p.1.1.0; said = p.1.1.1 }) (λ _. refl)
+    code_by (Files × (List ℕ × (Option (List ℕ) × List ℕ)))
+    (coded× (maps.code coded_bytes coded_bytes) (coded× coded_bytes (coded× (coded_option coded_bytes) coded_bytes)))
+    (λ c. (c.files, (c.left, (c.target, c.said)))) (λ p. record { files = p.0; left = p.1.0; target = p.1.1.0; said = p.1.1.1 }) (λ _. refl)
 
 -- the bytes of a file; one that isn't there counts as empty
 abbrev pub bytes_of : Files → List ℕ → List ℕ

@@ -1,6 +1,7 @@
 -- What the calls of a desk answer and change. What a desk holds is told or not, and each clause says
 -- what is told after a call by what was told before it.
-use Rattle.std.specs.Prelude.{ℕ, ◌≡◌, ◌⊎◌, ◌+◌, ◌-◌, ◌^◌, ◌≤◌, ◌<◌, min, List, [], ◌++◌, length, take, drop, Option, option_map, Result, Ok, Err, IfOk, IfSome, Bool, IsTrue, ⊤}
+use Rattle.std.specs.Prelude.{ℕ, ◌≡◌, ◌⊎◌, ◌+◌, ◌-◌, ◌^◌, ◌≤◌, ◌<◌, min, List, [], ◌++◌, length, take, drop, Option, option_map, Result, Ok, Err, IfOk}
+use Rattle.std.specs.Prelude.{IfSome, Bool, IsTrue, ⊤}
 use Rattle.dgn_desk.specs.declared.stop.Stop.{Stop}
 use Rattle.dgn_desk.specs.declared.stop.Stop.TheVariants.{Failed, Memory}
 use Rattle.dgn_desk.specs.declared.reading.ReadEnd.{ReadEnd}

@@ -1,7 +1,8 @@
 -- A desk of memory whose calls are numbered from 0 together, and of which some are to fail: what it
 -- holds, how many bytes a call moves at most, the numbers of the calls that are to fail, the calls so far, and its two counts
 -- of faults.
-use Rattle.std.specs.Prelude.{ℕ, ◌≡◌, ◌+◌, ◌-◌, ◌^◌, ◌==◌, min, nat_le, List, [], ◌∷◌, ◌++◌, length, is_some, Bool, true, false, not, if◌then◌else◌, Result, Ok, Err, refl}
+use Rattle.std.specs.Prelude.{ℕ, ◌≡◌, ◌+◌, ◌-◌, ◌^◌, ◌==◌, min, nat_le, List, [], ◌∷◌, ◌++◌, length, is_some, Bool, true, false, not, if◌then◌else◌, Result}
+use Rattle.std.specs.Prelude.{Ok, Err, refl}
 use Rattle.std.specs.List.{list_any}
 use Rattle.std.specs.Coded.{Coded, code_by, coded×, coded_ℕ, coded_list}
 use Rattle.std.specs.FinMap as maps
@@ -41,7 +42,11 @@ act_of-number_of Say = refl
 -- a desk as data: its fields in order
 abbrev pub coded_desk : Coded NumberedDesk
 coded_desk =
-    code_by (Content × (ℕ × (List ℕ × (List Act × (ℕ × ℕ))))) (coded× coded_content (coded× coded_ℕ (coded× (coded_list coded_ℕ) (coded× (coded_list (code_by ℕ coded_ℕ number_of_act act_of_number act_of-number_of)) (coded× coded_ℕ coded_ℕ))))) (λ d. (d.content, (d.piece, (d.fails, (d.acts, (d.read_faults, d.write_faults)))))) (λ p. record { content = p.0; piece = p.1.0; fails = p.1.1.0; acts = p.1.1.1.0; read_faults = p.1.1.1.1.0; write_faults = p.1.1.1.1.1 }) (λ _. refl)
+    code_by (Content × (ℕ × (List ℕ × (List Act × (ℕ × ℕ)))))
+    (coded× coded_content (coded× coded_ℕ
+    (coded× (coded_list coded_ℕ) (coded× (coded_list (code_by ℕ coded_ℕ number_of_act act_of_number act_of-number_of)) (coded× coded_ℕ coded_ℕ)))))
+    (λ d. (d.content, (d.piece, (d.fails, (d.acts, (d.read_faults, d.write_faults))))))
+    (λ p. record { content = p.0; piece = p.1.0; fails = p.1.1.0; acts = p.1.1.1.0; read_faults = p.1.1.1.1.0; write_faults = p.1.1.1.1.1 }) (λ _. refl)
 
 -- one more, up to the last value of a counter of 64 bits
 abbrev pub one_more : ℕ → ℕ

@@ -35,13 +35,15 @@ use Rattle.dgn_session.proofs.Steps.{pushed_state, undone_state}
 abbrev value_in : ℕ → List ℕ → List ℕ → List Entry → SessionValue → SessionValue
 value_in dim body tail entries v = record { dim = dim; body = body; tail = tail; entries = entries; mask = v.mask; fence = v.fence }
 
-value_same : (v : SessionValue) (dim : ℕ) (body body' tail : List ℕ) (entries entries' : List Entry) → dim ≡ v.dim → body ≡ body' → tail ≡ v.tail → entries ≡ entries' → value_in dim body tail entries v ≡ value_with body' entries' v
+value_same : (v : SessionValue) (dim : ℕ) (body body' tail : List ℕ) (entries entries' : List Entry) → dim ≡ v.dim → body ≡ body' → tail ≡ v.tail
+    → entries ≡ entries' → value_in dim body tail entries v ≡ value_with body' entries' v
 value_same v dim body body' tail entries entries' axes text behind es =
     ap (λ (n : ℕ). value_in n body tail entries v) axes ∙ ap (λ (x : List ℕ). value_in v.dim x tail entries v) text
     ∙ ap (λ (x : List ℕ). value_in v.dim body' x entries v) behind ∙ ap (λ (x : List Entry). value_in v.dim body' v.tail x v) es
 
 -- an undo, on the session's value
-pub undone_value : (d g : Design) (l m : LogState) (mask : Mask) (fence : Option (List Pt)) → g.dim ≡ d.dim → g.tail.items ≡ d.tail.items → IsUndone l.entries d.body.items m.entries g.body.items → state_of (value_of g m mask fence) ≡ undone (state_of (value_of d l mask fence))
+pub undone_value : (d g : Design) (l m : LogState) (mask : Mask) (fence : Option (List Pt)) → g.dim ≡ d.dim → g.tail.items ≡ d.tail.items
+    → IsUndone l.entries d.body.items m.entries g.body.items → state_of (value_of g m mask fence) ≡ undone (state_of (value_of d l mask fence))
 undone_value d g l m mask fence axes tail is =
     ap state_of (value_same (value_of d l mask fence) g.dim g.body.items g.body.items g.tail.items m.entries m.entries axes refl tail refl)
     ∙ undone_state (value_of d l mask fence) g.body.items m.entries is
@@ -60,21 +62,25 @@ module _ (d : Design) (l : LogState) (mask : Mask) (fence : Option (List Pt)) (k
     pub edit_made : Become d.dim d.tail.items (elements d) (edited_fields d.dim (elements d) e) plan.made
     edit_made =
         let body : spelling (elements d) ≡ d.body.items = body_spelled d.body.items d.tail.items d.dim (elements d) opens.opens in
-        edit_becomes (d.body.items ++ d.tail.items) d.dim (elements d) d.tail.items e plan.made fits opens.opens (omega (arith, opens.few, ap (length {A = ℕ}) body)) edit_done
+        edit_becomes (d.body.items ++ d.tail.items) d.dim (elements d) d.tail.items e plan.made fits opens.opens
+        (omega (arith, opens.few, ap (length {A = ℕ}) body)) edit_done
 
     -- which has changed its fields alone
     pub edit_changes : ChangesItsFields d.dim (elements d) e plan.made
     edit_changes = changes_fields (d.body.items ++ d.tail.items) d.dim (elements d) d.tail.items (length d.tail.items) e plan.made fits opens.opens edit_done
 
   -- and by one of some roots
-  module _ (ns : List ℕ) (roots : AreRoots (elements d) ns) (e : FenceEdit) (p : Plan) (fits : IsFenceEdit e) (plan : IsFencePlan d.dim (elements d) (length d.tail.items) e ns p) where
+  module _ (ns : List ℕ) (roots : AreRoots (elements d) ns) (e : FenceEdit) (p : Plan) (fits : IsFenceEdit e)
+      (plan : IsFencePlan d.dim (elements d) (length d.tail.items) e ns p) where
     pub fence_made : Become d.dim d.tail.items (elements d) (fenced_fields d.dim (elements d) e ns) plan.made
     fence_made =
         let body : spelling (elements d) ≡ d.body.items = body_spelled d.body.items d.tail.items d.dim (elements d) opens.opens in
-        fence_becomes (d.body.items ++ d.tail.items) d.dim (elements d) d.tail.items e ns plan.made fits roots opens.opens (omega (arith, opens.few, ap (length {A = ℕ}) body)) plan.done
+        fence_becomes (d.body.items ++ d.tail.items) d.dim (elements d) d.tail.items e ns plan.made fits roots opens.opens
+        (omega (arith, opens.few, ap (length {A = ℕ}) body)) plan.done
 
     pub fence_changes : ChangesFencedFields d.dim (elements d) e ns plan.made
-    fence_changes = fenced_changes (d.body.items ++ d.tail.items) d.dim (elements d) d.tail.items (length d.tail.items) e ns plan.made fits roots opens.opens plan.done
+    fence_changes = fenced_changes (d.body.items ++ d.tail.items) d.dim (elements d) d.tail.items (length d.tail.items)
+        e ns plan.made fits roots opens.opens plan.done
 
   -- its elements become others, and that is planned
   module _ (fields : List Field) (made : List Element) (becomes : Become d.dim d.tail.items (elements d) fields made)
@@ -84,14 +90,16 @@ module _ (d : Design) (l : LogState) (mask : Mask) (fence : Option (List Pt)) (k
     sound = plan_sound d.dim d.tail.items d.body.items opens fields made becomes p patches append
 
     -- the session on which it is carried out
-    module _ (g : Design) (m : LogState) (axes : g.dim ≡ d.dim) (text : g.body.items ≡ write d.body.items p.patches ++ p.append) (tail : g.tail.items ≡ d.tail.items)
+    module _ (g : Design) (m : LogState) (axes : g.dim ≡ d.dim) (text : g.body.items ≡ write d.body.items p.patches ++ p.append)
+        (tail : g.tail.items ≡ d.tail.items)
         (entries : m.entries ≡ l.entries ++ entry_of d.body.items p.patches ∷ []) where
       pub made_here : elements_of g.dim g.body.items ≡ made
       made_here =
           ap (λ (n : ℕ). elements_of n g.body.items) axes ∙ ap (elements_of d.dim) text
           ∙ made_are d.dim d.tail.items d.body.items opens fields made becomes p patches append
 
-      value_is : (body : List ℕ) (entries' : List Entry) → g.body.items ≡ body → m.entries ≡ entries' → value_of g m mask fence ≡ value_with body entries' (value_of d l mask fence)
+      value_is : (body : List ℕ) (entries' : List Entry) → g.body.items ≡ body → m.entries ≡ entries'
+          → value_of g m mask fence ≡ value_with body entries' (value_of d l mask fence)
       value_is body entries' text' es = value_same (value_of d l mask fence) g.dim g.body.items body g.tail.items m.entries entries' axes text' tail es
 
       -- stands for the state with what is made pushed
@@ -99,10 +107,12 @@ module _ (d : Design) (l : LogState) (mask : Mask) (fence : Option (List Pt)) (k
       done_state =
           ap state_of (value_is (write d.body.items p.patches ++ p.append) (l.entries ++ entry_of d.body.items p.patches ∷ []) text entries)
           ∙ pushed_state (value_of d l mask fence) (write d.body.items p.patches ++ p.append) (entry_of d.body.items p.patches) made
-          (entry_leads d.dim d.tail.items d.body.items opens fields made becomes p patches append) (made_are d.dim d.tail.items d.body.items opens fields made becomes p patches append)
+          (entry_leads d.dim d.tail.items d.body.items opens fields made becomes p patches append)
+          (made_are d.dim d.tail.items d.body.items opens fields made becomes p patches append)
 
       -- and has one entry more
-      pub value_after : value_of g m mask fence ≡ value_with (spelling (elements_of g.dim g.body.items)) (l.entries ++ entry_with (elements d) fields ∷ []) (value_of d l mask fence)
+      pub value_after : value_of g m mask fence
+          ≡ value_with (spelling (elements_of g.dim g.body.items)) (l.entries ++ entry_with (elements d) fields ∷ []) (value_of d l mask fence)
       value_after =
           value_is (spelling (elements_of g.dim g.body.items)) (l.entries ++ entry_with (elements d) fields ∷ [])
           (text ∙ text_is d.dim d.tail.items d.body.items opens fields made becomes p patches append ∙ ap spelling (sym made_here))

@@ -14,4 +14,5 @@ pub returns-in-Ok-clause-refused : goal.returns-in-Ok-clause-refused
 returns-in-Ok-clause-refused c = sym (not_refused c.args.s.now c.in-Ok.ensures.nothing.1)
 
 pub returns-in-Ok-clause-logged : goal.returns-in-Ok-clause-logged
-returns-in-Ok-clause-logged c = undo_logs c.args.s.now c.undo.new.self c.in-Ok.ensures.nothing.1 c.in-Ok.ensures.back (ap (λ (v : SessionValue). v.dim) c.in-Ok.ensures.value)
+returns-in-Ok-clause-logged c =
+    undo_logs c.args.s.now c.undo.new.self c.in-Ok.ensures.nothing.1 c.in-Ok.ensures.back (ap (λ (v : SessionValue). v.dim) c.in-Ok.ensures.value)

@@ -11,5 +11,6 @@ returns-in-Ok-clause-logged c = fence_edit_logs c.args.s.now c.edit_fence.new.se
 pub returns-in-Err-NoFence-clause-state : goal.returns-in-Err-NoFence-clause-state
 returns-in-Err-NoFence-clause-state c =
     let s = state_of c.args.s.now in
-    let none : fence_applied c.args.mode c.args.edit.now s ≡ None = subst (IsFenceRefused (fence_applied c.args.mode c.args.edit.now s)) c.in-Err-NoFence.field-0-is c.in-Err-NoFence.ensures.refused in
+    let none : fence_applied c.args.mode c.args.edit.now s ≡ None =
+    subst (IsFenceRefused (fence_applied c.args.mode c.args.edit.now s)) c.in-Err-NoFence.field-0-is c.in-Err-NoFence.ensures.refused in
     ap state_of c.in-Err-NoFence.ensures.kept ∙ sym (ap (λ (a : Option Applied). pushed_if a s) none)

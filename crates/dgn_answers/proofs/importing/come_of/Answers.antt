@@ -6,4 +6,5 @@ use Rattle.dgn_answers.proofs.importing.come_of.Goals as goal
 
 pub returns-in-Err-Refused-clause-fits : goal.returns-in-Err-Refused-clause-fits
 returns-in-Err-Refused-clause-fits c =
-    of_a_tree c.design.result.now.dim (value_of c.args.second.now) _ c.in-Err-Refused.cause (subst (TellsFault _) c.in-Err-Refused.field-0-is c.in-Err-Refused.ensures.refused)
+    of_a_tree c.design.result.now.dim (value_of c.args.second.now) _ c.in-Err-Refused.cause
+    (subst (TellsFault _) c.in-Err-Refused.field-0-is c.in-Err-Refused.ensures.refused)

@@ -10,8 +10,10 @@ use Rattle.dgn_answers.proofs.tally.run_unsaid.Given as goal
 
 abbrev pub invariant-commands : goal.invariant-commands
 invariant-commands l = record {
-  done : Tallied (given_all l.commands (waiting l.fn.seconds.items)) (given_all (drop l.command-index l.commands) (waiting l.seconds.items)) l.refused l.trees.items (state_of l.fn.session) (state_of l.session);
-  logged : LogsSo (given_all l.commands (waiting l.fn.seconds.items)) (given_all (drop l.command-index l.commands) (waiting l.seconds.items)) l.fn.session l.session;
+  done : Tallied (given_all l.commands (waiting l.fn.seconds.items)) (given_all (drop l.command-index l.commands) (waiting l.seconds.items))
+      l.refused l.trees.items (state_of l.fn.session) (state_of l.session);
+  logged : LogsSo (given_all l.commands (waiting l.fn.seconds.items)) (given_all (drop l.command-index l.commands) (waiting l.seconds.items))
+      l.fn.session l.session;
   tail : l.session.tail ≡ l.fn.session.tail;
   sound : AllByRecursion IsSound l.seconds.items;
   most : l.refused ≤ l.command-index;

@@ -19,7 +19,8 @@ pieces-preserved g c =
     let before = c.pieces.invariant in
     let got = c.in_ok-count.ensures in
     let entry = g.D.Desk.content c.args.desk.now in
-    let more = gathered_more entry (g.D.Desk.content c.pieces.desk) _ c.pieces.all.items c.read_front.new.piece c.in_ok-count.count before.told got.bytes got.told in
+    let more = gathered_more entry (g.D.Desk.content c.pieces.desk)
+    _ c.pieces.all.items c.read_front.new.piece c.in_ok-count.count before.told got.bytes got.told in
     record {
       told = rw (c.in_ok-extend_from_slice.ensures.items, c.split_at.ensures.front) more;
       most = omega (arith, c.in_ok-extend_from_slice.ensures.len, c.in_ok-count.ensures.most);
@@ -32,7 +33,8 @@ pieces-preserved g c =
 pub returns-in_err-extend_from_slice-clause-told : goal.returns-in_err-extend_from_slice-clause-told
 returns-in_err-extend_from_slice-clause-told g c =
     let before = c.pieces.invariant in
-    only_left _ _ _ (gathered_more (g.D.Desk.content c.args.desk.now) (g.D.Desk.content c.pieces.desk) _ c.pieces.all.items c.read_front.new.piece c.in_ok-count.count before.told c.in_ok-count.ensures.bytes c.in_ok-count.ensures.told)
+    only_left _ _ _ (gathered_more (g.D.Desk.content c.args.desk.now) (g.D.Desk.content c.pieces.desk)
+    _ c.pieces.all.items c.read_front.new.piece c.in_ok-count.count before.told c.in_ok-count.ensures.bytes c.in_ok-count.ensures.told)
 
 pub returns-in_err-extend_from_slice-clause-left : goal.returns-in_err-extend_from_slice-clause-left
 returns-in_err-extend_from_slice-clause-left g c =
@@ -40,6 +42,8 @@ returns-in_err-extend_from_slice-clause-left g c =
     let got = c.in_ok-count.ensures in
     let stopped = err_from_is_err_and c.from_residual-in_err-extend_from_slice.result c.from_residual-in_err-extend_from_slice.ensures.1 in
     let entry = g.D.Desk.content c.args.desk.now in
-    let more = gathered_more entry (g.D.Desk.content c.pieces.desk) _ c.pieces.all.items c.read_front.new.piece c.in_ok-count.count before.told got.bytes got.told in
+    let more = gathered_more entry (g.D.Desk.content c.pieces.desk)
+    _ c.pieces.all.items c.read_front.new.piece c.in_ok-count.count before.told got.bytes got.told in
     left_stopped _ stops.Memory c.args.limit _ _ _ (stopped.1 ∙ ap Err stopped.2) more
-    (length_more c.pieces.all.items c.read_front.new.piece c.in_ok-count.count (c.args.limit + 1) (omega (arith, c.pieces.all.ok.0, c.len-in-pieces.ensures, got.most)))
+    (length_more c.pieces.all.items c.read_front.new.piece c.in_ok-count.count (c.args.limit + 1)
+    (omega (arith, c.pieces.all.ok.0, c.len-in-pieces.ensures, got.most)))

@@ -8,7 +8,8 @@ pub returns-in_err-count-clause-told : goal.returns-in_err-count-clause-told
 returns-in_err-count-clause-told g c =
     let stopped = err_from_is_err_and c.from_residual.result c.from_residual.ensures.1 in
     let before = c.pieces.invariant in
-    rw stopped.1 (λ name so_far old start. added_part stopped.0 name so_far c.args.bytes.now before.done c.pieces.rest.now old _ before.split (c.in_err-count.ensures.told ∙ before.told name so_far old start))
+    rw stopped.1 (λ name so_far old start. added_part stopped.0 name so_far c.args.bytes.now before.done c.pieces.rest.now old _ before.split
+    (c.in_err-count.ensures.told ∙ before.told name so_far old start))
 
 pub pieces-preserved : goal.pieces-preserved
 pieces-preserved g c =

@@ -14,4 +14,6 @@ returns-then-is_listed-clause-stays c =
     (c.push_reserved.ensures.items ∙ ap (λ acts. acts ++ Say ∷ []) (c.reserve.ensures.items ∙ ap (λ d. d.acts) c.self.view_is))
 
 pub returns-then-is_listed-clause-able : goal.returns-then-is_listed-clause-able
-returns-then-is_listed-clause-able c = λ willing. absurd (unfailing c.args.self.now _ _ (ap (λ d. d.fails) c.self.view_is) (c.reserve.ensures.items ∙ ap (λ d. d.acts) c.self.view_is) willing (sym c.is_listed.ensures ∙ c.if-is_listed.true))
+returns-then-is_listed-clause-able c =
+    λ willing. absurd (unfailing c.args.self.now _ _ (ap (λ d. d.fails) c.self.view_is) (c.reserve.ensures.items ∙ ap (λ d. d.acts) c.self.view_is) willing
+    (sym c.is_listed.ensures ∙ c.if-is_listed.true))

@@ -17,6 +17,8 @@ returns-clause-stays c =
 
 pub returns-then-is_listed-clause-able : goal.returns-then-is_listed-clause-able
 returns-then-is_listed-clause-able c = λ willing has. elim c.then-is_listed.branch [
-  | then-is_listed-via-then-is_listed w ↦ absurd (unfailing c.args.self.now _ _ (ap (λ d. d.fails) c.self.view_is) (c.reserve.ensures.items ∙ ap (λ d. d.acts) c.self.view_is) willing (sym c.is_listed.ensures ∙ w.if-is_listed.true))
+  | then-is_listed-via-then-is_listed w ↦
+      absurd (unfailing c.args.self.now _ _ (ap (λ d. d.fails) c.self.view_is) (c.reserve.ensures.items ∙ ap (λ d. d.acts) c.self.view_is) willing
+      (sym c.is_listed.ensures ∙ w.if-is_listed.true))
   | then-is_listed-via-else-is_listed+then-not-self w ↦ grind (arith, common_steps)
 ]

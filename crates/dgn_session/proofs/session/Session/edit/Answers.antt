@@ -24,32 +24,67 @@ pub returns-in_err-plan-clause-refused : goal.returns-in_err-plan-clause-refused
 returns-in_err-plan-clause-refused c =
     let d = c.self.inside.design in
     subst (λ (v : SessionValue). IfErr c.from_residual.result (IsRefused (applied c.args.e.now (state_of v)))) c.self.view_is
-    (handed_on c.from_residual.result c.in_err-plan.field-0.0 (IsRefused (apply d.dim (elements d) (length d.tail.items) c.args.e.now)) c.from_residual.ensures.1
-    (subst (λ (n : ℕ). IsRefused (apply d.dim (elements d) n c.args.e.now) c.in_err-plan.field-0.0) (none_more (length d.tail.items)) c.in_err-plan.ensures.refused))
+    (handed_on c.from_residual.result c.in_err-plan.field-0.0 (IsRefused (apply d.dim (elements d) (length d.tail.items) c.args.e.now))
+    c.from_residual.ensures.1
+    (subst (λ (n : ℕ). IsRefused (apply d.dim (elements d) n c.args.e.now) c.in_err-plan.field-0.0) (none_more (length d.tail.items))
+    c.in_err-plan.ensures.refused))
 
 pub carry-requires-clause-sound : goal.carry-requires-clause-sound
-carry-requires-clause-sound c = sound c.self.inside.design c.self.inside.log c.self.inside.mask c.self.inside.fence c.self.invariant.back (edited_fields c.self.inside.design.dim (elements c.self.inside.design) c.args.e.now) c.in_ok-plan.ensures.planned.made (edit_made c.self.inside.design c.self.inside.log c.self.inside.mask c.self.inside.fence c.self.invariant.back c.args.e.now c.in_ok-plan.plan c.in_ok-plan.ensures.kept c.in_ok-plan.ensures.planned) c.in_ok-plan.plan c.in_ok-plan.ensures.planned.patches c.in_ok-plan.ensures.planned.append
+carry-requires-clause-sound c =
+    sound c.self.inside.design c.self.inside.log c.self.inside.mask c.self.inside.fence c.self.invariant.back
+    (edited_fields c.self.inside.design.dim (elements c.self.inside.design) c.args.e.now) c.in_ok-plan.ensures.planned.made
+    (edit_made c.self.inside.design c.self.inside.log c.self.inside.mask c.self.inside.fence c.self.invariant.back c.args.e.now c.in_ok-plan.plan
+    c.in_ok-plan.ensures.kept c.in_ok-plan.ensures.planned) c.in_ok-plan.plan c.in_ok-plan.ensures.planned.patches c.in_ok-plan.ensures.planned.append
 
 pub returns-clause-done : goal.returns-clause-done
 returns-clause-done c =
-    subst (λ (v : SessionValue). state_of (value_of c.carry.new.design c.carry.new.log c.self.inside.mask c.self.inside.fence) ≡ edited c.args.e.now (state_of v)) c.self.view_is
-    (done_state c.self.inside.design c.self.inside.log c.self.inside.mask c.self.inside.fence c.self.invariant.back (edited_fields c.self.inside.design.dim (elements c.self.inside.design) c.args.e.now) c.in_ok-plan.ensures.planned.made (edit_made c.self.inside.design c.self.inside.log c.self.inside.mask c.self.inside.fence c.self.invariant.back c.args.e.now c.in_ok-plan.plan c.in_ok-plan.ensures.kept c.in_ok-plan.ensures.planned) c.in_ok-plan.plan c.in_ok-plan.ensures.planned.patches c.in_ok-plan.ensures.planned.append c.carry.new.design c.carry.new.log c.carry.ensures.dim c.in_ok-carry.ensures.body c.carry.ensures.tail c.in_ok-carry.ensures.entries
-    ∙ sym (ap (λ (a : Applied). pushed a (state_of (value_of c.self.inside.design c.self.inside.log c.self.inside.mask c.self.inside.fence))) (edit_done c.self.inside.design c.self.inside.log c.self.inside.mask c.self.inside.fence c.self.invariant.back c.args.e.now c.in_ok-plan.plan c.in_ok-plan.ensures.kept c.in_ok-plan.ensures.planned)))
+    subst (λ (v : SessionValue). state_of (value_of c.carry.new.design c.carry.new.log c.self.inside.mask c.self.inside.fence)
+    ≡ edited c.args.e.now (state_of v)) c.self.view_is
+    (done_state c.self.inside.design c.self.inside.log c.self.inside.mask c.self.inside.fence c.self.invariant.back
+    (edited_fields c.self.inside.design.dim (elements c.self.inside.design) c.args.e.now) c.in_ok-plan.ensures.planned.made
+    (edit_made c.self.inside.design c.self.inside.log c.self.inside.mask c.self.inside.fence c.self.invariant.back c.args.e.now c.in_ok-plan.plan
+    c.in_ok-plan.ensures.kept c.in_ok-plan.ensures.planned)
+    c.in_ok-plan.plan c.in_ok-plan.ensures.planned.patches c.in_ok-plan.ensures.planned.append c.carry.new.design c.carry.new.log c.carry.ensures.dim
+    c.in_ok-carry.ensures.body c.carry.ensures.tail c.in_ok-carry.ensures.entries
+    ∙ sym (ap (λ (a : Applied). pushed a (state_of (value_of c.self.inside.design c.self.inside.log c.self.inside.mask c.self.inside.fence)))
+    (edit_done c.self.inside.design c.self.inside.log c.self.inside.mask c.self.inside.fence c.self.invariant.back c.args.e.now c.in_ok-plan.plan
+    c.in_ok-plan.ensures.kept c.in_ok-plan.ensures.planned)))
 
 pub returns-clause-accepted : goal.returns-clause-accepted
 returns-clause-accepted c =
     subst (λ (v : SessionValue). applied c.args.e.now (state_of v) ≡ Done (elements_of c.carry.new.design.dim c.carry.new.design.body.items)) c.self.view_is
-    (edit_done c.self.inside.design c.self.inside.log c.self.inside.mask c.self.inside.fence c.self.invariant.back c.args.e.now c.in_ok-plan.plan c.in_ok-plan.ensures.kept c.in_ok-plan.ensures.planned ∙ ap Done (sym (made_here c.self.inside.design c.self.inside.log c.self.inside.mask c.self.inside.fence c.self.invariant.back (edited_fields c.self.inside.design.dim (elements c.self.inside.design) c.args.e.now) c.in_ok-plan.ensures.planned.made (edit_made c.self.inside.design c.self.inside.log c.self.inside.mask c.self.inside.fence c.self.invariant.back c.args.e.now c.in_ok-plan.plan c.in_ok-plan.ensures.kept c.in_ok-plan.ensures.planned) c.in_ok-plan.plan c.in_ok-plan.ensures.planned.patches c.in_ok-plan.ensures.planned.append c.carry.new.design c.carry.new.log c.carry.ensures.dim c.in_ok-carry.ensures.body c.carry.ensures.tail c.in_ok-carry.ensures.entries)))
+    (edit_done c.self.inside.design c.self.inside.log c.self.inside.mask c.self.inside.fence c.self.invariant.back c.args.e.now c.in_ok-plan.plan
+    c.in_ok-plan.ensures.kept c.in_ok-plan.ensures.planned
+    ∙ ap Done (sym (made_here c.self.inside.design c.self.inside.log c.self.inside.mask c.self.inside.fence c.self.invariant.back
+    (edited_fields c.self.inside.design.dim (elements c.self.inside.design) c.args.e.now) c.in_ok-plan.ensures.planned.made
+    (edit_made c.self.inside.design c.self.inside.log c.self.inside.mask c.self.inside.fence c.self.invariant.back c.args.e.now c.in_ok-plan.plan
+    c.in_ok-plan.ensures.kept c.in_ok-plan.ensures.planned)
+    c.in_ok-plan.plan c.in_ok-plan.ensures.planned.patches c.in_ok-plan.ensures.planned.append c.carry.new.design c.carry.new.log c.carry.ensures.dim
+    c.in_ok-carry.ensures.body c.carry.ensures.tail c.in_ok-carry.ensures.entries)))
 
 pub returns-clause-value : goal.returns-clause-value
 returns-clause-value c =
-    subst (λ (v : SessionValue). value_of c.carry.new.design c.carry.new.log c.self.inside.mask c.self.inside.fence ≡ value_with (spelling (elements_of c.carry.new.design.dim c.carry.new.design.body.items)) (v.entries ++ entry v.dim (elements_of v.dim v.body) c.args.e.now ∷ []) v) c.self.view_is
-    (value_after c.self.inside.design c.self.inside.log c.self.inside.mask c.self.inside.fence c.self.invariant.back (edited_fields c.self.inside.design.dim (elements c.self.inside.design) c.args.e.now) c.in_ok-plan.ensures.planned.made (edit_made c.self.inside.design c.self.inside.log c.self.inside.mask c.self.inside.fence c.self.invariant.back c.args.e.now c.in_ok-plan.plan c.in_ok-plan.ensures.kept c.in_ok-plan.ensures.planned) c.in_ok-plan.plan c.in_ok-plan.ensures.planned.patches c.in_ok-plan.ensures.planned.append c.carry.new.design c.carry.new.log c.carry.ensures.dim c.in_ok-carry.ensures.body c.carry.ensures.tail c.in_ok-carry.ensures.entries)
+    subst (λ (v : SessionValue). value_of c.carry.new.design c.carry.new.log c.self.inside.mask c.self.inside.fence
+    ≡ value_with (spelling (elements_of c.carry.new.design.dim c.carry.new.design.body.items))
+    (v.entries ++ entry v.dim (elements_of v.dim v.body) c.args.e.now ∷ []) v) c.self.view_is
+    (value_after c.self.inside.design c.self.inside.log c.self.inside.mask c.self.inside.fence c.self.invariant.back
+    (edited_fields c.self.inside.design.dim (elements c.self.inside.design) c.args.e.now) c.in_ok-plan.ensures.planned.made
+    (edit_made c.self.inside.design c.self.inside.log c.self.inside.mask c.self.inside.fence c.self.invariant.back c.args.e.now c.in_ok-plan.plan
+    c.in_ok-plan.ensures.kept c.in_ok-plan.ensures.planned)
+    c.in_ok-plan.plan c.in_ok-plan.ensures.planned.patches c.in_ok-plan.ensures.planned.append c.carry.new.design c.carry.new.log c.carry.ensures.dim
+    c.in_ok-carry.ensures.body c.carry.ensures.tail c.in_ok-carry.ensures.entries)
 
 pub returns-clause-changed : goal.returns-clause-changed
 returns-clause-changed c =
     let d = c.self.inside.design in
-    let here = made_here d c.self.inside.log c.self.inside.mask c.self.inside.fence c.self.invariant.back (edited_fields d.dim (elements d) c.args.e.now) c.in_ok-plan.ensures.planned.made (edit_made d c.self.inside.log c.self.inside.mask c.self.inside.fence c.self.invariant.back c.args.e.now c.in_ok-plan.plan c.in_ok-plan.ensures.kept c.in_ok-plan.ensures.planned) c.in_ok-plan.plan c.in_ok-plan.ensures.planned.patches c.in_ok-plan.ensures.planned.append c.carry.new.design c.carry.new.log c.carry.ensures.dim c.in_ok-carry.ensures.body c.carry.ensures.tail c.in_ok-carry.ensures.entries in
-    subst (λ (v : SessionValue). ChangesItsFields v.dim (elements_of v.dim v.body) c.args.e.now (elements_of c.carry.new.design.dim c.carry.new.design.body.items)) c.self.view_is
+    let here = made_here d c.self.inside.log c.self.inside.mask c.self.inside.fence c.self.invariant.back (edited_fields d.dim (elements d) c.args.e.now)
+    c.in_ok-plan.ensures.planned.made
+    (edit_made d c.self.inside.log c.self.inside.mask c.self.inside.fence c.self.invariant.back c.args.e.now c.in_ok-plan.plan c.in_ok-plan.ensures.kept
+    c.in_ok-plan.ensures.planned)
+    c.in_ok-plan.plan c.in_ok-plan.ensures.planned.patches c.in_ok-plan.ensures.planned.append c.carry.new.design c.carry.new.log c.carry.ensures.dim
+    c.in_ok-carry.ensures.body c.carry.ensures.tail c.in_ok-carry.ensures.entries in
+    subst (λ (v : SessionValue). ChangesItsFields v.dim (elements_of v.dim v.body) c.args.e.now
+    (elements_of c.carry.new.design.dim c.carry.new.design.body.items)) c.self.view_is
     (subst (ChangesItsFields d.dim (elements d) c.args.e.now) (sym here)
-    (edit_changes d c.self.inside.log c.self.inside.mask c.self.inside.fence c.self.invariant.back c.args.e.now c.in_ok-plan.plan c.in_ok-plan.ensures.kept c.in_ok-plan.ensures.planned))
+    (edit_changes d c.self.inside.log c.self.inside.mask c.self.inside.fence c.self.invariant.back c.args.e.now c.in_ok-plan.plan c.in_ok-plan.ensures.kept
+    c.in_ok-plan.ensures.planned))
