@@ -43,7 +43,9 @@ class Schedule:
 
     def _ends(self) -> Dict[str, int]:
         """When each crate ends, where a free lane takes the ready crate of the longest chain."""
-        chains, ends, running, now = self._chains(), {}, {}, 0
+        chains, now = self._chains(), 0
+        ends: Dict[str, int] = {}
+        running: Dict[str, int] = {}
         left = sorted(self.below, key=lambda name: -chains[name])
         while left or running:
             ready = [it for it in left if all(below in ends for below in self.below[it])]
