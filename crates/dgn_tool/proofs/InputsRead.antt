@@ -1,11 +1,13 @@
 -- What files that were read come to in a run: IN, SCRIPT, and both with the second files.
-use Rattle.std.proofs.Common.{◌≡◌, ◌<◌, ◌≤◌, List, ℕ, length, nat_lt, nat_le, true, false, vec_len, Vec, Result, Ok, refl, sym, ap, ◌∙◌, subst, arith}
-use Rattle.std.specs.Prelude.{IsTrue, codes}
+use Rattle.std.proofs.Common.{◌≡◌, ◌<◌, ◌≤◌, List, ℕ, length, nat_lt, nat_le, Bool, true, false, vec_len, Vec, Result, Ok, Err, refl, sym, ap, ◌∙◌, subst, arith}
+use Rattle.std.specs.Prelude.{◌&&◌, IsTrue, codes}
+use Rattle.std.specs.Result.{is_ok}
 use Rattle.std.specs.List.{list_all}
 use Rattle.std.proofs.lemmas.Bool.{cond-true}
 use Rattle.std.proofs.lemmas.Bool.Decides.{nat_tests}
 use Rattle.dgn_desk.specs.Content.{Files, bytes_of}
-use Rattle.dgn_drawing.specs.Opening.{Fault}
+use Rattle.dgn_drawing.specs.Opening.{Fault, NotDesign, Cut, Short, Attr}
+use Rattle.dgn_drawing.specs.WellFormed.{IsBytes}
 use Rattle.dgn_import.specs.Seconds.{SecondValue}
 use Rattle.elem_index.specs.declared.open_fault.OpenFault.{OpenFault}
 use Rattle.elem_index.specs.Opened.{Opened, opening}
@@ -16,9 +18,10 @@ use Rattle.edit_script.specs.declared.fault.ScriptFault.{ScriptFault}
 use Rattle.dgn_answers.specs.Lines.{numbered}
 use Rattle.dgn_tool.specs.Ended.{Outcome, ended}
 use Rattle.dgn_tool.specs.Ends.{Has}
+use Rattle.dgn_tool.specs.InBytes.{IsInBytes, IsLonger, InputInBytes, SecondsInBytes, ScriptInBytes, AreInBytes, AllInBytes}
 use Rattle.dgn_answers.specs.Given.{Given, given_all}
 use Rattle.dgn_tool.specs.Outcome.{script_outcome, scripted, opened_outcome, input_outcome, run_outcome, checked, comes_to_script, HasBoth, HasAll}
-use Rattle.dgn_tool.specs.Readings.{whole_file, IsWholeFile, OpensAs, FaultSays, ReadsAs, ComeTo, GoesOn}
+use Rattle.dgn_tool.specs.Readings.{whole_file, IsWholeFile, OpensAs, FaultSays, ReadsAs, ComeTo, GoesOn, AreRead}
 use Rattle.dgn_tool.specs.SecondFiles.{names_in, files_named, is_within, stepped, AreThere, HasSeconds}
 use Rattle.dgn_tool.specs.declared.status.Status.TheVariants as statuses
 
@@ -39,6 +42,14 @@ file_read name limit line bytes files go_on is =
     let test : nat_lt limit (length (bytes_of files name)) ≡ false = grind (arith, nat_tests) in
     rw test (ap (go_on files) (sym is.1))
 
+-- it is bytes
+pub file_bytes : (name : List ℕ) (limit : ℕ) (bytes : List ℕ) (files : Files) → IsWholeFile name limit files bytes → IsInBytes name limit files
+file_bytes name limit bytes files is = λ few. subst IsBytes is.1 is.2
+
+-- of a longer one nothing is said
+pub long_bytes : (name : List ℕ) (limit : ℕ) (files : Files) → IsLonger name limit files → IsInBytes name limit files
+long_bytes name limit files long = λ few. absurd (omega (arith, long, few))
+
 -- IN.
 
 -- IN has no more bytes than it may
@@ -49,7 +60,7 @@ input_opens input go_on found h e =
 
 -- what was read of IN opens so
 pub opens_so : (name bytes : List ℕ) (d : Opened) (files : Files) → opening bytes ≡ Ok d → IsWholeFile name 67108864 files bytes → OpensAs name files d
-opens_so name bytes d files opens is = (subst (λ (b : List ℕ). length b ≤ 67108864) is.1 is.0, ap opening (sym is.1) ∙ opens)
+opens_so name bytes d files opens is = (subst (λ (b : List ℕ). length b ≤ 67108864) is.1 is.0, ap opening (sym is.1) ∙ opens, subst IsBytes is.1 is.2)
 
 -- and it is these bytes that open
 pub input_file : (name bytes : List ℕ) (files : Files) (go_on : Opened → Outcome) → IsWholeFile name 67108864 files bytes → input_outcome (bytes_of files name) go_on ≡ opened_outcome (opening bytes) go_on
@@ -64,11 +75,38 @@ fault_outcome found (OpenFault.Short at) line go_on tells says = ap (λ (r : Res
 fault_outcome found (OpenFault.Attr at) line go_on tells says = ap (λ (r : Result Opened Fault). opened_outcome r go_on) tells ∙ ap (ended statuses.BadDesign) (sym says)
 fault_outcome found OpenFault.Memory line go_on tells says = absurd says
 
+-- want of memory has no line
+pub has_line : (fault : OpenFault) (line : List ℕ) → FaultSays fault line → ¬ (fault ≡ OpenFault.Memory)
+has_line fault line says is = subst (λ (x : OpenFault). FaultSays x line) is says
+
 -- where IN opens, `check` says how many elements it has
 pub counts : (bytes : List ℕ) (count : ℕ) → HasCount bytes count → opened_outcome (opening bytes) checked ≡ ended statuses.Done (numbered (codes "elements ") count)
 counts bytes count has =
     ap (λ (r : Result Opened Fault). opened_outcome r checked) has.found
     ∙ ap (λ (n : ℕ). ended statuses.Done (numbered (codes "elements ") n)) (sym has.counted)
+
+-- where IN is too long, no other file is read
+pub input_long : (input : List ℕ) (behind : Files → Type 0) (files : Files) → IsLonger input 67108864 files → InputInBytes input behind files
+input_long input behind files long =
+    let test : nat_le (length (bytes_of files input)) 67108864 ≡ false = grind (arith, nat_tests) in
+    (long_bytes input 67108864 files long, λ comes. absurd (let x : false ≡ true = subst (λ (b : Bool). IsTrue (b && is_ok (opening (bytes_of files input)))) test comes in cc))
+
+-- nor where it doesn't open
+never_both : (x : Bool) → IsTrue (x && false) → ⊥
+never_both true both = let x : false ≡ true = both in cc
+never_both false both = let x : false ≡ true = both in cc
+
+input_faulty : (input bytes : List ℕ) (fault : Fault) (behind : Files → Type 0) (files : Files) → opening bytes ≡ Err fault → IsWholeFile input 67108864 files bytes → InputInBytes input behind files
+input_faulty input bytes fault behind files opens is =
+    let same : opening (bytes_of files input) ≡ Err fault = ap opening (sym is.1) ∙ opens in
+    (file_bytes input 67108864 bytes files is, λ comes. absurd (never_both _ (subst (λ (r : Result Opened Fault). IsTrue (nat_le (length (bytes_of files input)) 67108864 && is_ok r)) same comes)))
+
+pub input_told : (input bytes : List ℕ) (fault : OpenFault) (behind : Files → Type 0) (files : Files) → TellsFault (opening bytes) fault → IsWholeFile input 67108864 files bytes → ¬ (fault ≡ OpenFault.Memory) → InputInBytes input behind files
+input_told input bytes OpenFault.NotDesign behind files tells is said = input_faulty input bytes NotDesign behind files tells is
+input_told input bytes (OpenFault.Cut at) behind files tells is said = input_faulty input bytes (Cut at) behind files tells is
+input_told input bytes (OpenFault.Short at) behind files tells is said = input_faulty input bytes (Short at) behind files tells is
+input_told input bytes (OpenFault.Attr at) behind files tells is said = input_faulty input bytes (Attr at) behind files tells is
+input_told input bytes OpenFault.Memory behind files tells is said = absurd (said refl)
 
 -- SCRIPT.
 
@@ -85,10 +123,21 @@ script_file name bytes found files go_on reads is =
 
 -- what was read of SCRIPT reads so
 pub reads_so : (name bytes : List ℕ) (cs : List Command) (files : Files) → commands_of bytes ≡ Ok cs → IsWholeFile name 1048576 files bytes → ReadsAs name files cs
-reads_so name bytes cs files reads is = (subst (λ (b : List ℕ). length b ≤ 1048576) is.1 is.0, ap commands_of (sym is.1) ∙ reads)
+reads_so name bytes cs files reads is = (subst (λ (b : List ℕ). length b ≤ 1048576) is.1 is.0, ap commands_of (sym is.1) ∙ reads, subst IsBytes is.1 is.2)
+
+-- where it is too long, no other file is read
+pub script_long : (script : List ℕ) (files : Files) → IsLonger script 1048576 files → ScriptInBytes script files
+script_long script files long = (long_bytes script 1048576 files long, λ few. absurd (omega (arith, long, few)))
+
+-- nor where a line of it is bad
+pub script_faulty : (script bytes : List ℕ) (fault : ScriptFault) (files : Files) → commands_of bytes ≡ Err fault → IsWholeFile script 1048576 files bytes → ScriptInBytes script files
+script_faulty script bytes fault files reads is = (
+  file_bytes script 1048576 bytes files is,
+  λ few. subst (λ (r : Result (List Command) ScriptFault). SecondsInBytes r files) (sym (ap commands_of (sym is.1) ∙ reads)) tt,
+)
 
 -- an IN within its limit that opens comes to SCRIPT
-comes : (input : List ℕ) (d : Opened) → length input ≤ 67108864 → opening input ≡ Ok d → IsTrue (comes_to_script input)
+pub comes : (input : List ℕ) (d : Opened) → length input ≤ 67108864 → opening input ≡ Ok d → IsTrue (comes_to_script input)
 comes input d within opens =
     let test : nat_le (length input) 67108864 ≡ true = grind (arith, nat_tests) in
     rw (test, opens) refl
@@ -116,6 +165,14 @@ module _ (input script : List ℕ) where
       to_seconds d cs files go_on opens reads
       ∙ cond-true (list_all is_within (files_named (names_in cs) files)) _ _ come.0
       ∙ ap (λ (ws : List SecondValue). go_on d (given_all cs ws)) (sym come.1)
+
+  -- all of them are bytes, by what is known of the second files
+  pub seconds_bytes : (d : Opened) (cs : List Command) (files : Files) → OpensAs input files d → ReadsAs script files cs → AreInBytes (names_in cs) files → AllInBytes input script files
+  seconds_bytes d cs files opens reads are =
+      (λ _. opens.2, λ _. (λ _. reads.2, λ _. subst (λ (r : Result (List Command) ScriptFault). SecondsInBytes r files) (sym reads.1) are))
+
+  pub all_read : (d : Opened) (cs : List Command) (vs : List SecondValue) (files : Files) → OpensAs input files d → ReadsAs script files cs → ComeTo (names_in cs) files vs → AreRead input script files (d, given_all cs vs)
+  all_read d cs vs files opens reads come = (to_steps d cs vs files opens reads come, seconds_bytes d cs files opens reads come.2)
 
   -- the second files are there
   pub seconds_there : (d : Opened) (cs : List Command) (files : Files) → OpensAs input files d → ReadsAs script files cs → HasAll input script files → AreThere (names_in cs) files

@@ -25,3 +25,4 @@ mod SameFile
 mod NamedValues
 mod ScriptEdits
 mod Named
+mod Written

@@ -6,12 +6,14 @@ use Rattle.std.proofs.lemmas.Bool.{and_parts, cond-false}
 use Rattle.std.proofs.lemmas.Bool.Decides.{nat_tests}
 use Rattle.std.proofs.lemmas.List.{append-nil, map-append, reverse-append, reverse-reverse}
 use Rattle.dgn_desk.specs.Content.{Files, bytes_of}
+use Rattle.dgn_drawing.specs.WellFormed.{IsBytes}
 use Rattle.dgn_import.specs.declared.second.Second.{Second}
 use Rattle.dgn_import.specs.Seconds.{SecondValue, second_of, value_of, IsSound}
 use Rattle.edit_script.specs.declared.command.Command.{Command}
 use Rattle.dgn_tool.specs.Ended.{Outcome, ended}
-use Rattle.dgn_tool.specs.Readings.{IsWholeFile, whole_file, ComeTo, seconds_in}
-use Rattle.dgn_tool.specs.SecondFiles.{names_of, names_in, files_named, is_within, AreThere, ComeBehind}
+use Rattle.dgn_tool.specs.InBytes.{IsLonger, AreInBytes, AreCutOff}
+use Rattle.dgn_tool.specs.Readings.{IsWholeFile, whole_file, ComeTo, ComeBehind, seconds_in}
+use Rattle.dgn_tool.specs.SecondFiles.{names_of, names_in, files_named, is_within, AreThere}
 use Rattle.dgn_answers.specs.Given.{waiting}
 use Rattle.dgn_tool.specs.declared.status.Status.TheVariants as statuses
 
@@ -38,7 +40,7 @@ long_more (n ∷ names) more files long =
 named_more : (names more : List (List ℕ)) (files : Files) → map second_of (files_named (names ++ more) files) ≡ map second_of (files_named names files) ++ map second_of (files_named more files)
 named_more names more files = ap (map second_of) (map-append (bytes_of files) names more) ∙ map-append second_of (files_named names files) (files_named more files)
 
-short : (f : List ℕ) → is_within f ≡ true → length f ≤ 67108864
+pub short : (f : List ℕ) → is_within f ≡ true → length f ≤ 67108864
 short f test = grind (arith, nat_tests)
 
 there_more : (names more : List (List ℕ)) (files : Files) → list_all is_within (files_named names files) ≡ true → AreThere (names ++ more) files → AreThere more files
@@ -51,16 +53,25 @@ there_first : (names more : List (List ℕ)) (files : Files) → AreThere (names
 there_first [] more files there = tt
 there_first (n ∷ names) more files there = (there.0, λ few. there_first names more files (there.1 few))
 
+bytes_more : (names more : List (List ℕ)) (files : Files) → AreInBytes names files → AreInBytes more files → AreInBytes (names ++ more) files
+bytes_more [] more files are behind = behind
+bytes_more (n ∷ names) more files are behind = λ few. ((are few).0, bytes_more names more files (are few).1 behind)
+
+bytes_cut : (names more : List (List ℕ)) (files : Files) → AreCutOff names files → AreInBytes (names ++ more) files
+bytes_cut [] more files cut = absurd cut
+bytes_cut (n ∷ names) more files cut = λ few. ((cut few).0, bytes_cut names more files (cut few).1)
+
 -- those of the commands before these were read
 abbrev pub IsReadSo : List Command → List Command → Files → List Second → Type 0
 IsReadSo all left files seconds =
     (list_all is_within (files_named (names_in all) files) ≡ list_all is_within (files_named (names_in left) files))
     × (map second_of (files_named (names_in all) files) ≡ map value_of seconds ++ map second_of (files_named (names_in left) files))
     × (AreThere (names_in all) files → AreThere (names_in left) files)
+    × (AreInBytes (names_in left) files → AreInBytes (names_in all) files)
 
 -- none was
 pub nothing_read : (all : List Command) (files : Files) → IsReadSo all all files []
-nothing_read all files = (refl, refl, λ there. there)
+nothing_read all files = (refl, refl, λ there. there, λ are. are)
 
 -- one more was
 pub one_read : (all left : List Command) (c : Command) (files : Files) (before now : List Second) → IsReadSo all (c ∷ left) files before → ComeBehind (names_of c) before files now → IsReadSo all left files now
@@ -71,11 +82,12 @@ one_read all left c files before now so one = (
       ∙ sym (append_assoc (map value_of before) (map second_of (files_named (names_of c) files)) (map second_of (files_named (names_in left) files)))
       ∙ ap (λ (vs : List SecondValue). vs ++ map second_of (files_named (names_in left) files)) (sym one.1),
   λ there. there_more (names_of c) (names_in left) files one.0 (so.2 there),
+  λ are. so.3 (bytes_more (names_of c) (names_in left) files one.2 are),
 )
 
 -- all were: they come to those that were read
 pub all_read : (all : List Command) (files : Files) (seconds : List Second) → IsReadSo all [] files seconds → ComeTo (names_in all) files (map value_of seconds)
-all_read all files seconds so = (so.0, sym (so.1 ∙ append-nil (map value_of seconds)))
+all_read all files seconds so = (so.0, sym (so.1 ∙ append-nil (map value_of seconds)), so.3 tt)
 
 -- an outcome is chosen by a test that is false only where the other one is that outcome
 chosen : (within : Bool) (o long : Outcome) → (within ≡ false → o ≡ long) → o ≡ cond within o long
@@ -93,6 +105,10 @@ ends_there all left c files seconds go_on so =
 pub next_there : (all left : List Command) (c : Command) (files : Files) (seconds : List Second) → IsReadSo all (c ∷ left) files seconds → AreThere (names_in all) files → AreThere (names_of c) files
 next_there all left c files seconds so there = there_first (names_of c) (names_in left) files (so.2 there)
 
+-- those up to one that is too long are bytes
+pub cut_bytes : (all left : List Command) (c : Command) (files : Files) (seconds : List Second) → IsReadSo all (c ∷ left) files seconds → AreCutOff (names_of c) files → AreInBytes (names_in all) files
+cut_bytes all left c files seconds so cut = so.3 (bytes_cut (names_of c) (names_in left) files cut)
+
 -- One file.
 
 short_so : (f : List ℕ) → length f ≤ 67108864 → list_all is_within (f ∷ []) ≡ true
@@ -104,7 +120,7 @@ short_so f few =
 pub one_opened : (name bytes : List ℕ) (v : SecondValue) (files : Files) → v ≡ second_of bytes → IsWholeFile name 67108864 files bytes → ComeTo (name ∷ []) files (v ∷ [])
 one_opened name bytes v files is read =
     let few : length (bytes_of files name) ≤ 67108864 = subst (λ (b : List ℕ). length b ≤ 67108864) read.1 read.0 in
-    (short_so (bytes_of files name) few, ap (λ (w : SecondValue). w ∷ []) (is ∙ ap second_of read.1))
+    (short_so (bytes_of files name) few, ap (λ (w : SecondValue). w ∷ []) (is ∙ ap second_of read.1), λ _. (subst IsBytes read.1 read.2, tt))
 
 -- one that is too long ends the run
 long_within : (few long : Bool) (o e : Outcome) → (long ≡ true → few ≡ false) → cond few o e ≡ cond long e (cond few o e)
@@ -121,15 +137,21 @@ one_ends name files go_on =
         let test : is_within f ≡ false = grind (arith, nat_tests) in
         ap (λ (b : Bool). b && true) test
 
+pub one_cut : (name : List ℕ) (files : Files) → IsLonger name 67108864 files → AreCutOff (name ∷ []) files
+one_cut name files long = λ few. absurd (omega (arith, long, few))
+
 -- it was added behind the others
 pub second_added : (name : List ℕ) (second : Second) (files : Files) (before now : List Second) → now ≡ before ++ second ∷ [] → ComeTo (name ∷ []) files (value_of second ∷ []) → ComeBehind (name ∷ []) before files now
 second_added name second files before now more come =
-    (come.0, ap (map value_of) more ∙ map-append value_of before (second ∷ []) ∙ ap (λ (vs : List SecondValue). map value_of before ++ vs) come.1)
+    (come.0, ap (map value_of) more ∙ map-append value_of before (second ∷ []) ∙ ap (λ (vs : List SecondValue). map value_of before ++ vs) come.1, come.2)
 
 -- nothing was added
 pub none_added : (names : List (List ℕ)) (files : Files) (seconds : List Second) → names ≡ [] → ComeBehind names seconds files seconds
-none_added names files seconds none =
-    (ap (λ (l : List (List ℕ)). list_all is_within (files_named l files)) none, sym (append-nil (map value_of seconds)) ∙ ap (λ (l : List (List ℕ)). map value_of seconds ++ map second_of (files_named l files)) (sym none))
+none_added names files seconds none = (
+  ap (λ (l : List (List ℕ)). list_all is_within (files_named l files)) none,
+  sym (append-nil (map value_of seconds)) ∙ ap (λ (l : List (List ℕ)). map value_of seconds ++ map second_of (files_named l files)) (sym none),
+  subst (λ (l : List (List ℕ)). AreInBytes l files) (sym none) tt,
+)
 
 -- Sound second drawings.
 

@@ -6,6 +6,7 @@ use Rattle.dgn_desk.specs.Desk.{SaysAll}
 use Rattle.dgn_desk.specs.Seen.{Seen, Writes}
 use Rattle.dgn_tool.specs.Ends.{Ends, status_said, status_of}
 use Rattle.dgn_tool.specs.Request.{Request}
+use Rattle.dgn_tool.specs.InBytes.{FilesInBytes}
 use Rattle.dgn_tool.specs.Outcome.{usage_line, outcome_of, IsStopped, IsFaultless, HasFiles, Reads}
 use Rattle.dgn_tool.specs.Runs.{Runs}
 use Rattle.dgn_tool.specs.declared.ending.Ending.{Ending}
@@ -14,7 +15,7 @@ use Rattle.dgn_tool.specs.declared.end.End.{End}
 use Rattle.dgn_tool.specs.declared.end.End.TheVariants as ends
 use Rattle.dgn_tool.specs.declared.status.Status.{Status}
 use Rattle.dgn_tool.specs.declared.status.Status.TheVariants as statuses
-use Rattle.dgn_tool.proofs.Telling.{usage_said, usage_stopped}
+use Rattle.dgn_tool.proofs.Telling.{all_told, usage_said, usage_stopped}
 
 -- the status of an ending that was said is none of a stop, nor Usage
 not_stopped : (ending : Ending) → IsStopped (status_said ending) → ⊥
@@ -51,17 +52,18 @@ not_write_fault : (ending : Ending) → status_said ending ≡ statuses.WriteFau
 not_write_fault ending is = subst IsFaultless is (faultless ending)
 
 -- a run that came to this end
-ends_as : (request : Request) (old new : Seen) (end : End) → (end ≡ ends.ReadFault → Reads (Some request)) → Ends (HasFiles (Some request)) (outcome_of (Some request)) old new end → Runs (Some request) old new (status_of end)
+ends_as : (request : Request) (old new : Seen) (end : End) → (end ≡ ends.ReadFault → Reads (Some request)) → Ends (HasFiles (Some request)) (FilesInBytes (Some request)) (outcome_of (Some request)) old new end → Runs (Some request) old new (status_of end)
 ends_as request old new (ends.Said ending) reads ended = record {
-  outcome = λ _. ended.left.told;
+  outcome = λ _. ended.left.comes.told;
   prefix = λ stopped. absurd (not_stopped ending stopped);
-  counted = λ _. (ended.left.other, ended.left.cause);
+  counted = λ _. (ended.left.comes.other, ended.left.comes.cause);
   usage = λ is. absurd (not_usage ending is);
   improper = λ none. absurd (let x = none in cc);
   read_fault = λ is. absurd (not_read_fault ending is);
   write_fault = λ is. absurd (not_write_fault ending is);
   complete = λ _ _. faultless ending;
   complete_willing = λ _ _. faultless ending;
+  bytes = λ _. ended.left.known;
 }
 ends_as request old new ends.ReadFault reads ended = record {
   outcome = λ ending. absurd ending;
@@ -73,6 +75,7 @@ ends_as request old new ends.ReadFault reads ended = record {
   write_fault = λ is. absurd (let x = is in cc);
   complete = λ unread _. absurd (unread ended.left.rose);
   complete_willing = λ willing there. absurd (ended.left.lacks willing there);
+  bytes = λ ending. absurd ending;
 }
 ends_as request old new (ends.Stopped stops.Failed) reads ended = record {
   outcome = λ ending. absurd ending;
@@ -84,6 +87,7 @@ ends_as request old new (ends.Stopped stops.Failed) reads ended = record {
   write_fault = λ _. ended.left.cause.1;
   complete = λ _ unwritten. absurd (unwritten ended.left.cause.1);
   complete_willing = λ willing _. absurd (ended.left.able willing);
+  bytes = λ ending. absurd ending;
 }
 ends_as request old new (ends.Stopped stops.Memory) reads ended = record {
   outcome = λ ending. absurd ending;
@@ -95,10 +99,11 @@ ends_as request old new (ends.Stopped stops.Memory) reads ended = record {
   write_fault = λ is. absurd (let x = is in cc);
   complete = λ _ _. tt;
   complete_willing = λ _ _. tt;
+  bytes = λ ending. absurd ending;
 }
 
 pub ran : (request : Request) (asked : Option Request) (old new : Seen) (end : End) (status : Status) → Some request ≡ asked → status ≡ status_of end → (end ≡ ends.ReadFault → Reads (Some request))
-    → Ends (HasFiles (Some request)) (outcome_of (Some request)) old new end → Runs asked old new status
+    → Ends (HasFiles (Some request)) (FilesInBytes (Some request)) (outcome_of (Some request)) old new end → Runs asked old new status
 ran request asked old new end status is tells reads ended =
     subst (λ (r : Option Request). Runs r old new status) is (subst (Runs (Some request) old new) (sym tells) (ends_as request old new end reads ended))
 
@@ -115,6 +120,7 @@ says_usage line old new is said = record {
   write_fault = λ is. absurd (let x = is in cc);
   complete = λ _ _. tt;
   complete_willing = λ _ _. tt;
+  bytes = λ _. all_told old.content;
 }
 
 stops_at : (line : List ℕ) (old new : Seen) (stop : Stop) → line ≡ usage_line → Writes {T = Unit {0}} (Err stop) (SaysAll (Err stop) line) old new → Runs None old new (status_of (ends.Stopped stop))
@@ -128,6 +134,7 @@ stops_at line old new stops.Failed is said = record {
   write_fault = λ _. said.cause.1;
   complete = λ _ unwritten. absurd (unwritten said.cause.1);
   complete_willing = λ willing _. absurd (said.able willing);
+  bytes = λ ending. absurd ending;
 }
 stops_at line old new stops.Memory is said = record {
   outcome = λ ending. absurd ending;
@@ -139,6 +146,7 @@ stops_at line old new stops.Memory is said = record {
   write_fault = λ is. absurd (let x = is in cc);
   complete = λ _ _. tt;
   complete_willing = λ _ _. tt;
+  bytes = λ ending. absurd ending;
 }
 
 pub stops_usage : (line : List ℕ) (old new : Seen) (stop : Stop) (status : Status) → line ≡ usage_line → status ≡ status_of (ends.Stopped stop)

@@ -47,24 +47,30 @@ Tells o (Err stop) old new = IfSome old (λ c. Stops (o c.files) c new)
 abbrev pub DeskComes : {D : Type 0} → Ghosts D → (Files → Outcome) → D → D → Result Ending Stop → Type 0
 DeskComes g o old new result = Writes result (Tells o result) (seen g old) (seen g new)
 
+-- it was said how the run ends, and this is known of the files then, where they are told
+pub record IsSaid (are : Files → Type 0) (o : Files → Outcome) (ending : Ending) (old new : Seen) : Type 0 where
+  pub comes : Writes {T = Ending} (Ok ending) (Tells o (Ok ending)) old new
+  pub known : IfSome old.content (λ c. are c.files)
+
 -- a fault of reading: only that was done, and a willing desk lacks a file that is read
 pub record IsUnread (has : Files → Type 0) (old new : Seen) : Type 0 where
   pub rose : Rose old.read_faults new.read_faults
   pub only : OnlyLeftDiffers old.content new.content
   pub lacks : IsTrue old.willing → IfSome old.content (λ c. has c.files) → ⊥
 
--- what an end leaves of the desk, by the files that have to be there and by the outcome that the files have
-abbrev pub Left : (Files → Type 0) → (Files → Outcome) → Seen → Seen → End → Type 0
-Left has o old new (ends.Said ending) = Writes {T = Ending} (Ok ending) (Tells o (Ok ending)) old new
-Left has o old new ends.ReadFault = IsUnread has old new
-Left has o old new (ends.Stopped stop) = Writes {T = Ending} (Err stop) (Tells o (Err stop)) old new
+-- what an end leaves of the desk, by the files that have to be there, by what is known of them once it was said how the
+-- run ends, and by the outcome that they have
+abbrev pub Left : (Files → Type 0) → (Files → Type 0) → (Files → Outcome) → Seen → Seen → End → Type 0
+Left has are o old new (ends.Said ending) = IsSaid are o ending old new
+Left has are o old new ends.ReadFault = IsUnread has old new
+Left has are o old new (ends.Stopped stop) = Writes {T = Ending} (Err stop) (Tells o (Err stop)) old new
 
-pub record Ends (has : Files → Type 0) (o : Files → Outcome) (old new : Seen) (end : End) : Type 0 where
-  pub left : Left has o old new end
+pub record Ends (has are : Files → Type 0) (o : Files → Outcome) (old new : Seen) (end : End) : Type 0 where
+  pub left : Left has are o old new end
 
 -- the same of a desk before and after
-abbrev pub DeskEnds : {D : Type 0} → Ghosts D → (Files → Type 0) → (Files → Outcome) → D → D → End → Type 0
-DeskEnds g has o old new end = Ends has o (seen g old) (seen g new) end
+abbrev pub DeskEnds : {D : Type 0} → Ghosts D → (Files → Type 0) → (Files → Type 0) → (Files → Outcome) → D → D → End → Type 0
+DeskEnds g has are o old new end = Ends has are o (seen g old) (seen g new) end
 
 -- a part that reads was done: it only read, and this is known of what it read and of the files, where they are told
 pub record ReadTo {T : Type 0} (knows : Files → T → Type 0) (value : T) (old new : Seen) : Type 0 where
@@ -79,11 +85,11 @@ abbrev pub Reading : Type 0 → Type 0
 Reading T = (Files → T → Outcome) → Files → Outcome
 
 -- a part that reads ended the run, whatever the run would have gone on with
-pub record EndsEarly {T : Type 0} (has : Files → Type 0) (reading : Reading T) (old new : Seen) (end : End) : Type 0 where
-  pub early : (go_on : Files → T → Outcome) → Ends has (reading go_on) old new end
+pub record EndsEarly {T : Type 0} (has are : Files → Type 0) (reading : Reading T) (old new : Seen) (end : End) : Type 0 where
+  pub early : (go_on : Files → T → Outcome) → Ends has are (reading go_on) old new end
 
-abbrev pub DeskEndsEarly : {D T : Type 0} → Ghosts D → (Files → Type 0) → Reading T → D → D → End → Type 0
-DeskEndsEarly g has reading old new end = EndsEarly has reading (seen g old) (seen g new) end
+abbrev pub DeskEndsEarly : {D T : Type 0} → Ghosts D → (Files → Type 0) → (Files → Type 0) → Reading T → D → D → End → Type 0
+DeskEndsEarly g has are reading old new end = EndsEarly has are reading (seen g old) (seen g new) end
 
 -- the named file is there
 abbrev pub Has : List ℕ → Files → Type 0

@@ -8,10 +8,12 @@ pub mod Generation
 pub mod Applied
 pub mod SecondFiles
 pub mod Outcome
+pub mod InBytes
 pub mod Ends
 pub mod Readings
 pub mod Runs
 pub mod Laws
+pub mod RunLaws
 pub mod PatchLaws
 pub mod FitLaws
 pub mod ImportLaws

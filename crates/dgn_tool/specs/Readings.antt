@@ -1,15 +1,18 @@
 -- The parts of a run that read files: what is known once they are read, and what the run comes to by what it goes on with.
-use Rattle.std.specs.Prelude.{ℕ, ◌≡◌, ◌≤◌, nat_lt, true, if◌then◌else◌, List, length, map, Ok}
+use Rattle.std.specs.Prelude.{ℕ, ◌≡◌, ◌≤◌, nat_lt, true, if◌then◌else◌, List, ◌++◌, length, map, Ok}
 use Rattle.std.specs.List.{list_all}
 use Rattle.dgn_desk.specs.Content.{Files, bytes_of}
 use Rattle.dgn_drawing.specs.Opening.{NotDesign, Cut, Short, Attr}
-use Rattle.dgn_import.specs.Seconds.{SecondValue, second_of}
+use Rattle.dgn_drawing.specs.WellFormed.{IsBytes}
+use Rattle.dgn_import.specs.declared.second.Second.{Second}
+use Rattle.dgn_import.specs.Seconds.{SecondValue, second_of, value_of}
 use Rattle.edit_script.specs.Script.{commands_of}
 use Rattle.edit_script.specs.declared.command.Command.{Command}
 use Rattle.elem_index.specs.declared.open_fault.OpenFault.{OpenFault}
 use Rattle.elem_index.specs.Opened.{Opened, opening}
 use Rattle.dgn_tool.specs.Ended.{Outcome, ended}
 use Rattle.dgn_tool.specs.Ends.{Reading}
+use Rattle.dgn_tool.specs.InBytes.{AreInBytes, AllInBytes}
 use Rattle.dgn_answers.specs.Given.{Given}
 use Rattle.dgn_tool.specs.Outcome.{fault_line, scripted, input_outcome, run_outcome}
 use Rattle.dgn_tool.specs.SecondFiles.{files_named, is_within, seconded}
@@ -20,7 +23,7 @@ use Rattle.edit_script.specs.declared.limits.TheConstants.{MOST_SCRIPT}
 -- A whole file of at most so many bytes; one that has more ends the run with a line.
 
 abbrev pub IsWholeFile : List ℕ → ℕ → Files → List ℕ → Type 0
-IsWholeFile name limit files bytes = (length bytes ≤ limit) × (bytes ≡ bytes_of files name)
+IsWholeFile name limit files bytes = (length bytes ≤ limit) × (bytes ≡ bytes_of files name) × IsBytes bytes
 
 abbrev pub whole_file : List ℕ → ℕ → List ℕ → Reading (List ℕ)
 whole_file name limit line = λ go_on files. if nat_lt limit (length (bytes_of files name)) then ended statuses.TooLong line else go_on files (bytes_of files name)
@@ -28,7 +31,7 @@ whole_file name limit line = λ go_on files. if nat_lt limit (length (bytes_of f
 -- IN: within its limit it opens as a drawing.
 
 abbrev pub OpensAs : List ℕ → Files → Opened → Type 0
-OpensAs name files d = (length (bytes_of files name) ≤ MOST_DESIGN) × (opening (bytes_of files name) ≡ Ok d)
+OpensAs name files d = (length (bytes_of files name) ≤ MOST_DESIGN) × (opening (bytes_of files name) ≡ Ok d) × IsBytes (bytes_of files name)
 
 abbrev pub opening_in : List ℕ → Reading Opened
 opening_in name = λ go_on files. input_outcome (bytes_of files name) (go_on files)
@@ -44,24 +47,35 @@ FaultSays OpenFault.Memory line = ⊥
 -- SCRIPT: within its limit it reads as commands.
 
 abbrev pub ReadsAs : List ℕ → Files → List Command → Type 0
-ReadsAs name files cs = (length (bytes_of files name) ≤ MOST_SCRIPT) × (commands_of (bytes_of files name) ≡ Ok cs)
+ReadsAs name files cs = (length (bytes_of files name) ≤ MOST_SCRIPT) × (commands_of (bytes_of files name) ≡ Ok cs) × IsBytes (bytes_of files name)
 
 abbrev pub script_in : List ℕ → Reading (List Command)
 script_in name = λ go_on files. scripted (bytes_of files name) (go_on files)
 
--- The second files of these names: all are within their limit, and come to these.
+-- The second files of these names: all are within their limit and bytes, and come to these.
 
 abbrev pub ComeTo : List (List ℕ) → Files → List SecondValue → Type 0
-ComeTo names files vs = (list_all is_within (files_named names files) ≡ true) × (vs ≡ map second_of (files_named names files))
+ComeTo names files vs =
+    (list_all is_within (files_named names files) ≡ true) × (vs ≡ map second_of (files_named names files)) × AreInBytes names files
 
 abbrev pub seconds_in : List (List ℕ) → Reading (List SecondValue)
 seconds_in names = λ go_on files. seconded (files_named names files) (go_on files)
 
--- IN, SCRIPT and the second files of its imports: the run goes on with a drawing and steps.
+-- what was read of the files of these names was added behind what came before
+abbrev pub ComeBehind : List (List ℕ) → List Second → Files → List Second → Type 0
+ComeBehind names before files now =
+    (list_all is_within (files_named names files) ≡ true)
+    × (map value_of now ≡ map value_of before ++ map second_of (files_named names files))
+    × AreInBytes names files
+
+-- IN, SCRIPT and the second files of its imports: the run goes on with a drawing and steps, and they are bytes.
 
 abbrev pub GoesOn : List ℕ → List ℕ → Files → Opened × List Given → Type 0
 GoesOn input script files read =
     (go_on : Opened → List Given → Outcome) → run_outcome input script files go_on ≡ go_on read.0 read.1
+
+abbrev pub AreRead : List ℕ → List ℕ → Files → Opened × List Given → Type 0
+AreRead input script files read = GoesOn input script files read × AllInBytes input script files
 
 abbrev pub inputs_in : List ℕ → List ℕ → Reading (Opened × List Given)
 inputs_in input script = λ go_on files. run_outcome input script files (λ d gs. go_on files (d, gs))

@@ -5,6 +5,7 @@ use Rattle.dgn_desk.specs.Content.{OnlyLeftDiffers}
 use Rattle.dgn_desk.specs.Desk.{Rose}
 use Rattle.dgn_desk.specs.Seen.{Seen, seen}
 use Rattle.dgn_tool.specs.Request.{Request}
+use Rattle.dgn_tool.specs.InBytes.{FilesInBytes}
 use Rattle.dgn_tool.specs.Outcome.{outcome_of, IsEnding, EndsAs, StoppedAs, IsFaultless, HasFiles, Reads}
 use Rattle.dgn_tool.specs.Status.{number_of}
 use Rattle.dgn_tool.specs.declared.status.Status.{Status}
@@ -22,6 +23,7 @@ pub record Runs (request : Option Request) (old new : Seen) (status : Status) : 
   pub write_fault : status ≡ statuses.WriteFault → Rose old.write_faults new.write_faults
   pub complete : ¬ Rose old.read_faults new.read_faults → ¬ Rose old.write_faults new.write_faults → IsFaultless status
   pub complete_willing : IsTrue old.willing → IfSome old.content (λ c. HasFiles request c.files) → IsFaultless status
+  pub bytes : IsEnding status → IfSome old.content (λ c. FilesInBytes request c.files)
 
 -- the same of a desk before and after
 abbrev pub DeskRuns : {D : Type 0} → Ghosts D → Option Request → D → D → Status → Type 0

@@ -1,10 +1,9 @@
 -- The second files of a script's imports, which are read before its first command runs.
-use Rattle.std.specs.Prelude.{ℕ, ◌≡◌, ◌≤◌, nat_le, Bool, true, if◌then◌else◌, List, [], ◌∷◌, ◌++◌, length, map, codes, Result, Ok, Err, IsSome, ⊤}
+use Rattle.std.specs.Prelude.{ℕ, ◌≤◌, nat_le, Bool, if◌then◌else◌, List, [], ◌∷◌, ◌++◌, length, map, codes, Result, Ok, Err, IsSome, ⊤}
 use Rattle.std.specs.FinMap as maps
 use Rattle.std.specs.List.{list_all}
 use Rattle.dgn_desk.specs.Content.{Files, bytes_of}
-use Rattle.dgn_import.specs.declared.second.Second.{Second}
-use Rattle.dgn_import.specs.Seconds.{SecondValue, second_of, value_of}
+use Rattle.dgn_import.specs.Seconds.{SecondValue, second_of}
 use Rattle.edit_script.specs.declared.command.Command.{Command}
 use Rattle.edit_script.specs.declared.command.Command.TheVariants as command
 use Rattle.edit_script.specs.declared.fault.ScriptFault.{ScriptFault}
@@ -53,8 +52,3 @@ AreThere (name ∷ names) files = IsSome (maps.get files name) × (length (bytes
 abbrev pub HasSeconds : Result (List Command) ScriptFault → Files → Type 0
 HasSeconds (Ok cs) files = AreThere (names_in cs) files
 HasSeconds (Err fault) files = ⊤
-
--- what was read of the files of these names was added behind what came before
-abbrev pub ComeBehind : List (List ℕ) → List Second → Files → List Second → Type 0
-ComeBehind names before files now =
-    (list_all is_within (files_named names files) ≡ true) × (map value_of now ≡ map value_of before ++ map second_of (files_named names files))

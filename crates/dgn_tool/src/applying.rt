@@ -5,6 +5,7 @@ ghost use Rattle.dgn_desk.specs.Content.{bytes_of};
 ghost use Rattle.patch_file.specs.PatchView.{all_packed};
 ghost use Rattle.dgn_tool.specs.Applied.{entries_outcome, body_patched, patched};
 ghost use Rattle.dgn_tool.specs.Ends.{DeskComes, DeskEnds, Has};
+ghost use Rattle.dgn_tool.specs.InBytes.{IsInBytes, InputInBytes};
 ghost use Rattle.dgn_tool.specs.Outcome.{input_outcome, HasBoth};
 
 use crate::end::End;
@@ -29,6 +30,7 @@ pub(crate) fn apply<D: Desk>(
     output: &str,
 ) -> End
     ensures { DeskEnds D.Desk (HasBoth input.now patch.now)
+        (InputInBytes input.now (IsInBytes patch.now MOST_PATCH))
         (λ files. input_outcome (bytes_of files input.now) (λ d. patched d (bytes_of files patch.now) output.now))
         desk.old desk.new result }
 {
@@ -48,7 +50,7 @@ fn apply_patch<D: Desk>(
     output: &str,
 ) -> End
     requires { length body.items + length tail.now ≤ MOST_DESIGN }
-    ensures { DeskEnds D.Desk (Has patch.now)
+    ensures { DeskEnds D.Desk (Has patch.now) (IsInBytes patch.now MOST_PATCH)
         (λ files. body_patched body.items tail.now (bytes_of files patch.now) output.now) desk.old desk.new result }
 {
     let bytes = match read_file(alloc, desk, patch, MOST_PATCH, b"too long patch\n") {

@@ -6,6 +6,7 @@ ghost use Rattle.elem_index.specs.Design.{IsWhole};
 ghost use Rattle.elem_index.specs.Answers.{opened_of};
 ghost use Rattle.dgn_session.specs.State.{state_of};
 ghost use Rattle.dgn_tool.specs.Ends.{DeskComes, DeskEnds};
+ghost use Rattle.dgn_tool.specs.InBytes.{AllInBytes};
 ghost use Rattle.dgn_answers.specs.Given.{given_all};
 ghost use Rattle.dgn_tool.specs.Outcome.{HasAll, run_outcome, told, told_from};
 ghost use Rattle.dgn_answers.specs.Given.{waiting};
@@ -30,7 +31,7 @@ pub(crate) fn edit<D: Desk>(
     script: &str,
     output: &str,
 ) -> End
-    ensures { DeskEnds D.Desk (HasAll input.now script.now)
+    ensures { DeskEnds D.Desk (HasAll input.now script.now) (AllInBytes input.now script.now)
         (λ files. run_outcome input.now script.now files (λ d gs. told d gs output.now)) desk.old desk.new result }
 {
     match read_inputs(alloc, desk, input, script) {

@@ -6,9 +6,10 @@ ghost use Rattle.elem_index.specs.Design.{IsWhole};
 ghost use Rattle.elem_index.specs.Answers.{opened_of};
 ghost use Rattle.dgn_import.specs.Seconds.{IsSound};
 ghost use Rattle.dgn_tool.specs.Ends.{DeskReads, DeskEndsEarly};
+ghost use Rattle.dgn_tool.specs.InBytes.{AllInBytes};
 ghost use Rattle.dgn_answers.specs.Given.{given_all};
 ghost use Rattle.dgn_tool.specs.Outcome.{HasAll};
-ghost use Rattle.dgn_tool.specs.Readings.{GoesOn, inputs_in};
+ghost use Rattle.dgn_tool.specs.Readings.{AreRead, inputs_in};
 ghost use Rattle.dgn_answers.specs.Given.{waiting};
 
 use crate::end::End;
@@ -41,10 +42,10 @@ pub(crate) fn read_inputs<D: Desk>(
 ) -> Result<Inputs, End>
     ensures whole { IfOk result (λ i. IsWhole i.design) }
     ensures sound { IfOk result (λ i. AllByRecursion IsSound i.seconds.items) }
-    ensures read { IfOk result (λ i. DeskReads D.Desk (GoesOn input.now script.now) desk.old desk.new
+    ensures read { IfOk result (λ i. DeskReads D.Desk (AreRead input.now script.now) desk.old desk.new
         (opened_of i.design, given_all i.commands.items (waiting i.seconds.items))) }
     ensures ended { IfErr result (DeskEndsEarly D.Desk
-        (HasAll input.now script.now) (inputs_in input.now script.now) desk.old desk.new) }
+        (HasAll input.now script.now) (AllInBytes input.now script.now) (inputs_in input.now script.now) desk.old desk.new) }
 {
     let design = open_design(alloc, desk, input)?;
     let commands = read_commands(alloc, desk, script)?;

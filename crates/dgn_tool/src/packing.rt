@@ -12,6 +12,7 @@ ghost use Rattle.patch_file.specs.Standing.{all_taken};
 ghost use Rattle.patch_file.specs.PatchView.{packed_of, all_packed};
 ghost use Rattle.dgn_answers.specs.Commands.{begun};
 ghost use Rattle.dgn_tool.specs.Ends.{DeskComes, DeskEnds};
+ghost use Rattle.dgn_tool.specs.InBytes.{AllInBytes};
 ghost use Rattle.dgn_answers.specs.Given.{given_all, refused_count};
 ghost use Rattle.dgn_tool.specs.Packing.{packed, packed_after, filed_patch, TakesLast};
 ghost use Rattle.dgn_tool.specs.Outcome.{HasAll, run_outcome};
@@ -48,7 +49,7 @@ pub(crate) fn pack<D: Desk>(
     script: &str,
     patch: &str,
 ) -> End
-    ensures { DeskEnds D.Desk (HasAll input.now script.now)
+    ensures { DeskEnds D.Desk (HasAll input.now script.now) (AllInBytes input.now script.now)
         (λ files. run_outcome input.now script.now files (λ d gs. packed d gs patch.now)) desk.old desk.new result }
 {
     match read_inputs(alloc, desk, input, script) {

@@ -1,12 +1,14 @@
 // Reading and opening the files that a run is given.
 
-ghost use Rattle.std.specs.Prelude.{◌+◌, ◌<◌, ◌≤◌, ◌^◌, codes, vec_len, IfOk, IfErr, Result};
+ghost use Rattle.std.specs.Prelude.{◌≡◌, ◌+◌, ◌<◌, ◌≤◌, ◌^◌, codes, vec_len, IfOk, IfErr, Result};
 ghost use Rattle.dgn_desk.specs.Content.{Files};
 ghost use Rattle.elem_index.specs.Answers.{TellsFault, opened_of};
 ghost use Rattle.elem_index.specs.Design.{IsWhole};
 ghost use Rattle.elem_index.specs.Opened.{Opened};
 ghost use Rattle.dgn_drawing.specs.Opening.{Fault};
+ghost use Rattle.dgn_drawing.specs.WellFormed.{IsBytes};
 ghost use Rattle.dgn_tool.specs.Ended.{Outcome};
+ghost use Rattle.dgn_tool.specs.InBytes.{IsLonger, InputInBytes, ScriptInBytes};
 ghost use Rattle.dgn_tool.specs.Ends.{DeskComes, DeskReads, DeskEndsEarly, Has};
 ghost use Rattle.dgn_tool.specs.Outcome.{opened_outcome};
 ghost use Rattle.dgn_tool.specs.Readings.{whole_file, opening_in, script_in, IsWholeFile, OpensAs, ReadsAs, FaultSays};
@@ -33,22 +35,31 @@ pub(crate) fn read_file<D: Desk>(
     ensures within { IfOk result (λ bytes. vec_len bytes ≤ limit) }
     ensures read { IfOk result (λ bytes. DeskReads D.Desk (IsWholeFile name.now limit) desk.old desk.new bytes.items) }
     ensures ended { IfErr result
-        (DeskEndsEarly D.Desk (Has name.now) (whole_file name.now limit line.now) desk.old desk.new) }
+        (DeskEndsEarly D.Desk (Has name.now) (IsLonger name.now limit) (whole_file name.now limit line.now)
+        desk.old desk.new) }
 {
     match read_all(alloc, desk, name, limit) {
-        Ok(bytes) => Ok(bytes),
+        Ok(bytes) => {
+            are_bytes(&bytes);
+            Ok(bytes)
+        }
         Err(ReadEnd::TooLong) => Err(End::of(end(desk, line, Ending::TooLong))),
         Err(ReadEnd::Fault) => Err(End::ReadFault),
         Err(ReadEnd::Memory) => Err(End::Stopped(Stop::Memory)),
     }
 }
 
+// Items of a slice of bytes are below 256. It does nothing.
+fn are_bytes(bytes: &[u8])
+    ensures { IsBytes bytes.now }
+{}
+
 // Reads IN whole, or ends the run.
 pub(crate) fn read_input<D: Desk>(alloc: Global, desk: &mut D, input: &str) -> Result<Vec<u8>, End>
     ensures within { IfOk result (λ bytes. vec_len bytes ≤ MOST_DESIGN) }
     ensures read { IfOk result
         (λ bytes. DeskReads D.Desk (IsWholeFile input.now MOST_DESIGN) desk.old desk.new bytes.items) }
-    ensures ended { IfErr result (DeskEndsEarly D.Desk (Has input.now)
+    ensures ended { IfErr result (DeskEndsEarly D.Desk (Has input.now) (IsLonger input.now MOST_DESIGN)
         (whole_file input.now MOST_DESIGN (codes "too long design\n")) desk.old desk.new) }
 {
     read_file(alloc, desk, input, MOST_DESIGN, b"too long design\n")
@@ -58,7 +69,8 @@ pub(crate) fn read_input<D: Desk>(alloc: Global, desk: &mut D, input: &str) -> R
 pub(crate) fn open_design<D: Desk>(alloc: Global, desk: &mut D, input: &str) -> Result<Design, End>
     ensures whole { IfOk result IsWhole }
     ensures opened { IfOk result (λ d. DeskReads D.Desk (OpensAs input.now) desk.old desk.new (opened_of d)) }
-    ensures ended { IfErr result (DeskEndsEarly D.Desk (Has input.now) (opening_in input.now) desk.old desk.new) }
+    ensures ended { IfErr result (DeskEndsEarly D.Desk (Has input.now) (InputInBytes input.now (λ _. ⊥)) (opening_in input.now)
+        desk.old desk.new) }
 {
     let bytes = read_input(alloc, desk, input)?;
     match read_design(alloc, bytes) {
@@ -67,13 +79,14 @@ pub(crate) fn open_design<D: Desk>(alloc: Global, desk: &mut D, input: &str) -> 
     }
 }
 
-// Ends the run with what is wrong with IN.
+// Ends the run with what is wrong with IN. Want of memory has no line, and so no ending.
 pub(crate) fn end_bad_design<D: Desk>(
     alloc: Global,
     desk: &mut D,
     fault: OpenFault,
 ) -> Result<Ending, Stop>
-    ensures { (found : Result Opened Fault) (go_on : Files → Opened → Outcome) → TellsFault found fault
+    ensures said { IfOk result (λ _. ¬ (fault ≡ OpenFault.Memory)) }
+    ensures comes { (found : Result Opened Fault) (go_on : Files → Opened → Outcome) → TellsFault found fault
         → DeskComes D.Desk (λ files. opened_outcome found (go_on files)) desk.old desk.new result }
 {
     let line = bad_line(alloc, fault)?;
@@ -105,7 +118,8 @@ pub(crate) fn read_commands<D: Desk>(
 ) -> Result<Vec<Command>, End>
     ensures read { IfOk result
         (λ commands. DeskReads D.Desk (ReadsAs script.now) desk.old desk.new commands.items) }
-    ensures ended { IfErr result (DeskEndsEarly D.Desk (Has script.now) (script_in script.now) desk.old desk.new) }
+    ensures ended { IfErr result (DeskEndsEarly D.Desk (Has script.now) (ScriptInBytes script.now) (script_in script.now)
+        desk.old desk.new) }
 {
     let text = read_file(alloc, desk, script, MOST_SCRIPT, b"too long script\n")?;
     match read_script(alloc, &text) {

@@ -5,8 +5,9 @@ ghost use Rattle.std.specs.List.{AllByRecursion, list_all};
 ghost use Rattle.dgn_import.specs.Seconds.{value_of, IsSound};
 ghost use Rattle.edit_script.specs.Imports.{is_name_byte};
 ghost use Rattle.dgn_tool.specs.Ends.{DeskReads, DeskEndsEarly};
-ghost use Rattle.dgn_tool.specs.Readings.{ComeTo, seconds_in};
-ghost use Rattle.dgn_tool.specs.SecondFiles.{text_named, names_of, names_in, AreThere, ComeBehind};
+ghost use Rattle.dgn_tool.specs.InBytes.{AreInBytes, AreCutOff};
+ghost use Rattle.dgn_tool.specs.Readings.{ComeTo, ComeBehind, seconds_in};
+ghost use Rattle.dgn_tool.specs.SecondFiles.{text_named, names_of, names_in, AreThere};
 ghost use Rattle.dgn_answers.specs.Given.{waiting};
 
 use crate::end::End;
@@ -28,7 +29,8 @@ pub(crate) fn read_seconds<D: Desk>(
     ensures read { IfOk result
         (λ seconds. DeskReads D.Desk (ComeTo (names_in commands.now)) desk.old desk.new (waiting seconds.items)) }
     ensures ended { IfErr result (DeskEndsEarly D.Desk
-        (AreThere (names_in commands.now)) (seconds_in (names_in commands.now)) desk.old desk.new) }
+        (AreThere (names_in commands.now)) (AreInBytes (names_in commands.now)) (seconds_in (names_in commands.now))
+        desk.old desk.new) }
 {
     let mut seconds = Vec::new(alloc);
     'commands: for command in commands {
@@ -50,7 +52,8 @@ fn read_for<D: Desk>(
     ensures read { OnOk result
         (DeskReads D.Desk (ComeBehind (names_of command.now) seconds.old.items) desk.old desk.new seconds.new.items) }
     ensures ended { IfErr result (DeskEndsEarly D.Desk
-        (AreThere (names_of command.now)) (seconds_in (names_of command.now)) desk.old desk.new) }
+        (AreThere (names_of command.now)) (AreCutOff (names_of command.now)) (seconds_in (names_of command.now))
+        desk.old desk.new) }
 {
     let Command::Import(name, _) = command else {
         return Ok(());
@@ -68,7 +71,8 @@ fn read_named<D: Desk>(alloc: Global, desk: &mut D, name: &str) -> Result<Second
     ensures read { IfOk result
         (λ second. DeskReads D.Desk (ComeTo (name.now ∷ [])) desk.old desk.new (value_of second ∷ [])) }
     ensures ended { IfErr result
-        (DeskEndsEarly D.Desk (AreThere (name.now ∷ [])) (seconds_in (name.now ∷ [])) desk.old desk.new) }
+        (DeskEndsEarly D.Desk (AreThere (name.now ∷ [])) (AreCutOff (name.now ∷ [])) (seconds_in (name.now ∷ []))
+        desk.old desk.new) }
 {
     let bytes = read_file(alloc, desk, name, MOST_DESIGN, b"too long import\n")?;
     let second = read_second(alloc, bytes)?;

@@ -2,6 +2,7 @@ ghost use Rattle.std.specs.Prelude.{◌≡◌, map, string_bytes, IsNone, IfSome
 ghost use Rattle.dgn_desk.specs.Content.{OnlyLeftDiffers};
 ghost use Rattle.dgn_desk.specs.Desk.{Rose};
 ghost use Rattle.dgn_tool.specs.Ends.{DeskEnds};
+ghost use Rattle.dgn_tool.specs.InBytes.{FilesInBytes};
 ghost use Rattle.dgn_tool.specs.Request.{request_of};
 ghost use Rattle.dgn_tool.specs.RequestView.{seen, IsCounted};
 ghost use Rattle.dgn_tool.specs.Outcome.{outcome, outcome_of, IsEnding, EndsAs, StoppedAs, IsFaultless, HasFiles, Reads};
@@ -33,7 +34,8 @@ use std::alloc::Global;
 /// part of the outcome's text was said, the file that the outcome writes is as before or holds some first
 /// part of its bytes, and no other file changed. No fault is passed over: an ending comes only where neither
 /// count of faults changed. Where the desk doesn't fail, the run comes to its ending unless there is no
-/// memory; and a willing desk doesn't fail, where it has the files that the run comes to read.
+/// memory; and a willing desk doesn't fail, where it has the files that the run comes to read. Where a run over a desk that
+/// tells what it holds comes to an ending, each file that it read is bytes, numbers below 256, if it is within its limit.
 pub fn run<D: Desk>(alloc: Global, words: &[String], desk: &mut D) -> Status
     ensures outcome { EndsAs result
         (outcome (map string_bytes words.now)) (D.content desk.old) (D.content desk.new) }
@@ -54,6 +56,8 @@ pub fn run<D: Desk>(alloc: Global, words: &[String], desk: &mut D) -> Status
     ensures complete_willing { IsTrue (D.willing desk.old)
         → IfSome (D.content desk.old) (λ c. HasFiles (request_of (map string_bytes words.now)) c.files)
         → IsFaultless result }
+    ensures bytes { IsEnding result → IfSome (D.content desk.old)
+        (λ c. FilesInBytes (request_of (map string_bytes words.now)) c.files) }
 {
     run_words(alloc, words, desk)
 }
@@ -71,7 +75,8 @@ pub(crate) fn run_words<D: Desk>(alloc: Global, words: &[String], desk: &mut D) 
 // Runs the form that is asked for.
 fn run_request<D: Desk>(alloc: Global, desk: &mut D, request: Request) -> End
     requires { IsCounted request }
-    ensures ends { DeskEnds D.Desk (HasFiles (Some (seen request.entry))) (outcome_of (Some (seen request.entry)))
+    ensures ends { DeskEnds D.Desk (HasFiles (Some (seen request.entry)))
+        (FilesInBytes (Some (seen request.entry))) (outcome_of (Some (seen request.entry)))
         desk.old desk.new result }
     ensures reads { result ≡ End.ReadFault → Reads (Some (seen request.entry)) }
 {

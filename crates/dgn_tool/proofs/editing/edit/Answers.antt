@@ -2,6 +2,7 @@ use Rattle.std.proofs.Common.{List, subst}
 use Rattle.edit_script.specs.declared.command.Command.{Command}
 use Rattle.elem_index.specs.Answers.{opened_of}
 use Rattle.dgn_tool.specs.Ends.{DeskComes}
+use Rattle.dgn_tool.specs.InBytes.{AllInBytes}
 use Rattle.dgn_answers.specs.Given.{given_all}
 use Rattle.dgn_tool.specs.Outcome.{HasAll, run_outcome, told}
 use Rattle.dgn_answers.specs.Given.{waiting}
@@ -14,8 +15,8 @@ returns-in-Ok g c =
     let d = opened_of inputs.design in
     let vs = waiting inputs.seconds.items in
     let o = c.args.output.now in
-    then_comes c.in-Ok.ensures.read (HasAll c.args.input.now c.args.script.now) (λ files. run_outcome c.args.input.now c.args.script.now files (λ x gs. told x gs o)) (told d (given_all inputs.commands.items vs) o) c.run_script.result c.of.result
-    (λ files goes. goes (λ x gs. told x gs o)) c.of.ensures
+    then_comes c.in-Ok.ensures.read (HasAll c.args.input.now c.args.script.now) (AllInBytes c.args.input.now c.args.script.now) (λ files. run_outcome c.args.input.now c.args.script.now files (λ x gs. told x gs o)) (told d (given_all inputs.commands.items vs) o) c.run_script.result c.of.result
+    (λ files known. known.0 (λ x gs. told x gs o)) (λ files known. known.1) c.of.ensures
     (subst (λ (cs : List Command). DeskComes g.D.Desk (λ _. told d (given_all cs vs) o) c.read_inputs.new.desk c.run_script.new.desk c.run_script.result) c.deref.ensures.value c.run_script.ensures)
 
 pub returns-in-Err : goal.returns-in-Err

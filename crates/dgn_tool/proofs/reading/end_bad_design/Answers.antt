@@ -5,17 +5,20 @@ use Rattle.dgn_tool.specs.Ended.{ended}
 use Rattle.dgn_tool.specs.Outcome.{opened_outcome}
 use Rattle.dgn_tool.specs.Readings.{FaultSays}
 use Rattle.dgn_tool.specs.declared.status.Status.TheVariants as statuses
-use Rattle.dgn_tool.proofs.InputsRead.{fault_outcome}
-use Rattle.dgn_tool.proofs.Parts.{named_by, wants}
+use Rattle.dgn_tool.proofs.InputsRead.{fault_outcome, has_line}
+use Rattle.dgn_tool.proofs.Parts.{at_ok, named_by, wants}
 use Rattle.dgn_tool.proofs.reading.end_bad_design.Goals as goal
 
-pub returns-in_err-line : goal.returns-in_err-line
-returns-in_err-line g c =
+pub returns-in_err-line-clause-comes : goal.returns-in_err-line-clause-comes
+returns-in_err-line-clause-comes g c =
     let p = err_from_is_err_and c.from_residual.result c.from_residual.ensures.1 in
     rw (p.1, p.2) (λ found go_on tells. wants (λ files. opened_outcome found (go_on files)) (seen g.D.Desk c.args.desk.now))
 
-pub returns : goal.returns
-returns g c = λ found go_on tells.
+pub returns-clause-said : goal.returns-clause-said
+returns-clause-said g c = at_ok c.end.result (has_line c.args.fault _ c.in_ok-line.ensures)
+
+pub returns-clause-comes : goal.returns-clause-comes
+returns-clause-comes g c = λ found go_on tells.
     named_by (λ files. opened_outcome found (go_on files)) (ended statuses.BadDesign c.deref.result.now) c.end.result _ _
     (λ files. fault_outcome found c.args.fault c.deref.result.now (go_on files) tells (subst (FaultSays c.args.fault) (sym c.deref.ensures.value) c.in_ok-line.ensures))
     c.end.ensures

@@ -1,8 +1,10 @@
-use Rattle.std.proofs.Common.{◌≡◌, ◌<◌, length, refl}
+use Rattle.std.proofs.Common.{◌≡◌, ◌<◌, length, refl, subst}
 use Rattle.dgn_desk.specs.Content.{bytes_of}
 use Rattle.dgn_desk.specs.Seen.{seen}
+use Rattle.dgn_drawing.specs.WellFormed.{IsBytes}
 use Rattle.dgn_tool.specs.Ends.{Has, ReadTo}
 use Rattle.dgn_tool.specs.Ended.{ended}
+use Rattle.dgn_tool.specs.InBytes.{IsLonger}
 use Rattle.dgn_tool.specs.Readings.{whole_file, IsWholeFile}
 use Rattle.dgn_tool.specs.declared.status.Status.TheVariants as statuses
 use Rattle.dgn_tool.proofs.InputsRead.{items_within, file_overruns}
@@ -13,9 +15,10 @@ use Rattle.dgn_tool.proofs.reading.read_file.Goals as goal
 pub returns-in-Ok-clause-read : goal.returns-in-Ok-clause-read
 returns-in-Ok-clause-read g c =
     let read = c.in-Ok.ensures in
+    let bytes : IsBytes c.in-Ok.bytes.items = subst IsBytes c.deref.ensures.value c.are_bytes.ensures in
     record {
       reads = record { told = read.told; calm = read.cause; quiet = read.other; stays = read.stays };
-      known = where_told (λ k. c.in-Ok.bytes.items ≡ bytes_of k.files c.args.name.now) (λ k. IsWholeFile c.args.name.now c.args.limit k.files c.in-Ok.bytes.items) _ read.whole (λ k is. (items_within c.in-Ok.bytes c.args.limit read.within, is));
+      known = where_told (λ k. c.in-Ok.bytes.items ≡ bytes_of k.files c.args.name.now) (λ k. IsWholeFile c.args.name.now c.args.limit k.files c.in-Ok.bytes.items) _ read.whole (λ k is. (items_within c.in-Ok.bytes c.args.limit read.within, is, bytes));
     }
 
 pub returns-in-Err-TooLong-clause-ended : goal.returns-in-Err-TooLong-clause-ended
@@ -26,7 +29,7 @@ returns-in-Err-TooLong-clause-ended g c =
       known = read.long refl;
     } in
     record {
-      early = λ go_on. then_comes long (Has c.args.name.now) (whole_file c.args.name.now c.args.limit c.args.line.now go_on) (ended statuses.TooLong c.args.line.now) c.end.result c.of.result (λ files over. file_overruns c.args.name.now c.args.limit c.args.line.now files go_on over) c.of.ensures c.end.ensures;
+      early = λ go_on. then_comes long (Has c.args.name.now) (IsLonger c.args.name.now c.args.limit) (whole_file c.args.name.now c.args.limit c.args.line.now go_on) (ended statuses.TooLong c.args.line.now) c.end.result c.of.result (λ files over. file_overruns c.args.name.now c.args.limit c.args.line.now files go_on over) (λ files over. over) c.of.ensures c.end.ensures;
     }
 
 pub returns-in-Err-Fault-clause-ended : goal.returns-in-Err-Fault-clause-ended
@@ -41,4 +44,4 @@ returns-in-Err-Memory-clause-ended g c =
       reads = record { told = read.told; calm = read.cause; quiet = read.other; stays = read.stays };
       known = all_told _;
     } in
-    record { early = λ go_on. wants_behind none (Has c.args.name.now) (whole_file c.args.name.now c.args.limit c.args.line.now go_on) }
+    record { early = λ go_on. wants_behind none (Has c.args.name.now) (IsLonger c.args.name.now c.args.limit) (whole_file c.args.name.now c.args.limit c.args.line.now go_on) }

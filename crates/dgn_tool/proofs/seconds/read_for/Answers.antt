@@ -2,8 +2,9 @@ use Rattle.std.proofs.Common.{◌≡◌, ◌∷◌, List, ℕ, [], sym, ap, subs
 use Rattle.std.proofs.lemmas.Result.{err_from_is_err_and}
 use Rattle.dgn_desk.specs.Seen.{seen}
 use Rattle.dgn_tool.specs.Ends.{DeskReads, DeskEndsEarly}
-use Rattle.dgn_tool.specs.Readings.{seconds_in}
-use Rattle.dgn_tool.specs.SecondFiles.{names_of, AreThere, ComeBehind}
+use Rattle.dgn_tool.specs.InBytes.{AreCutOff}
+use Rattle.dgn_tool.specs.Readings.{ComeBehind, seconds_in}
+use Rattle.dgn_tool.specs.SecondFiles.{names_of, AreThere}
 use Rattle.dgn_tool.proofs.Named.{names_none}
 use Rattle.dgn_tool.proofs.Parts.{known_so, read_none, wants_behind}
 use Rattle.dgn_tool.proofs.SecondsRead.{second_added, none_added}
@@ -13,12 +14,12 @@ pub returns-in_err-second-clause-ended : goal.returns-in_err-second-clause-ended
 returns-in_err-second-clause-ended g c =
     let p = err_from_is_err_and c.from_residual.result c.from_residual.ensures.1 in
     let names : c.text_of.result.now ∷ [] ≡ names_of c.args.command.now = ap (λ (n : List ℕ). n ∷ []) c.text_of.ensures ∙ sym (ap names_of c.in-Import.is) in
-    rw (p.1, p.2) (subst (λ (l : List (List ℕ)). DeskEndsEarly g.D.Desk (AreThere l) (seconds_in l) c.args.desk.now c.read_named.new.desk c.in_err-second.field-0.0) names c.in_err-second.ensures.ended)
+    rw (p.1, p.2) (subst (λ (l : List (List ℕ)). DeskEndsEarly g.D.Desk (AreThere l) (AreCutOff l) (seconds_in l) c.args.desk.now c.read_named.new.desk c.in_err-second.field-0.0) names c.in_err-second.ensures.ended)
 
 pub returns-in_default-push-clause-ended : goal.returns-in_default-push-clause-ended
 returns-in_default-push-clause-ended g c =
     let names = names_of c.args.command.now in
-    record { early = λ go_on. wants_behind c.in_ok-second.ensures.read (AreThere names) (seconds_in names go_on) }
+    record { early = λ go_on. wants_behind c.in_ok-second.ensures.read (AreThere names) (AreCutOff names) (seconds_in names go_on) }
 
 pub returns-clause-read : goal.returns-clause-read
 returns-clause-read g c =

@@ -7,11 +7,12 @@ use Rattle.dgn_import.specs.declared.second.Second.{Second}
 use Rattle.dgn_import.specs.Seconds.{IsSound}
 use Rattle.edit_script.specs.declared.command.Command.{Command}
 use Rattle.dgn_tool.specs.Ends.{ReadTo}
+use Rattle.dgn_tool.specs.InBytes.{AreInBytes, AreCutOff}
 use Rattle.dgn_tool.specs.Readings.{ComeTo, seconds_in}
 use Rattle.dgn_tool.specs.SecondFiles.{names_of, names_in, AreThere}
 use Rattle.dgn_answers.specs.Given.{waiting}
 use Rattle.dgn_tool.proofs.Parts.{known_so, read_none, then_ends, then_reads}
-use Rattle.dgn_tool.proofs.SecondsRead.{IsReadSo, nothing_read, one_read, all_read, ends_there, next_there, sound_turned, turned_back}
+use Rattle.dgn_tool.proofs.SecondsRead.{IsReadSo, nothing_read, one_read, all_read, ends_there, next_there, cut_bytes, sound_turned, turned_back}
 use Rattle.dgn_tool.proofs.seconds.read_seconds.Goals as goal
 
 pub commands-init : goal.commands-init
@@ -47,9 +48,10 @@ returns-in_err-read_for-clause-ended g c =
     drop_more all c.commands.command-index command c.commands-test.true ∙ ap (λ (x : Command). x ∷ left) (sym c.command-item.is) in
     let before : List Second = c.commands.seconds.items in
     rw (p.1, p.2) (record {
-      early = λ go_on. then_ends c.commands.invariant.read (AreThere (names_in all)) (AreThere (names_of command)) (seconds_in (names_in all) go_on) (seconds_in (names_of command) (λ fs _. seconds_in (names_in all) go_on fs)) _
+      early = λ go_on. then_ends c.commands.invariant.read (AreThere (names_in all)) (AreThere (names_of command)) (AreInBytes (names_in all)) (AreCutOff (names_of command)) (seconds_in (names_in all) go_on) (seconds_in (names_of command) (λ fs _. seconds_in (names_in all) go_on fs)) _
           (λ files so. ends_there all left command files before go_on (subst (λ (l : List Command). IsReadSo all l files before) split so))
           (λ files so there. next_there all left command files before (subst (λ (l : List Command). IsReadSo all l files before) split so) there)
+          (λ files so cut. cut_bytes all left command files before (subst (λ (l : List Command). IsReadSo all l files before) split so) cut)
           (c.in_err-read_for.ensures.ended.early (λ fs _. seconds_in (names_in all) go_on fs));
     })
 
