@@ -1,5 +1,6 @@
 -- What an import appends: trees behind elements that open, from a second file that opens.
-use Rattle.std.proofs.Common.{◌≡◌, ℕ, ◌+◌, ◌<◌, ◌≤◌, true, false, List, [], ◌∷◌, ◌++◌, length, map, drop, get_or, Option, Some, None, Ok, Err, inl, inr, refl, sym, ap, ◌∙◌, subst, arith, length-append, nat_lt}
+use Rattle.std.proofs.Common.{◌≡◌, ℕ, ◌+◌, ◌<◌, ◌≤◌, true, false, List, [], ◌∷◌, ◌++◌, length, map, drop, get_or, Option, Some, None, Ok, Err, inl, inr}
+use Rattle.std.proofs.Common.{refl, sym, ap, ◌∙◌, subst, arith, length-append, nat_lt}
 use Rattle.std.specs.Prelude.{All, IfSome, Result}
 use Rattle.std.proofs.lemmas.Bool.{cases_Bool}
 use Rattle.std.proofs.lemmas.Bool.Decides.{nat_tests}
@@ -90,7 +91,8 @@ pub steps_given : (cs : List Command) (files : List (List ℕ)) → All IsEditIn
 steps_given cs files fits bytes = all_given cs (map second_of files) fits (seconds_open files bytes)
 
 -- what is appended is trees that fit the limit
-unless_so : (cause : Option Cause) (b : List ℕ) (count : ℕ) (b' : List ℕ) (count' : ℕ) → unless_long cause b count ≡ Appends b' count' → (cause ≡ None) × (b ≡ b')
+unless_so : (cause : Option Cause) (b : List ℕ) (count : ℕ) (b' : List ℕ) (count' : ℕ) → unless_long cause b count ≡ Appends b' count' → (cause ≡ None)
+    × (b ≡ b')
 unless_so None b count b' count' is = (refl, let x = is in cc)
 unless_so (Some cause) b count b' count' is = absurd (let x = is in cc)
 
@@ -102,14 +104,16 @@ not_long n is = by (nat_lt 67108864 n) refl
     by true test = absurd (let x : too_long n ≡ None = is in let y : nat_lt 67108864 n ≡ true = test in grind (arith, nat_tests))
     by false test = grind (arith, nat_tests)
 
-gathered_trees : (dim : ℕ) (v : SecondValue) (by : Option Displacement) (b : List ℕ) (count : ℕ) → gathered dim v by ≡ Trees b count → IfSome by IsShift → IsOpen v → AreTrees dim b
+gathered_trees : (dim : ℕ) (v : SecondValue) (by : Option Displacement) (b : List ℕ) (count : ℕ) → gathered dim v by ≡ Trees b count → IfSome by IsShift
+    → IsOpen v → AreTrees dim b
 gathered_trees dim (Drawing own body tail) by b count is known opens = elim (cases_Bool (fits dim own by)) [
   | inl fit ↦ are_trees (body ++ tail) dim own (elements_of own body) tail by b count opens known fit is
   | inr other ↦ absurd (let x : Dimension ≡ Trees b count = sym (other_dim dim own (elements_of own body) by other) ∙ is in cc)
 ]
 gathered_trees dim (Faulty fault) by b count is known opens = absurd (let x = is in cc)
 
-appended_so : (s : State) (v : SecondValue) (by : Option Displacement) (found : Gathering) (b : List ℕ) (count : ℕ) → gathered s.dim v by ≡ found → importing s found ≡ Appends b count → IsStep (Import v by)
+appended_so : (s : State) (v : SecondValue) (by : Option Displacement) (found : Gathering) (b : List ℕ) (count : ℕ) → gathered s.dim v by ≡ found
+    → importing s found ≡ Appends b count → IsStep (Import v by)
     → AreTrees s.dim b × (length (spelling s.top) + s.rest + length b ≤ 67108864)
 appended_so s v by (Trees b' count') b count found is fits =
     let so = unless_so (too_long (length (spelling s.top) + s.rest + length b')) b' count' b count is in
@@ -129,7 +133,8 @@ pub record Behind (dim : ℕ) (t : List ℕ) (on : List Element) (b : List ℕ) 
   pub opens : Opens (spelling (on ++ elements_of dim b) ++ t) dim (on ++ elements_of dim b) t
   pub long : length (spelling (on ++ elements_of dim b)) ≡ length (spelling on) + length b
   pub same : (p : ℕ) → p < length (spelling on) → get_or (spelling (on ++ elements_of dim b)) p 0 ≡ get_or (spelling on) p 0
-  pub written : spelling (on ++ elements_of dim b) ≡ write (spelling on) (filled (spelling (on ++ elements_of dim b)) []) ++ drop (length (spelling on)) (spelling (on ++ elements_of dim b))
+  pub written : spelling (on ++ elements_of dim b) ≡ write (spelling on) (filled (spelling (on ++ elements_of dim b)) [])
+      ++ drop (length (spelling on)) (spelling (on ++ elements_of dim b))
 
 pub import_behind : (dim : ℕ) (t : List ℕ) (on : List Element) (b : List ℕ) → AreTrees dim b → Opens (spelling on ++ t) dim on t → Behind dim t on b
 import_behind dim t on b trees opens =
@@ -138,8 +143,10 @@ import_behind dim t on b trees opens =
     let whole : spelling (on ++ more) ≡ spelling on ++ spelling more = flat_map-append spell on more in
     let text : spelling more ≡ b = ap spelling (sym are) ∙ sym trees.text in
     record {
-      opens = subst (λ (es : List Element). Opens (spelling (on ++ es) ++ t) dim (on ++ es) t) are (appended_opens (spelling on ++ t) dim on trees.elements t opens trees.each);
+      opens = subst (λ (es : List Element). Opens (spelling (on ++ es) ++ t) dim (on ++ es) t) are
+          (appended_opens (spelling on ++ t) dim on trees.elements t opens trees.each);
       long = omega (arith, ap (length {A = ℕ}) whole, length-append (spelling on) (spelling more), ap (length {A = ℕ}) text);
       same = λ p below. ap (λ (x : List ℕ). get_or x p 0) whole ∙ get_or_append_left (spelling on) (spelling more) 0 p below;
-      written = whole ∙ ap (λ (x : List ℕ). spelling on ++ x) (sym (ap (drop (length (spelling on))) whole ∙ drop_at (spelling on) (spelling more) (length (spelling on)) refl));
+      written = whole ∙ ap (λ (x : List ℕ). spelling on ++ x)
+          (sym (ap (drop (length (spelling on))) whole ∙ drop_at (spelling on) (spelling more) (length (spelling on)) refl));
     }

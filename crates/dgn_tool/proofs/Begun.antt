@@ -17,7 +17,8 @@ pub few_made : (seed count : ℕ) (bytes : Vec ℕ Global) → count ≤ 200000 
 few_made seed count bytes few are = subst (λ (n : ℕ). n ≤ 67108864) (sym (bytes.ok.0 ∙ ap (length {A = ℕ}) are)) (generated_opens seed count few).few
 
 -- the design that its bytes open as is the drawing, since they open in one way
-pub begins : (seed count : ℕ) (bytes : List ℕ) (design : Design) → count ≤ 200000 → bytes ≡ generated seed count → IsWhole design → design.body.items ++ design.tail.items ≡ bytes → opened_of design ≡ drawing_of seed count
+pub begins : (seed count : ℕ) (bytes : List ℕ) (design : Design) → count ≤ 200000 → bytes ≡ generated seed count → IsWhole design → design.body.items
+    ++ design.tail.items ≡ bytes → opened_of design ≡ drawing_of seed count
 begins seed count bytes design few are whole text =
     let opens : Opens (generated seed count) design.dim (elements design) design.tail.items =
     subst (λ (f : List ℕ). Opens f design.dim (elements design) design.tail.items) (text ∙ are) whole.is_open.opens in

@@ -33,7 +33,8 @@ tail_filled (x ∷ []) z none is =
     cc)
 tail_filled (x ∷ y ∷ t) z none is =
     let some : (length (x ∷ y ∷ t) == 0) ≡ false = ne_eqb (length (x ∷ y ∷ t)) 0 (omega arith) in
-    second_true (length ((x ∷ y ∷ t) ++ z) == 0) (begins_with_mark ((x ∷ y ∷ t) ++ z)) (not_first (length (x ∷ y ∷ t) == 0) (begins_with_mark (x ∷ y ∷ t)) some is)
+    second_true (length ((x ∷ y ∷ t) ++ z) == 0) (begins_with_mark ((x ∷ y ∷ t) ++ z))
+    (not_first (length (x ∷ y ∷ t) == 0) (begins_with_mark (x ∷ y ∷ t)) some is)
 
 -- the TCB holds the byte that says the dimension
 tcb_holds : (dim : ℕ) (es : List Element) → IsDimension dim → AllByRecursion (IsWellFormed dim) es → BeginsWithTcb es → 1214 < length (spelling es)
@@ -41,7 +42,8 @@ tcb_holds dim [] axes each first = absurd first
 tcb_holds dim (e ∷ es) axes each first = omega (arith, tcb_long dim e axes each.0 first, length-append (spell e) (spelling es))
 
 -- so a drawing opens with more behind its tail
-pub filled_opens : (dim : ℕ) (es : List Element) (t z : List ℕ) → (length t ≡ 0 → z ≡ []) → Opens (spelling es ++ t) dim es t → Opens (spelling es ++ (t ++ z)) dim es (t ++ z)
+pub filled_opens : (dim : ℕ) (es : List Element) (t z : List ℕ) → (length t ≡ 0 → z ≡ []) → Opens (spelling es ++ t) dim es t
+    → Opens (spelling es ++ (t ++ z)) dim es (t ++ z)
 filled_opens dim es t z none opens =
     let axes : IsDimension dim = subst IsDimension (sym opens.axes) (dimension_is (spelling es ++ t)) in
     record {

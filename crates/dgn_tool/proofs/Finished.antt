@@ -1,5 +1,6 @@
 -- What is told once all commands were said and the file was written, and what where that was stopped.
-use Rattle.std.proofs.Common.{◌≡◌, List, [], ◌∷◌, ℕ, zero, suc, ◌+◌, ◌++◌, length, vec_len, replicate, take, ◌<◌, ◌≤◌, Bool, true, false, cond, arith, Option, Some, None, Ok, Err, inl, inr, refl, sym, ap, ◌∙◌, subst}
+use Rattle.std.proofs.Common.{◌≡◌, List, [], ◌∷◌, ℕ, zero, suc, ◌+◌, ◌++◌, length, vec_len, replicate, take, ◌<◌, ◌≤◌, Bool, true, false, cond, arith}
+use Rattle.std.proofs.Common.{Option, Some, None, Ok, Err, inl, inr, refl, sym, ap, ◌∙◌, subst}
 use Rattle.std.specs.Prelude.{option_map, IfSome}
 use Rattle.std.proofs.lemmas.List.{append-nil}
 use Rattle.dgn_desk.specs.Content.{Content, filed, spoken}
@@ -24,13 +25,15 @@ use Rattle.dgn_tool.proofs.Telling.{is_taken}
 
 module _ (status : Status) (text name bytes : List ℕ) where
   -- all was said, and the file was written
-  pub all_filed : (old mid now : Option Content) → mid ≡ option_map (spoken text) old → now ≡ option_map (filed name bytes) mid → IfSome old (λ c. Leaves (said_then_filed status text name bytes) status c now)
+  pub all_filed : (old mid now : Option Content) → mid ≡ option_map (spoken text) old → now ≡ option_map (filed name bytes) mid
+      → IfSome old (λ c. Leaves (said_then_filed status text name bytes) status c now)
   all_filed None mid now said e = tt
   all_filed (Some c) mid now said e =
       record { status_is = refl; content = filed name bytes (spoken text c); told_is = rw (e, said) refl; said_is = refl; files_are = refl }
 
   -- a front was said
-  front_said : (front : List ℕ) (old now : Option Content) → IsFrontOf text front → now ≡ option_map (spoken front) old → IfSome old (λ c. Stops (said_then_filed status text name bytes) c now)
+  front_said : (front : List ℕ) (old now : Option Content) → IsFrontOf text front → now ≡ option_map (spoken front) old
+      → IfSome old (λ c. Stops (said_then_filed status text name bytes) c now)
   front_said front None now is e = tt
   front_said front (Some c) now is e =
       record { content = spoken front c; told_is = e; front = front; is_front = is; said_is = refl; files_are = inl refl; in_order = inr refl }
@@ -39,7 +42,8 @@ module _ (status : Status) (text name bytes : List ℕ) where
   stopped_saying old now says = front_said says.0 old now says.1 says.2
 
   -- all was said, and a front of the file was written
-  front_filed : (front : List ℕ) (old mid now : Option Content) → mid ≡ option_map (spoken text) old → IsFrontOf bytes front → now ≡ option_map (filed name front) mid → IfSome old (λ c. Stops (said_then_filed status text name bytes) c now)
+  front_filed : (front : List ℕ) (old mid now : Option Content) → mid ≡ option_map (spoken text) old → IsFrontOf bytes front
+      → now ≡ option_map (filed name front) mid → IfSome old (λ c. Stops (said_then_filed status text name bytes) c now)
   front_filed front None mid now said is e = tt
   front_filed front (Some c) mid now said is e =
       record {
@@ -53,10 +57,12 @@ module _ (status : Status) (text name bytes : List ℕ) where
       }
 
   -- or nothing of it was
-  unfiled : (old mid now : Option Content) → mid ≡ option_map (spoken text) old → now ≡ mid → IfSome old (λ c. Stops (said_then_filed status text name bytes) c now)
+  unfiled : (old mid now : Option Content) → mid ≡ option_map (spoken text) old → now ≡ mid
+      → IfSome old (λ c. Stops (said_then_filed status text name bytes) c now)
   unfiled old mid now said e = front_said text old now ([], sym (append-nil text)) (e ∙ said)
 
-  pub stopped_filing : (stop : Stop) (old mid now : Option Content) → mid ≡ option_map (spoken text) old → FilesAll (Err stop) name bytes mid now → IfSome old (λ c. Stops (said_then_filed status text name bytes) c now)
+  pub stopped_filing : (stop : Stop) (old mid now : Option Content) → mid ≡ option_map (spoken text) old → FilesAll (Err stop) name bytes mid now
+      → IfSome old (λ c. Stops (said_then_filed status text name bytes) c now)
   stopped_filing stop old mid now said (inl e) = unfiled old mid now said e
   stopped_filing stop old mid now said (inr part) = front_filed (take part.0 bytes) old mid now said (is_taken bytes part.0) part.2
 
@@ -71,23 +77,29 @@ filled_as true n k is = ap (λ (i : ℕ). replicate i 0) is
 filled_as false n k is = ap (λ (i : ℕ). replicate i 0) is
 
 -- as many of them as fill the last block
-zeros_fill : (before : ℕ) (tail : List ℕ) (now n : ℕ) (zeros : List ℕ) → n < 512 → n ≡ cond (is_blocks before tail) (left_in_block (now + length tail)) 0 → zeros ≡ take n (replicate {A = ℕ} 512 0) → zeros ≡ filling before tail now
-zeros_fill before tail now n zeros few is are = are ∙ zeros_taken n 512 (omega arith) ∙ filled_as (is_blocks before tail) n (left_in_block (now + length tail)) is
+zeros_fill : (before : ℕ) (tail : List ℕ) (now n : ℕ) (zeros : List ℕ) → n < 512 → n ≡ cond (is_blocks before tail) (left_in_block (now + length tail)) 0
+    → zeros ≡ take n (replicate {A = ℕ} 512 0) → zeros ≡ filling before tail now
+zeros_fill before tail now n zeros few is are =
+    are ∙ zeros_taken n 512 (omega arith) ∙ filled_as (is_blocks before tail) n (left_in_block (now + length tail)) is
 
 -- so the bytes of the elements, the tail and they are the file
-pub filled_so : (before n long : ℕ) (body tail tail' zeros : List ℕ) → tail' ≡ tail → long ≡ length body → n < 512 → n ≡ cond (is_blocks before tail') (left_in_block (long + length tail')) 0 → zeros ≡ take n (replicate {A = ℕ} 512 0)
+pub filled_so : (before n long : ℕ) (body tail tail' zeros : List ℕ) → tail' ≡ tail → long ≡ length body → n < 512
+    → n ≡ cond (is_blocks before tail') (left_in_block (long + length tail')) 0 → zeros ≡ take n (replicate {A = ℕ} 512 0)
     → body ++ (tail ++ zeros) ≡ file_made before tail body
 filled_so before n long body tail tail' zeros same counted few is are =
     let exact : n ≡ cond (is_blocks before tail) (left_in_block (length body + length tail)) 0 =
-    is ∙ ap (λ (t : List ℕ). cond (is_blocks before t) (left_in_block (long + length t)) 0) same ∙ ap (λ (k : ℕ). cond (is_blocks before tail) (left_in_block (k + length tail)) 0) counted in
+    is ∙ ap (λ (t : List ℕ). cond (is_blocks before t) (left_in_block (long + length t)) 0) same
+    ∙ ap (λ (k : ℕ). cond (is_blocks before tail) (left_in_block (k + length tail)) 0) counted in
     ap (λ (z : List ℕ). body ++ (tail ++ z)) (zeros_fill before tail (length body) n zeros few exact are)
 
 -- as many bytes as they spell
-pub begun_with : (dim : ℕ) (body : List ℕ) (d : Design) (n : ℕ) → IsWhole d → d.dim ≡ dim → d.body.items ≡ body → n ≡ vec_len d.body → n ≡ length (spelling (elements_of dim body))
+pub begun_with : (dim : ℕ) (body : List ℕ) (d : Design) (n : ℕ) → IsWhole d → d.dim ≡ dim → d.body.items ≡ body → n ≡ vec_len d.body
+    → n ≡ length (spelling (elements_of dim body))
 begun_with dim body d n whole axes text counted = counted ∙ d.body.ok.0 ∙ ap (length {A = ℕ}) (spelled_with dim body d whole axes text)
 
 -- the drawing that is written is that of the elements after the commands, with the same tail
-pub made_so : (s new : State) (t tail : List ℕ) (cs : List Given) (before : ℕ) → new ≡ after_all cs s → tail ≡ t → before ≡ length (spelling s.top) → file_made before tail (spelling new.top) ≡ file_after s t cs
+pub made_so : (s new : State) (t tail : List ℕ) (cs : List Given) (before : ℕ) → new ≡ after_all cs s → tail ≡ t → before ≡ length (spelling s.top)
+    → file_made before tail (spelling new.top) ≡ file_after s t cs
 made_so s new t tail cs before drawn back begun =
     ap (λ (n : ℕ). file_made n tail (spelling new.top)) begun
     ∙ ap (λ (n : State). file_made (length (spelling s.top)) tail (spelling n.top)) drawn
@@ -103,10 +115,12 @@ module _ (s : State) (t : List ℕ) (cs : List Given) (output file : List ℕ) (
   edited {old = old} {mid = mid} {new = new} refused ending count is said wrote =
       then_so refused (Ok ending) said (done_with tt ending wrote) (λ a b.
       subst (λ (status : Status). IfSome old.content (λ c. Leaves (told_from s t cs output) status c new.content)) (sym (is ∙ ap status_with count))
-      (all_filed (status_with (refused_count cs s)) (texts_of cs s) output (file_after s t cs) old.content mid.content new.content a (b ∙ ap (λ (x : List ℕ). option_map (filed output x) mid.content) file_is)))
+      (all_filed (status_with (refused_count cs s)) (texts_of cs s) output (file_after s t cs) old.content mid.content new.content a
+      (b ∙ ap (λ (x : List ℕ). option_map (filed output x) mid.content) file_is)))
 
   -- the writing of the file was stopped
-  pub edit_unfiled : {old mid new : Seen} (refused : ℕ) (stop : Stop) → Writes {T = ℕ} (Ok refused) (SaysAs {T = ℕ} (Ok refused) (texts_of cs s)) old mid → Writes {T = Unit {0}} (Err stop) (FilesAll (Err stop) output file) mid new
+  pub edit_unfiled : {old mid new : Seen} (refused : ℕ) (stop : Stop) → Writes {T = ℕ} (Ok refused) (SaysAs {T = ℕ} (Ok refused) (texts_of cs s)) old mid
+      → Writes {T = Unit {0}} (Err stop) (FilesAll (Err stop) output file) mid new
       → Writes {T = Ending} (Err stop) (Tells (λ _. told_from s t cs output) (Err stop)) old new
   edit_unfiled {old = old} {mid = mid} {new = new} refused stop said wrote =
       let both : Writes {T = Unit {0}} (Err stop) (λ a b. IfSome a (λ c. Stops (told_from s t cs output) c b)) old new =
@@ -116,7 +130,8 @@ module _ (s : State) (t : List ℕ) (cs : List Given) (output file : List ℕ) (
       stopped_so stop both (λ stops. stops)
 
 -- the commands were stopped
-pub edit_unsaid : (s : State) (t : List ℕ) (cs : List Given) (output : List ℕ) {old new : Seen} (stop : Stop) → Writes {T = ℕ} (Err stop) (SaysAs {T = ℕ} (Err stop) (texts_of cs s)) old new
+pub edit_unsaid : (s : State) (t : List ℕ) (cs : List Given) (output : List ℕ) {old new : Seen} (stop : Stop)
+    → Writes {T = ℕ} (Err stop) (SaysAs {T = ℕ} (Err stop) (texts_of cs s)) old new
     → Writes {T = Ending} (Err stop) (Tells (λ _. told_from s t cs output) (Err stop)) old new
 edit_unsaid s t cs output {old = old} {new = new} stop said =
     stopped_so stop said (stopped_saying (status_with (refused_count cs s)) (texts_of cs s) output (file_after s t cs) old.content new.content)

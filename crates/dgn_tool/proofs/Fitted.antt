@@ -25,13 +25,16 @@ use Rattle.dgn_tool.proofs.Stacked.{IsStacked, steps_stack}
 use Rattle.dgn_tool.proofs.Linked.{top_of, top_opens, stack_top, steps_link, steps_dim}
 
 -- a fit that is done ends the findings of its tree
-fit_ends : (s : State) (t : List ℕ) (n root end : ℕ) (came : Applied) → apply_fit s.dim s.top n ≡ came → Opens (spelling s.top ++ t) s.dim s.top t → machine.is_refused came ≡ false → root_of row_of s.top n ≡ Some root → span_of row_of s.top root ≡ Some (root, end)
+fit_ends : (s : State) (t : List ℕ) (n root end : ℕ) (came : Applied) → apply_fit s.dim s.top n ≡ came → Opens (spelling s.top ++ t) s.dim s.top t
+    → machine.is_refused came ≡ false → root_of row_of s.top n ≡ Some root → span_of row_of s.top root ≡ Some (root, end)
     → text_of (pushed came s) command.Audit ≡ findings_text (filter (is_outside root end) (findings s.dim s.top))
 fit_ends s t n root end (Refused cause) is opens done at spanned = absurd (let x = done in cc)
-fit_ends s t n root end (Done made) is opens done at spanned = ap findings_text (ends_findings (spelling s.top ++ t) s.dim s.top t n made root end opens is at spanned)
+fit_ends s t n root end (Done made) is opens done at spanned =
+    ap findings_text (ends_findings (spelling s.top ++ t) s.dim s.top t n made root end opens is at spanned)
 
 -- what steps make opens
-pub opens_after : (t : List ℕ) (gs : List Given) (s : State) → s.earlier ≡ [] → All IsStep gs → Opens (spelling s.top ++ t) s.dim s.top t → Opens (spelling (after_all gs s).top ++ t) (after_all gs s).dim (after_all gs s).top t
+pub opens_after : (t : List ℕ) (gs : List Given) (s : State) → s.earlier ≡ [] → All IsStep gs → Opens (spelling s.top ++ t) s.dim s.top t
+    → Opens (spelling (after_all gs s).top ++ t) (after_all gs s).dim (after_all gs s).top t
 opens_after t gs s none fits opens =
     let left : List Made = with_steps gs s [] in
     let end : State = after_all gs s in

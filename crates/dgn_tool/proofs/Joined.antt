@@ -1,5 +1,6 @@
 -- What an import leaves of a state: the trees of its second file behind those that were there, or the state.
-use Rattle.std.proofs.Common.{◌≡◌, ℕ, ◌+◌, ◌<◌, ◌≤◌, true, false, List, [], ◌∷◌, ◌++◌, length, Option, Some, None, Ok, Err, inl, inr, refl, sym, ap, ◌∙◌, subst, arith}
+use Rattle.std.proofs.Common.{◌≡◌, ℕ, ◌+◌, ◌<◌, ◌≤◌, true, false, List, [], ◌∷◌, ◌++◌, length, Option, Some, None, Ok, Err, inl, inr, refl, sym, ap, ◌∙◌}
+use Rattle.std.proofs.Common.{subst, arith}
 use Rattle.std.specs.Prelude.{IfSome, Result, codes, ◌==◌}
 use Rattle.std.proofs.lemmas.Bool.{cases_Bool, eqb-true, and_parts}
 use Rattle.std.proofs.lemmas.Bool.Decides.{nat_tests}
@@ -47,8 +48,10 @@ none_refuses None trees count b k is = refl
 none_refuses (Some c) trees count b k is = absurd (let x = is in cc)
 
 -- a drawing from which trees are gathered, whose bytes fit
-module _ (s : State) (some : 0 < length s.top) (g : List ℕ) (by : Option Displacement) (known : IfSome by IsShift) (o : Opened) (opens : Opens g o.dim o.elements o.tail)
-    (b : List ℕ) (count : ℕ) (is : gathered_in s.dim o.dim o.elements by ≡ Trees b count) (few : length (spelling s.top) + s.rest + length b ≤ 67108864) (fit : fits s.dim o.dim by ≡ true) where
+module _ (s : State) (some : 0 < length s.top) (g : List ℕ) (by : Option Displacement) (known : IfSome by IsShift) (o : Opened)
+    (opens : Opens g o.dim o.elements o.tail)
+    (b : List ℕ) (count : ℕ) (is : gathered_in s.dim o.dim o.elements by ≡ Trees b count) (few : length (spelling s.top) + s.rest + length b ≤ 67108864)
+    (fit : fits s.dim o.dim by ≡ true) where
   same : o.dim ≡ s.dim
   same = same_dim s.dim o.dim by fit
 
@@ -82,8 +85,10 @@ module _ (s : State) (some : 0 < length s.top) (g : List ℕ) (by : Option Displ
   }
 
 -- by what is gathered from it
-module _ (s : State) (some : 0 < length s.top) (g : List ℕ) (by : Option Displacement) (known : IfSome by IsShift) (o : Opened) (opens : Opens g o.dim o.elements o.tail) where
-  unless_follows : (b : List ℕ) (count : ℕ) → gathered_in s.dim o.dim o.elements by ≡ Trees b count → (cause : Option Cause) → too_long (length (spelling s.top) + s.rest + length b) ≡ cause
+module _ (s : State) (some : 0 < length s.top) (g : List ℕ) (by : Option Displacement) (known : IfSome by IsShift) (o : Opened)
+    (opens : Opens g o.dim o.elements o.tail) where
+  unless_follows : (b : List ℕ) (count : ℕ) → gathered_in s.dim o.dim o.elements by ≡ Trees b count → (cause : Option Cause)
+      → too_long (length (spelling s.top) + s.rest + length b) ≡ cause
       → import_refused (unless_long cause b count) ≡ false → TreesFollow s g by (unless_long cause b count)
   unless_follows b count is None short accepted = elim (cases_Bool (fits s.dim o.dim by)) [
     | inl fit ↦ trees_follow s some g by known o opens b count is (not_long (length (spelling s.top) + s.rest + length b) short) fit
@@ -91,29 +96,34 @@ module _ (s : State) (some : 0 < length s.top) (g : List ℕ) (by : Option Displ
   ]
   unless_follows b count is (Some cause) long accepted = absurd (let x = accepted in cc)
 
-  gathered_follows : (found : Gathering) → gathered_in s.dim o.dim o.elements by ≡ found → import_refused (importing s found) ≡ false → TreesFollow s g by (importing s found)
+  gathered_follows : (found : Gathering) → gathered_in s.dim o.dim o.elements by ≡ found → import_refused (importing s found) ≡ false
+      → TreesFollow s g by (importing s found)
   gathered_follows (Trees b count) is accepted = unless_follows b count is (too_long (length (spelling s.top) + s.rest + length b)) refl accepted
   gathered_follows (Bad fault) is accepted = absurd (let x = accepted in cc)
   gathered_follows Dimension is accepted = absurd (let x = accepted in cc)
   gathered_follows (Refused cause) is accepted = absurd (let x = accepted in cc)
 
 -- what is gathered from a file that opens is gathered from its elements
-gathered_as : (dim : ℕ) (g : List ℕ) (by : Option Displacement) (o : Opened) → IsBytes g → Opens g o.dim o.elements o.tail → gathered dim (second_of g) by ≡ gathered_in dim o.dim o.elements by
+gathered_as : (dim : ℕ) (g : List ℕ) (by : Option Displacement) (o : Opened) → IsBytes g → Opens g o.dim o.elements o.tail
+    → gathered dim (second_of g) by ≡ gathered_in dim o.dim o.elements by
 gathered_as dim g by o bytes opens =
     let axes : IsDimension o.dim = subst IsDimension (sym opens.axes) (dimension_is g) in
     ap (λ (found : Result Opened Fault). gathered dim (as_second found) by) (opening-opens g o bytes opens)
     ∙ ap (λ (es : List Element). gathered_in dim o.dim es by) (elements-spelling o.dim axes o.elements opens.each)
 
 -- a file whose import is accepted opens
-opened_follows : (s : State) → 0 < length s.top → (g : List ℕ) (by : Option Displacement) → IsBytes g → IfSome by IsShift → (found : Result Opened Fault) → opening g ≡ found
+opened_follows : (s : State) → 0 < length s.top → (g : List ℕ) (by : Option Displacement) → IsBytes g → IfSome by IsShift → (found : Result Opened Fault)
+    → opening g ≡ found
     → import_refused (importing_of s (second_of g) by) ≡ false → TreesFollow s g by (importing_of s (second_of g) by)
 opened_follows s some g by bytes known (Ok o) is accepted =
     let opens = opens-opening g o bytes is in
     let found_is : gathered s.dim (second_of g) by ≡ gathered_in s.dim o.dim o.elements by = gathered_as s.dim g by o bytes opens in
     subst (λ (found : Gathering). TreesFollow s g by (importing s found)) (sym found_is)
-    (gathered_follows s some g by known o opens (gathered_in s.dim o.dim o.elements by) refl (ap (λ (found : Gathering). import_refused (importing s found)) (sym found_is) ∙ accepted))
+    (gathered_follows s some g by known o opens (gathered_in s.dim o.dim o.elements by) refl
+    (ap (λ (found : Gathering). import_refused (importing s found)) (sym found_is) ∙ accepted))
 opened_follows s some g by bytes known (Err fault) is accepted =
-    let declined : import_refused (importing_of s (second_of g) by) ≡ true = ap (λ (found : Result Opened Fault). import_refused (importing_of s (as_second found) by)) is in
+    let declined : import_refused (importing_of s (second_of g) by) ≡ true =
+    ap (λ (found : Result Opened Fault). import_refused (importing_of s (as_second found) by)) is in
     absurd (let x : true ≡ false = sym declined ∙ accepted in cc)
 
 pub imports_nest_apart : ImportsNestApart
@@ -129,7 +139,8 @@ runs_nest_apart f d cs files opens fits bytes =
     let gs : List Given = steps_of cs files in
     let s : State = after_all gs (begun d) in
     let here = subst (λ (g : List ℕ). Opens g d.dim d.elements d.tail) opens.whole opens in
-    imports_nest_apart s (some_first (spelling s.top ++ d.tail) s.dim s.top d.tail (opens_after d.tail gs (begun d) refl (steps_given cs files fits bytes) here))
+    imports_nest_apart s (some_first (spelling s.top ++ d.tail) s.dim s.top d.tail
+    (opens_after d.tail gs (begun d) refl (steps_given cs files fits bytes) here))
 
 -- one that is refused leaves the state
 left_same : (s : State) (came : Importing) → import_refused came ≡ true → import_left came s ≡ s
@@ -141,7 +152,8 @@ short_enough : (n : ℕ) → n ≤ 67108864 → too_long n ≡ None
 short_enough n few = grind (arith, nat_tests)
 
 -- trees that can stand behind a state do
-accepts : (s : State) (g : List ℕ) (by : Option Displacement) (o : Opened) → IsBytes g → Opens g o.dim o.elements o.tail → CanFollow s o by → import_refused (importing_of s (second_of g) by) ≡ false
+accepts : (s : State) (g : List ℕ) (by : Option Displacement) (o : Opened) → IsBytes g → Opens g o.dim o.elements o.tail → CanFollow s o by
+    → import_refused (importing_of s (second_of g) by) ≡ false
 accepts s g by o bytes opens can =
     let count : ℕ = length (taken o.elements) in
     let b : List ℕ = spelling (flat (trees_taken o by)) in

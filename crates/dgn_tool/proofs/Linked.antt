@@ -34,7 +34,8 @@ use Rattle.edit_script.specs.declared.command.Command.TheVariants as command
 use Rattle.dgn_answers.specs.Commands.{fence_refused, after_command}
 use Rattle.dgn_answers.specs.Imports.{Importing, Appends, Declines, importing_of, import_left}
 use Rattle.dgn_answers.specs.Given.{Given, Plain, Import, after_step, after_all}
-use Rattle.dgn_answers.specs.Remaining.{Made, Alone, Fenced, Fitted, Imported, fields_made, with_made, with_all_made, without_newest, with_import, with_command, with_step, with_steps}
+use Rattle.dgn_answers.specs.Remaining.{Made, Alone, Fenced, Fitted, Imported, fields_made, with_made, with_all_made, without_newest, with_import}
+use Rattle.dgn_answers.specs.Remaining.{with_command, with_step, with_steps}
 use Rattle.dgn_tool.specs.Laws.{IsOutside, IsEditIn}
 use Rattle.dgn_tool.proofs.Appending.{IsStep, import_behind, appended}
 use Rattle.dgn_tool.proofs.Stacked.{IsStacked, step_stacks}
@@ -46,7 +47,8 @@ pub record IsLink (dim rest : ℕ) (t : List ℕ) (m : Made) : Type 0 where
   pub long : length (spelling m.on) ≤ length (spelling m.made)
   pub same : (p : ℕ) → p < length (spelling m.on) → IsOutside dim p m → get_or (spelling m.made) p 0 ≡ get_or (spelling m.on) p 0
   pub rise : Rise 0 (fields_made dim m.on m.making) (length (spelling m.on))
-  pub written : spelling m.made ≡ write (spelling m.on) (filled (spelling m.made) (fields_made dim m.on m.making)) ++ drop (length (spelling m.on)) (spelling m.made)
+  pub written : spelling m.made ≡ write (spelling m.on) (filled (spelling m.made) (fields_made dim m.on m.making))
+      ++ drop (length (spelling m.on)) (spelling m.made)
   pub fits : length (spelling m.on) + rest ≤ 67108864 → length (spelling m.made) + rest ≤ 67108864
 
 -- nothing stands behind what is as long
@@ -63,7 +65,8 @@ abbrev pub AreLinked : ℕ → ℕ → List ℕ → List Element → List Made �
 AreLinked dim rest t base [] = Opens (spelling base ++ t) dim base t
 AreLinked dim rest t base (m ∷ left) = IsLink dim rest t m × (m.on ≡ top_of base left) × AreLinked dim rest t base left
 
-pub top_opens : (dim rest : ℕ) (t : List ℕ) (base : List Element) (left : List Made) → AreLinked dim rest t base left → Opens (spelling (top_of base left) ++ t) dim (top_of base left) t
+pub top_opens : (dim rest : ℕ) (t : List ℕ) (base : List Element) (left : List Made) → AreLinked dim rest t base left
+    → Opens (spelling (top_of base left) ++ t) dim (top_of base left) t
 top_opens dim rest t base [] linked = linked
 top_opens dim rest t base (m ∷ left) linked = linked.0.opens
 
@@ -78,7 +81,8 @@ module _ (dim rest : ℕ) (t : List ℕ) (base : List Element) where
   opens_on on left is linked = subst (λ (es : List Element). Opens (spelling es ++ t) dim es t) (sym is) (top_opens dim rest t base left linked)
 
   -- an edit that is done is one more
-  edit_links : (on : List Element) (left : List Made) (e : Edit) (came : Applied) → IsEdit e → apply dim on rest e ≡ came → on ≡ top_of base left → AreLinked dim rest t base left → AreLinked dim rest t base (with_made came on (Alone e) left)
+  edit_links : (on : List Element) (left : List Made) (e : Edit) (came : Applied) → IsEdit e → apply dim on rest e ≡ came → on ≡ top_of base left
+      → AreLinked dim rest t base left → AreLinked dim rest t base (with_made came on (Alone e) left)
   edit_links on left e (Refused cause) fits is top linked = linked
   edit_links on left e (Done made) fits is top linked =
       let opens = opens_on on left top linked in
@@ -96,7 +100,8 @@ module _ (dim rest : ℕ) (t : List ℕ) (base : List Element) where
       )
 
   -- and so is one of all that a fence chose
-  roots_link : (on : List Element) (left : List Made) (e : FenceEdit) (ns : List ℕ) (came : Applied) → IsFenceEdit e → AreRoots on ns → apply_all dim on rest e ns ≡ came → on ≡ top_of base left → AreLinked dim rest t base left
+  roots_link : (on : List Element) (left : List Made) (e : FenceEdit) (ns : List ℕ) (came : Applied) → IsFenceEdit e → AreRoots on ns
+      → apply_all dim on rest e ns ≡ came → on ≡ top_of base left → AreLinked dim rest t base left
       → AreLinked dim rest t base (with_made came on (Fenced e ns) left)
   roots_link on left e ns (Refused cause) fits roots is top linked = linked
   roots_link on left e ns (Done made) fits roots is top linked =
@@ -114,15 +119,19 @@ module _ (dim rest : ℕ) (t : List ℕ) (base : List Element) where
         linked,
       )
 
-  fence_links : (on : List Element) (left : List Made) (mask : Mask) (mode : Mode) (e : FenceEdit) (fence : Option (List Pt)) → IsFenceEdit e → on ≡ top_of base left → AreLinked dim rest t base left
-      → AreLinked dim rest t base (with_all_made (option_map (apply_all dim on rest e) (option_map (λ corners. selected dim mask corners mode on) fence)) (option_map (λ corners. selected dim mask corners mode on) fence) on e left)
+  fence_links : (on : List Element) (left : List Made) (mask : Mask) (mode : Mode) (e : FenceEdit) (fence : Option (List Pt)) → IsFenceEdit e
+      → on ≡ top_of base left → AreLinked dim rest t base left
+      → AreLinked dim rest t base
+      (with_all_made (option_map (apply_all dim on rest e) (option_map (λ corners. selected dim mask corners mode on) fence))
+      (option_map (λ corners. selected dim mask corners mode on) fence) on e left)
   fence_links on left mask mode e None fits top linked = linked
   fence_links on left mask mode e (Some corners) fits top linked =
       roots_link on left e (selected dim mask corners mode on) (apply_all dim on rest e (selected dim mask corners mode on)) fits
       ((λ n. takes mode corners (tree_shown dim mask on n)), refl) refl top linked
 
   -- an import puts trees behind
-  import_links : (on : List Element) (left : List Made) (b : List ℕ) → AreTrees dim b → length (spelling on) + rest + length b ≤ 67108864 → on ≡ top_of base left → AreLinked dim rest t base left
+  import_links : (on : List Element) (left : List Made) (b : List ℕ) → AreTrees dim b → length (spelling on) + rest + length b ≤ 67108864
+      → on ≡ top_of base left → AreLinked dim rest t base left
       → AreLinked dim rest t base (record { on = on; making = Imported (elements_of dim b); made = on ++ elements_of dim b } ∷ left)
   import_links on left b trees few top linked =
       let behind = import_behind dim t on b trees (opens_on on left top linked) in (
@@ -139,7 +148,8 @@ module _ (dim rest : ℕ) (t : List ℕ) (base : List Element) where
       )
 
   -- and so is a fit
-  fit_links : (on : List Element) (left : List Made) (n : ℕ) (came : Applied) → apply_fit dim on n ≡ came → on ≡ top_of base left → AreLinked dim rest t base left → AreLinked dim rest t base (with_made came on (Fitted n) left)
+  fit_links : (on : List Element) (left : List Made) (n : ℕ) (came : Applied) → apply_fit dim on n ≡ came → on ≡ top_of base left
+      → AreLinked dim rest t base left → AreLinked dim rest t base (with_made came on (Fitted n) left)
   fit_links on left n (Refused cause) is top linked = linked
   fit_links on left n (Done made) is top linked =
       let opens = opens_on on left top linked in
@@ -164,10 +174,13 @@ module _ (dim rest : ℕ) (t : List ℕ) (base : List Element) where
   undo_links false (m ∷ left) linked = linked.2
 
 -- a command leaves such edits
-command_links : (t : List ℕ) (base : List Element) (s : State) (left : List Made) (c : Command) → IsEditIn c → IsStacked base s left → AreLinked s.dim s.rest t base left → AreLinked s.dim s.rest t base (with_command s c left)
+command_links : (t : List ℕ) (base : List Element) (s : State) (left : List Made) (c : Command) → IsEditIn c → IsStacked base s left
+    → AreLinked s.dim s.rest t base left → AreLinked s.dim s.rest t base (with_command s c left)
 command_links t base s left (command.Import name by) fits stacked linked = linked
-command_links t base s left (command.Edit e) fits stacked linked = edit_links s.dim s.rest t base s.top left e (applied e s) fits refl (stack_top base s left stacked) linked
-command_links t base s left (command.Fenced mode e) fits stacked linked = fence_links s.dim s.rest t base s.top left s.mask mode e s.fence fits (stack_top base s left stacked) linked
+command_links t base s left (command.Edit e) fits stacked linked =
+    edit_links s.dim s.rest t base s.top left e (applied e s) fits refl (stack_top base s left stacked) linked
+command_links t base s left (command.Fenced mode e) fits stacked linked =
+    fence_links s.dim s.rest t base s.top left s.mask mode e s.fence fits (stack_top base s left stacked) linked
 command_links t base s left command.Undo fits stacked linked = undo_links s.dim s.rest t base (undo_refused s) left linked
 command_links t base s left (command.Levels mask) fits stacked linked = linked
 command_links t base s left (command.Fence corners) fits stacked linked = linked
@@ -179,17 +192,20 @@ command_links t base s left command.Refs fits stacked linked = linked
 command_links t base s left (command.Links n) fits stacked linked = linked
 command_links t base s left (command.Select mode) fits stacked linked = linked
 command_links t base s left command.Audit fits stacked linked = linked
-command_links t base s left (command.Fit n) fits stacked linked = fit_links s.dim s.rest t base s.top left n (apply_fit s.dim s.top n) refl (stack_top base s left stacked) linked
+command_links t base s left (command.Fit n) fits stacked linked =
+    fit_links s.dim s.rest t base s.top left n (apply_fit s.dim s.top n) refl (stack_top base s left stacked) linked
 
 -- a step leaves such edits
-import_leaves : (t : List ℕ) (base : List Element) (s : State) (left : List Made) (v : SecondValue) (by : Option Displacement) (came : Importing) → importing_of s v by ≡ came → IsStep (Import v by)
+import_leaves : (t : List ℕ) (base : List Element) (s : State) (left : List Made) (v : SecondValue) (by : Option Displacement) (came : Importing)
+    → importing_of s v by ≡ came → IsStep (Import v by)
     → IsStacked base s left → AreLinked s.dim s.rest t base left → AreLinked s.dim s.rest t base (with_import came s left)
 import_leaves t base s left v by (Appends b count) is fits stacked linked =
     let so = appended s v by b count is fits in
     import_links s.dim s.rest t base s.top left b so.0 so.1 (stack_top base s left stacked) linked
 import_leaves t base s left v by (Declines line) is fits stacked linked = linked
 
-step_links : (t : List ℕ) (base : List Element) (s : State) (left : List Made) (g : Given) → IsStep g → IsStacked base s left → AreLinked s.dim s.rest t base left → AreLinked s.dim s.rest t base (with_step s g left)
+step_links : (t : List ℕ) (base : List Element) (s : State) (left : List Made) (g : Given) → IsStep g → IsStacked base s left
+    → AreLinked s.dim s.rest t base left → AreLinked s.dim s.rest t base (with_step s g left)
 step_links t base s left (Plain c) fits stacked linked = command_links t base s left c fits stacked linked
 step_links t base s left (Import v by) fits stacked linked = import_leaves t base s left v by (importing_of s v by) refl fits stacked linked
 
@@ -214,7 +230,8 @@ module _ {X : Type 0} (part : State → X) (stack : (top : List Element) (earlie
   command_keeps s (command.Fenced mode e) = pushed_if_keeps (fence_applied mode e s) s
   command_keeps s command.Undo = dropped_keeps s.earlier s
   command_keeps s (command.Levels m) = mask m s
-  command_keeps s (command.Fence corners) = cond_both (fence_refused corners) s (with_fence (Some corners) s) (λ (after : State). part after ≡ part s) (λ _. refl) (λ _. fence (Some corners) s)
+  command_keeps s (command.Fence corners) =
+      cond_both (fence_refused corners) s (with_fence (Some corners) s) (λ (after : State). part after ≡ part s) (λ _. refl) (λ _. fence (Some corners) s)
   command_keeps s command.NoFence = fence None s
   command_keeps s command.Show = refl
   command_keeps s (command.Tree n) = refl
@@ -248,18 +265,22 @@ pub steps_dim : (gs : List Given) (s : State) → (after_all gs s).dim ≡ s.dim
 steps_dim gs s = steps_keep (λ (x : State). x.dim) (λ _ _ _. refl) (λ _ _. refl) (λ _ _. refl) gs s
 
 -- steps leave such edits
-pub steps_link : (t : List ℕ) (base : List Element) (gs : List Given) (s : State) (left : List Made) → All IsStep gs → IsStacked base s left → AreLinked s.dim s.rest t base left → AreLinked s.dim s.rest t base (with_steps gs s left)
+pub steps_link : (t : List ℕ) (base : List Element) (gs : List Given) (s : State) (left : List Made) → All IsStep gs → IsStacked base s left
+    → AreLinked s.dim s.rest t base left → AreLinked s.dim s.rest t base (with_steps gs s left)
 steps_link t base [] s left fits stacked linked = linked
 steps_link t base (g ∷ gs) s left fits stacked linked =
     let next : State = after_step s g in
     let more : List Made = with_step s g left in
     let one = step_links t base s left g (All-head IsStep g gs fits) stacked linked in
-    let here = subst (λ (n : ℕ). AreLinked n next.rest t base more) (sym (step_dim s g)) (subst (λ (n : ℕ). AreLinked s.dim n t base more) (sym (step_rest s g)) one) in
+    let here = subst (λ (n : ℕ). AreLinked n next.rest t base more) (sym (step_dim s g))
+    (subst (λ (n : ℕ). AreLinked s.dim n t base more) (sym (step_rest s g)) one) in
     let all = steps_link t base gs next more (All-tail IsStep g gs fits) (step_stacks base s left g stacked) here in
-    subst (λ (n : ℕ). AreLinked s.dim n t base (with_steps gs next more)) (step_rest s g) (subst (λ (n : ℕ). AreLinked n next.rest t base (with_steps gs next more)) (step_dim s g) all)
+    subst (λ (n : ℕ). AreLinked s.dim n t base (with_steps gs next more)) (step_rest s g)
+    (subst (λ (n : ℕ). AreLinked n next.rest t base (with_steps gs next more)) (step_dim s g) all)
 
 -- they have no fewer bytes than the lowest
-pub linked_long : (dim rest : ℕ) (t : List ℕ) (base : List Element) (left : List Made) → AreLinked dim rest t base left → length (spelling base) ≤ length (spelling (top_of base left))
+pub linked_long : (dim rest : ℕ) (t : List ℕ) (base : List Element) (left : List Made) → AreLinked dim rest t base left
+    → length (spelling base) ≤ length (spelling (top_of base left))
 linked_long dim rest t base [] linked = omega arith
 linked_long dim rest t base (m ∷ left) linked =
     let below = linked_long dim rest t base left linked.2 in
@@ -268,7 +289,8 @@ linked_long dim rest t base (m ∷ left) linked =
     omega arith
 
 -- and the same byte at each place that none of the edits writes
-pub linked_same : (dim rest : ℕ) (t : List ℕ) (base : List Element) (left : List Made) (p : ℕ) → AreLinked dim rest t base left → p < length (spelling base) → All (IsOutside dim p) left → get_or (spelling (top_of base left)) p 0 ≡ get_or (spelling base) p 0
+pub linked_same : (dim rest : ℕ) (t : List ℕ) (base : List Element) (left : List Made) (p : ℕ) → AreLinked dim rest t base left → p < length (spelling base)
+    → All (IsOutside dim p) left → get_or (spelling (top_of base left)) p 0 ≡ get_or (spelling base) p 0
 linked_same dim rest t base [] p linked below all = refl
 linked_same dim rest t base (m ∷ left) p linked below all =
     let long = linked_long dim rest t base left linked.2 in
@@ -278,7 +300,8 @@ linked_same dim rest t base (m ∷ left) p linked below all =
     ∙ linked_same dim rest t base left p linked.2 below (All-tail (IsOutside dim p) m left all)
 
 -- and they keep the limit of a design file where the lowest do
-pub linked_fits : (dim rest : ℕ) (t : List ℕ) (base : List Element) (left : List Made) → AreLinked dim rest t base left → length (spelling base) + rest ≤ 67108864 → length (spelling (top_of base left)) + rest ≤ 67108864
+pub linked_fits : (dim rest : ℕ) (t : List ℕ) (base : List Element) (left : List Made) → AreLinked dim rest t base left
+    → length (spelling base) + rest ≤ 67108864 → length (spelling (top_of base left)) + rest ≤ 67108864
 linked_fits dim rest t base [] linked few = few
 linked_fits dim rest t base (m ∷ left) linked few =
     linked.0.fits (subst (λ (es : List Element). length (spelling es) + rest ≤ 67108864) (sym linked.1) (linked_fits dim rest t base left linked.2 few))

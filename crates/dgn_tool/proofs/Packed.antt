@@ -1,5 +1,6 @@
 -- What is taken off a session's log are the packed entries of the edits that are left.
-use Rattle.std.proofs.Common.{◌≡◌, ℕ, ◌+◌, ◌<◌, ◌≤◌, min, Bool, true, false, cond, nat_lt, codes, List, [], ◌∷◌, ◌++◌, length, map, reverse, refl, sym, ap, ◌∙◌, subst, arith}
+use Rattle.std.proofs.Common.{◌≡◌, ℕ, ◌+◌, ◌<◌, ◌≤◌, min, Bool, true, false, cond, nat_lt, codes, List, [], ◌∷◌, ◌++◌, length, map, reverse, refl, sym, ap}
+use Rattle.std.proofs.Common.{◌∙◌, subst, arith}
 use Rattle.std.proofs.lemmas.Bool.Decides.{nat_tests}
 use Rattle.std.proofs.lemmas.List.{append-nil, reverse-append, map-append, length-map}
 use Rattle.undo_log.specs.declared.entry.Entry.{Entry}
@@ -36,7 +37,8 @@ tails x y xs ys is = let e = is in cc
 
 -- the last one is taken off what the newest edit made, and so on back
 taken_are : (dim : ℕ) (tail b : List ℕ) (base : List Element) (left : List Made) → AreKept dim tail b (map (entry_made dim) left)
-    → map (elements_of dim) (bodies b (map (entry_made dim) left)) ≡ lists_made left ++ base ∷ [] → all_taken b (map (entry_made dim) left) ≡ map (packed_made dim) (reverse left)
+    → map (elements_of dim) (bodies b (map (entry_made dim) left)) ≡ lists_made left ++ base ∷ []
+    → all_taken b (map (entry_made dim) left) ≡ map (packed_made dim) (reverse left)
 taken_are dim tail b base [] kept lists = refl
 taken_are dim tail b base (m ∷ left) kept lists =
     let earlier : List (List Element) = map (elements_of dim) (bodies (back b (entry_made dim m)) (map (entry_made dim) left)) in
@@ -85,29 +87,34 @@ reversed_packed (p ∷ taken) =
     ∙ sym (map-append packed_of (reverse taken) (p ∷ []))
     ∙ ap all_packed (sym (reverse-append (p ∷ []) taken))
 
-pub taken_all : (from v : SessionValue) (taken all : List PatchEntry) → TakenSo from v taken → length from.entries ≡ length taken → all ≡ reverse taken → all_packed all ≡ all_taken from.body (reverse from.entries)
+pub taken_all : (from v : SessionValue) (taken all : List PatchEntry) → TakenSo from v taken → length from.entries ≡ length taken → all ≡ reverse taken
+    → all_packed all ≡ all_taken from.body (reverse from.entries)
 taken_all from v taken all so many is =
     let none : v.entries ≡ [] = none_left v.entries (omega (arith, so.long, many)) in
     ap all_packed is ∙ sym (reversed_packed taken)
     ∙ sym (so.whole ∙ ap (λ (es : List Entry). all_taken v.body (reverse es) ++ reverse (all_packed taken)) none)
 
 -- the outcome, by the bytes that are written and the text that is said
-pub filed_so : (entries : List PatchEntry) (refused : ℕ) (patch file text : List ℕ) (status : Status) → file ≡ patch_spelling (all_packed entries) → text ≡ numbered (codes "entries ") (length entries) → status ≡ status_with refused
+pub filed_so : (entries : List PatchEntry) (refused : ℕ) (patch file text : List ℕ) (status : Status) → file ≡ patch_spelling (all_packed entries)
+    → text ≡ numbered (codes "entries ") (length entries) → status ≡ status_with refused
     → filed_patch (all_packed entries) refused patch ≡ filed_then_said status text patch (file ++ ([] ++ []))
 filed_so entries refused patch file text status spelled said is =
     ap (λ (st : Status). filed_then_said st (numbered (codes "entries ") (length (all_packed entries))) patch (patch_spelling (all_packed entries))) (sym is)
-    ∙ ap (λ (x : List ℕ). filed_then_said status x patch (patch_spelling (all_packed entries))) (ap (numbered (codes "entries ")) (length-map entries packed_of) ∙ sym said)
+    ∙ ap (λ (x : List ℕ). filed_then_said status x patch (patch_spelling (all_packed entries)))
+    (ap (numbered (codes "entries ")) (length-map entries packed_of) ∙ sym said)
     ∙ ap (filed_then_said status text patch) (sym spelled ∙ sym (append-nil file))
 
 -- the outcome of a patch file that isn't too long, and of one that is
-pub packed_short : (cs : List Given) (s : State) (es : List Packed) (refused : ℕ) (patch : List ℕ) → es ≡ packed_after cs s → refused ≡ refused_count cs s → length (patch_spelling es) ≤ 134217728 → filed_patch es refused patch ≡ packed_from s cs patch
+pub packed_short : (cs : List Given) (s : State) (es : List Packed) (refused : ℕ) (patch : List ℕ) → es ≡ packed_after cs s → refused ≡ refused_count cs s
+    → length (patch_spelling es) ≤ 134217728 → filed_patch es refused patch ≡ packed_from s cs patch
 packed_short cs s es refused patch same count short =
     let within : length (patch_spelling (packed_after cs s)) ≤ 134217728 = subst (λ (ps : List Packed). length (patch_spelling ps) ≤ 134217728) same short in
     let test : nat_lt 134217728 (length (patch_spelling (packed_after cs s))) ≡ false = grind (arith, nat_tests) in
     ap (λ (ps : List Packed). filed_patch ps refused patch) same ∙ ap (λ (n : ℕ). filed_patch (packed_after cs s) n patch) count
     ∙ sym (ap (λ (b : Bool). cond b (ended statuses.TooLong (codes "too long patch\n")) (filed_patch (packed_after cs s) (refused_count cs s) patch)) test)
 
-pub packed_long : (cs : List Given) (s : State) (es : List Packed) (patch : List ℕ) → es ≡ packed_after cs s → 134217728 < length (patch_spelling es) → ended statuses.TooLong (codes "too long patch\n") ≡ packed_from s cs patch
+pub packed_long : (cs : List Given) (s : State) (es : List Packed) (patch : List ℕ) → es ≡ packed_after cs s → 134217728 < length (patch_spelling es)
+    → ended statuses.TooLong (codes "too long patch\n") ≡ packed_from s cs patch
 packed_long cs s es patch same long =
     let over : 134217728 < length (patch_spelling (packed_after cs s)) = subst (λ (ps : List Packed). 134217728 < length (patch_spelling ps)) same long in
     let test : nat_lt 134217728 (length (patch_spelling (packed_after cs s))) ≡ true = grind (arith, nat_tests) in

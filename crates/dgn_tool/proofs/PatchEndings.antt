@@ -27,20 +27,24 @@ use Rattle.dgn_answers.proofs.Counting.{spelled_with}
 use Rattle.dgn_tool.proofs.Patching.{where_one_differs, one_differs, all_made}
 
 -- what was read of PATCH goes on so
-reads : (b tail patch output : List ℕ) (found : Result (List Packed) ℕ) → length patch ≤ 134217728 → patch_of patch ≡ found → body_patched b tail patch output ≡ reading_outcome b tail (length patch) found output
+reads : (b tail patch output : List ℕ) (found : Result (List Packed) ℕ) → length patch ≤ 134217728 → patch_of patch ≡ found
+    → body_patched b tail patch output ≡ reading_outcome b tail (length patch) found output
 reads b tail patch output found h e =
     let test : nat_lt 134217728 (length patch) ≡ false = grind (arith, nat_tests) in
     rw (test, e) refl
 
 -- the outcome by what was read of PATCH
-reads_patch : (b tail name text output : List ℕ) (found : Result (List Packed) ℕ) (files : Files) → patch_of text ≡ found → IsWholeFile name 134217728 files text → body_patched b tail (bytes_of files name) output ≡ reading_outcome b tail (length text) found output
+reads_patch : (b tail name text output : List ℕ) (found : Result (List Packed) ℕ) (files : Files) → patch_of text ≡ found
+    → IsWholeFile name 134217728 files text → body_patched b tail (bytes_of files name) output ≡ reading_outcome b tail (length text) found output
 reads_patch b tail name text output found files e is =
     ap (λ (x : List ℕ). body_patched b tail x output) (sym is.1) ∙ reads b tail text output found is.0 e
 
-pub reads_entries : (b tail name text output : List ℕ) (es : List Packed) (files : Files) → patch_of text ≡ Ok es → IsWholeFile name 134217728 files text → body_patched b tail (bytes_of files name) output ≡ entries_outcome b tail es output
+pub reads_entries : (b tail name text output : List ℕ) (es : List Packed) (files : Files) → patch_of text ≡ Ok es → IsWholeFile name 134217728 files text
+    → body_patched b tail (bytes_of files name) output ≡ entries_outcome b tail es output
 reads_entries b tail name text output es files e is = reads_patch b tail name text output (Ok es) files e is
 
-pub reads_bad : (b tail name text output : List ℕ) (offset : ℕ) (files : Files) → IsBadAt text offset → IsWholeFile name 134217728 files text → body_patched b tail (bytes_of files name) output ≡ ended statuses.BadPatch (numbered (codes "bad patch at ") offset)
+pub reads_bad : (b tail name text output : List ℕ) (offset : ℕ) (files : Files) → IsBadAt text offset → IsWholeFile name 134217728 files text
+    → body_patched b tail (bytes_of files name) output ≡ ended statuses.BadPatch (numbered (codes "bad patch at ") offset)
 reads_bad b tail name text output offset files bad is =
     let place = bad.place in
     let at_offset : length text - bad.left ≡ offset = omega arith in
@@ -54,17 +58,21 @@ few_read read es same are =
     omega (arith, ap (length {A = PatchEntry}) same, length-map read packed_of)
 
 -- where IN opens, `apply` goes on with PATCH
-pub goes_on : (name patch output : List ℕ) (d : Design) (files : Files) → IsWhole d → OpensAs name files (opened_of d) → input_outcome (bytes_of files name) (λ x. patched x (bytes_of files patch) output) ≡ body_patched d.body.items d.tail.items (bytes_of files patch) output
+pub goes_on : (name patch output : List ℕ) (d : Design) (files : Files) → IsWhole d → OpensAs name files (opened_of d)
+    → input_outcome (bytes_of files name) (λ x. patched x (bytes_of files patch) output)
+    ≡ body_patched d.body.items d.tail.items (bytes_of files patch) output
 goes_on name patch output d files whole opens =
     input_opens (bytes_of files name) (λ x. patched x (bytes_of files patch) output) (Ok (opened_of d)) opens.0 opens.1
     ∙ ap (λ (b : List ℕ). body_patched b d.tail.items (bytes_of files patch) output) (sym (spelled_with d.dim d.body.items d whole refl refl))
 
 -- what entries come to, by what they made
-pub entries_made : (b tail output : List ℕ) (es : List Packed) (made : Patched) → put_from (length tail) 1 b es ≡ made → entries_outcome b tail es output ≡ patched_outcome (length b) tail (length es) made output
+pub entries_made : (b tail output : List ℕ) (es : List Packed) (made : Patched) → put_from (length tail) 1 b es ≡ made
+    → entries_outcome b tail es output ≡ patched_outcome (length b) tail (length es) made output
 entries_made b tail output es made is = ap (λ (p : Patched). patched_outcome (length b) tail (length es) p output) is
 
 -- and where they made a body, by the text that is said
-pub applied_so : (before : ℕ) (b tail output : List ℕ) (entries : List PatchEntry) (made text : List ℕ) → before ≡ length b → put_from (length tail) 1 b (all_packed entries) ≡ Made made → text ≡ numbered (codes "applied ") (length entries)
+pub applied_so : (before : ℕ) (b tail output : List ℕ) (entries : List PatchEntry) (made text : List ℕ) → before ≡ length b
+    → put_from (length tail) 1 b (all_packed entries) ≡ Made made → text ≡ numbered (codes "applied ") (length entries)
     → entries_outcome b tail (all_packed entries) output ≡ filed_then_said statuses.Done text output (file_made before tail made)
 applied_so before b tail output entries made text is put said =
     entries_made b tail output (all_packed entries) (Made made) put
@@ -75,7 +83,8 @@ applied_so before b tail output entries made text is put said =
 -- Laws.
 
 -- a run that applies entries to a drawing comes to what these come to on it
-applies : (words : List (List ℕ)) (files : Files) (d : Opened) (es : List Packed) (output : List ℕ) → Applies words files d es output → outcome words files ≡ entries_outcome (spelling d.elements) d.tail es output
+applies : (words : List (List ℕ)) (files : Files) (d : Opened) (es : List Packed) (output : List ℕ) → Applies words files d es output
+    → outcome words files ≡ entries_outcome (spelling d.elements) d.tail es output
 applies words files d es output a =
     let go_on : Opened → Outcome = λ x. patched x (bytes_of files a.patch) output in
     ap (λ request. outcome_of request files) a.asked
@@ -90,10 +99,12 @@ refuses_where_one_differs words files d es output k a at =
 pub applies_all : AppliesAll
 applies_all words files d es output a stand fit =
     applies words files d es output a
-    ∙ entries_made (spelling d.elements) d.tail output es (Made (put_all (spelling d.elements) es)) (all_made (length d.tail) 1 (spelling d.elements) es stand fit)
+    ∙ entries_made (spelling d.elements) d.tail output es (Made (put_all (spelling d.elements) es))
+    (all_made (length d.tail) 1 (spelling d.elements) es stand fit)
 
 -- an outcome that refuses an entry is that of one that differs
-refused_so : (before : ℕ) (tail : List ℕ) (count : ℕ) (p : Patched) (output : List ℕ) → (patched_outcome before tail count p output).status ≡ statuses.PatchRefused → (k : ℕ) × (p ≡ Differs k)
+refused_so : (before : ℕ) (tail : List ℕ) (count : ℕ) (p : Patched) (output : List ℕ)
+    → (patched_outcome before tail count p output).status ≡ statuses.PatchRefused → (k : ℕ) × (p ≡ Differs k)
 refused_so before tail count (Made b) output is = absurd (cc)
 refused_so before tail count (Differs k) output is = (k, refl)
 refused_so before tail count Overruns output is = absurd (cc)

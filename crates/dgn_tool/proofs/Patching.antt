@@ -1,5 +1,6 @@
 -- What patch entries make of a body, one after the other.
-use Rattle.std.proofs.Common.{◌≡◌, ℕ, ◌+◌, ◌<◌, ◌≤◌, Bool, true, false, cond, Err, List, [], ◌∷◌, ◌++◌, length, map, drop, take, refl, sym, ap, ◌∙◌, subst, arith, length-append}
+use Rattle.std.proofs.Common.{◌≡◌, ℕ, ◌+◌, ◌<◌, ◌≤◌, Bool, true, false, cond, Err, List, [], ◌∷◌, ◌++◌, length, map, drop, take, refl, sym, ap, ◌∙◌, subst}
+use Rattle.std.proofs.Common.{arith, length-append}
 use Rattle.std.specs.Prelude.{◌==◌, not, nat_lt}
 use Rattle.std.specs.List.{list_all, AllByRecursion}
 use Rattle.std.proofs.lemmas.Bool.{false_from_ne_true}
@@ -37,45 +38,52 @@ differs tail k b e es not_so =
     rw test refl
 
 -- one that stands, and with which the drawing gets too long
-pub overruns : (tail k : ℕ) (b : List ℕ) (e : Packed) (es : List Packed) → Stands b e → 67108864 < length (put_on b e) + tail → put_from tail k b (e ∷ es) ≡ Overruns
+pub overruns : (tail k : ℕ) (b : List ℕ) (e : Packed) (es : List Packed) → Stands b e → 67108864 < length (put_on b e) + tail
+    → put_from tail k b (e ∷ es) ≡ Overruns
 overruns tail k b e es so long =
     let test : does_stand b e ≡ true = (stands_decided b e).1 so in
     let too : nat_lt 67108864 (length (put_on b e) + tail) ≡ true = grind (arith, nat_tests) in
     rw (test, too) refl
 
 -- one that stands, and keeps the limit
-pub goes_on : (tail k : ℕ) (b : List ℕ) (e : Packed) (es : List Packed) → Stands b e → length (put_on b e) + tail ≤ 67108864 → put_from tail k b (e ∷ es) ≡ put_from tail (k + 1) (put_on b e) es
+pub goes_on : (tail k : ℕ) (b : List ℕ) (e : Packed) (es : List Packed) → Stands b e → length (put_on b e) + tail ≤ 67108864
+    → put_from tail k b (e ∷ es) ≡ put_from tail (k + 1) (put_on b e) es
 goes_on tail k b e es so few =
     let test : does_stand b e ≡ true = (stands_decided b e).1 so in
     let fits : nat_lt 67108864 (length (put_on b e) + tail) ≡ false = grind (arith, nat_tests) in
     rw (test, fits) refl
 
 -- what one entry makes, others behind it go on with
-stepped : (x y : Bool) (k : ℕ) (b b' : List ℕ) (rest : List ℕ → Patched) → cond (not x) (Differs k) (cond y Overruns (Made b)) ≡ Made b' → cond (not x) (Differs k) (cond y Overruns (rest b)) ≡ rest b'
+stepped : (x y : Bool) (k : ℕ) (b b' : List ℕ) (rest : List ℕ → Patched) → cond (not x) (Differs k) (cond y Overruns (Made b)) ≡ Made b'
+    → cond (not x) (Differs k) (cond y Overruns (rest b)) ≡ rest b'
 stepped true true k b b' rest e = absurd (cc)
 stepped true false k b b' rest e = let same : b ≡ b' = cc in ap rest same
 stepped false y k b b' rest e = absurd (cc)
 
-pub goes_behind : (tail k : ℕ) (b b' : List ℕ) (e : Packed) (es : List Packed) → put_from tail k b (e ∷ []) ≡ Made b' → put_from tail k b (e ∷ es) ≡ put_from tail (k + 1) b' es
+pub goes_behind : (tail k : ℕ) (b b' : List ℕ) (e : Packed) (es : List Packed) → put_from tail k b (e ∷ []) ≡ Made b'
+    → put_from tail k b (e ∷ es) ≡ put_from tail (k + 1) b' es
 goes_behind tail k b b' e es one =
     stepped (does_stand b e) (nat_lt 67108864 (length (put_on b e) + tail)) k (put_on b e) b' (λ (x : List ℕ). put_from tail (k + 1) x es) one
 
 -- where one entry ends it, none behind it is put on
-ended : (x y : Bool) (k : ℕ) (b now : List ℕ) (rest : Patched) (end : PutEnd) → Puts (Err end) (cond (not x) (Differs k) (cond y Overruns (Made b))) now → Puts (Err end) (cond (not x) (Differs k) (cond y Overruns rest)) now
+ended : (x y : Bool) (k : ℕ) (b now : List ℕ) (rest : Patched) (end : PutEnd) → Puts (Err end) (cond (not x) (Differs k) (cond y Overruns (Made b))) now
+    → Puts (Err end) (cond (not x) (Differs k) (cond y Overruns rest)) now
 ended true true k b now rest end puts = puts
 ended true false k b now rest (ends.Refused number) puts = absurd (let x = puts in cc)
 ended true false k b now rest ends.TooLong puts = absurd (let x = puts in cc)
 ended true false k b now rest ends.Memory puts = tt
 ended false y k b now rest end puts = puts
 
-pub ends_there : (tail k : ℕ) (b now : List ℕ) (e : Packed) (es : List Packed) (end : PutEnd) → Puts (Err end) (put_from tail k b (e ∷ [])) now → Puts (Err end) (put_from tail k b (e ∷ es)) now
+pub ends_there : (tail k : ℕ) (b now : List ℕ) (e : Packed) (es : List Packed) (end : PutEnd) → Puts (Err end) (put_from tail k b (e ∷ [])) now
+    → Puts (Err end) (put_from tail k b (e ∷ es)) now
 ends_there tail k b now e es end puts =
     ended (does_stand b e) (nat_lt 67108864 (length (put_on b e) + tail)) k (put_on b e) now (put_from tail (k + 1) (put_on b e) es) end puts
 
 -- how long a body is with an entry on it
 pub length-put_on : (b : List ℕ) (e : PatchEntry) → Stands b (packed_of e) → length (put_on b (packed_of e)) ≡ length b + length e.append
 length-put_on b e so =
-    let within : AreWithin (length b) (map new_of e.fields) = subst (λ n. AreWithin n (map new_of e.fields)) (sym so.long) (news_within 0 e.len e.fields e.rules) in
+    let within : AreWithin (length b) (map new_of e.fields) =
+    subst (λ n. AreWithin n (map new_of e.fields)) (sym so.long) (news_within 0 e.len e.fields e.rules) in
     length-append (write b (map new_of e.fields)) e.append ∙ ap (λ (n : ℕ). n + length e.append) (length-write b (map new_of e.fields) within)
 
 -- Lists of entries.
@@ -86,7 +94,8 @@ all_made tail k b [] stand fit = refl
 all_made tail k b (e ∷ es) stand fit = goes_on tail k b e es stand.0 fit.0 ∙ all_made tail (k + 1) (put_on b e) es stand.1 fit.1
 
 -- so do those before one that doesn't stand
-first_differs : (tail k : ℕ) (b : List ℕ) (before : List Packed) (e : Packed) (behind : List Packed) → AllStand b before → AllFit tail b before → ¬ Stands (put_all b before) e → put_from tail k b (before ++ e ∷ behind) ≡ Differs (k + length before)
+first_differs : (tail k : ℕ) (b : List ℕ) (before : List Packed) (e : Packed) (behind : List Packed) → AllStand b before → AllFit tail b before
+    → ¬ Stands (put_all b before) e → put_from tail k b (before ++ e ∷ behind) ≡ Differs (k + length before)
 first_differs tail k b [] e behind stand fit not_so = differs tail k b e behind not_so ∙ ap Differs (omega arith)
 first_differs tail k b (x ∷ before) e behind stand fit not_so =
     goes_on tail k b x (before ++ e ∷ behind) stand.0 fit.0
@@ -108,7 +117,8 @@ record DiffersFrom (tail k : ℕ) (b : List ℕ) (es : List Packed) (j : ℕ) : 
   fit : AllFit tail b before
   differs : ¬ Stands (put_all b before) entry
 
-one_more : (tail k : ℕ) (b : List ℕ) (e : Packed) (es : List Packed) (j : ℕ) → Stands b e → length (put_on b e) + tail ≤ 67108864 → DiffersFrom tail (k + 1) (put_on b e) es j → DiffersFrom tail k b (e ∷ es) j
+one_more : (tail k : ℕ) (b : List ℕ) (e : Packed) (es : List Packed) (j : ℕ) → Stands b e → length (put_on b e) + tail ≤ 67108864
+    → DiffersFrom tail (k + 1) (put_on b e) es j → DiffersFrom tail k b (e ∷ es) j
 one_more tail k b e es j so few at =
     let n = at.number in
     record {
@@ -126,7 +136,8 @@ found_from : (tail k : ℕ) (b : List ℕ) (es : List Packed) (j : ℕ) → put_
 found_from tail k b [] j is = absurd (cc)
 found_from tail k b (e ∷ es) j is = by (found_from tail (k + 1) (put_on b e) es j) (does_stand b e) (nat_lt 67108864 (length (put_on b e) + tail)) refl refl
   where
-    by : (put_from tail (k + 1) (put_on b e) es ≡ Differs j → DiffersFrom tail (k + 1) (put_on b e) es j) → (x y : Bool) → does_stand b e ≡ x → nat_lt 67108864 (length (put_on b e) + tail) ≡ y → DiffersFrom tail k b (e ∷ es) j
+    by : (put_from tail (k + 1) (put_on b e) es ≡ Differs j → DiffersFrom tail (k + 1) (put_on b e) es j) → (x y : Bool) → does_stand b e ≡ x
+        → nat_lt 67108864 (length (put_on b e) + tail) ≡ y → DiffersFrom tail k b (e ∷ es) j
     by rest false y s l =
         let now : put_from tail k b (e ∷ es) ≡ Differs k = rw s refl in
         let same : Differs k ≡ Differs j = sym now ∙ is in
@@ -153,4 +164,14 @@ found_from tail k b (e ∷ es) j is = by (found_from tail (k + 1) (put_on b e) e
 pub one_differs : (tail : ℕ) (b : List ℕ) (es : List Packed) (k : ℕ) → put_from tail 1 b es ≡ Differs k → DiffersAt tail b es k
 one_differs tail b es k is =
     let at = found_from tail 1 b es k is in
-    record { before = at.before; entry = at.entry; behind = at.behind; parts = at.parts; number = at.number; stand = at.stand; fit = at.fit; differs = at.differs }
+    record {
+      before = at.before;
+      entry = at.entry;
+      behind = at.behind;
+      parts = at.parts;
+      number = at.number;
+      stand = at.stand;
+      fit = at.fit;
+      differs =
+          at.differs;
+    }

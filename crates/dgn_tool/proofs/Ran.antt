@@ -48,7 +48,8 @@ ran_none all s old = record {
 }
 
 -- one more command
-pub ran_more : (all left : List Given) (c : Given) (refused : ℕ) (was : Bool) (line : List ℕ) (from s new : State) (old now then : Seen) → Ran all (c ∷ left) refused from s old now
+pub ran_more : (all left : List Given) (c : Given) (refused : ℕ) (was : Bool) (line : List ℕ) (from s new : State) (old now then : Seen)
+    → Ran all (c ∷ left) refused from s old now
     → new ≡ after_step s c → line ≡ step_text s c → Writes {T = Unit {0}} (Ok tt) (SaysAll (Ok tt) line) now then → was ≡ step_refused s c
     → Ran all left (refused + from_bool was) from new old then
 ran_more all left c refused was line from s new old now then ran new_is line_is says was_is =
@@ -58,7 +59,9 @@ ran_more all left c refused was line from s new old now then ran new_is line_is 
       texts = ran.texts
           ∙ ap (λ (t : State). ran.done ++ (text ++ texts_of left t)) (sym new_is)
           ∙ sym (append_assoc ran.done text (texts_of left new));
-      said = then_so tt (Ok tt) ran.said says (λ before more. more ∙ ap (λ (l : List ℕ). option_map (spoken l) now.content) line_is ∙ ap (option_map (spoken text)) before ∙ spoken-append ran.done text old.content);
+      said = then_so tt (Ok tt) ran.said says
+          (λ before more. more ∙ ap (λ (l : List ℕ). option_map (spoken l) now.content) line_is ∙ ap (option_map (spoken text)) before
+          ∙ spoken-append ran.done text old.content);
       count = ran.count
           ∙ ap (λ (t : State). refused + (from_bool (step_refused s c) + refused_count left t)) (sym new_is)
           ∙ sum_moved refused (from_bool (step_refused s c)) (refused_count left new)
@@ -67,21 +70,25 @@ ran_more all left c refused was line from s new old now then ran new_is line_is 
     }
 
 -- where no command is left, all is done
-pub ran_all : (all left : List Given) (refused : ℕ) (from s : State) (old now : Seen) → Ran all left refused from s old now → left ≡ [] → refused ≡ refused_count all from
+pub ran_all : (all left : List Given) (refused : ℕ) (from s : State) (old now : Seen) → Ran all left refused from s old now → left ≡ []
+    → refused ≡ refused_count all from
 ran_all all left refused from s old now ran none =
     sym (ran.count ∙ ap (λ (cs : List Given). refused + refused_count cs s) none ∙ sum_zero refused)
 
-pub ran_said : (all left : List Given) (refused : ℕ) (from s : State) (old now : Seen) → Ran all left refused from s old now → left ≡ [] → Writes {T = ℕ} (Ok refused) (SaysAs {T = ℕ} (Ok refused) (texts_of all from)) old now
+pub ran_said : (all left : List Given) (refused : ℕ) (from s : State) (old now : Seen) → Ran all left refused from s old now → left ≡ []
+    → Writes {T = ℕ} (Ok refused) (SaysAs {T = ℕ} (Ok refused) (texts_of all from)) old now
 ran_said all left refused from s old now ran none =
     let whole : texts_of all from ≡ ran.done = ran.texts ∙ ap (λ (cs : List Given). ran.done ++ texts_of cs s) none ∙ append-nil ran.done in
     done_so tt refused ran.said (λ said. said ∙ ap (λ (t : List ℕ). option_map (spoken t) old.content) (sym whole))
 
-pub ran_state : (all left : List Given) (refused : ℕ) (from s : State) (old now : Seen) → Ran all left refused from s old now → left ≡ [] → s ≡ after_all all from
+pub ran_state : (all left : List Given) (refused : ℕ) (from s : State) (old now : Seen) → Ran all left refused from s old now → left ≡ []
+    → s ≡ after_all all from
 ran_state all left refused from s old now ran none =
     sym (ran.state ∙ ap (λ (cs : List Given). after_all cs s) none)
 
 -- where there is no memory for the next, a front of the texts was said
-pub ran_front : (all left : List Given) (refused : ℕ) (from s : State) (old now : Seen) → Ran all left refused from s old now → Writes {T = ℕ} (Err stops.Memory) (SaysAs {T = ℕ} (Err stops.Memory) (texts_of all from)) old now
+pub ran_front : (all left : List Given) (refused : ℕ) (from s : State) (old now : Seen) → Ran all left refused from s old now
+    → Writes {T = ℕ} (Err stops.Memory) (SaysAs {T = ℕ} (Err stops.Memory) (texts_of all from)) old now
 ran_front all left refused from s old now ran = record {
   cause = ran.said.cause;
   other = ran.said.other;
@@ -91,7 +98,10 @@ ran_front all left refused from s old now ran = record {
 }
 
 -- and where the desk stops in the midst of its text, a front of that too
-pub ran_part : (all left : List Given) (c : Given) (refused : ℕ) (stop : Stop) (line : List ℕ) (from s : State) (old now then : Seen) → Ran all (c ∷ left) refused from s old now → line ≡ step_text s c → Writes {T = Unit {0}} (Err stop) (SaysAll (Err stop) line) now then → Writes {T = ℕ} (Err stop) (SaysAs {T = ℕ} (Err stop) (texts_of all from)) old then
+pub ran_part : (all left : List Given) (c : Given) (refused : ℕ) (stop : Stop) (line : List ℕ) (from s : State) (old now then : Seen)
+    → Ran all (c ∷ left) refused from s old now → line ≡ step_text s c
+    → Writes {T = Unit {0}} (Err stop) (SaysAll (Err stop) line) now then → Writes {T = ℕ} (Err stop) (SaysAs {T = ℕ} (Err stop) (texts_of all from))
+    old then
 ran_part all left c refused stop line from s old now then ran line_is says =
     let both : Writes {T = Unit {0}} (Err stop) (λ a b. SaysFront (texts_of all from) a b) old then =
     then_so tt (Err stop) ran.said says (λ before part.

@@ -35,10 +35,17 @@ use Rattle.dgn_tool.proofs.Linked.{IsLink, top_of, AreLinked, stack_top, steps_l
 few_packed : (es : List Packed) → length es ≤ length (flat_map entry_spelling es)
 few_packed [] = omega arith
 few_packed (e ∷ es) =
-    omega (arith, few_packed es, length-entry e, ap (length {A = ℕ}) (flat_map-cons entry_spelling e es), length-append (entry_spelling e) (flat_map entry_spelling es))
+    omega (
+      arith,
+      few_packed es,
+      length-entry e,
+      ap (length {A = ℕ}) (flat_map-cons entry_spelling e es),
+      length-append (entry_spelling e) (flat_map entry_spelling es),
+    )
 
 -- the exchanges of fields that rise keep the rules
-rules_kept : (b c : List ℕ) (m : ℕ) (fs : List Field) (n : ℕ) → m ≤ length b → m ≤ length c → Rise n fs m → AllByRecursion HasFew fs → AllKeepRules n m (map (exchanged c) (filled b fs))
+rules_kept : (b c : List ℕ) (m : ℕ) (fs : List Field) (n : ℕ) → m ≤ length b → m ≤ length c → Rise n fs m → AllByRecursion HasFew fs
+    → AllKeepRules n m (map (exchanged c) (filled b fs))
 rules_kept b c m [] n long there rise sized = tt
 rules_kept b c m (f ∷ fs) n long there rise sized =
     let ends = rise_long m fs (f.at + f.len) rise.1 in
@@ -69,11 +76,16 @@ module _ (dim rest : ℕ) (t : List ℕ) (m : Made) (link : IsLink dim rest t m)
   entry_leads =
       ap (λ (e : Entry). back (spelling m.made) e) (sym same_entry)
       ∙ ap (λ (b : List ℕ). back b (entry_of (spelling m.on) puts)) link.written
-      ∙ leads_back (spelling m.on) puts (drop (length (spelling m.on)) (spelling m.made)) (filled_rise (spelling m.made) (length (spelling m.on)) (fields_made dim m.on m.making) 0 link.long link.rise)
+      ∙ leads_back (spelling m.on) puts (drop (length (spelling m.on)) (spelling m.made))
+      (filled_rise (spelling m.made) (length (spelling m.on)) (fields_made dim m.on m.making) 0 link.long link.rise)
 
   -- and may be taken
   entry_may : MayTake (spelling m.made) (entry_made dim m)
-  entry_may = record { long = link.long; rising = filled_rise (spelling m.on) (length (spelling m.on)) (fields_made dim m.on m.making) 0 (omega arith) link.rise }
+  entry_may = record {
+    long = link.long;
+    rising =
+        filled_rise (spelling m.on) (length (spelling m.on)) (fields_made dim m.on m.making) 0 (omega arith) link.rise;
+  }
 
   -- what is taken has a spelling
   is_entry : length (spelling m.made) ≤ 67108864 → IsEntry (packed_made dim m)
@@ -82,11 +94,13 @@ module _ (dim rest : ℕ) (t : List ℕ) (m : Made) (link : IsLink dim rest t m)
       record {
         len = omega arith;
         append = omega (arith, length-drop (length (spelling m.on)) (spelling m.made));
-        rules = rules_kept (spelling m.on) (spelling m.made) (length (spelling m.on)) (fields_made dim m.on m.making) 0 (omega arith) link.long link.rise (made_few dim m.on m.making);
+        rules = rules_kept (spelling m.on) (spelling m.made) (length (spelling m.on)) (fields_made dim m.on m.making) 0 (omega arith) link.long link.rise
+            (made_few dim m.on m.making);
       }
 
 -- one more behind others
-fit_more : (rest : ℕ) (b : List ℕ) (es : List Packed) (e : Packed) → AllFit rest b es → length (put_on (put_all b es) e) + rest ≤ 67108864 → AllFit rest b (es ++ e ∷ [])
+fit_more : (rest : ℕ) (b : List ℕ) (es : List Packed) (e : Packed) → AllFit rest b es → length (put_on (put_all b es) e) + rest ≤ 67108864
+    → AllFit rest b (es ++ e ∷ [])
 fit_more rest b [] e fit last = (last, tt)
 fit_more rest b (x ∷ es) e fit last = (fit.0, fit_more rest (put_on b x) es e fit.1 last)
 
@@ -111,8 +125,10 @@ module _ (dim rest : ℕ) (t : List ℕ) (base : List Element) where
 
   may_all : (left : List Made) → AreLinked dim rest t base left → MayTakeAll (spelling (top_of base left)) (log_of dim left)
   may_all [] linked = tt
-  may_all (m ∷ left) linked =
-      (entry_may dim rest t m linked.0, subst (λ (b : List ℕ). MayTakeAll b (map (entry_made dim) left)) (sym (newest_leads m left linked)) (may_all left linked.2))
+  may_all (m ∷ left) linked = (
+    entry_may dim rest t m linked.0,
+    subst (λ (b : List ℕ). MayTakeAll b (map (entry_made dim) left)) (sym (newest_leads m left linked)) (may_all left linked.2),
+  )
 
   taken_all : (left : List Made) → AreLinked dim rest t base left → all_taken (spelling (top_of base left)) (log_of dim left) ≡ packed_all dim left
   taken_all [] linked = refl
@@ -121,14 +137,16 @@ module _ (dim rest : ℕ) (t : List ℕ) (base : List Element) where
       ∙ ap (λ (ps : List Packed). ps ++ packed_made dim m ∷ []) (taken_all left linked.2)
       ∙ sym (packed_newest dim m left)
 
-  back_all : (left : List Made) → AreLinked dim rest t base left → back_by (length (log_of dim left)) (spelling (top_of base left)) (log_of dim left) ≡ spelling base
+  back_all : (left : List Made) → AreLinked dim rest t base left
+      → back_by (length (log_of dim left)) (spelling (top_of base left)) (log_of dim left) ≡ spelling base
   back_all [] linked = refl
   back_all (m ∷ left) linked =
       ap (λ (b : List ℕ). back_by (length (map (entry_made dim) left)) b (map (entry_made dim) left)) (newest_leads m left linked)
       ∙ back_all left linked.2
 
   -- they stand, and give what was made
-  stand_all : (left : List Made) → AreLinked dim rest t base left → AllStand (spelling base) (packed_all dim left) × (put_all (spelling base) (packed_all dim left) ≡ spelling (top_of base left))
+  stand_all : (left : List Made) → AreLinked dim rest t base left → AllStand (spelling base) (packed_all dim left)
+      × (put_all (spelling base) (packed_all dim left) ≡ spelling (top_of base left))
   stand_all left linked =
       let P : List ℕ → List Packed → Type 0 = λ b es. AllStand b es × (put_all b es ≡ spelling (top_of base left)) in
       subst (λ (b : List ℕ). P b (packed_all dim left)) (back_all left linked)
@@ -136,9 +154,11 @@ module _ (dim rest : ℕ) (t : List ℕ) (base : List Element) where
       (all_taken_give_the_same (spelling (top_of base left)) (log_of dim left) (may_all left linked)))
 
   -- what the newest puts on is what was made
-  newest_puts : (m : Made) (left : List Made) → AreLinked dim rest t base (m ∷ left) → put_on (put_all (spelling base) (packed_all dim left)) (packed_made dim m) ≡ spelling m.made
+  newest_puts : (m : Made) (left : List Made) → AreLinked dim rest t base (m ∷ left)
+      → put_on (put_all (spelling base) (packed_all dim left)) (packed_made dim m) ≡ spelling m.made
   newest_puts m left linked =
-      let under : put_all (spelling base) (packed_all dim left) ≡ back (spelling m.made) (entry_made dim m) = (stand_all left linked.2).1 ∙ sym (newest_leads m left linked) in
+      let under : put_all (spelling base) (packed_all dim left) ≡ back (spelling m.made) (entry_made dim m) =
+      (stand_all left linked.2).1 ∙ sym (newest_leads m left linked) in
       ap (λ (b : List ℕ). put_on b (packed_made dim m)) under
       ∙ (taken_gives_the_same (spelling m.made) (entry_made dim m) (entry_may dim rest t m linked.0)).1
 
@@ -158,7 +178,8 @@ module _ (dim rest : ℕ) (t : List ℕ) (base : List Element) where
       (entries_more (packed_all dim left) (packed_made dim m) (entries_all left linked.2 few_bytes) (is_entry dim rest t m linked.0 (omega arith)))
 
 -- the same of steps
-packs_again : (t : List ℕ) (cs : List Given) (s : State) → s.earlier ≡ [] → s.rest ≡ length t → All IsStep cs → Opens (spelling s.top ++ t) s.dim s.top t → length (spelling s.top) + length t ≤ 67108864 → PacksAgain s t cs
+packs_again : (t : List ℕ) (cs : List Given) (s : State) → s.earlier ≡ [] → s.rest ≡ length t → All IsStep cs → Opens (spelling s.top ++ t) s.dim s.top t
+    → length (spelling s.top) + length t ≤ 67108864 → PacksAgain s t cs
 packs_again t cs s none tail fits opens few_bytes =
     let left : List Made = with_steps cs s [] in
     let start : IsStacked s.top s [] = ap (λ (earlier : List (List Element)). s.top ∷ earlier) none in
@@ -180,5 +201,6 @@ packs_again t cs s none tail fits opens few_bytes =
 pub applied_gives_the_same : AppliedGivesTheSame
 applied_gives_the_same f d cs files opens short fits bytes =
     let whole : f ≡ spelling d.elements ++ d.tail = opens.whole in
-    packs_again d.tail (steps_of cs files) (begun d) refl refl (steps_given cs files fits bytes) (subst (λ (g : List ℕ). Opens g d.dim d.elements d.tail) opens.whole opens)
+    packs_again d.tail (steps_of cs files) (begun d) refl refl (steps_given cs files fits bytes)
+    (subst (λ (g : List ℕ). Opens g d.dim d.elements d.tail) opens.whole opens)
     (omega (arith, ap (length {A = ℕ}) whole, length-append (spelling d.elements) d.tail))

@@ -33,5 +33,6 @@ writes_the_same words files d cs seconds output a fits bytes =
       short = a.short;
       reads = reads;
     } in
-    let made : List ℕ → Outcome = λ b. filed_then_said statuses.Done (numbered (codes "applied ") (length es)) output (file_made (length (spelling d.elements)) d.tail b) in
+    let made : List ℕ → Outcome =
+    λ b. filed_then_said statuses.Done (numbered (codes "applied ") (length es)) output (file_made (length (spelling d.elements)) d.tail b) in
     applies_all words files d es output so again.stand again.fit ∙ ap made again.gives

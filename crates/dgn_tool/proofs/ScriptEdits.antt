@@ -1,5 +1,6 @@
 -- The commands that a script reads to hold what their types keep.
-use Rattle.std.proofs.Common.{ℕ, zero, suc, ◌+◌, ◌-◌, ◌<◌, ◌==◌, ◌&&◌, ◌||◌, Bool, List, [], ◌∷◌, length, take, drop, nat_le, slice_index, Option, Some, None, IfSome, option_map, Result, Ok, Err, IfOk, subst, ℤ, if◌then◌else◌}
+use Rattle.std.proofs.Common.{ℕ, zero, suc, ◌+◌, ◌-◌, ◌<◌, ◌==◌, ◌&&◌, ◌||◌, Bool, List, [], ◌∷◌, length, take, drop, nat_le, slice_index, Option, Some}
+use Rattle.std.proofs.Common.{None, IfSome, option_map, Result, Ok, Err, IfOk, subst, ℤ, if◌then◌else◌}
 use Rattle.std.specs.Prelude.{All}
 use Rattle.std.specs.List.{slice_split, onto_first, position_or_len}
 use Rattle.std.proofs.lemmas.Bool.{cond_both}
@@ -28,11 +29,15 @@ use Rattle.edit_script.specs.Numbers.{number_within}
 use Rattle.edit_script.specs.Words.{is_blank, from_word, first_word, behind_word, words_of, each_named}
 use Rattle.edit_script.specs.Levels.{mask_named}
 use Rattle.edit_script.specs.Points.{path_named, IsPath}
-use Rattle.edit_script.specs.Appends.{pen_named, path_appending, line_command, string_command, shape_command, lettering_named, chars_given, behind_words, text_appending, text_command, IsPen, IsLettering, IsChars}
-use Rattle.edit_script.specs.Edits.{element_named, sym_of, color_change, color_command, look_named, sym_command, shift_named, move_of, move_command, copy_of, copy_command, one_element, delete_command}
-use Rattle.edit_script.specs.Fences.{corner_named, fence_command, mode_named, select_command, fenced, fmove_command, fcopy_command, fsym_command, fdelete_command}
+use Rattle.edit_script.specs.Appends.{pen_named, path_appending, line_command, string_command, shape_command, lettering_named, chars_given, behind_words}
+use Rattle.edit_script.specs.Appends.{text_appending, text_command, IsPen, IsLettering, IsChars}
+use Rattle.edit_script.specs.Edits.{element_named, sym_of, color_change, color_command, look_named, sym_command, shift_named, move_of, move_command}
+use Rattle.edit_script.specs.Edits.{copy_of, copy_command, one_element, delete_command}
+use Rattle.edit_script.specs.Fences.{corner_named, fence_command, mode_named, select_command, fenced, fmove_command, fcopy_command, fsym_command}
+use Rattle.edit_script.specs.Fences.{fdelete_command}
 use Rattle.edit_script.specs.Imports.{is_name, given_shift, import_command, is_import, limited, imports_with}
-use Rattle.edit_script.specs.Grammar.{alone, asking, range_reading, fence_reading, listing_reading, other_reading, reading_of, is_blank_line, is_comment, command_of}
+use Rattle.edit_script.specs.Grammar.{alone, asking, range_reading, fence_reading, listing_reading, other_reading, reading_of, is_blank_line, is_comment}
+use Rattle.edit_script.specs.Grammar.{command_of}
 use Rattle.edit_script.specs.Script.{joined, commands_from}
 use Rattle.dgn_tool.specs.Laws.{IsEditIn, ScriptsHoldEdits, UntouchedByScripts}
 use Rattle.dgn_tool.proofs.Untouched.{untouched}
@@ -41,7 +46,8 @@ use Rattle.dgn_tool.proofs.NamedValues.{of_some, number_below, shift_holds, give
 -- the lines of bytes are bytes
 onto_bytes : (b : ℕ) (parts : List (List ℕ)) → b < 256 → All IsBytes parts → All IsBytes (onto_first b parts)
 onto_bytes b [] one all = All-cons IsBytes (b ∷ []) [] (All-cons (λ x. x < 256) b [] one (All-nil (λ x. x < 256))) all
-onto_bytes b (part ∷ parts) one all = All-cons IsBytes (b ∷ part) parts (All-cons (λ x. x < 256) b part one (All-head IsBytes part parts all)) (All-tail IsBytes part parts all)
+onto_bytes b (part ∷ parts) one all =
+    All-cons IsBytes (b ∷ part) parts (All-cons (λ x. x < 256) b part one (All-head IsBytes part parts all)) (All-tail IsBytes part parts all)
 
 parts_bytes : (p : ℕ → Bool) (bytes : List ℕ) → IsBytes bytes → All IsBytes (slice_split p bytes)
 parts_bytes p [] are = All-cons IsBytes [] [] are (All-nil IsBytes)
@@ -58,12 +64,15 @@ ended_bytes (x ∷ y ∷ ys) all = All-cons IsBytes x (ended (y ∷ ys)) (All-he
 
 line_bytes : (line : List ℕ) → IsBytes line → IsBytes (without_return line)
 line_bytes line are =
-    cond_both (slice_index line (length line - 1) == 13) (take (length line - 1) line) line IsBytes (λ passes. All-take (λ x. x < 256) (length line - 1) line are) (λ fails. are)
+    cond_both (slice_index line (length line - 1) == 13) (take (length line - 1) line) line IsBytes
+    (λ passes. All-take (λ x. x < 256) (length line - 1) line are) (λ fails. are)
 
 lines_bytes : (text : List ℕ) → IsBytes text → All IsBytes (lines_of text)
 lines_bytes text are =
     let parts : List (List ℕ) = ended (slice_split (λ b. b == 10) text) in
-    All-map IsBytes without_return parts (All-weaker IsBytes (λ line. IsBytes (without_return line)) line_bytes parts (ended_bytes (slice_split (λ b. b == 10) text) (parts_bytes (λ b. b == 10) text are)))
+    All-map IsBytes without_return parts
+    (All-weaker IsBytes (λ line. IsBytes (without_return line)) line_bytes parts
+    (ended_bytes (slice_split (λ b. b == 10) text) (parts_bytes (λ b. b == 10) text are)))
 
 -- and so is what stands behind the words of a line
 from_bytes : (line : List ℕ) → IsBytes line → IsBytes (from_word line)
@@ -92,7 +101,9 @@ alone_holds c [] h = h
 alone_holds c (word ∷ words) h = tt
 
 -- the commands that append an element
-path_so : (shape : List (List ℤ) → NewShape) (least most : ℕ) (pen : Option Pen) (path : Option Path) → ((axes : ℕ) (points : List (List ℤ)) → ArePoints axes least most points → IsShapeFor axes (shape points)) → IfSome pen IsPen → IfSome path (IsPath least most) → HoldsEdit (path_appending shape pen path)
+path_so : (shape : List (List ℤ) → NewShape) (least most : ℕ) (pen : Option Pen) (path : Option Path)
+    → ((axes : ℕ) (points : List (List ℤ)) → ArePoints axes least most points → IsShapeFor axes (shape points)) → IfSome pen IsPen
+    → IfSome path (IsPath least most) → HoldsEdit (path_appending shape pen path)
 path_so shape least most None path fits h k = tt
 path_so shape least most (Some pen) None fits h k = tt
 path_so shape least most (Some pen) (Some path) fits h k = record {
@@ -104,7 +115,8 @@ path_so shape least most (Some pen) (Some path) fits h k = record {
   shape = fits path.axes path.points k.points;
 }
 
-text_so : (pen : Option Pen) (t : Option Lettering) (chars : Option (List ℕ)) → IfSome pen IsPen → IfSome t IsLettering → IfSome chars IsChars → HoldsEdit (text_appending pen t chars)
+text_so : (pen : Option Pen) (t : Option Lettering) (chars : Option (List ℕ)) → IfSome pen IsPen → IfSome t IsLettering → IfSome chars IsChars
+    → HoldsEdit (text_appending pen t chars)
 text_so None t chars h k l = tt
 text_so (Some pen) None chars h k l = tt
 text_so (Some pen) (Some t) None h k l = tt
@@ -129,13 +141,16 @@ text_so (Some pen) (Some t) (Some chars) h k l = record {
 }
 
 line_holds : (words : List (List ℕ)) → HoldsEdit (line_command words)
-line_holds words = path_so shapes.Line 2 2 (pen_named words) (path_named 2 2 (drop 4 words)) (λ axes points are. are) (pen_holds words) (path_holds 2 2 (drop 4 words))
+line_holds words = path_so shapes.Line 2 2 (pen_named words) (path_named 2 2 (drop 4 words)) (λ axes points are. are) (pen_holds words)
+    (path_holds 2 2 (drop 4 words))
 
 string_holds : (words : List (List ℕ)) → HoldsEdit (string_command words)
-string_holds words = path_so shapes.Chain 2 101 (pen_named words) (path_named 2 101 (drop 4 words)) (λ axes points are. are) (pen_holds words) (path_holds 2 101 (drop 4 words))
+string_holds words = path_so shapes.Chain 2 101 (pen_named words) (path_named 2 101 (drop 4 words)) (λ axes points are. are) (pen_holds words)
+    (path_holds 2 101 (drop 4 words))
 
 shape_holds : (words : List (List ℕ)) → HoldsEdit (shape_command words)
-shape_holds words = path_so shapes.Shape 3 101 (pen_named words) (path_named 3 101 (drop 4 words)) (λ axes points are. are) (pen_holds words) (path_holds 3 101 (drop 4 words))
+shape_holds words = path_so shapes.Shape 3 101 (pen_named words) (path_named 3 101 (drop 4 words)) (λ axes points are. are) (pen_holds words)
+    (path_holds 3 101 (drop 4 words))
 
 text_holds : (rest : List ℕ) → IsBytes rest → HoldsEdit (text_command rest)
 text_holds rest are =
@@ -155,7 +170,8 @@ color_holds : (words : List (List ℕ)) → HoldsEdit (color_command words)
 color_holds [] = tt
 color_holds (n ∷ []) = tt
 color_holds (n ∷ c ∷ []) =
-    sym_so (element_named n) (option_map color_change (number_within 255 c)) (of_some IsLook color_change (number_within 255 c) (IfSome_then (number_within 255 c) (number_below 255 c) color_is))
+    sym_so (element_named n) (option_map color_change (number_within 255 c))
+    (of_some IsLook color_change (number_within 255 c) (IfSome_then (number_within 255 c) (number_below 255 c) color_is))
 color_holds (n ∷ c ∷ x ∷ words) = tt
 
 sym_holds : (words : List (List ℕ)) → HoldsEdit (sym_command words)
@@ -191,15 +207,18 @@ fenced_so (Some mode) (Some e) h = h
 
 fmove_holds : (words : List (List ℕ)) → HoldsEdit (fmove_command words)
 fmove_holds [] = tt
-fmove_holds (mode ∷ words) = fenced_so (mode_named mode) (option_map fence.Move (shift_named words)) (of_some IsFenceEdit fence.Move (shift_named words) (shift_holds words))
+fmove_holds (mode ∷ words) =
+    fenced_so (mode_named mode) (option_map fence.Move (shift_named words)) (of_some IsFenceEdit fence.Move (shift_named words) (shift_holds words))
 
 fcopy_holds : (words : List (List ℕ)) → HoldsEdit (fcopy_command words)
 fcopy_holds [] = tt
-fcopy_holds (mode ∷ words) = fenced_so (mode_named mode) (option_map fence.Copy (shift_named words)) (of_some IsFenceEdit fence.Copy (shift_named words) (shift_holds words))
+fcopy_holds (mode ∷ words) =
+    fenced_so (mode_named mode) (option_map fence.Copy (shift_named words)) (of_some IsFenceEdit fence.Copy (shift_named words) (shift_holds words))
 
 fsym_holds : (words : List (List ℕ)) → HoldsEdit (fsym_command words)
 fsym_holds [] = tt
-fsym_holds (mode ∷ words) = fenced_so (mode_named mode) (option_map fence.Sym (look_named words)) (of_some IsFenceEdit fence.Sym (look_named words) (look_holds words))
+fsym_holds (mode ∷ words) =
+    fenced_so (mode_named mode) (option_map fence.Sym (look_named words)) (of_some IsFenceEdit fence.Sym (look_named words) (look_holds words))
 
 fdelete_holds : (words : List (List ℕ)) → HoldsEdit (fdelete_command words)
 fdelete_holds [] = tt
@@ -292,7 +311,8 @@ limited_says : (imports : ℕ) (reading : Reading) → SaysEdit reading → Says
 limited_says imports reading h = cond_both (nat_le 4 imports && is_import reading) Bad reading SaysEdit (λ passes. none_said) (λ fails. h)
 
 -- the lines of a script
-joined_so : (number : ℕ) (reading : Reading) (more : Result (List Command) ScriptFault) → SaysEdit reading → IfOk more (All IsEditIn) → IfOk (joined number reading more) (All IsEditIn)
+joined_so : (number : ℕ) (reading : Reading) (more : Result (List Command) ScriptFault) → SaysEdit reading → IfOk more (All IsEditIn)
+    → IfOk (joined number reading more) (All IsEditIn)
 joined_so number Nothing more h k = k
 joined_so number (Asks c) (Ok cs) h k = All-cons IsEditIn c cs h.holds k
 joined_so number (Asks c) (Err e) h k = tt

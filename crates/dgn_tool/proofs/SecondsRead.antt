@@ -1,5 +1,6 @@
 -- Reading the second files of the imports, one after the other: what those that were read come to, and what is left.
-use Rattle.std.proofs.Common.{◌≡◌, ◌≤◌, ◌∷◌, ◌++◌, ℕ, List, [], length, map, reverse, Bool, true, false, cond, nat_lt, refl, sym, ap, ◌∙◌, subst, arith, append_assoc}
+use Rattle.std.proofs.Common.{◌≡◌, ◌≤◌, ◌∷◌, ◌++◌, ℕ, List, [], length, map, reverse, Bool, true, false, cond, nat_lt, refl, sym, ap, ◌∙◌, subst, arith}
+use Rattle.std.proofs.Common.{append_assoc}
 use Rattle.std.specs.Prelude.{◌&&◌, codes}
 use Rattle.std.specs.List.{list_all, AllByRecursion}
 use Rattle.std.proofs.lemmas.Bool.{and_parts, cond-false}
@@ -22,7 +23,8 @@ use Rattle.dgn_tool.specs.declared.status.Status.TheVariants as statuses
 within_parts : (x y : Bool) → (x && y) ≡ true → (x ≡ true) × (y ≡ true)
 within_parts x y is = and_parts x y is
 
-within_more : (names more : List (List ℕ)) (files : Files) → list_all is_within (files_named names files) ≡ true → list_all is_within (files_named (names ++ more) files) ≡ list_all is_within (files_named more files)
+within_more : (names more : List (List ℕ)) (files : Files) → list_all is_within (files_named names files) ≡ true
+    → list_all is_within (files_named (names ++ more) files) ≡ list_all is_within (files_named more files)
 within_more [] more files all = refl
 within_more (n ∷ names) more files all =
     let parts = within_parts (is_within (bytes_of files n)) (list_all is_within (files_named names files)) all in
@@ -32,18 +34,23 @@ one_long : (x y z : Bool) → (y ≡ false → z ≡ false) → (x && y) ≡ fal
 one_long true y z step long = step long
 one_long false y z step long = refl
 
-long_more : (names more : List (List ℕ)) (files : Files) → list_all is_within (files_named names files) ≡ false → list_all is_within (files_named (names ++ more) files) ≡ false
+long_more : (names more : List (List ℕ)) (files : Files) → list_all is_within (files_named names files) ≡ false
+    → list_all is_within (files_named (names ++ more) files) ≡ false
 long_more [] more files long = absurd (let x = long in cc)
 long_more (n ∷ names) more files long =
-    one_long (is_within (bytes_of files n)) (list_all is_within (files_named names files)) (list_all is_within (files_named (names ++ more) files)) (long_more names more files) long
+    one_long (is_within (bytes_of files n)) (list_all is_within (files_named names files)) (list_all is_within (files_named (names ++ more) files))
+    (long_more names more files) long
 
-named_more : (names more : List (List ℕ)) (files : Files) → map second_of (files_named (names ++ more) files) ≡ map second_of (files_named names files) ++ map second_of (files_named more files)
-named_more names more files = ap (map second_of) (map-append (bytes_of files) names more) ∙ map-append second_of (files_named names files) (files_named more files)
+named_more : (names more : List (List ℕ)) (files : Files) → map second_of (files_named (names ++ more) files) ≡ map second_of (files_named names files)
+    ++ map second_of (files_named more files)
+named_more names more files =
+    ap (map second_of) (map-append (bytes_of files) names more) ∙ map-append second_of (files_named names files) (files_named more files)
 
 pub short : (f : List ℕ) → is_within f ≡ true → length f ≤ 67108864
 short f test = grind (arith, nat_tests)
 
-there_more : (names more : List (List ℕ)) (files : Files) → list_all is_within (files_named names files) ≡ true → AreThere (names ++ more) files → AreThere more files
+there_more : (names more : List (List ℕ)) (files : Files) → list_all is_within (files_named names files) ≡ true → AreThere (names ++ more) files
+    → AreThere more files
 there_more [] more files all there = there
 there_more (n ∷ names) more files all there =
     let parts = within_parts (is_within (bytes_of files n)) (list_all is_within (files_named names files)) all in
@@ -74,7 +81,8 @@ pub nothing_read : (all : List Command) (files : Files) → IsReadSo all all fil
 nothing_read all files = (refl, refl, λ there. there, λ are. are)
 
 -- one more was
-pub one_read : (all left : List Command) (c : Command) (files : Files) (before now : List Second) → IsReadSo all (c ∷ left) files before → ComeBehind (names_of c) before files now → IsReadSo all left files now
+pub one_read : (all left : List Command) (c : Command) (files : Files) (before now : List Second) → IsReadSo all (c ∷ left) files before
+    → ComeBehind (names_of c) before files now → IsReadSo all left files now
 one_read all left c files before now so one = (
   so.0 ∙ within_more (names_of c) (names_in left) files one.0,
   so.1
@@ -95,18 +103,21 @@ chosen true o long so = refl
 chosen false o long so = so refl
 
 -- where one of those of a command is too long, so is one of all; so the run ends as it does there
-pub ends_there : (all left : List Command) (c : Command) (files : Files) (seconds : List Second) (go_on : Files → List SecondValue → Outcome) → IsReadSo all (c ∷ left) files seconds
+pub ends_there : (all left : List Command) (c : Command) (files : Files) (seconds : List Second) (go_on : Files → List SecondValue → Outcome)
+    → IsReadSo all (c ∷ left) files seconds
     → seconds_in (names_in all) go_on files ≡ seconds_in (names_of c) (λ fs _. seconds_in (names_in all) go_on fs) files
 ends_there all left c files seconds go_on so =
     chosen (list_all is_within (files_named (names_of c) files)) (seconds_in (names_in all) go_on files) (ended statuses.TooLong (codes "too long import\n"))
     (λ long. cond-false (list_all is_within (files_named (names_in all) files)) _ _ (so.0 ∙ long_more (names_of c) (names_in left) files long))
 
 -- the next is there
-pub next_there : (all left : List Command) (c : Command) (files : Files) (seconds : List Second) → IsReadSo all (c ∷ left) files seconds → AreThere (names_in all) files → AreThere (names_of c) files
+pub next_there : (all left : List Command) (c : Command) (files : Files) (seconds : List Second) → IsReadSo all (c ∷ left) files seconds
+    → AreThere (names_in all) files → AreThere (names_of c) files
 next_there all left c files seconds so there = there_first (names_of c) (names_in left) files (so.2 there)
 
 -- those up to one that is too long are bytes
-pub cut_bytes : (all left : List Command) (c : Command) (files : Files) (seconds : List Second) → IsReadSo all (c ∷ left) files seconds → AreCutOff (names_of c) files → AreInBytes (names_in all) files
+pub cut_bytes : (all left : List Command) (c : Command) (files : Files) (seconds : List Second) → IsReadSo all (c ∷ left) files seconds
+    → AreCutOff (names_of c) files → AreInBytes (names_in all) files
 cut_bytes all left c files seconds so cut = so.3 (bytes_cut (names_of c) (names_in left) files cut)
 
 -- One file.
@@ -117,7 +128,8 @@ short_so f few =
     ap (λ (b : Bool). b && true) test
 
 -- it was read and opened
-pub one_opened : (name bytes : List ℕ) (v : SecondValue) (files : Files) → v ≡ second_of bytes → IsWholeFile name 67108864 files bytes → ComeTo (name ∷ []) files (v ∷ [])
+pub one_opened : (name bytes : List ℕ) (v : SecondValue) (files : Files) → v ≡ second_of bytes → IsWholeFile name 67108864 files bytes
+    → ComeTo (name ∷ []) files (v ∷ [])
 one_opened name bytes v files is read =
     let few : length (bytes_of files name) ≤ 67108864 = subst (λ (b : List ℕ). length b ≤ 67108864) read.1 read.0 in
     (short_so (bytes_of files name) few, ap (λ (w : SecondValue). w ∷ []) (is ∙ ap second_of read.1), λ _. (subst IsBytes read.1 read.2, tt))
@@ -127,9 +139,11 @@ long_within : (few long : Bool) (o e : Outcome) → (long ≡ true → few ≡ f
 long_within few true o e so = cond-false few o e (so refl)
 long_within few false o e so = refl
 
-pub one_ends : (name : List ℕ) (files : Files) (go_on : Files → List SecondValue → Outcome) → seconds_in (name ∷ []) go_on files ≡ whole_file name 67108864 (codes "too long import\n") (λ fs _. seconds_in (name ∷ []) go_on fs) files
+pub one_ends : (name : List ℕ) (files : Files) (go_on : Files → List SecondValue → Outcome)
+    → seconds_in (name ∷ []) go_on files ≡ whole_file name 67108864 (codes "too long import\n") (λ fs _. seconds_in (name ∷ []) go_on fs) files
 one_ends name files go_on =
-    long_within (list_all is_within (bytes_of files name ∷ [])) (nat_lt 67108864 (length (bytes_of files name))) (go_on files (second_of (bytes_of files name) ∷ [])) (ended statuses.TooLong (codes "too long import\n"))
+    long_within (list_all is_within (bytes_of files name ∷ [])) (nat_lt 67108864 (length (bytes_of files name)))
+    (go_on files (second_of (bytes_of files name) ∷ [])) (ended statuses.TooLong (codes "too long import\n"))
     (λ long. long_so (bytes_of files name) long)
   where
     long_so : (f : List ℕ) → nat_lt 67108864 (length f) ≡ true → list_all is_within (f ∷ []) ≡ false
@@ -141,7 +155,8 @@ pub one_cut : (name : List ℕ) (files : Files) → IsLonger name 67108864 files
 one_cut name files long = λ few. absurd (omega (arith, long, few))
 
 -- it was added behind the others
-pub second_added : (name : List ℕ) (second : Second) (files : Files) (before now : List Second) → now ≡ before ++ second ∷ [] → ComeTo (name ∷ []) files (value_of second ∷ []) → ComeBehind (name ∷ []) before files now
+pub second_added : (name : List ℕ) (second : Second) (files : Files) (before now : List Second) → now ≡ before ++ second ∷ []
+    → ComeTo (name ∷ []) files (value_of second ∷ []) → ComeBehind (name ∷ []) before files now
 second_added name second files before now more come =
     (come.0, ap (map value_of) more ∙ map-append value_of before (second ∷ []) ∙ ap (λ (vs : List SecondValue). map value_of before ++ vs) come.1, come.2)
 
@@ -155,10 +170,13 @@ none_added names files seconds none = (
 
 -- Sound second drawings.
 
-sound_back : (seconds turned : List Second) → AllByRecursion IsSound seconds → AllByRecursion IsSound turned → AllByRecursion IsSound (reverse seconds ++ turned)
+sound_back : (seconds turned : List Second) → AllByRecursion IsSound seconds → AllByRecursion IsSound turned
+    → AllByRecursion IsSound (reverse seconds ++ turned)
 sound_back [] turned all more = more
 sound_back (x ∷ seconds) turned all more =
-    subst (AllByRecursion IsSound) (sym (ap (λ (l : List Second). l ++ turned) (reverse-append (x ∷ []) seconds) ∙ append_assoc (reverse seconds) (x ∷ []) turned)) (sound_back seconds (x ∷ turned) all.1 (all.0, more))
+    subst (AllByRecursion IsSound)
+    (sym (ap (λ (l : List Second). l ++ turned) (reverse-append (x ∷ []) seconds) ∙ append_assoc (reverse seconds) (x ∷ []) turned))
+    (sound_back seconds (x ∷ turned) all.1 (all.0, more))
 
 pub sound_turned : (seconds turned : List Second) → AllByRecursion IsSound seconds → turned ≡ reverse seconds → AllByRecursion IsSound turned
 sound_turned seconds turned all is =

@@ -65,7 +65,8 @@ edited_few dim es (edit.Append new) = tt
 root_few : (dim : ℕ) (es : List Element) (root : Option ℕ) → AllByRecursion HasFew (root_fields dim es root)
 root_few dim es None = tt
 root_few dim es (Some root) =
-    all_few (λ (f : Finding). spot_fields (offset_of es f.number) (range_spots dim)) (fitted_in dim es root) (λ f. spots_few (offset_of es f.number) (range_spots dim))
+    all_few (λ (f : Finding). spot_fields (offset_of es f.number) (range_spots dim)) (fitted_in dim es root)
+    (λ f. spots_few (offset_of es f.number) (range_spots dim))
 
 pub made_few : (dim : ℕ) (on : List Element) (making : Making) → AllByRecursion HasFew (fields_made dim on making)
 made_few dim on (Alone e) = edited_few dim on e

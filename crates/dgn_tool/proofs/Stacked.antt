@@ -14,7 +14,8 @@ use Rattle.edit_script.specs.declared.command.Command.TheVariants as command
 use Rattle.dgn_answers.specs.Commands.{fence_refused, after_command}
 use Rattle.dgn_answers.specs.Imports.{Importing, Appends, Declines, importing_of, import_left}
 use Rattle.dgn_answers.specs.Given.{Given, Plain, Import, after_step, after_all}
-use Rattle.dgn_answers.specs.Remaining.{Made, Making, Alone, Fenced, Fitted, with_made, with_all_made, without_newest, with_import, with_command, with_step, with_steps}
+use Rattle.dgn_answers.specs.Remaining.{Made, Making, Alone, Fenced, Fitted, with_made, with_all_made, without_newest, with_import, with_command, with_step}
+use Rattle.dgn_answers.specs.Remaining.{with_steps}
 
 -- what the edits have made
 abbrev pub lists_made : List Made → List (List Element)
@@ -24,21 +25,25 @@ lists_made left = map (λ (m : Made). m.made) left
 abbrev pub IsStacked : List Element → State → List Made → Type 0
 IsStacked base s left = s.top ∷ s.earlier ≡ lists_made left ++ base ∷ []
 
-done_step : (base : List Element) (s : State) (left : List Made) (making : Making) (came : Applied) → IsStacked base s left → IsStacked base (pushed came s) (with_made came s.top making left)
+done_step : (base : List Element) (s : State) (left : List Made) (making : Making) (came : Applied) → IsStacked base s left
+    → IsStacked base (pushed came s) (with_made came s.top making left)
 done_step base s left making (Done made) stacked = ap (λ (l : List (List Element)). made ∷ l) stacked
 done_step base s left making (Refused cause) stacked = stacked
 
-fence_step : (base : List Element) (s : State) (left : List Made) (e : FenceEdit) (came : List ℕ → Applied) (chosen : Option (List ℕ)) → IsStacked base s left → IsStacked base (pushed_if (option_map came chosen) s) (with_all_made (option_map came chosen) chosen s.top e left)
+fence_step : (base : List Element) (s : State) (left : List Made) (e : FenceEdit) (came : List ℕ → Applied) (chosen : Option (List ℕ))
+    → IsStacked base s left → IsStacked base (pushed_if (option_map came chosen) s) (with_all_made (option_map came chosen) chosen s.top e left)
 fence_step base s left e came None stacked = stacked
 fence_step base s left e came (Some ns) stacked = done_step base s left (Fenced e ns) (came ns) stacked
 
-undo_step : (base : List Element) (s : State) (earlier : List (List Element)) (left : List Made) → s.top ∷ earlier ≡ lists_made left ++ base ∷ [] → s.earlier ≡ earlier → IsStacked base (dropped earlier s) (without_newest (is_none earlier) left)
+undo_step : (base : List Element) (s : State) (earlier : List (List Element)) (left : List Made) → s.top ∷ earlier ≡ lists_made left ++ base ∷ []
+    → s.earlier ≡ earlier → IsStacked base (dropped earlier s) (without_newest (is_none earlier) left)
 undo_step base s [] left stacked is = ap (λ (l : List (List Element)). s.top ∷ l) is ∙ stacked
 undo_step base s (es ∷ earlier) [] stacked is = absurd (let x = stacked in cc)
 undo_step base s (es ∷ earlier) (m ∷ left) stacked is = let x = stacked in cc
 
 -- a command leaves such a stack
-command_stacks : (base : List Element) (s : State) (left : List Made) (c : Command) → IsStacked base s left → IsStacked base (after_command s c) (with_command s c left)
+command_stacks : (base : List Element) (s : State) (left : List Made) (c : Command) → IsStacked base s left
+    → IsStacked base (after_command s c) (with_command s c left)
 command_stacks base s left (command.Import name by) stacked = stacked
 command_stacks base s left (command.Edit e) stacked = done_step base s left (Alone e) (applied e s) stacked
 command_stacks base s left (command.Fenced mode e) stacked = fence_step base s left e (apply_all s.dim s.top s.rest e) (selection mode s) stacked
@@ -57,16 +62,19 @@ command_stacks base s left command.Audit stacked = stacked
 command_stacks base s left (command.Fit n) stacked = done_step base s left (Fitted n) (fit_applied n s) stacked
 
 -- so does an import
-import_step : (base : List Element) (s : State) (left : List Made) (came : Importing) → IsStacked base s left → IsStacked base (import_left came s) (with_import came s left)
+import_step : (base : List Element) (s : State) (left : List Made) (came : Importing) → IsStacked base s left
+    → IsStacked base (import_left came s) (with_import came s left)
 import_step base s left (Appends b count) stacked = ap (λ (l : List (List Element)). (s.top ++ elements_of s.dim b) ∷ l) stacked
 import_step base s left (Declines line) stacked = stacked
 
 -- so does a step
-pub step_stacks : (base : List Element) (s : State) (left : List Made) (g : Given) → IsStacked base s left → IsStacked base (after_step s g) (with_step s g left)
+pub step_stacks : (base : List Element) (s : State) (left : List Made) (g : Given) → IsStacked base s left
+    → IsStacked base (after_step s g) (with_step s g left)
 step_stacks base s left (Plain c) stacked = command_stacks base s left c stacked
 step_stacks base s left (Import v by) stacked = import_step base s left (importing_of s v by) stacked
 
 -- and so do all
-pub steps_stack : (base : List Element) (gs : List Given) (s : State) (left : List Made) → IsStacked base s left → IsStacked base (after_all gs s) (with_steps gs s left)
+pub steps_stack : (base : List Element) (gs : List Given) (s : State) (left : List Made) → IsStacked base s left
+    → IsStacked base (after_all gs s) (with_steps gs s left)
 steps_stack base [] s left stacked = stacked
 steps_stack base (g ∷ gs) s left stacked = steps_stack base gs (after_step s g) (with_step s g left) (step_stacks base s left g stacked)

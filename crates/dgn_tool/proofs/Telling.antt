@@ -60,41 +60,61 @@ read_twice None mid now first second = (second.0, second.1 ∙ ap (option_map (w
 read_twice (Some c) mid now first second = (second.0, second.1 ∙ ap (option_map (with_left second.0)) first.1)
 
 -- a line that ends a run was said
-pub line_said : (ending : Ending) (line : List ℕ) (old now : Option Content) → now ≡ option_map (spoken line) old → Tells (λ _. ended (status_said ending) line) (Ok ending) old now
+pub line_said : (ending : Ending) (line : List ℕ) (old now : Option Content) → now ≡ option_map (spoken line) old
+    → Tells (λ _. ended (status_said ending) line) (Ok ending) old now
 line_said ending line None now e = tt
 line_said ending line (Some c) now e = record { status_is = refl; content = spoken line c; told_is = e; said_is = refl; files_are = refl }
 
 -- or a front of it was
-front_said : (status : Status) (line front : List ℕ) (old now : Option Content) → IsFrontOf line front → now ≡ option_map (spoken front) old → IfSome old (λ c. Stops (ended status line) c now)
+front_said : (status : Status) (line front : List ℕ) (old now : Option Content) → IsFrontOf line front → now ≡ option_map (spoken front) old
+    → IfSome old (λ c. Stops (ended status line) c now)
 front_said status line front None now is e = tt
 front_said status line front (Some c) now is e =
     record { content = spoken front c; told_is = e; front = front; is_front = is; said_is = refl; files_are = refl; in_order = inr refl }
 
-pub line_stopped : (ending : Ending) (line : List ℕ) (stop : Stop) (old now : Option Content) → SaysAll (Err stop) line old now → Tells (λ _. ended (status_said ending) line) (Err stop) old now
+pub line_stopped : (ending : Ending) (line : List ℕ) (stop : Stop) (old now : Option Content) → SaysAll (Err stop) line old now
+    → Tells (λ _. ended (status_said ending) line) (Err stop) old now
 line_stopped ending line stop old now said = front_said (status_said ending) line (take said.0 line) old now (is_taken line said.0) said.2
 
 -- so it is with the line that says which forms there are
-pub usage_said : (line : List ℕ) (old now : Option Content) → line ≡ usage_line → now ≡ option_map (spoken line) old → IfSome old (λ c. Leaves (ended statuses.Usage usage_line) statuses.Usage c now)
+pub usage_said : (line : List ℕ) (old now : Option Content) → line ≡ usage_line → now ≡ option_map (spoken line) old
+    → IfSome old (λ c. Leaves (ended statuses.Usage usage_line) statuses.Usage c now)
 usage_said line None now is e = tt
-usage_said line (Some c) now is e = record { status_is = refl; content = spoken line c; told_is = e; said_is = ap (λ (t : List ℕ). c.said ++ t) is; files_are = refl }
+usage_said line (Some c) now is e =
+    record { status_is = refl; content = spoken line c; told_is = e; said_is = ap (λ (t : List ℕ). c.said ++ t) is; files_are = refl }
 
-pub usage_stopped : (line : List ℕ) (stop : Stop) (old now : Option Content) → line ≡ usage_line → SaysAll (Err stop) line old now → IfSome old (λ c. Stops (ended statuses.Usage usage_line) c now)
-usage_stopped line stop old now is said = front_said statuses.Usage usage_line (take said.0 line) old now (subst (λ (t : List ℕ). IsFrontOf t (take said.0 line)) is (is_taken line said.0)) said.2
+pub usage_stopped : (line : List ℕ) (stop : Stop) (old now : Option Content) → line ≡ usage_line → SaysAll (Err stop) line old now
+    → IfSome old (λ c. Stops (ended statuses.Usage usage_line) c now)
+usage_stopped line stop old now is said =
+    front_said statuses.Usage usage_line (take said.0 line) old now (subst (λ (t : List ℕ). IsFrontOf t (take said.0 line)) is (is_taken line said.0))
+    said.2
 
 -- reading first changes nothing that an ending speaks of, and the outcome may be named by what was read
-ends_through : (o q : Files → Outcome) (status : Status) (old mid now : Option Content) → OnlyLeftDiffers old mid → IfSome old (λ c. o c.files ≡ q c.files) → IfSome mid (λ c. Leaves (q c.files) status c now) → IfSome old (λ c. Leaves (o c.files) status c now)
+ends_through : (o q : Files → Outcome) (status : Status) (old mid now : Option Content) → OnlyLeftDiffers old mid → IfSome old (λ c. o c.files ≡ q c.files)
+    → IfSome mid (λ c. Leaves (q c.files) status c now) → IfSome old (λ c. Leaves (o c.files) status c now)
 ends_through o q status None mid now only same leaves = tt
 ends_through o q status (Some c) mid now only same leaves =
     let l : Leaves (q c.files) status (with_left only.0 c) now = rw only.1 at leaves in
     rw same (record { status_is = l.status_is; content = l.content; told_is = l.told_is; said_is = l.said_is; files_are = l.files_are })
 
 -- nor that a stop speaks of
-stops_through : (o q : Files → Outcome) (old mid now : Option Content) → OnlyLeftDiffers old mid → IfSome old (λ c. o c.files ≡ q c.files) → IfSome mid (λ c. Stops (q c.files) c now) → IfSome old (λ c. Stops (o c.files) c now)
+stops_through : (o q : Files → Outcome) (old mid now : Option Content) → OnlyLeftDiffers old mid → IfSome old (λ c. o c.files ≡ q c.files)
+    → IfSome mid (λ c. Stops (q c.files) c now) → IfSome old (λ c. Stops (o c.files) c now)
 stops_through o q None mid now only same stops = tt
 stops_through o q (Some c) mid now only same stops =
     let s : Stops (q c.files) (with_left only.0 c) now = rw only.1 at stops in
-    rw same (record { content = s.content; told_is = s.told_is; front = s.front; is_front = s.is_front; said_is = s.said_is; files_are = s.files_are; in_order = s.in_order })
+    rw same (record {
+      content = s.content;
+      told_is = s.told_is;
+      front = s.front;
+      is_front = s.is_front;
+      said_is = s.said_is;
+      files_are =
+          s.files_are;
+      in_order = s.in_order;
+    })
 
-pub tells_through : (o q : Files → Outcome) (r : Result Ending Stop) (old mid now : Option Content) → OnlyLeftDiffers old mid → IfSome old (λ c. o c.files ≡ q c.files) → Tells q r mid now → Tells o r old now
+pub tells_through : (o q : Files → Outcome) (r : Result Ending Stop) (old mid now : Option Content) → OnlyLeftDiffers old mid
+    → IfSome old (λ c. o c.files ≡ q c.files) → Tells q r mid now → Tells o r old now
 tells_through o q (Ok ending) old mid now only same tells = ends_through o q (status_said ending) old mid now only same tells
 tells_through o q (Err stop) old mid now only same tells = stops_through o q old mid now only same tells

@@ -26,16 +26,19 @@ all_back P (m ∷ ms) all =
     All-cons P m ms parts.1 (all_back P ms parts.0)
 
 -- the same of the file, whose tail stands behind the elements
-edited_file : (t : List ℕ) (cs : List Given) (s : State) → s.earlier ≡ [] → All IsStep cs → Opens (spelling s.top ++ t) s.dim s.top t → IsEditedFile (spelling s.top ++ t) s t cs
+edited_file : (t : List ℕ) (cs : List Given) (s : State) → s.earlier ≡ [] → All IsStep cs → Opens (spelling s.top ++ t) s.dim s.top t
+    → IsEditedFile (spelling s.top ++ t) s t cs
 edited_file t cs s none fits opens =
     let left : List Made = with_steps cs s [] in
     let end : State = after_all cs s in
     let start : IsStacked s.top s [] = ap (λ (earlier : List (List Element)). s.top ∷ earlier) none in
     let linked = steps_link t s.top cs s [] fits start opens in
     let top : top_of s.top left ≡ end.top = sym (stack_top s.top end left (steps_stack s.top cs s [] start)) in
-    let long : length (spelling s.top) ≤ length (spelling end.top) = subst (λ (es : List Element). length (spelling s.top) ≤ length (spelling es)) top (linked_long s.dim s.rest t s.top left linked) in
+    let long : length (spelling s.top) ≤ length (spelling end.top) =
+    subst (λ (es : List Element). length (spelling s.top) ≤ length (spelling es)) top (linked_long s.dim s.rest t s.top left linked) in
     record {
-      opens = filled_opens s.dim end.top t (filling (length (spelling s.top)) t (length (spelling end.top))) (none_fills (length (spelling s.top)) t (length (spelling end.top)))
+      opens = filled_opens s.dim end.top t (filling (length (spelling s.top)) t (length (spelling end.top)))
+          (none_fills (length (spelling s.top)) t (length (spelling end.top)))
           (subst (λ (es : List Element). Opens (spelling es ++ t) s.dim es t) top (top_opens s.dim s.rest t s.top left linked));
       long = long;
       stays = λ p below all.
@@ -49,4 +52,5 @@ edited_file t cs s none fits opens =
 pub untouched : UntouchedBytesStay
 untouched f d cs files opens fits bytes =
     subst (λ (g : List ℕ). IsEditedFile g (begun d) d.tail (steps_of cs files)) (sym opens.whole)
-    (edited_file d.tail (steps_of cs files) (begun d) refl (steps_given cs files fits bytes) (subst (λ (g : List ℕ). Opens g d.dim d.elements d.tail) opens.whole opens))
+    (edited_file d.tail (steps_of cs files) (begun d) refl (steps_given cs files fits bytes)
+    (subst (λ (g : List ℕ). Opens g d.dim d.elements d.tail) opens.whole opens))

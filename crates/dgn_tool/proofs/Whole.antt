@@ -52,7 +52,8 @@ not_write_fault : (ending : Ending) → status_said ending ≡ statuses.WriteFau
 not_write_fault ending is = subst IsFaultless is (faultless ending)
 
 -- a run that came to this end
-ends_as : (request : Request) (old new : Seen) (end : End) → (end ≡ ends.ReadFault → Reads (Some request)) → Ends (HasFiles (Some request)) (FilesInBytes (Some request)) (outcome_of (Some request)) old new end → Runs (Some request) old new (status_of end)
+ends_as : (request : Request) (old new : Seen) (end : End) → (end ≡ ends.ReadFault → Reads (Some request))
+    → Ends (HasFiles (Some request)) (FilesInBytes (Some request)) (outcome_of (Some request)) old new end → Runs (Some request) old new (status_of end)
 ends_as request old new (ends.Said ending) reads ended = record {
   outcome = λ _. ended.left.comes.told;
   prefix = λ stopped. absurd (not_stopped ending stopped);
@@ -102,14 +103,16 @@ ends_as request old new (ends.Stopped stops.Memory) reads ended = record {
   bytes = λ ending. absurd ending;
 }
 
-pub ran : (request : Request) (asked : Option Request) (old new : Seen) (end : End) (status : Status) → Some request ≡ asked → status ≡ status_of end → (end ≡ ends.ReadFault → Reads (Some request))
+pub ran : (request : Request) (asked : Option Request) (old new : Seen) (end : End) (status : Status) → Some request ≡ asked → status ≡ status_of end
+    → (end ≡ ends.ReadFault → Reads (Some request))
     → Ends (HasFiles (Some request)) (FilesInBytes (Some request)) (outcome_of (Some request)) old new end → Runs asked old new status
 ran request asked old new end status is tells reads ended =
     subst (λ (r : Option Request). Runs r old new status) is (subst (Runs (Some request) old new) (sym tells) (ends_as request old new end reads ended))
 
 -- a run of words of no form
 
-pub says_usage : (line : List ℕ) (old new : Seen) → line ≡ usage_line → Writes {T = Unit {0}} (Ok tt) (SaysAll (Ok tt) line) old new → Runs None old new statuses.Usage
+pub says_usage : (line : List ℕ) (old new : Seen) → line ≡ usage_line → Writes {T = Unit {0}} (Ok tt) (SaysAll (Ok tt) line) old new
+    → Runs None old new statuses.Usage
 says_usage line old new is said = record {
   outcome = λ _. usage_said line old.content new.content is said.told;
   prefix = λ stopped. absurd stopped;
@@ -123,7 +126,8 @@ says_usage line old new is said = record {
   bytes = λ _. all_told old.content;
 }
 
-stops_at : (line : List ℕ) (old new : Seen) (stop : Stop) → line ≡ usage_line → Writes {T = Unit {0}} (Err stop) (SaysAll (Err stop) line) old new → Runs None old new (status_of (ends.Stopped stop))
+stops_at : (line : List ℕ) (old new : Seen) (stop : Stop) → line ≡ usage_line → Writes {T = Unit {0}} (Err stop) (SaysAll (Err stop) line) old new
+    → Runs None old new (status_of (ends.Stopped stop))
 stops_at line old new stops.Failed is said = record {
   outcome = λ ending. absurd ending;
   prefix = λ _. usage_stopped line stops.Failed old.content new.content is said.told;

@@ -1,5 +1,6 @@
 -- What a run of `edit` leaves that has written OUT, by what the run came to and by what is known of its files.
-use Rattle.std.proofs.Common.{◌≡◌, ◌≤◌, ℕ, List, [], ◌∷◌, length, map, nat_lt, Bool, true, false, cond, Option, Some, None, Result, Ok, Err, refl, ap, ◌∙◌, subst, arith}
+use Rattle.std.proofs.Common.{◌≡◌, ◌≤◌, ℕ, List, [], ◌∷◌, length, map, nat_lt, Bool, true, false, cond, Option, Some, None, Result, Ok, Err, refl, ap, ◌∙◌}
+use Rattle.std.proofs.Common.{subst, arith}
 use Rattle.std.specs.Prelude.{All, codes}
 use Rattle.std.specs.List.{list_all}
 use Rattle.std.proofs.lemmas.Bool.{and_parts}
@@ -61,7 +62,8 @@ has_drawing (Ok d) go_on written = (d, refl)
 has_drawing (Err fault) go_on written = absurd written
 
 -- nor a script of which a line is bad
-has_commands : (found : Result (List Command) ScriptFault) (go_on : List Command → Outcome) → HasSuch (script_outcome found go_on) → (cs : List Command) × (found ≡ Ok cs)
+has_commands : (found : Result (List Command) ScriptFault) (go_on : List Command → Outcome) → HasSuch (script_outcome found go_on) → (cs : List Command)
+    × (found ≡ Ok cs)
 has_commands (Ok cs) go_on written = (cs, refl)
 has_commands (Err (faults.Line number)) go_on written = absurd written
 has_commands (Err faults.Memory) go_on written = absurd written
@@ -72,7 +74,8 @@ are_within true o line written = refl
 are_within false o line written = absurd written
 
 -- second files within their limit are bytes
-seconds_all : (names : List (List ℕ)) (files : Files) → list_all is_within (files_named names files) ≡ true → AreInBytes names files → All IsBytes (files_named names files)
+seconds_all : (names : List (List ℕ)) (files : Files) → list_all is_within (files_named names files) ≡ true → AreInBytes names files
+    → All IsBytes (files_named names files)
 seconds_all [] files within are = All-nil IsBytes
 seconds_all (n ∷ names) files within are =
     let parts = and_parts (is_within (bytes_of files n)) (list_all is_within (files_named names files)) within in
@@ -93,7 +96,8 @@ module _ (input script output : List ℕ) (files : Files) (content : Content) (n
   AreLeft = content.files ≡ files_after whole.file files
 
   -- IN was opened, SCRIPT was read, and the second files are bytes
-  after_script : (d : Opened) (cs : List Command) → OpensAs input files d → ReadsAs script files cs → AreInBytes (names_in cs) files → AreLeft → HasSuch (stepped cs files (go_on d)) → EditsFile input script output files now
+  after_script : (d : Opened) (cs : List Command) → OpensAs input files d → ReadsAs script files cs → AreInBytes (names_in cs) files → AreLeft
+      → HasSuch (stepped cs files (go_on d)) → EditsFile input script output files now
   after_script d cs opens reads are left written =
       let fs : List (List ℕ) = files_named (names_in cs) files in
       let within = are_within (list_all is_within fs) (go_on d (given_all cs (map second_of fs))) (codes "too long import\n") written in
@@ -113,7 +117,8 @@ module _ (input script output : List ℕ) (files : Files) (content : Content) (n
 
   module _ (bytes : AllInBytes input script files) (left : AreLeft) where
     -- IN was opened
-    after_input : (d : Opened) → OpensAs input files d → HasSuch (scripted (bytes_of files script) (λ cs. stepped cs files (go_on d))) → EditsFile input script output files now
+    after_input : (d : Opened) → OpensAs input files d → HasSuch (scripted (bytes_of files script) (λ cs. stepped cs files (go_on d)))
+        → EditsFile input script output files now
     after_input d opens written =
         let text : List ℕ = bytes_of files script in
         let behind : List Command → Outcome = λ cs. stepped cs files (go_on d) in
@@ -134,7 +139,8 @@ module _ (input script output : List ℕ) (files : Files) (content : Content) (n
         after_input found.0 (few, found.1, bytes.0 few) (subst HasSuch (input_opens file behind (Ok found.0) few found.1) written)
 
 -- where it is told what the desk holds
-where_held : (words : List (List ℕ)) (input script output : List ℕ) (status : Status) (c : Content) (now : Option Content) → request_of words ≡ Some (Edit input script output) → HasWritten status
+where_held : (words : List (List ℕ)) (input script output : List ℕ) (status : Status) (c : Content) (now : Option Content)
+    → request_of words ≡ Some (Edit input script output) → HasWritten status
     → Leaves (outcome words c.files) status c now → FilesInBytes (request_of words) c.files → EditsFile input script output c.files now
 where_held words input script output status c now asked written leaves known =
     let same : outcome words c.files ≡ run_outcome input script c.files (λ d gs. told d gs output) = ap (λ (r : Option Request). outcome_of r c.files) asked in

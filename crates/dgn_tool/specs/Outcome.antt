@@ -1,6 +1,7 @@
 -- What a run comes to: a status, what is said, and the file that is written, computed from the words of
 -- the command line and the files that they name.
-use Rattle.std.specs.Prelude.{ℕ, ◌≡◌, ◌⊎◌, ◌≤◌, nat_lt, nat_le, Bool, true, false, ◌&&◌, if◌then◌else◌, List, [], ◌++◌, length, codes, Option, Some, None, Result, Ok, Err, IsSome, IfSome, IsTrue, option_map, ⊤}
+use Rattle.std.specs.Prelude.{ℕ, ◌≡◌, ◌⊎◌, ◌≤◌, nat_lt, nat_le, Bool, true, false, ◌&&◌, if◌then◌else◌, List, [], ◌++◌, length, codes, Option, Some, None}
+use Rattle.std.specs.Prelude.{Result, Ok, Err, IsSome, IfSome, IsTrue, option_map, ⊤}
 use Rattle.std.specs.FinMap as maps
 use Rattle.std.specs.Result.{is_ok}
 use Rattle.dgn_desk.specs.Content.{Files, Content, bytes_of, with_file, spoken}

@@ -67,7 +67,8 @@ AppliesAll =
     (words : List (List ℕ)) (files : Files) (d : Opened) (es : List Packed) (output : List ℕ)
     → Applies words files d es output → AllStand (spelling d.elements) es → AllFit (length d.tail) (spelling d.elements) es
     → outcome words files
-    ≡ filed_then_said statuses.Done (numbered (codes "applied ") (length es)) output (file_made (length (spelling d.elements)) d.tail (put_all (spelling d.elements) es))
+    ≡ filed_then_said statuses.Done (numbered (codes "applied ") (length es)) output
+    (file_made (length (spelling d.elements)) d.tail (put_all (spelling d.elements) es))
 
 -- the words ask to apply what `pack` makes of these steps to the same file, into OUT
 pub record AppliesPacked (words : List (List ℕ)) (files : Files) (d : Opened) (gs : List Given) (output : List ℕ) : Type 0 where

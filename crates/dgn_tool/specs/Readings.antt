@@ -26,7 +26,8 @@ abbrev pub IsWholeFile : List ℕ → ℕ → Files → List ℕ → Type 0
 IsWholeFile name limit files bytes = (length bytes ≤ limit) × (bytes ≡ bytes_of files name) × IsBytes bytes
 
 abbrev pub whole_file : List ℕ → ℕ → List ℕ → Reading (List ℕ)
-whole_file name limit line = λ go_on files. if nat_lt limit (length (bytes_of files name)) then ended statuses.TooLong line else go_on files (bytes_of files name)
+whole_file name limit line =
+    λ go_on files. if nat_lt limit (length (bytes_of files name)) then ended statuses.TooLong line else go_on files (bytes_of files name)
 
 -- IN: within its limit it opens as a drawing.
 

@@ -254,7 +254,8 @@ const EDITS: [Row; 8] = [
         behind: &[&CELL_OF_81, &MEMBER, &ARC, &END],
         script: b"move 1 1 1\ncopy 1 1 1\nshow\nsym 1 4 - -\n",
         status: Status::SomeRefused,
-        said: b"refused floating 3\nrefused floating 3\n1 0 2 1 0 0 0 cell [ABC       ] 0,0\n2 1 3 1 0 0 0 path 0,0 100,50\n3 1 16 1 0 0 0 box 5,5 9,9\nshown 3\nok\n",
+        said: b"refused floating 3\nrefused floating 3\n1 0 2 1 0 0 0 cell [ABC       ] 0,0\n\
+2 1 3 1 0 0 0 path 0,0 100,50\n3 1 16 1 0 0 0 box 5,5 9,9\nshown 3\nok\n",
         wanted: Wanted::Changed(&[
             (1568, &[0x00, 0x00, 0x00, 0x04]),
             (1660, &[0x00, 0x00, 0x00, 0x04]),
@@ -334,7 +335,9 @@ const SESSIONS: [Row; 9] = [
         behind: &[&CELL, &MEMBER, &END],
         script: b"copy 2 10 10\nshow\ndelete 2\nshow\nsym 2 1 - -\ndelete 1\nmove 2 1 1\n",
         status: Status::SomeRefused,
-        said: b"ok\n1 0 2 1 0 0 0 cell [ABC       ] 0,0\n2 1 3 1 0 0 0 path 0,0 100,50\n3 0 3 1 0 0 0 path 10,10 110,60\nshown 3\nok\n3 0 3 1 0 0 0 path 10,10 110,60\nshown 1\nrefused deleted 2\nok\nrefused deleted 1\n",
+        said: b"ok\n1 0 2 1 0 0 0 cell [ABC       ] 0,0\n2 1 3 1 0 0 0 path 0,0 100,50\n\
+3 0 3 1 0 0 0 path 10,10 110,60\nshown 3\nok\n3 0 3 1 0 0 0 path 10,10 110,60\nshown 1\nrefused deleted 2\nok\n\
+refused deleted 1\n",
         wanted: Wanted::Pieces(
             &[&CELL, &MEMBER, &FREED_COPY, &END],
             &[
@@ -371,7 +374,8 @@ const LISTINGS: [Row; 6] = [
         behind: &[&REFERENCE, &SHORT_LINE, &END],
         script: b"elements\nrefs\nlinks 1\nlinks 7\n",
         status: Status::SomeRefused,
-        said: b"0 0 1536 9 8 --\n1 1536 10 5 9 --\n2 1546 52 3 1 --\nlevel 8 1\nlevel 9 1\nlevel 1 1\ntype 9 1\ntype 5 1\ntype 3 1\nelements 3\n1 1536 10 live\nrefs 1\nlinks 0\nrefused unknown 7\n",
+        said: b"0 0 1536 9 8 --\n1 1536 10 5 9 --\n2 1546 52 3 1 --\nlevel 8 1\nlevel 9 1\nlevel 1 1\ntype 9 1\n\
+type 5 1\ntype 3 1\nelements 3\n1 1536 10 live\nrefs 1\nlinks 0\nrefused unknown 7\n",
         wanted: Wanted::Changed(&[]),
     },
     Row {

@@ -18,7 +18,8 @@ returns-in-Err-Refused g c =
     let es = all_packed c.args.entries.now in
     let made : put_from (length tail) 1 b es ≡ Differs c.in-Err-Refused.number =
     subst (λ end. Puts (Err end) (put_from (length tail) 1 b es) c.put_entries.new.body.items) c.in-Err-Refused.field-0-is c.in-Err-Refused.ensures.put in
-    named_so (entries_outcome b tail es c.args.output.now) (ended statuses.PatchRefused (numbered (codes "refused entry ") c.in-Err-Refused.number)) c.end_numbered.result _ _
+    named_so (entries_outcome b tail es c.args.output.now) (ended statuses.PatchRefused (numbered (codes "refused entry ") c.in-Err-Refused.number))
+    c.end_numbered.result _ _
     (entries_made b tail c.args.output.now es (Differs c.in-Err-Refused.number) made)
     c.end_numbered.ensures
 
@@ -39,7 +40,8 @@ returns g c = wants (λ _. entries_outcome c.args.body.items c.args.tail.now (al
 pub returns-in_err-text-in-Ok : goal.returns-in_err-text-in-Ok
 returns-in_err-text-in-Ok g c =
     let p = err_from_is_err_and c.from_residual.result c.from_residual.ensures.1 in
-    rw (p.1, p.2) (wants (λ _. entries_outcome c.args.body.items c.args.tail.now (all_packed c.args.entries.now) c.args.output.now) (seen g.D.Desk c.args.desk.now))
+    rw (p.1, p.2) (wants (λ _. entries_outcome c.args.body.items c.args.tail.now (all_packed c.args.entries.now) c.args.output.now)
+    (seen g.D.Desk c.args.desk.now))
 
 pub returns-in-Ok : goal.returns-in-Ok
 returns-in-Ok g c =
@@ -47,5 +49,7 @@ returns-in-Ok g c =
     let tail = c.args.tail.now in
     let es = all_packed c.args.entries.now in
     named_so (entries_outcome b tail es c.args.output.now) _ c.file_filled.result _ _
-    (applied_so c.len-before.result b tail c.args.output.now c.args.entries.now c.deref.result.now c.deref-in-Ok.result.now (c.len-before.ensures ∙ c.args.body.ok.0) (c.in-Ok.ensures.put ∙ ap Made (sym c.deref.ensures.value)) (c.deref-in-Ok.ensures.value ∙ c.in_ok-text-in-Ok.ensures))
+    (applied_so c.len-before.result b tail c.args.output.now c.args.entries.now c.deref.result.now c.deref-in-Ok.result.now
+    (c.len-before.ensures ∙ c.args.body.ok.0) (c.in-Ok.ensures.put ∙ ap Made (sym c.deref.ensures.value))
+    (c.deref-in-Ok.ensures.value ∙ c.in_ok-text-in-Ok.ensures))
     c.file_filled.ensures

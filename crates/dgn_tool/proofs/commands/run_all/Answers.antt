@@ -38,36 +38,49 @@ commands-preserved g c =
     let did = c.in-Ok.ensures in
     let text : List ℕ = step_text (state_of c.commands.session) step in
     let line : c.deref.result.now ≡ text =
-    ◌∙◌ {A = List ℕ} {b = c.take_step.new.out.items} c.deref.ensures.value (◌∙◌ {A = List ℕ} {b = c.clear.new.self.items ++ text} did.text (ap (λ (before : List ℕ). before ++ text) c.clear.ensures.items)) in
+    ◌∙◌ {A = List ℕ} {b = c.take_step.new.out.items} c.deref.ensures.value
+    (◌∙◌ {A = List ℕ} {b = c.clear.new.self.items ++ text} did.text (ap (λ (before : List ℕ). before ++ text) c.clear.ensures.items)) in
     record {
-      ran = subst (λ (n : ℕ). Ran all more (c.commands.refused + n) from (state_of c.take_step.new.s) old (seen g.D.Desk c.say_all.new.desk)) (sym c.from-refused.ensures) (ran_more all more step c.commands.refused c.in-Ok.answered.refused c.deref.result.now from (state_of c.commands.session) (state_of c.take_step.new.s) old mid (seen g.D.Desk c.say_all.new.desk) ran did.state line c.in_ok-say_all.ensures did.refused);
+      ran = subst (λ (n : ℕ). Ran all more (c.commands.refused + n) from (state_of c.take_step.new.s) old (seen g.D.Desk c.say_all.new.desk))
+          (sym c.from-refused.ensures)
+          (ran_more all more step c.commands.refused c.in-Ok.answered.refused c.deref.result.now from (state_of c.commands.session)
+          (state_of c.take_step.new.s) old mid (seen g.D.Desk c.say_all.new.desk) ran did.state line c.in_ok-say_all.ensures did.refused);
       tail = c.take_step.ensures.tail ∙ c.commands.invariant.tail;
       sound = c.take_step.ensures.sound;
-      most = subst (λ (n : ℕ). c.commands.refused + n ≤ c.commands.command-index + 1) (sym c.from-refused.ensures) (refused_few c.commands.refused c.commands.command-index c.in-Ok.answered.refused c.commands.invariant.most);
+      most = subst (λ (n : ℕ). c.commands.refused + n ≤ c.commands.command-index + 1) (sym c.from-refused.ensures)
+          (refused_few c.commands.refused c.commands.command-index c.in-Ok.answered.refused c.commands.invariant.most);
     }
 
 pub returns-clause-refused : goal.returns-clause-refused
 returns-clause-refused g c =
     let vs : List SecondValue = waiting c.commands.seconds.items in
-    ran_all (given_all c.args.commands.now (waiting c.args.seconds.now.items)) (given_all (drop c.commands.command-index c.args.commands.now) vs) c.commands.refused (state_of c.args.session.now) (state_of c.commands.session) (seen g.D.Desk c.args.desk.now) (seen g.D.Desk c.commands.desk) c.commands.invariant.ran
+    ran_all (given_all c.args.commands.now (waiting c.args.seconds.now.items)) (given_all (drop c.commands.command-index c.args.commands.now) vs)
+    c.commands.refused (state_of c.args.session.now) (state_of c.commands.session) (seen g.D.Desk c.args.desk.now) (seen g.D.Desk c.commands.desk)
+    c.commands.invariant.ran
     (none_left c.args.commands.now c.commands.command-index vs (drop_all c.commands.command-index c.args.commands.now c.commands-test.false))
 
 pub returns-clause-said : goal.returns-clause-said
 returns-clause-said g c =
     let vs : List SecondValue = waiting c.commands.seconds.items in
-    ran_said (given_all c.args.commands.now (waiting c.args.seconds.now.items)) (given_all (drop c.commands.command-index c.args.commands.now) vs) c.commands.refused (state_of c.args.session.now) (state_of c.commands.session) (seen g.D.Desk c.args.desk.now) (seen g.D.Desk c.commands.desk) c.commands.invariant.ran
+    ran_said (given_all c.args.commands.now (waiting c.args.seconds.now.items)) (given_all (drop c.commands.command-index c.args.commands.now) vs)
+    c.commands.refused (state_of c.args.session.now) (state_of c.commands.session) (seen g.D.Desk c.args.desk.now) (seen g.D.Desk c.commands.desk)
+    c.commands.invariant.ran
     (none_left c.args.commands.now c.commands.command-index vs (drop_all c.commands.command-index c.args.commands.now c.commands-test.false))
 
 pub returns-clause-state : goal.returns-clause-state
 returns-clause-state g c =
     let vs : List SecondValue = waiting c.commands.seconds.items in
-    ran_state (given_all c.args.commands.now (waiting c.args.seconds.now.items)) (given_all (drop c.commands.command-index c.args.commands.now) vs) c.commands.refused (state_of c.args.session.now) (state_of c.commands.session) (seen g.D.Desk c.args.desk.now) (seen g.D.Desk c.commands.desk) c.commands.invariant.ran
+    ran_state (given_all c.args.commands.now (waiting c.args.seconds.now.items)) (given_all (drop c.commands.command-index c.args.commands.now) vs)
+    c.commands.refused (state_of c.args.session.now) (state_of c.commands.session) (seen g.D.Desk c.args.desk.now) (seen g.D.Desk c.commands.desk)
+    c.commands.invariant.ran
     (none_left c.args.commands.now c.commands.command-index vs (drop_all c.commands.command-index c.args.commands.now c.commands-test.false))
 
 pub returns-in_default-clause-said : goal.returns-in_default-clause-said
 returns-in_default-clause-said g c =
     let vs : List SecondValue = waiting c.commands.seconds.items in
-    ran_front (given_all c.args.commands.now (waiting c.args.seconds.now.items)) (given_all (drop c.commands.command-index c.args.commands.now) vs) c.commands.refused (state_of c.args.session.now) (state_of c.commands.session) (seen g.D.Desk c.args.desk.now) (seen g.D.Desk c.commands.desk) c.commands.invariant.ran
+    ran_front (given_all c.args.commands.now (waiting c.args.seconds.now.items)) (given_all (drop c.commands.command-index c.args.commands.now) vs)
+    c.commands.refused (state_of c.args.session.now) (state_of c.commands.session) (seen g.D.Desk c.args.desk.now) (seen g.D.Desk c.commands.desk)
+    c.commands.invariant.ran
 
 pub returns-in_err-say_all-clause-said : goal.returns-in_err-say_all-clause-said
 returns-in_err-say_all-clause-said g c =
@@ -87,11 +100,14 @@ returns-in_err-say_all-clause-said g c =
     let ran = subst (λ (left : List Given). Ran all left c.commands.refused from (state_of c.commands.session) old mid) next c.commands.invariant.ran in
     let text : List ℕ = step_text (state_of c.commands.session) step in
     let line : c.deref.result.now ≡ text =
-    ◌∙◌ {A = List ℕ} {b = c.take_step.new.out.items} c.deref.ensures.value (◌∙◌ {A = List ℕ} {b = c.clear.new.self.items ++ text} c.in-Ok.ensures.text (ap (λ (before : List ℕ). before ++ text) c.clear.ensures.items)) in
-    rw (p.1, p.2) (ran_part all more step c.commands.refused c.in_err-say_all.field-0.0 c.deref.result.now from (state_of c.commands.session) old mid (seen g.D.Desk c.say_all.new.desk) ran line c.in_err-say_all.ensures)
+    ◌∙◌ {A = List ℕ} {b = c.take_step.new.out.items} c.deref.ensures.value
+    (◌∙◌ {A = List ℕ} {b = c.clear.new.self.items ++ text} c.in-Ok.ensures.text (ap (λ (before : List ℕ). before ++ text) c.clear.ensures.items)) in
+    rw (p.1, p.2) (ran_part all more step c.commands.refused c.in_err-say_all.field-0.0 c.deref.result.now from (state_of c.commands.session) old mid
+    (seen g.D.Desk c.say_all.new.desk) ran line c.in_err-say_all.ensures)
 
 pub overflow_add-refused : goal.overflow_add-refused
 overflow_add-refused g c =
-    let few = subst (λ (n : ℕ). c.commands.refused + n ≤ c.commands.command-index + 1) (sym c.from-refused.ensures) (refused_few c.commands.refused c.commands.command-index c.in-Ok.answered.refused c.commands.invariant.most) in
+    let few = subst (λ (n : ℕ). c.commands.refused + n ≤ c.commands.command-index + 1) (sym c.from-refused.ensures)
+    (refused_few c.commands.refused c.commands.command-index c.in-Ok.answered.refused c.commands.invariant.most) in
     let below = c.commands-test.true in
     search rules

@@ -10,7 +10,8 @@ use Rattle.dgn_tool.proofs.commands.run_all.Given as goal
 
 abbrev pub invariant-commands : goal.invariant-commands
 invariant-commands g l = record {
-  ran : Ran (given_all l.commands (waiting l.fn.seconds.items)) (given_all (drop l.command-index l.commands) (waiting l.seconds.items)) l.refused (state_of l.fn.session) (state_of l.session) (seen g.D.Desk l.fn.desk) (seen g.D.Desk l.desk);
+  ran : Ran (given_all l.commands (waiting l.fn.seconds.items)) (given_all (drop l.command-index l.commands) (waiting l.seconds.items)) l.refused
+      (state_of l.fn.session) (state_of l.session) (seen g.D.Desk l.fn.desk) (seen g.D.Desk l.desk);
   tail : l.session.tail ≡ l.fn.session.tail;
   sound : AllByRecursion IsSound l.seconds.items;
   most : l.refused ≤ l.command-index;

@@ -15,9 +15,12 @@ returns-in-Ok g c =
     let d = opened_of inputs.design in
     let vs = waiting inputs.seconds.items in
     let o = c.args.output.now in
-    then_comes c.in-Ok.ensures.read (HasAll c.args.input.now c.args.script.now) (AllInBytes c.args.input.now c.args.script.now) (λ files. run_outcome c.args.input.now c.args.script.now files (λ x gs. told x gs o)) (told d (given_all inputs.commands.items vs) o) c.run_script.result c.of.result
+    then_comes c.in-Ok.ensures.read (HasAll c.args.input.now c.args.script.now) (AllInBytes c.args.input.now c.args.script.now)
+    (λ files. run_outcome c.args.input.now c.args.script.now files (λ x gs. told x gs o)) (told d (given_all inputs.commands.items vs) o)
+    c.run_script.result c.of.result
     (λ files known. known.0 (λ x gs. told x gs o)) (λ files known. known.1) c.of.ensures
-    (subst (λ (cs : List Command). DeskComes g.D.Desk (λ _. told d (given_all cs vs) o) c.read_inputs.new.desk c.run_script.new.desk c.run_script.result) c.deref.ensures.value c.run_script.ensures)
+    (subst (λ (cs : List Command). DeskComes g.D.Desk (λ _. told d (given_all cs vs) o) c.read_inputs.new.desk c.run_script.new.desk c.run_script.result)
+    c.deref.ensures.value c.run_script.ensures)
 
 pub returns-in-Err : goal.returns-in-Err
 returns-in-Err g c = c.in-Err.ensures.ended.early (λ _ read. told read.0 read.1 c.args.output.now)

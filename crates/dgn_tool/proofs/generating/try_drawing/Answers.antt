@@ -20,7 +20,8 @@ returns g c =
     let w = c.summarize.new.session in
     let did = c.in_ok-text.ensures in
     let d = c.design-design in
-    let begun = begun_with v.dim v.body c.design.result.now c.len-before.result c.design.ensures.whole c.design.ensures.dim c.design.ensures.body c.len-before.ensures in
+    let begun = begun_with v.dim v.body c.design.result.now c.len-before.result c.design.ensures.whole c.design.ensures.dim c.design.ensures.body
+    c.len-before.ensures in
     named_so (generated_from (state_of v) v.tail c.args.output.now) _ c.file_filled.result _ _
     (tried (state_of v) (state_of w) v.tail c.args.output.now c.deref-2.result.now c.deref.result.now c.deref-3.result.now c.len-before.result did.state
     (c.deref-2.ensures.value ∙ d.ensures.tail ∙ did.tail) begun

@@ -21,7 +21,8 @@ returns-in_err-design-clause-ended g c =
     let input = c.args.input.now in
     let script = c.args.script.now in
     rw (p.1, p.2) (record {
-      early = λ go_on. same_end (HasAll input script) (Has input) (AllInBytes input script) (InputInBytes input (λ _. ⊥)) (inputs_in input script go_on) (inputs_in input script go_on) _ _ _ (λ files. refl) (λ files has. has.0.0) (λ files known. (known.0, λ comes. absurd (known.1 comes)))
+      early = λ go_on. same_end (HasAll input script) (Has input) (AllInBytes input script) (InputInBytes input (λ _. ⊥)) (inputs_in input script go_on)
+          (inputs_in input script go_on) _ _ _ (λ files. refl) (λ files has. has.0.0) (λ files known. (known.0, λ comes. absurd (known.1 comes)))
           (c.in_err-design.ensures.ended.early (λ files d. scripted (bytes_of files script) (λ cs. stepped cs files (λ gs. go_on files (d, gs)))));
     })
 
@@ -32,7 +33,8 @@ returns-in_err-commands-clause-ended g c =
     let script = c.args.script.now in
     let d = opened_of c.in_ok-design.design in
     rw (p.1, p.2) (record {
-      early = λ go_on. then_ends c.in_ok-design.ensures.opened (HasAll input script) (Has script) (AllInBytes input script) (ScriptInBytes script) (inputs_in input script go_on) (script_in script (λ files cs. stepped cs files (λ gs. go_on files (d, gs)))) _
+      early = λ go_on. then_ends c.in_ok-design.ensures.opened (HasAll input script) (Has script) (AllInBytes input script) (ScriptInBytes script)
+          (inputs_in input script go_on) (script_in script (λ files cs. stepped cs files (λ gs. go_on files (d, gs)))) _
           (λ files opens. to_script input script d files (λ x gs. go_on files (x, gs)) opens)
           (λ files opens has. other_there input script d files opens has.0)
           (λ files opens known. (λ _. opens.2, λ _. known))
@@ -46,11 +48,15 @@ returns-in_err-seconds-clause-ended g c =
     let script = c.args.script.now in
     let d = opened_of c.in_ok-design.design in
     let cs = c.deref.result.now in
-    let reads = subst (λ (ks : List Command). ReadTo (ReadsAs script) ks (seen g.D.Desk c.open_design.new.desk) (seen g.D.Desk c.read_commands.new.desk)) (sym c.deref.ensures.value) c.in_ok-commands.ensures.read in
-    let both : ReadTo (λ files (_ : Unit {0}). OpensAs input files d × ReadsAs script files cs) tt (seen g.D.Desk c.args.desk.now) (seen g.D.Desk c.read_commands.new.desk) =
-    then_reads c.in_ok-design.ensures.opened (λ files (_ : Unit {0}). OpensAs input files d × ReadsAs script files cs) tt (λ files opens knows. (opens, knows)) reads in
+    let reads = subst (λ (ks : List Command). ReadTo (ReadsAs script) ks (seen g.D.Desk c.open_design.new.desk) (seen g.D.Desk c.read_commands.new.desk))
+    (sym c.deref.ensures.value) c.in_ok-commands.ensures.read in
+    let both : ReadTo (λ files (_ : Unit {0}). OpensAs input files d × ReadsAs script files cs) tt (seen g.D.Desk c.args.desk.now)
+    (seen g.D.Desk c.read_commands.new.desk) =
+    then_reads c.in_ok-design.ensures.opened (λ files (_ : Unit {0}). OpensAs input files d × ReadsAs script files cs) tt
+    (λ files opens knows. (opens, knows)) reads in
     rw (p.1, p.2) (record {
-      early = λ go_on. then_ends both (HasAll input script) (AreThere (names_in cs)) (AllInBytes input script) (AreInBytes (names_in cs)) (inputs_in input script go_on) (seconds_in (names_in cs) (λ files vs. go_on files (d, given_all cs vs))) _
+      early = λ go_on. then_ends both (HasAll input script) (AreThere (names_in cs)) (AllInBytes input script) (AreInBytes (names_in cs))
+          (inputs_in input script go_on) (seconds_in (names_in cs) (λ files vs. go_on files (d, given_all cs vs))) _
           (λ files known. to_seconds input script d cs files (λ x gs. go_on files (x, gs)) known.0 known.1)
           (λ files known has. seconds_there input script d cs files known.0 known.1 has)
           (λ files known are. seconds_bytes input script d cs files known.0 known.1 are)
@@ -64,8 +70,13 @@ returns-clause-read g c =
     let d = opened_of c.in_ok-design.design in
     let cs = c.deref.result.now in
     let vs = waiting c.in_ok-seconds.seconds.items in
-    let reads = subst (λ (ks : List Command). ReadTo (ReadsAs script) ks (seen g.D.Desk c.open_design.new.desk) (seen g.D.Desk c.read_commands.new.desk)) (sym c.deref.ensures.value) c.in_ok-commands.ensures.read in
-    let both : ReadTo (λ files (_ : Unit {0}). OpensAs input files d × ReadsAs script files cs) tt (seen g.D.Desk c.args.desk.now) (seen g.D.Desk c.read_commands.new.desk) =
-    then_reads c.in_ok-design.ensures.opened (λ files (_ : Unit {0}). OpensAs input files d × ReadsAs script files cs) tt (λ files opens knows. (opens, knows)) reads in
-    subst (λ (ks : List Command). ReadTo (AreRead input script) (d, given_all ks vs) (seen g.D.Desk c.args.desk.now) (seen g.D.Desk c.read_seconds.new.desk)) c.deref.ensures.value
-    (then_reads both (AreRead input script) (d, given_all cs vs) (λ files known come. all_read input script d cs vs files known.0 known.1 come) c.in_ok-seconds.ensures.read)
+    let reads = subst (λ (ks : List Command). ReadTo (ReadsAs script) ks (seen g.D.Desk c.open_design.new.desk) (seen g.D.Desk c.read_commands.new.desk))
+    (sym c.deref.ensures.value) c.in_ok-commands.ensures.read in
+    let both : ReadTo (λ files (_ : Unit {0}). OpensAs input files d × ReadsAs script files cs) tt (seen g.D.Desk c.args.desk.now)
+    (seen g.D.Desk c.read_commands.new.desk) =
+    then_reads c.in_ok-design.ensures.opened (λ files (_ : Unit {0}). OpensAs input files d × ReadsAs script files cs) tt
+    (λ files opens knows. (opens, knows)) reads in
+    subst (λ (ks : List Command). ReadTo (AreRead input script) (d, given_all ks vs) (seen g.D.Desk c.args.desk.now)
+    (seen g.D.Desk c.read_seconds.new.desk)) c.deref.ensures.value
+    (then_reads both (AreRead input script) (d, given_all cs vs) (λ files known come. all_read input script d cs vs files known.0 known.1 come)
+    c.in_ok-seconds.ensures.read)

@@ -16,9 +16,12 @@ returns-in-Ok g c =
     let d = opened_of inputs.design in
     let vs = waiting inputs.seconds.items in
     let o = c.args.patch.now in
-    then_comes c.in-Ok.ensures.read (HasAll c.args.input.now c.args.script.now) (AllInBytes c.args.input.now c.args.script.now) (λ files. run_outcome c.args.input.now c.args.script.now files (λ x gs. packed x gs o)) (packed d (given_all inputs.commands.items vs) o) c.pack_commands.result c.of.result
+    then_comes c.in-Ok.ensures.read (HasAll c.args.input.now c.args.script.now) (AllInBytes c.args.input.now c.args.script.now)
+    (λ files. run_outcome c.args.input.now c.args.script.now files (λ x gs. packed x gs o)) (packed d (given_all inputs.commands.items vs) o)
+    c.pack_commands.result c.of.result
     (λ files known. known.0 (λ x gs. packed x gs o)) (λ files known. known.1) c.of.ensures
-    (subst (λ (cs : List Command). DeskComes g.D.Desk (λ _. packed d (given_all cs vs) o) c.read_inputs.new.desk c.pack_commands.new.desk c.pack_commands.result) c.deref.ensures.value c.pack_commands.ensures)
+    (subst (λ (cs : List Command). DeskComes g.D.Desk (λ _. packed d (given_all cs vs) o)
+    c.read_inputs.new.desk c.pack_commands.new.desk c.pack_commands.result) c.deref.ensures.value c.pack_commands.ensures)
 
 pub returns-in-Err : goal.returns-in-Err
 returns-in-Err g c = c.in-Err.ensures.ended.early (λ _ read. packed read.0 read.1 c.args.patch.now)

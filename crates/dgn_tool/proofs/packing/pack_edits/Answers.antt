@@ -12,8 +12,11 @@ pack_session-requires-clause-begun c = ap (λ (v : SessionValue). v.entries) c.i
 
 pub returns-clause-refused : goal.returns-clause-refused
 returns-clause-refused c =
-    subst (λ (s : State). IfOk c.pack_session.result (λ p. p.refused ≡ refused_count (given_all c.args.commands.now (waiting c.args.seconds.now.items)) s)) c.in_ok-session.ensures.begun c.pack_session.ensures.refused
+    subst (λ (s : State). IfOk c.pack_session.result (λ p. p.refused ≡ refused_count (given_all c.args.commands.now (waiting c.args.seconds.now.items)) s))
+    c.in_ok-session.ensures.begun c.pack_session.ensures.refused
 
 pub returns-clause-entries : goal.returns-clause-entries
 returns-clause-entries c =
-    subst (λ (s : State). IfOk c.pack_session.result (λ p. all_packed p.entries.items ≡ packed_after (given_all c.args.commands.now (waiting c.args.seconds.now.items)) s)) c.in_ok-session.ensures.begun c.pack_session.ensures.entries
+    subst (λ (s : State). IfOk c.pack_session.result
+    (λ p. all_packed p.entries.items ≡ packed_after (given_all c.args.commands.now (waiting c.args.seconds.now.items)) s))
+    c.in_ok-session.ensures.begun c.pack_session.ensures.entries

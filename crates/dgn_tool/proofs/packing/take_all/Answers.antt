@@ -6,5 +6,13 @@ use Rattle.dgn_tool.proofs.packing.take_all.Goals as goal
 pub returns-clause-taken : goal.returns-clause-taken
 returns-clause-taken c =
     taken_all c.args.session.now c.entries.session c.entries.taken.items c.reverse.new.self.items c.entries.invariant
-    (omega (arith, c.entries-test.false, c.entries.invariant.long, ap (length {A = Entry}) c.entries-count.ensures, c.len.ensures, ap (length {A = Entry}) c.log.ensures.entries, c.entries.taken.ok.0))
+    (omega (
+      arith,
+      c.entries-test.false,
+      c.entries.invariant.long,
+      ap (length {A = Entry}) c.entries-count.ensures,
+      c.len.ensures,
+      ap (length {A = Entry}) c.log.ensures.entries,
+      c.entries.taken.ok.0,
+    ))
     c.reverse.ensures.items

@@ -20,5 +20,6 @@ returns-clause-said g c = at_ok c.end.result (has_line c.args.fault _ c.in_ok-li
 pub returns-clause-comes : goal.returns-clause-comes
 returns-clause-comes g c = λ found go_on tells.
     named_by (λ files. opened_outcome found (go_on files)) (ended statuses.BadDesign c.deref.result.now) c.end.result _ _
-    (λ files. fault_outcome found c.args.fault c.deref.result.now (go_on files) tells (subst (FaultSays c.args.fault) (sym c.deref.ensures.value) c.in_ok-line.ensures))
+    (λ files. fault_outcome found c.args.fault c.deref.result.now (go_on files) tells
+    (subst (FaultSays c.args.fault) (sym c.deref.ensures.value) c.in_ok-line.ensures))
     c.end.ensures

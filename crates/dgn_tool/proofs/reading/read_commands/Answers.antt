@@ -19,7 +19,8 @@ returns-in_err-text-clause-ended g c =
     let p = err_from_is_err_and c.from_residual.result c.from_residual.ensures.1 in
     let script = c.args.script.now in
     rw (p.1, p.2) (record {
-      early = λ go_on. same_end (Has script) (Has script) (ScriptInBytes script) (IsLonger script 1048576) (script_in script go_on) (whole_file script 1048576 (codes "too long script\n") (λ files b. script_outcome (commands_of b) (go_on files))) _ _ _
+      early = λ go_on. same_end (Has script) (Has script) (ScriptInBytes script) (IsLonger script 1048576) (script_in script go_on)
+          (whole_file script 1048576 (codes "too long script\n") (λ files b. script_outcome (commands_of b) (go_on files))) _ _ _
           (λ files. refl) (λ files there. there) (λ files long. script_long script files long)
           (c.in_err-text.ensures.ended.early (λ files b. script_outcome (commands_of b) (go_on files)));
     })
@@ -27,21 +28,29 @@ returns-in_err-text-clause-ended g c =
 pub returns-in-Ok-clause-read : goal.returns-in-Ok-clause-read
 returns-in-Ok-clause-read g c =
     known_so c.in_ok-text.ensures.read (ReadsAs c.args.script.now) c.in-Ok.commands.items
-    (λ files is. reads_so c.args.script.now c.in_ok-text.text.items c.in-Ok.commands.items files (ap commands_of (sym c.deref.ensures.value) ∙ c.in-Ok.ensures.commands) is)
+    (λ files is. reads_so c.args.script.now c.in_ok-text.text.items c.in-Ok.commands.items files
+    (ap commands_of (sym c.deref.ensures.value) ∙ c.in-Ok.ensures.commands) is)
 
 pub returns-in-Err-Line-clause-ended : goal.returns-in-Err-Line-clause-ended
 returns-in-Err-Line-clause-ended g c =
-    let told : commands_of c.deref.result.now ≡ Err (faults.Line c.in-Err-Line.number) = subst (Tells c.deref.result.now) c.in-Err-Line.field-0-is c.in-Err-Line.ensures.fault in
+    let told : commands_of c.deref.result.now ≡ Err (faults.Line c.in-Err-Line.number) =
+    subst (Tells c.deref.result.now) c.in-Err-Line.field-0-is c.in-Err-Line.ensures.fault in
     record {
-      early = λ go_on. then_comes c.in_ok-text.ensures.read (Has c.args.script.now) (ScriptInBytes c.args.script.now) (script_in c.args.script.now go_on) (ended statuses.BadScript (numbered (codes "bad script line ") c.in-Err-Line.number)) c.end_numbered.result c.of.result
-          (λ files is. script_file c.args.script.now c.in_ok-text.text.items (Err (faults.Line c.in-Err-Line.number)) files (go_on files) (ap commands_of (sym c.deref.ensures.value) ∙ told) is)
-          (λ files is. script_faulty c.args.script.now c.in_ok-text.text.items (faults.Line c.in-Err-Line.number) files (ap commands_of (sym c.deref.ensures.value) ∙ told) is)
+      early = λ go_on. then_comes c.in_ok-text.ensures.read (Has c.args.script.now) (ScriptInBytes c.args.script.now) (script_in c.args.script.now go_on)
+          (ended statuses.BadScript (numbered (codes "bad script line ") c.in-Err-Line.number)) c.end_numbered.result c.of.result
+          (λ files is. script_file c.args.script.now c.in_ok-text.text.items (Err (faults.Line c.in-Err-Line.number)) files (go_on files)
+          (ap commands_of (sym c.deref.ensures.value) ∙ told) is)
+          (λ files is. script_faulty c.args.script.now c.in_ok-text.text.items (faults.Line c.in-Err-Line.number) files
+          (ap commands_of (sym c.deref.ensures.value) ∙ told) is)
           c.of.ensures c.end_numbered.ensures;
     }
 
 pub returns-clause-ended : goal.returns-clause-ended
 returns-clause-ended g c =
-    record { early = λ go_on. wants_behind c.in_ok-text.ensures.read (Has c.args.script.now) (ScriptInBytes c.args.script.now) (script_in c.args.script.now go_on) }
+    record {
+      early = λ go_on. wants_behind c.in_ok-text.ensures.read (Has c.args.script.now) (ScriptInBytes c.args.script.now)
+          (script_in c.args.script.now go_on);
+    }
 
 pub read_script-requires : goal.read_script-requires
 read_script-requires g c =

@@ -18,18 +18,23 @@ returns-in-Ok-clause-read g c =
     let bytes : IsBytes c.in-Ok.bytes.items = subst IsBytes c.deref.ensures.value c.are_bytes.ensures in
     record {
       reads = record { told = read.told; calm = read.cause; quiet = read.other; stays = read.stays };
-      known = where_told (λ k. c.in-Ok.bytes.items ≡ bytes_of k.files c.args.name.now) (λ k. IsWholeFile c.args.name.now c.args.limit k.files c.in-Ok.bytes.items) _ read.whole (λ k is. (items_within c.in-Ok.bytes c.args.limit read.within, is, bytes));
+      known = where_told (λ k. c.in-Ok.bytes.items ≡ bytes_of k.files c.args.name.now)
+          (λ k. IsWholeFile c.args.name.now c.args.limit k.files c.in-Ok.bytes.items) _ read.whole
+          (λ k is. (items_within c.in-Ok.bytes c.args.limit read.within, is, bytes));
     }
 
 pub returns-in-Err-TooLong-clause-ended : goal.returns-in-Err-TooLong-clause-ended
 returns-in-Err-TooLong-clause-ended g c =
     let read = rw c.in-Err-TooLong.field-0-is at c.in-Err-TooLong.ensures in
-    let long : ReadTo (λ files (_ : Unit {0}). c.args.limit < length (bytes_of files c.args.name.now)) tt (seen g.D.Desk c.args.desk.now) (seen g.D.Desk c.read_all.new.desk) = record {
+    let long : ReadTo (λ files (_ : Unit {0}). c.args.limit < length (bytes_of files c.args.name.now)) tt (seen g.D.Desk c.args.desk.now)
+    (seen g.D.Desk c.read_all.new.desk) = record {
       reads = record { told = read.told; calm = read.cause; quiet = read.other; stays = read.stays };
       known = read.long refl;
     } in
     record {
-      early = λ go_on. then_comes long (Has c.args.name.now) (IsLonger c.args.name.now c.args.limit) (whole_file c.args.name.now c.args.limit c.args.line.now go_on) (ended statuses.TooLong c.args.line.now) c.end.result c.of.result (λ files over. file_overruns c.args.name.now c.args.limit c.args.line.now files go_on over) (λ files over. over) c.of.ensures c.end.ensures;
+      early = λ go_on. then_comes long (Has c.args.name.now) (IsLonger c.args.name.now c.args.limit)
+          (whole_file c.args.name.now c.args.limit c.args.line.now go_on) (ended statuses.TooLong c.args.line.now) c.end.result c.of.result
+          (λ files over. file_overruns c.args.name.now c.args.limit c.args.line.now files go_on over) (λ files over. over) c.of.ensures c.end.ensures;
     }
 
 pub returns-in-Err-Fault-clause-ended : goal.returns-in-Err-Fault-clause-ended
@@ -44,4 +49,7 @@ returns-in-Err-Memory-clause-ended g c =
       reads = record { told = read.told; calm = read.cause; quiet = read.other; stays = read.stays };
       known = all_told _;
     } in
-    record { early = λ go_on. wants_behind none (Has c.args.name.now) (IsLonger c.args.name.now c.args.limit) (whole_file c.args.name.now c.args.limit c.args.line.now go_on) }
+    record {
+      early = λ go_on. wants_behind none (Has c.args.name.now) (IsLonger c.args.name.now c.args.limit)
+          (whole_file c.args.name.now c.args.limit c.args.line.now go_on);
+    }

@@ -14,6 +14,7 @@ returns-in_err-line g c =
 
 pub returns : goal.returns
 returns g c =
-    named_so (ended (status_said c.args.ending) (numbered c.args.words.now c.args.number)) (ended (status_said c.args.ending) c.deref.result.now) c.end.result _ _
+    named_so (ended (status_said c.args.ending) (numbered c.args.words.now c.args.number)) (ended (status_said c.args.ending) c.deref.result.now)
+    c.end.result _ _
     (ap (ended (status_said c.args.ending)) (sym (c.deref.ensures.value ∙ c.in_ok-line.ensures ∙ ap (numbered c.args.words.now) c.from.ensures)))
     c.end.ensures

@@ -14,7 +14,8 @@ pub returns-in_err-second-clause-ended : goal.returns-in_err-second-clause-ended
 returns-in_err-second-clause-ended g c =
     let p = err_from_is_err_and c.from_residual.result c.from_residual.ensures.1 in
     let names : c.text_of.result.now ∷ [] ≡ names_of c.args.command.now = ap (λ (n : List ℕ). n ∷ []) c.text_of.ensures ∙ sym (ap names_of c.in-Import.is) in
-    rw (p.1, p.2) (subst (λ (l : List (List ℕ)). DeskEndsEarly g.D.Desk (AreThere l) (AreCutOff l) (seconds_in l) c.args.desk.now c.read_named.new.desk c.in_err-second.field-0.0) names c.in_err-second.ensures.ended)
+    rw (p.1, p.2) (subst (λ (l : List (List ℕ)). DeskEndsEarly g.D.Desk (AreThere l) (AreCutOff l) (seconds_in l)
+    c.args.desk.now c.read_named.new.desk c.in_err-second.field-0.0) names c.in_err-second.ensures.ended)
 
 pub returns-in_default-push-clause-ended : goal.returns-in_default-push-clause-ended
 returns-in_default-push-clause-ended g c =
@@ -32,4 +33,5 @@ returns-clause-read g c =
 
 pub returns-in_default-clause-read : goal.returns-in_default-clause-read
 returns-in_default-clause-read g c =
-    read_none (seen g.D.Desk c.args.desk.now) (λ files. none_added (names_of c.args.command.now) files c.args.seconds.now.items (names_none c.args.command.now c.in_default.not-Import))
+    read_none (seen g.D.Desk c.args.desk.now)
+    (λ files. none_added (names_of c.args.command.now) files c.args.seconds.now.items (names_none c.args.command.now c.in_default.not-Import))

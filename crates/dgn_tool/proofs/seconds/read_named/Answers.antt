@@ -15,15 +15,20 @@ returns-in_err-bytes-clause-ended g c =
     let p = err_from_is_err_and c.from_residual.result c.from_residual.ensures.1 in
     let name = c.args.name.now in
     rw (p.1, p.2) (record {
-      early = λ go_on. same_end (AreThere (name ∷ [])) (Has name) (AreCutOff (name ∷ [])) (IsLonger name 67108864) (seconds_in (name ∷ []) go_on) (whole_file name 67108864 (codes "too long import\n") (λ fs _. seconds_in (name ∷ []) go_on fs)) _ _ _
-          (λ files. one_ends name files go_on) (λ files there. there.0) (λ files long. one_cut name files long) (c.in_err-bytes.ensures.ended.early (λ fs _. seconds_in (name ∷ []) go_on fs));
+      early = λ go_on. same_end (AreThere (name ∷ [])) (Has name) (AreCutOff (name ∷ [])) (IsLonger name 67108864) (seconds_in (name ∷ []) go_on)
+          (whole_file name 67108864 (codes "too long import\n") (λ fs _. seconds_in (name ∷ []) go_on fs)) _ _ _
+          (λ files. one_ends name files go_on) (λ files there. there.0) (λ files long. one_cut name files long)
+          (c.in_err-bytes.ensures.ended.early (λ fs _. seconds_in (name ∷ []) go_on fs));
     })
 
 pub returns-in_err-second-clause-ended : goal.returns-in_err-second-clause-ended
 returns-in_err-second-clause-ended g c =
     let p = err_from_is_err_and c.from_residual-in_err-second.result c.from_residual-in_err-second.ensures.1 in
     let name = c.args.name.now in
-    rw (p.1, p.2) (record { early = λ go_on. wants_behind c.in_ok-bytes.ensures.read (AreThere (name ∷ [])) (AreCutOff (name ∷ [])) (seconds_in (name ∷ []) go_on) })
+    rw (p.1, p.2) (record {
+      early =
+          λ go_on. wants_behind c.in_ok-bytes.ensures.read (AreThere (name ∷ [])) (AreCutOff (name ∷ [])) (seconds_in (name ∷ []) go_on);
+    })
 
 pub returns-clause-read : goal.returns-clause-read
 returns-clause-read g c =

@@ -17,7 +17,8 @@ use Rattle.dgn_tool.proofs.seconds.read_seconds.Goals as goal
 
 pub commands-init : goal.commands-init
 commands-init g c = record {
-  read = subst (λ (l : List Second). ReadTo (IsReadSo c.args.commands.now c.args.commands.now) l (seen g.D.Desk c.args.desk.now) (seen g.D.Desk c.args.desk.now)) (sym c.new-seconds.ensures.items)
+  read = subst (λ (l : List Second). ReadTo (IsReadSo c.args.commands.now c.args.commands.now) l (seen g.D.Desk c.args.desk.now)
+      (seen g.D.Desk c.args.desk.now)) (sym c.new-seconds.ensures.items)
       (read_none (seen g.D.Desk c.args.desk.now) (λ files. nothing_read c.args.commands.now files));
   sound = subst (AllByRecursion IsSound) (sym c.new-seconds.ensures.items) tt;
 }
@@ -48,7 +49,8 @@ returns-in_err-read_for-clause-ended g c =
     drop_more all c.commands.command-index command c.commands-test.true ∙ ap (λ (x : Command). x ∷ left) (sym c.command-item.is) in
     let before : List Second = c.commands.seconds.items in
     rw (p.1, p.2) (record {
-      early = λ go_on. then_ends c.commands.invariant.read (AreThere (names_in all)) (AreThere (names_of command)) (AreInBytes (names_in all)) (AreCutOff (names_of command)) (seconds_in (names_in all) go_on) (seconds_in (names_of command) (λ fs _. seconds_in (names_in all) go_on fs)) _
+      early = λ go_on. then_ends c.commands.invariant.read (AreThere (names_in all)) (AreThere (names_of command)) (AreInBytes (names_in all))
+          (AreCutOff (names_of command)) (seconds_in (names_in all) go_on) (seconds_in (names_of command) (λ fs _. seconds_in (names_in all) go_on fs)) _
           (λ files so. ends_there all left command files before go_on (subst (λ (l : List Command). IsReadSo all l files before) split so))
           (λ files so there. next_there all left command files before (subst (λ (l : List Command). IsReadSo all l files before) split so) there)
           (λ files so cut. cut_bytes all left command files before (subst (λ (l : List Command). IsReadSo all l files before) split so) cut)
@@ -63,4 +65,5 @@ returns-clause-read g c =
     let all = c.args.commands.now in
     let none : drop c.commands.command-index all ≡ [] = drop_all c.commands.command-index all c.commands-test.false in
     known_so c.commands.invariant.read (ComeTo (names_in all)) (waiting c.reverse.new.self.items)
-    (λ files so. subst (ComeTo (names_in all) files) (turned_back c.commands.seconds.items c.reverse.new.self.items c.reverse.ensures.items) (all_read all files c.commands.seconds.items (subst (λ (l : List Command). IsReadSo all l files c.commands.seconds.items) none so)))
+    (λ files so. subst (ComeTo (names_in all) files) (turned_back c.commands.seconds.items c.reverse.new.self.items c.reverse.ensures.items)
+    (all_read all files c.commands.seconds.items (subst (λ (l : List Command). IsReadSo all l files c.commands.seconds.items) none so)))

@@ -5,4 +5,5 @@ use Rattle.dgn_tool.proofs.top.run_words.Goals as goal
 
 pub returns-in-Some : goal.returns-in-Some
 returns-in-Some g c =
-    ran (view.seen c.in-Some.request) _ (seen g.D.Desk c.args.desk.now) (seen g.D.Desk c.run_request.new.desk) c.run_request.result c.status.result c.in-Some.ensures.asked c.status.ensures c.run_request.ensures.reads c.run_request.ensures.ends
+    ran (view.seen c.in-Some.request) _ (seen g.D.Desk c.args.desk.now) (seen g.D.Desk c.run_request.new.desk)
+    c.run_request.result c.status.result c.in-Some.ensures.asked c.status.ensures c.run_request.ensures.reads c.run_request.ensures.ends

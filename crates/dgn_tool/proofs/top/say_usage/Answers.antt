@@ -7,4 +7,5 @@ pub returns-in-Ok : goal.returns-in-Ok
 returns-in-Ok g c = says_usage _ (seen g.D.Desk c.args.desk.now) (seen g.D.Desk c.say_all.new.desk) refl c.in-Ok.ensures
 
 pub returns-in-Err : goal.returns-in-Err
-returns-in-Err g c = stops_usage _ (seen g.D.Desk c.args.desk.now) (seen g.D.Desk c.say_all.new.desk) c.in-Err.stop c.status.result refl c.status.ensures c.in-Err.ensures
+returns-in-Err g c = stops_usage _ (seen g.D.Desk c.args.desk.now) (seen g.D.Desk c.say_all.new.desk)
+    c.in-Err.stop c.status.result refl c.status.ensures c.in-Err.ensures
