@@ -20,7 +20,7 @@ use Rattle.edit_script.specs.declared.command.Command.{Command}
 use Rattle.edit_script.specs.declared.command.Command.TheVariants as command
 use Rattle.elem_index.specs.Opened.{Opened}
 use Rattle.plane_geom.specs.declared.pt.Pt.{Pt}
-use Rattle.dgn_answers.specs.Lines.{numbered}
+use Rattle.listing_texts.specs.NumberedLines.{numbered}
 
 -- a run begins with the file's elements alone, all levels shown and no fence
 abbrev pub begun : Opened → State

@@ -17,10 +17,6 @@ pub data Given : Type 0 where
   Plain : Command → Given
   Import : SecondValue → Option Displacement → Given
 
--- what the second files come to that are left, the next of which stands last
-abbrev pub waiting : List Second → List SecondValue
-waiting seconds = map value_of (reverse seconds)
-
 -- what the next import is given; where no file is left, one that is no design file
 abbrev pub first_second : List SecondValue → SecondValue
 first_second [] = Faulty faults.NotDesign

@@ -14,7 +14,7 @@ use Rattle.dgn_session.specs.Imported.{imported}
 use Rattle.edit_ops.specs.Causes.{too_long}
 use Rattle.edit_ops.specs.declared.cause.Cause.{Cause}
 use Rattle.edit_ops.specs.declared.cause.Cause.TheVariants as causes
-use Rattle.dgn_answers.specs.Lines.{numbered}
+use Rattle.listing_texts.specs.NumberedLines.{numbered}
 use Rattle.dgn_answers.specs.declared.come.Come.{Come}
 use Rattle.dgn_answers.specs.declared.come.Come.TheVariants as come
 

@@ -3,7 +3,7 @@
 ghost use Rattle.std.specs.Prelude.{◌≡◌, ◌+◌, ◌≤◌, ◌++◌, codes, false, None, vec_len, vec_capacity, IfOk, OnOk, OnErr};
 ghost use Rattle.listing_texts.specs.Lines.{AppendsFrontOf};
 ghost use Rattle.dgn_session.specs.State.{state_of, selection, fence_applied, fence_edited, with_fence};
-ghost use Rattle.dgn_answers.specs.Lines.{numbered};
+ghost use Rattle.listing_texts.specs.NumberedLines.{numbered};
 ghost use Rattle.dgn_answers.specs.Commands.{fenced_said, fenced_refused, trees_edited, fence_said, fence_refused, fence_set};
 ghost use Rattle.dgn_answers.specs.Commands.{selection_said, selection_refused};
 ghost use Rattle.dgn_answers.specs.Logs.{LogsAs};

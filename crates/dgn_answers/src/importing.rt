@@ -7,7 +7,7 @@ ghost use Rattle.dgn_import.specs.Laws.{IsOfATree};
 ghost use Rattle.dgn_import.specs.Seconds.{value_of, IsSound};
 ghost use Rattle.listing_texts.specs.Lines.{AppendsFrontOf};
 ghost use Rattle.dgn_session.specs.State.{state_of};
-ghost use Rattle.dgn_answers.specs.Lines.{numbered};
+ghost use Rattle.listing_texts.specs.NumberedLines.{numbered};
 ghost use Rattle.dgn_answers.specs.Imports.{fault_said, tree_cause_said, importing, importing_of, gathering_of, FitsBehind};
 ghost use Rattle.dgn_answers.specs.Imports.{import_said, import_refused, import_left};
 ghost use Rattle.dgn_answers.specs.Logs.{ImportLogsAs};

@@ -7,7 +7,7 @@ ghost use Rattle.listing_texts.specs.Lines.{AppendsFrontOf};
 ghost use Rattle.dgn_session.specs.State.{state_of};
 ghost use Rattle.dgn_answers.specs.Given.{first_second, given, seconds_behind, step_text, step_refused, step_trees, after_step};
 ghost use Rattle.dgn_answers.specs.Logs.{StepLogsAs};
-ghost use Rattle.dgn_answers.specs.Given.{waiting};
+ghost use Rattle.dgn_import.specs.Seconds.{waiting};
 
 use crate::answered::Answered;
 use crate::answers::respond;

@@ -6,7 +6,7 @@ ghost use Rattle.dgn_import.specs.Seconds.{IsSound};
 ghost use Rattle.dgn_session.specs.State.{state_of};
 ghost use Rattle.dgn_answers.specs.Given.{given_all, after_all, refused_count, trees_of_all};
 ghost use Rattle.dgn_answers.specs.Logs.{AllLogAs};
-ghost use Rattle.dgn_answers.specs.Given.{waiting};
+ghost use Rattle.dgn_import.specs.Seconds.{waiting};
 
 use crate::steps::take_step;
 use dgn_import::Second;

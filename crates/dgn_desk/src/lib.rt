@@ -6,6 +6,7 @@ mod act;
 mod desk;
 mod failing;
 mod file_map;
+mod given_words;
 mod host_desk;
 mod mem_desk;
 mod reading;
@@ -15,6 +16,7 @@ mod writing;
 
 pub use act::Act;
 pub use desk::Desk;
+pub use given_words::words;
 pub use host_desk::HostDesk;
 pub use mem_desk::MemDesk;
 pub use reading::{ReadEnd, read_all};

@@ -6,3 +6,4 @@ pub mod GatheredBytes
 pub mod GatheredTrees
 pub mod DrawnElements
 pub mod ImportRefusals
+pub mod SpelledBodies

@@ -1,6 +1,6 @@
 -- What a second file comes to: a drawing that opens, as its dimension and the bytes of its body and of its tail, or the
 -- fault of the file.
-use Rattle.std.specs.Prelude.{ℕ, ◌≡◌, List, ◌++◌, map}
+use Rattle.std.specs.Prelude.{ℕ, ◌≡◌, List, ◌++◌, map, reverse}
 use Rattle.std.specs.declared.result.Result.{Result}
 use Rattle.std.specs.declared.result.Result.TheVariants.{Ok, Err}
 use Rattle.dgn_drawing.specs.Spelling.{spelling}
@@ -38,6 +38,10 @@ second_of f = as_second (opening f)
 abbrev pub value_of : Second → SecondValue
 value_of (seconds.Good d t) = Drawing d.dim d.body.items d.tail.items
 value_of (seconds.Bad fault) = Faulty fault
+
+-- what the second files come to that are left, the next of which stands last
+abbrev pub waiting : List Second → List SecondValue
+waiting seconds = map value_of (reverse seconds)
 
 -- its design is whole, and the nesting is that of its elements
 abbrev pub IsSound : Second → Type 0

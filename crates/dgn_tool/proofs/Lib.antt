@@ -1,28 +1,13 @@
-mod Untouched
-mod Fitted
-mod Joined
-mod Telling
-mod Parts
-mod Whole
-mod Ran
-mod Finished
-mod Filled
-mod Begun
-mod Tried
-mod Stacked
-mod Appending
-mod SecondsRead
-mod Names
-mod InputsRead
-mod Linked
-mod Packed
-mod Sized
-mod Repacked
-mod Filed
-mod Patching
-mod PatchEndings
-mod SameFile
-mod NamedValues
-mod ScriptEdits
-mod Named
-mod Written
+pub mod OpenSeconds
+pub mod GeneratedDrawings
+pub mod FilledTails
+pub mod TextsThenFiles
+pub mod RunInputs
+pub mod LinkedEdits
+pub mod PackedEntries
+pub mod CommandsInTurn
+pub mod StackedEdits
+pub mod UsageSaid
+pub mod GeneratedSizes
+pub mod UntouchedBytes
+pub mod WholeRuns

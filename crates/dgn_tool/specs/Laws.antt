@@ -1,8 +1,6 @@
 -- What holds of every drawing that opens, every list of commands and every list of second files for their imports, each
 -- the contract of a function in `laws`.
-use Rattle.std.specs.Prelude.{ℕ, ◌≡◌, ◌<◌, ◌≤◌, List, ◌++◌, length, map, slice_index, All, IfSome, Ok}
-use Rattle.patch_file.specs.Spelling.{AreEntries, patch_spelling}
-use Rattle.patch_file.specs.Standing.{AllStand, put_all}
+use Rattle.std.specs.Prelude.{ℕ, ◌≡◌, ◌<◌, ◌≤◌, List, ◌++◌, length, map, slice_index, All, IfSome}
 use Rattle.dgn_drawing.specs.Spelling.{spelling}
 use Rattle.dgn_drawing.specs.Opening.{Opens}
 use Rattle.dgn_drawing.specs.Values.{IsShift}
@@ -14,17 +12,12 @@ use Rattle.edit_ops.specs.Fields.{IsIn}
 use Rattle.edit_ops.specs.Fenced.{IsFenceEdit}
 use Rattle.edit_script.specs.declared.command.Command.{Command}
 use Rattle.edit_script.specs.declared.command.Command.TheVariants as command
-use Rattle.edit_script.specs.Script.{commands_of}
 use Rattle.elem_index.specs.Opened.{Opened}
 use Rattle.dgn_answers.specs.Commands.{begun}
 use Rattle.dgn_answers.specs.Given.{Given, given_all, after_all}
-use Rattle.dgn_tool.specs.Filling.{filling}
-use Rattle.dgn_tool.specs.Ended.{file_after}
-use Rattle.dgn_tool.specs.Applied.{AllFit}
-use Rattle.dgn_tool.specs.Packing.{packed_after}
+use Rattle.dgn_files.specs.Filling.{filling}
+use Rattle.dgn_tool.specs.FileAfter.{file_after}
 use Rattle.dgn_answers.specs.Remaining.{Made, remaining, fields_made}
-use Rattle.dgn_drawing.specs.declared.limits.TheConstants.{MOST_DESIGN}
-use Rattle.patch_file.specs.declared.limits.TheConstants.{MOST_PATCH}
 
 -- the place is in no field that it writes
 abbrev pub IsOutside : ℕ → ℕ → Made → Type 0
@@ -36,10 +29,6 @@ IsEditIn (command.Edit e) = IsEdit e
 IsEditIn (command.Fenced mode e) = IsFenceEdit e
 IsEditIn (command.Import name by) = IfSome by IsShift
 IsEditIn other = Unit {0}
-
--- the commands that a script of bytes reads to hold it
-abbrev pub ScriptsHoldEdits : Type 0
-ScriptsHoldEdits = (text : List ℕ) (cs : List Command) → IsBytes text → commands_of text ≡ Ok cs → All IsEditIn cs
 
 -- the steps of these commands with these second files
 abbrev pub steps_of : List Command → List (List ℕ) → List Given
@@ -62,24 +51,3 @@ abbrev pub UntouchedBytesStay : Type 0
 UntouchedBytesStay =
     (f : List ℕ) (d : Opened) (cs : List Command) (files : List (List ℕ))
     → Opens f d.dim d.elements d.tail → All IsEditIn cs → All IsBytes files → IsEditedFile f (begun d) d.tail (steps_of cs files)
-
--- so it is with what any script of bytes reads to
-abbrev pub UntouchedByScripts : Type 0
-UntouchedByScripts =
-    (f : List ℕ) (d : Opened) (text : List ℕ) (cs : List Command) (files : List (List ℕ))
-    → Opens f d.dim d.elements d.tail → IsBytes text → commands_of text ≡ Ok cs → All IsBytes files
-    → IsEditedFile f (begun d) d.tail (steps_of cs files)
-
--- the packed entries of the steps stand, one after the other, on the elements of the file, and make of them those after
--- the steps; what each makes keeps the limit; and where their patch file does, it is read to them again
-pub record PacksAgain (s : State) (t : List ℕ) (gs : List Given) : Type 0 where
-  pub stand : AllStand (spelling s.top) (packed_after gs s)
-  pub gives : put_all (spelling s.top) (packed_after gs s) ≡ spelling (after_all gs s).top
-  pub fit : AllFit (length t) (spelling s.top) (packed_after gs s)
-  pub entries : length (patch_spelling (packed_after gs s)) ≤ MOST_PATCH → AreEntries (packed_after gs s)
-
-abbrev pub AppliedGivesTheSame : Type 0
-AppliedGivesTheSame =
-    (f : List ℕ) (d : Opened) (cs : List Command) (files : List (List ℕ))
-    → Opens f d.dim d.elements d.tail → length f ≤ MOST_DESIGN → All IsEditIn cs → All IsBytes files
-    → PacksAgain (begun d) d.tail (steps_of cs files)

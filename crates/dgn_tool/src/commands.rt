@@ -4,8 +4,8 @@ ghost use Rattle.dgn_desk.specs.Seen.{DeskWrites};
 ghost use Rattle.dgn_session.specs.State.{state_of};
 ghost use Rattle.dgn_import.specs.Seconds.{IsSound};
 ghost use Rattle.dgn_answers.specs.Given.{given_all, after_all, texts_of, refused_count};
-ghost use Rattle.dgn_tool.specs.Outcome.{SaysAs};
-ghost use Rattle.dgn_answers.specs.Given.{waiting};
+ghost use Rattle.dgn_files.specs.Leaving.{SaysAs};
+ghost use Rattle.dgn_import.specs.Seconds.{waiting};
 
 use dgn_answers::take_step;
 use dgn_desk::{Desk, Stop, say_all};

@@ -4,13 +4,13 @@ ghost use Rattle.std.specs.Prelude.{◌≡◌, ◌≤◌, ◌++◌, length, slic
 ghost use Rattle.dgn_drawing.specs.Spelling.{spelling};
 ghost use Rattle.dgn_session.specs.State.{state_of};
 ghost use Rattle.dgn_answers.specs.Commands.{begun};
-ghost use Rattle.dgn_tool.specs.Ends.{DeskComes};
+ghost use Rattle.dgn_files.specs.Ends.{DeskComes};
 ghost use Rattle.dgn_answers.specs.Given.{after_all};
 ghost use Rattle.dgn_tool.specs.Generation.{fixed_commands, fixed_steps, sizes_of, counts_of, summary, generated_from, drawing_of, generation};
 
-use crate::ending::Ending;
-use crate::writing::{file_filled, filling_len};
-use dgn_answers::{Tally, push_numbered, run_unsaid};
+use dgn_files::{Ending, file_filled, filling_len};
+use dgn_answers::{Tally, run_unsaid};
+use listing_texts::push_numbered;
 use dgn_desk::{Desk, Stop};
 use dgn_drawing::MOST_DESIGN;
 use dgn_generator::generate;

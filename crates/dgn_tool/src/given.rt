@@ -4,12 +4,12 @@ ghost use Rattle.std.specs.Prelude.{◌≡◌, [], map, string_bytes, IfOk, IfEr
 ghost use Rattle.std.specs.Process.{exit_status};
 ghost use Rattle.std.specs.IoError.{error_kind};
 ghost use Rattle.std.specs.declared.io.ErrorKind.TheVariants.{OutOfMemory};
-ghost use Rattle.dgn_tool.specs.Request.{request_of};
+ghost use Rattle.dgn_files.specs.Request.{request_of};
 ghost use Rattle.dgn_tool.specs.Runs.{DeskRuns, DeskExits};
-ghost use Rattle.dgn_tool.specs.Status.{number_of};
+ghost use Rattle.dgn_files.specs.Status.{number_of};
 
-use crate::status::Status;
 use crate::top::run_words;
+use dgn_files::Status;
 use dgn_desk::Desk;
 use std::alloc::Global;
 use std::io;

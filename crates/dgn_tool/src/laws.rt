@@ -1,17 +1,7 @@
-//! Laws over the definitions that the contracts cite. Each function does nothing; its contract is the law.
+//! A law over the definitions that the contracts cite. The function does nothing; its contract is the law. Those that stand on
+//! it are in `dgn_laws`.
 
-ghost use Rattle.dgn_tool.specs.Laws.{ScriptsHoldEdits, UntouchedBytesStay, UntouchedByScripts, AppliedGivesTheSame};
-ghost use Rattle.dgn_tool.specs.RunLaws.{UntouchedByRuns};
-ghost use Rattle.dgn_tool.specs.PatchLaws.{RefusesWhereOneDiffers, RefusesNoneElse, AppliesAll, WritesTheSame};
-ghost use Rattle.dgn_tool.specs.FitLaws.{FitsEndFindings};
-ghost use Rattle.dgn_tool.specs.ImportLaws.{ImportsNestApart, ImportsOfRunsNestApart, RefusedImportsChangeNothing};
-ghost use Rattle.dgn_tool.specs.Generation.{FixedScriptReads};
-
-/// The commands that a script reads to hold what their types keep: where its text is bytes, each edit, each edit of a fence
-/// and each displacement of an import has values that its fields can hold.
-pub fn scripts_hold_edits()
-    ensures { ScriptsHoldEdits }
-{}
+ghost use Rattle.dgn_tool.specs.Laws.{UntouchedBytesStay};
 
 /// The file that a run writes opens as the elements that the accepted commands make and the tail of the file that was
 /// read, with the zero bytes behind it that fill its last block where that file was of whole blocks. It has that file's
@@ -19,63 +9,4 @@ pub fn scripts_hold_edits()
 /// and that no undo took back.
 pub fn untouched_bytes_stay()
     ensures { UntouchedBytesStay }
-{}
-
-/// So it is with every script, of which nothing is asked but that it is bytes and reads to its commands.
-pub fn untouched_by_scripts()
-    ensures { UntouchedByScripts }
-{}
-
-/// And so it is with every run that edits IN by SCRIPT into OUT, over every desk that tells what it holds: where it ends with
-/// Done or SomeRefused, the clauses `outcome` and `bytes` of `run` give that IN opens, that SCRIPT reads to commands, that OUT
-/// holds the file that these make of IN, with the second files that they name, and that no other file changed; and that file
-/// opens, and has IN's byte at each place in IN's elements that is in no field of an edit that is left. Nothing is asked of the
-/// files but what these clauses say.
-pub fn untouched_by_runs()
-    ensures { UntouchedByRuns }
-{}
-
-/// Applied gives the same: the entries of the patch file that a run packs stand, one after the other, on the elements of
-/// the file that was read, and put on these they give the exact bytes of the elements that the commands make. Each
-/// drawing on the way keeps the limit of a design file, and a patch file within its limit is read to these entries. So a
-/// run that applies this patch file to that file writes the very file that `edit` writes.
-pub fn applied_gives_the_same()
-    ensures entries { AppliedGivesTheSame }
-    ensures file { WritesTheSame }
-{}
-
-/// Where a run comes to a fit and does it, `audit` would say behind it exactly what it would have said before it, without
-/// the elements of the tree that was fitted: none of them is a finding any more, and those of all other trees are as before.
-pub fn fits_end_findings()
-    ensures { FitsEndFindings }
-{}
-
-/// Imports nest apart: behind an import that is accepted, the trees of the drawing are those that it had and then the trees
-/// that are taken of the second file; their bytes stand behind all bytes of the elements that it had; and the line says how
-/// many trees they are. So it is in each state with an element, and behind any commands of a script. An import is refused
-/// exactly where the second file doesn't open or has another dimension, the displacement is given for other axes or refuses
-/// a tree, or the file would exceed its limit; and then nothing changes.
-pub fn imports_nest_apart()
-    ensures accepted { ImportsNestApart }
-    ensures run { ImportsOfRunsNestApart }
-    ensures refused { RefusedImportsChangeNothing }
-{}
-
-/// The fixed script that is run on a generated drawing is read to its commands.
-pub fn fixed_script_reads()
-    ensures { FixedScriptReads }
-{}
-
-/// Refused at the first difference: a run that applies a patch file to a drawing that opens is refused exactly at the first
-/// entry that doesn't stand on what those before it made, where these keep the limit of a design file. The line has the
-/// number of that entry, from 1, and no file is written.
-pub fn refused_at_the_first_difference()
-    ensures refused { RefusesWhereOneDiffers }
-    ensures only { RefusesNoneElse }
-{}
-
-/// Where all entries of the patch file stand, each on what those before it made, and keep the limit of a design file, the
-/// run writes what they make of the drawing, with its tail, and what fills the last block as before.
-pub fn all_entries_applied()
-    ensures { AppliesAll }
 {}

@@ -2,29 +2,18 @@
 //! `answer` runs one command in a session, and `answer_import` one that is an import.
 #![tactic(auto)]
 
-mod applying;
-mod checking;
 mod commands;
 mod editing;
-mod end;
-mod ending;
 mod generating;
 mod given;
 mod inputs;
 pub mod laws;
 mod packing;
-mod put_end;
-mod putting;
-mod reading;
-mod request;
-mod saying;
-mod seconds;
-mod status;
 mod top;
 mod writing;
 
 pub use dgn_answers::{answer, answer_import};
+pub use dgn_files::Status;
 pub use dgn_generator::generate;
 pub use given::run_given;
-pub use status::Status;
 pub use top::run;

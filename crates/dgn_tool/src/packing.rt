@@ -11,19 +11,18 @@ ghost use Rattle.patch_file.specs.Spelling.{patch_spelling};
 ghost use Rattle.patch_file.specs.Standing.{all_taken};
 ghost use Rattle.patch_file.specs.PatchView.{packed_of, all_packed};
 ghost use Rattle.dgn_answers.specs.Commands.{begun};
-ghost use Rattle.dgn_tool.specs.Ends.{DeskComes, DeskEnds};
-ghost use Rattle.dgn_tool.specs.InBytes.{AllInBytes};
+ghost use Rattle.dgn_files.specs.Ends.{DeskComes, DeskEnds};
+ghost use Rattle.dgn_files.specs.InBytes.{AllInBytes};
 ghost use Rattle.dgn_answers.specs.Given.{given_all, refused_count};
 ghost use Rattle.dgn_tool.specs.Packing.{packed, packed_after, filed_patch, TakesLast};
-ghost use Rattle.dgn_tool.specs.Outcome.{HasAll, run_outcome};
-ghost use Rattle.dgn_answers.specs.Given.{waiting};
+ghost use Rattle.dgn_files.specs.InputOutcomes.{HasAll};
+ghost use Rattle.dgn_tool.specs.Outcome.{run_outcome};
+ghost use Rattle.dgn_import.specs.Seconds.{waiting};
 
-use crate::end::End;
-use crate::ending::Ending;
 use crate::inputs::{Inputs, read_inputs};
-use crate::saying::end;
-use crate::writing::file_and_say;
-use dgn_answers::{numbered_line, run_unsaid};
+use dgn_files::{End, Ending, end_with, file_and_say};
+use dgn_answers::run_unsaid;
+use listing_texts::numbered_line;
 use dgn_desk::{Desk, Stop};
 use dgn_import::Second;
 use dgn_session::Session;
@@ -81,7 +80,7 @@ fn pack_commands<D: Desk>(
 {
     let did = pack_edits(alloc, design, commands, seconds)?;
     if patch_len(&did.entries) > MOST_PATCH as u64 {
-        return end(desk, b"too long patch\n", Ending::TooLong);
+        return end_with(desk, b"too long patch\n", Ending::TooLong);
     }
     file_entries(alloc, desk, &did.entries, did.refused, patch)
 }

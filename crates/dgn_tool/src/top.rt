@@ -1,21 +1,17 @@
 ghost use Rattle.std.specs.Prelude.{◌≡◌, map, string_bytes, IsNone, IfSome, IsTrue, None, Some};
 ghost use Rattle.dgn_desk.specs.Content.{OnlyLeftDiffers};
 ghost use Rattle.dgn_desk.specs.Desk.{Rose};
-ghost use Rattle.dgn_tool.specs.Ends.{DeskEnds};
-ghost use Rattle.dgn_tool.specs.InBytes.{FilesInBytes};
-ghost use Rattle.dgn_tool.specs.Request.{request_of};
-ghost use Rattle.dgn_tool.specs.RequestView.{seen, IsCounted};
+ghost use Rattle.dgn_files.specs.Ends.{DeskEnds};
+ghost use Rattle.dgn_tool.specs.RunInBytes.{FilesInBytes};
+ghost use Rattle.dgn_files.specs.Request.{request_of};
+ghost use Rattle.dgn_files.specs.RequestView.{seen, IsCounted};
 ghost use Rattle.dgn_tool.specs.Outcome.{outcome, outcome_of, IsEnding, EndsAs, StoppedAs, IsFaultless, HasFiles, Reads};
 ghost use Rattle.dgn_tool.specs.Runs.{DeskRuns};
 
-use crate::applying::apply;
-use crate::checking::check;
 use crate::editing::edit;
-use crate::end::End;
 use crate::generating::generate_file;
 use crate::packing::pack;
-use crate::request::{Request, read_words};
-use crate::status::Status;
+use dgn_files::{End, Request, Status, apply, check, read_words};
 use dgn_desk::{Desk, say_all};
 use std::alloc::Global;
 

@@ -7,3 +7,4 @@ pub mod ElementTexts
 pub mod RefTexts
 pub mod LinkTexts
 pub mod Laws
+pub mod NumberedLines

@@ -1,5 +1,5 @@
 use Rattle.std.proofs.Common.{sym, ◌∙◌}
-use Rattle.dgn_answers.proofs.Counting.{spelled_with}
+use Rattle.dgn_import.proofs.SpelledBodies.{spelled_with}
 use Rattle.dgn_answers.proofs.importing.answer_come.Goals as goal
 
 pub append_gathered-requires-clause-body : goal.append_gathered-requires-clause-body

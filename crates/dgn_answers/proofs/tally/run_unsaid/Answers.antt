@@ -5,7 +5,7 @@ use Rattle.dgn_import.specs.Seconds.{SecondValue}
 use Rattle.dgn_session.specs.State.{state_of}
 use Rattle.edit_script.specs.declared.command.Command.{Command}
 use Rattle.dgn_answers.specs.Given.{Given, given, given_all}
-use Rattle.dgn_answers.specs.Given.{waiting}
+use Rattle.dgn_import.specs.Seconds.{waiting}
 use Rattle.dgn_answers.proofs.Stepping.{next_step, none_left}
 use Rattle.dgn_answers.proofs.Counting.{refused_few}
 use Rattle.dgn_answers.proofs.Tallied.{Tallied, tallied_more, tallied_count, tallied_trees, tallied_state}

@@ -6,9 +6,9 @@ use Rattle.dgn_import.specs.Seconds.{SecondValue}
 use Rattle.dgn_session.specs.State.{state_of}
 use Rattle.edit_script.specs.declared.command.Command.{Command}
 use Rattle.dgn_answers.specs.Given.{Given, given, given_all, step_text}
-use Rattle.dgn_answers.specs.Given.{waiting}
+use Rattle.dgn_import.specs.Seconds.{waiting}
 use Rattle.dgn_answers.proofs.Stepping.{next_step, none_left}
-use Rattle.dgn_tool.proofs.Ran.{Ran, ran_none, ran_more, ran_front, ran_part, ran_all, ran_said, ran_state}
+use Rattle.dgn_tool.proofs.CommandsInTurn.{Ran, ran_none, ran_more, ran_front, ran_part, ran_all, ran_said, ran_state}
 use Rattle.dgn_answers.proofs.Counting.{refused_few}
 use Rattle.dgn_tool.proofs.commands.run_all.Goals as goal
 

@@ -4,8 +4,8 @@ use Rattle.dgn_desk.specs.Seen.{seen}
 use Rattle.dgn_session.specs.State.{state_of}
 use Rattle.dgn_import.specs.Seconds.{IsSound}
 use Rattle.dgn_answers.specs.Given.{given_all}
-use Rattle.dgn_answers.specs.Given.{waiting}
-use Rattle.dgn_tool.proofs.Ran.{Ran}
+use Rattle.dgn_import.specs.Seconds.{waiting}
+use Rattle.dgn_tool.proofs.CommandsInTurn.{Ran}
 use Rattle.dgn_tool.proofs.commands.run_all.Given as goal
 
 abbrev pub invariant-commands : goal.invariant-commands

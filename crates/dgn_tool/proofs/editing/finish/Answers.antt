@@ -1,10 +1,10 @@
 use Rattle.std.proofs.lemmas.Result.{err_from_is_err_and}
 use Rattle.dgn_drawing.specs.Spelling.{spelling}
 use Rattle.dgn_session.specs.State.{state_of}
-use Rattle.dgn_tool.specs.Filling.{file_made}
+use Rattle.dgn_files.specs.Filling.{file_made}
 use Rattle.dgn_answers.specs.Given.{given_all}
-use Rattle.dgn_answers.specs.Given.{waiting}
-use Rattle.dgn_tool.proofs.Finished.{begun_with, made_so, edited, edit_unfiled, edit_unsaid}
+use Rattle.dgn_import.specs.Seconds.{waiting}
+use Rattle.dgn_tool.proofs.TextsThenFiles.{begun_with, made_so, edited, edit_unfiled, edit_unsaid}
 use Rattle.dgn_tool.proofs.editing.finish.Goals as goal
 
 pub returns-in_err-refused : goal.returns-in_err-refused

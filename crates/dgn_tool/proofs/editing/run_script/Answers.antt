@@ -5,8 +5,8 @@ use Rattle.elem_index.specs.Answers.{opened_of}
 use Rattle.dgn_session.specs.State.{State, state_of, SessionValue}
 use Rattle.dgn_answers.specs.Given.{given_all}
 use Rattle.dgn_tool.specs.Outcome.{told, told_from}
-use Rattle.dgn_answers.specs.Given.{waiting}
-use Rattle.dgn_tool.proofs.Parts.{wants, named_so}
+use Rattle.dgn_import.specs.Seconds.{waiting}
+use Rattle.dgn_files.proofs.RunParts.{wants, named_so}
 use Rattle.dgn_tool.proofs.editing.run_script.Goals as goal
 
 pub returns-in_err-session : goal.returns-in_err-session

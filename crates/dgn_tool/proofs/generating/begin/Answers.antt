@@ -3,7 +3,7 @@ use Rattle.std.specs.Prelude.{IfOk}
 use Rattle.dgn_session.specs.State.{State, state_of}
 use Rattle.elem_index.specs.Opened.{Opened}
 use Rattle.dgn_answers.specs.Commands.{begun}
-use Rattle.dgn_tool.proofs.Begun.{few_made, begins, tail_begun}
+use Rattle.dgn_tool.proofs.GeneratedDrawings.{few_made, begins, tail_begun}
 use Rattle.dgn_tool.proofs.generating.begin.Goals as goal
 
 pub read_design-requires : goal.read_design-requires

@@ -2,8 +2,8 @@ use Rattle.std.proofs.lemmas.Result.{err_from_is_err_and}
 use Rattle.dgn_desk.specs.Seen.{seen}
 use Rattle.dgn_session.specs.State.{state_of}
 use Rattle.dgn_tool.specs.Generation.{generation}
-use Rattle.dgn_tool.proofs.Parts.{wants, named_so}
-use Rattle.dgn_tool.proofs.Tried.{generates}
+use Rattle.dgn_files.proofs.RunParts.{wants, named_so}
+use Rattle.dgn_tool.proofs.GeneratedSizes.{generates}
 use Rattle.dgn_tool.proofs.generating.generate_file.Goals as goal
 
 pub returns-in_err-session : goal.returns-in_err-session

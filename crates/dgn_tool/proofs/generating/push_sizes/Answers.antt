@@ -4,8 +4,8 @@ use Rattle.dgn_drawing.specs.Element.{Element}
 use Rattle.dgn_drawing.specs.Opening.{elements_of}
 use Rattle.elem_index.specs.Design.{elements}
 use Rattle.dgn_session.specs.State.{state_of}
-use Rattle.dgn_tool.proofs.Finished.{begun_with}
-use Rattle.dgn_tool.proofs.Tried.{long_made, sized}
+use Rattle.dgn_tool.proofs.TextsThenFiles.{begun_with}
+use Rattle.dgn_tool.proofs.GeneratedSizes.{long_made, sized}
 use Rattle.dgn_tool.proofs.generating.push_sizes.Goals as goal
 
 pub returns : goal.returns

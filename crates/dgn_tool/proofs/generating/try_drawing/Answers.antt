@@ -3,10 +3,10 @@ use Rattle.std.proofs.lemmas.Result.{err_from_is_err_and}
 use Rattle.dgn_desk.specs.Seen.{seen}
 use Rattle.dgn_session.specs.State.{state_of}
 use Rattle.dgn_tool.specs.Generation.{generated_from}
-use Rattle.dgn_tool.proofs.Finished.{begun_with}
-use Rattle.dgn_answers.proofs.Counting.{spelled_with}
-use Rattle.dgn_tool.proofs.Parts.{wants, named_so}
-use Rattle.dgn_tool.proofs.Tried.{tried}
+use Rattle.dgn_tool.proofs.TextsThenFiles.{begun_with}
+use Rattle.dgn_import.proofs.SpelledBodies.{spelled_with}
+use Rattle.dgn_files.proofs.RunParts.{wants, named_so}
+use Rattle.dgn_tool.proofs.GeneratedSizes.{tried}
 use Rattle.dgn_tool.proofs.generating.try_drawing.Goals as goal
 
 pub returns-in_err-text : goal.returns-in_err-text

@@ -2,10 +2,10 @@ use Rattle.std.proofs.Common.{◌∙◌}
 use Rattle.std.proofs.lemmas.Result.{err_from_is_err_and}
 use Rattle.dgn_desk.specs.Seen.{seen}
 use Rattle.patch_file.specs.PatchView.{all_packed}
-use Rattle.dgn_tool.specs.Ends.{status_said}
+use Rattle.dgn_files.specs.Ends.{status_said}
 use Rattle.dgn_tool.specs.Packing.{filed_patch}
-use Rattle.dgn_tool.proofs.Parts.{wants, named_so}
-use Rattle.dgn_tool.proofs.Packed.{filed_so}
+use Rattle.dgn_files.proofs.RunParts.{wants, named_so}
+use Rattle.dgn_tool.proofs.PackedEntries.{filed_so}
 use Rattle.dgn_tool.proofs.packing.file_entries.Goals as goal
 
 pub returns-in_err-file : goal.returns-in_err-file

@@ -1,13 +1,14 @@
 use Rattle.std.proofs.Common.{List, subst}
 use Rattle.edit_script.specs.declared.command.Command.{Command}
 use Rattle.elem_index.specs.Answers.{opened_of}
-use Rattle.dgn_tool.specs.Ends.{DeskComes}
-use Rattle.dgn_tool.specs.InBytes.{AllInBytes}
+use Rattle.dgn_files.specs.Ends.{DeskComes}
+use Rattle.dgn_files.specs.InBytes.{AllInBytes}
 use Rattle.dgn_answers.specs.Given.{given_all}
-use Rattle.dgn_tool.specs.Outcome.{HasAll, run_outcome}
+use Rattle.dgn_files.specs.InputOutcomes.{HasAll}
+use Rattle.dgn_tool.specs.Outcome.{run_outcome}
 use Rattle.dgn_tool.specs.Packing.{packed}
-use Rattle.dgn_answers.specs.Given.{waiting}
-use Rattle.dgn_tool.proofs.Parts.{then_comes}
+use Rattle.dgn_import.specs.Seconds.{waiting}
+use Rattle.dgn_files.proofs.RunParts.{then_comes}
 use Rattle.dgn_tool.proofs.packing.pack.Goals as goal
 
 pub returns-in-Ok : goal.returns-in-Ok

@@ -6,11 +6,11 @@ use Rattle.patch_file.specs.Spelling.{patch_spelling}
 use Rattle.patch_file.specs.PatchView.{all_packed}
 use Rattle.patch_file.specs.declared.patch_entry.PatchEntry.{PatchEntry}
 use Rattle.dgn_answers.specs.Given.{given_all}
-use Rattle.dgn_answers.specs.Given.{waiting}
+use Rattle.dgn_import.specs.Seconds.{waiting}
 use Rattle.dgn_answers.specs.Commands.{begun}
 use Rattle.dgn_tool.specs.Packing.{packed}
-use Rattle.dgn_tool.proofs.Parts.{wants, named_so}
-use Rattle.dgn_tool.proofs.Packed.{packed_short, packed_long, within_cap, beyond_cap}
+use Rattle.dgn_files.proofs.RunParts.{wants, named_so}
+use Rattle.dgn_tool.proofs.PackedEntries.{packed_short, packed_long, within_cap, beyond_cap}
 use Rattle.dgn_tool.proofs.packing.pack_commands.Goals as goal
 
 pub returns-in_err-did : goal.returns-in_err-did
@@ -22,10 +22,10 @@ returns-in_err-did g c =
 pub returns-then-patch_len : goal.returns-then-patch_len
 returns-then-patch_len g c =
     let entries = ap all_packed c.deref.ensures.value ∙ c.in_ok-did.ensures.entries in
-    named_so (packed (opened_of c.args.design) (given_all c.args.commands.now (waiting c.args.seconds.now.items)) c.args.patch.now) _ c.end.result _ _
+    named_so (packed (opened_of c.args.design) (given_all c.args.commands.now (waiting c.args.seconds.now.items)) c.args.patch.now) _ c.end_with.result _ _
     (sym (packed_long (given_all c.args.commands.now (waiting c.args.seconds.now.items)) (begun (opened_of c.args.design)) (all_packed c.deref.result.now)
     c.args.patch.now entries (beyond_cap c.patch_len.result _ c.patch_len.ensures c.if-patch_len.true)))
-    c.end.ensures
+    c.end_with.ensures
 
 pub returns : goal.returns
 returns g c =

@@ -4,7 +4,7 @@ use Rattle.dgn_session.specs.State.{State, SessionValue}
 use Rattle.patch_file.specs.PatchView.{all_packed}
 use Rattle.dgn_answers.specs.Given.{given_all, refused_count}
 use Rattle.dgn_tool.specs.Packing.{packed_after}
-use Rattle.dgn_answers.specs.Given.{waiting}
+use Rattle.dgn_import.specs.Seconds.{waiting}
 use Rattle.dgn_tool.proofs.packing.pack_edits.Goals as goal
 
 pub pack_session-requires-clause-begun : goal.pack_session-requires-clause-begun

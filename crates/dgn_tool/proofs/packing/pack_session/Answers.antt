@@ -1,7 +1,7 @@
 use Rattle.std.proofs.Common.{◌∙◌}
 use Rattle.dgn_answers.specs.Given.{given_all}
-use Rattle.dgn_answers.specs.Given.{waiting}
-use Rattle.dgn_tool.proofs.Packed.{packs}
+use Rattle.dgn_import.specs.Seconds.{waiting}
+use Rattle.dgn_tool.proofs.PackedEntries.{packs}
 use Rattle.dgn_tool.proofs.packing.pack_session.Goals as goal
 
 pub returns-clause-entries : goal.returns-clause-entries

@@ -1,6 +1,6 @@
 use Rattle.std.proofs.Common.{length, ap, arith}
 use Rattle.undo_log.specs.declared.entry.Entry.{Entry}
-use Rattle.dgn_tool.proofs.Packed.{taken_all}
+use Rattle.dgn_tool.proofs.PackedEntries.{taken_all}
 use Rattle.dgn_tool.proofs.packing.take_all.Goals as goal
 
 pub returns-clause-taken : goal.returns-clause-taken

@@ -1,5 +1,5 @@
 use Rattle.std.proofs.Common.{◌-◌, vec_len}
-use Rattle.dgn_tool.proofs.Packed.{TakenSo}
+use Rattle.dgn_tool.proofs.PackedEntries.{TakenSo}
 use Rattle.dgn_tool.proofs.packing.take_all.Given as goal
 
 abbrev pub invariant-entries : goal.invariant-entries

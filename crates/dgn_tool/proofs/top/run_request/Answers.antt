@@ -1,12 +1,12 @@
 use Rattle.std.proofs.Common.{Some, sym, subst}
-use Rattle.dgn_tool.specs.declared.request.Request.{Request}
-use Rattle.dgn_tool.specs.Ends.{DeskEnds}
-use Rattle.dgn_tool.specs.InBytes.{FilesInBytes}
+use Rattle.dgn_files.specs.declared.request.Request.{Request}
+use Rattle.dgn_files.specs.Ends.{DeskEnds}
+use Rattle.dgn_tool.specs.RunInBytes.{FilesInBytes}
 use Rattle.dgn_tool.specs.Generation.{generation}
 use Rattle.dgn_tool.specs.Outcome.{outcome_of, HasFiles, Reads}
-use Rattle.dgn_tool.specs.RequestView as view
-use Rattle.dgn_tool.proofs.Parts.{at_ok, ends_so, reads_nothing}
-use Rattle.dgn_tool.proofs.Telling.{all_told}
+use Rattle.dgn_files.specs.RequestView as view
+use Rattle.dgn_files.proofs.RunParts.{at_ok, ends_so, reads_nothing}
+use Rattle.dgn_files.proofs.ToldContents.{all_told}
 use Rattle.dgn_tool.proofs.top.run_request.Goals as goal
 
 pub returns-in-Edit : goal.returns-in-Edit

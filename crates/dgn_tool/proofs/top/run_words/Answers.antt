@@ -1,6 +1,6 @@
 use Rattle.dgn_desk.specs.Seen.{seen}
-use Rattle.dgn_tool.specs.RequestView as view
-use Rattle.dgn_tool.proofs.Whole.{ran}
+use Rattle.dgn_files.specs.RequestView as view
+use Rattle.dgn_tool.proofs.WholeRuns.{ran}
 use Rattle.dgn_tool.proofs.top.run_words.Goals as goal
 
 pub returns-in-Some : goal.returns-in-Some

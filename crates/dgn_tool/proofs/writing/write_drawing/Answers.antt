@@ -3,8 +3,8 @@ use Rattle.dgn_desk.specs.Desk.{FilesAll}
 use Rattle.dgn_desk.specs.Seen.{DeskWrites}
 use Rattle.dgn_drawing.specs.Spelling.{spelling}
 use Rattle.dgn_session.specs.State.{state_of}
-use Rattle.dgn_tool.specs.Filling.{file_made}
-use Rattle.dgn_answers.proofs.Counting.{spelled_with}
+use Rattle.dgn_files.specs.Filling.{file_made}
+use Rattle.dgn_import.proofs.SpelledBodies.{spelled_with}
 use Rattle.dgn_tool.proofs.writing.write_drawing.Goals as goal
 
 pub returns : goal.returns

@@ -1,0 +1,10 @@
+pub mod FilesThenTexts
+pub mod BlocksFilled
+pub mod InputOutcomes
+pub mod SecondNames
+pub mod NameTexts
+pub mod RunParts
+pub mod PatchOutcomes
+pub mod EntriesPutOn
+pub mod SecondFiles
+pub mod ToldContents

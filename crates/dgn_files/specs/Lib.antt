@@ -1,0 +1,12 @@
+pub mod Applied
+pub mod Ended
+pub mod Ends
+pub mod Filling
+pub mod InBytes
+pub mod InputOutcomes
+pub mod Leaving
+pub mod Readings
+pub mod Request
+pub mod RequestView
+pub mod SecondFiles
+pub mod Status

@@ -1,0 +1,161 @@
+-- What a run of `edit` leaves that has written OUT, by what the run came to and by what is known of its files.
+use Rattle.std.proofs.Common.{◌≡◌, ◌≤◌, ℕ, List, [], ◌∷◌, length, map, nat_lt, Bool, true, false, cond, Option, Some, None, Result, Ok, Err, refl, ap, ◌∙◌}
+use Rattle.std.proofs.Common.{subst, arith}
+use Rattle.std.specs.Prelude.{All, codes}
+use Rattle.std.specs.List.{list_all}
+use Rattle.std.proofs.lemmas.Bool.{and_parts}
+use Rattle.std.proofs.lemmas.Bool.Decides.{nat_tests}
+use Rattle.std.proofs.lemmas.List.Elements.{All-nil, All-cons}
+use Rattle.dgn_desk.specs.Content.{Files, Content, bytes_of}
+use Rattle.dgn_drawing.specs.Opening.{Fault, Opens}
+use Rattle.dgn_drawing.specs.WellFormed.{IsBytes}
+use Rattle.dgn_import.specs.Seconds.{second_of}
+use Rattle.edit_script.specs.Script.{commands_of}
+use Rattle.edit_script.specs.declared.command.Command.{Command}
+use Rattle.edit_script.specs.declared.fault.ScriptFault.{ScriptFault}
+use Rattle.edit_script.specs.declared.fault.ScriptFault.TheVariants as faults
+use Rattle.elem_index.specs.Opened.{Opened, opening}
+use Rattle.elem_index.proofs.OpeningAnswers.{opens-opening}
+use Rattle.dgn_answers.specs.Given.{Given, given_all}
+use Rattle.dgn_files.specs.Ended.{Outcome, ended}
+use Rattle.dgn_files.specs.InBytes.{AreInBytes, SecondsInBytes, ScriptInBytes, AllInBytes}
+use Rattle.dgn_tool.specs.RunInBytes.{FilesInBytes}
+use Rattle.dgn_tool.specs.Outcome.{told, run_outcome, outcome_of, outcome, IsEnding}
+use Rattle.dgn_files.specs.InputOutcomes.{script_outcome, scripted, opened_outcome}
+use Rattle.dgn_files.specs.Leaving.{files_after, Leaves}
+use Rattle.dgn_files.specs.Readings.{OpensAs, ReadsAs, ComeTo}
+use Rattle.dgn_files.specs.Request.{Request, Edit, request_of}
+use Rattle.dgn_laws.specs.RunLaws.{HasWritten, steps_with, EditsFile, UntouchedByRuns}
+use Rattle.dgn_files.specs.SecondFiles.{names_in, files_named, is_within}
+use Rattle.dgn_tool.specs.Outcome.{stepped}
+use Rattle.dgn_files.specs.declared.status.Status.{Status}
+use Rattle.dgn_files.specs.declared.status.Status.TheVariants as statuses
+use Rattle.dgn_files.proofs.InputOutcomes.{comes, input_opens, script_reads}
+use Rattle.dgn_tool.proofs.RunInputs.{to_steps}
+use Rattle.dgn_laws.proofs.ScriptEdits.{untouched_by_scripts}
+use Rattle.dgn_files.proofs.SecondFiles.{short}
+
+-- such a status is that of an ending
+is_ending : (status : Status) → HasWritten status → IsEnding status
+is_ending statuses.Done written = tt
+is_ending statuses.SomeRefused written = tt
+is_ending statuses.Usage written = absurd written
+is_ending statuses.BadScript written = absurd written
+is_ending statuses.BadDesign written = absurd written
+is_ending statuses.ReadFault written = absurd written
+is_ending statuses.WriteFault written = absurd written
+is_ending statuses.Memory written = absurd written
+is_ending statuses.TooLong written = absurd written
+is_ending statuses.BadPatch written = absurd written
+is_ending statuses.PatchRefused written = absurd written
+
+-- an outcome with such a status
+abbrev HasSuch : Outcome → Type 0
+HasSuch o = HasWritten o.status
+
+-- a file that is too long has none
+is_short : (limit n : ℕ) (line : List ℕ) (o : Outcome) → HasSuch (cond (nat_lt limit n) (ended statuses.TooLong line) o) → n ≤ limit
+is_short limit n line o written = by (nat_lt limit n) refl written
+  where
+    by : (over : Bool) → nat_lt limit n ≡ over → HasSuch (cond over (ended statuses.TooLong line) o) → n ≤ limit
+    by true test written = absurd written
+    by false test written = grind (arith, nat_tests)
+
+-- nor has one that doesn't open
+has_drawing : (found : Result Opened Fault) (go_on : Opened → Outcome) → HasSuch (opened_outcome found go_on) → (d : Opened) × (found ≡ Ok d)
+has_drawing (Ok d) go_on written = (d, refl)
+has_drawing (Err fault) go_on written = absurd written
+
+-- nor a script of which a line is bad
+has_commands : (found : Result (List Command) ScriptFault) (go_on : List Command → Outcome) → HasSuch (script_outcome found go_on) → (cs : List Command)
+    × (found ≡ Ok cs)
+has_commands (Ok cs) go_on written = (cs, refl)
+has_commands (Err (faults.Line number)) go_on written = absurd written
+has_commands (Err faults.Memory) go_on written = absurd written
+
+-- nor second files of which one is too long
+are_within : (within : Bool) (o : Outcome) (line : List ℕ) → HasSuch (cond within o (ended statuses.TooLong line)) → within ≡ true
+are_within true o line written = refl
+are_within false o line written = absurd written
+
+-- second files within their limit are bytes
+seconds_all : (names : List (List ℕ)) (files : Files) → list_all is_within (files_named names files) ≡ true → AreInBytes names files
+    → All IsBytes (files_named names files)
+seconds_all [] files within are = All-nil IsBytes
+seconds_all (n ∷ names) files within are =
+    let parts = and_parts (is_within (bytes_of files n)) (list_all is_within (files_named names files)) within in
+    let known = are (short (bytes_of files n) parts.0) in
+    All-cons IsBytes (bytes_of files n) (files_named names files) known.0 (seconds_all names files parts.1 known.1)
+
+module _ (input script output : List ℕ) (files : Files) (content : Content) (now : Option Content) (told_is : now ≡ Some content) where
+  -- what a drawing and steps come to
+  abbrev go_on : Opened → List Given → Outcome
+  go_on d gs = told d gs output
+
+  -- what the run comes to
+  abbrev whole : Outcome
+  whole = run_outcome input script files go_on
+
+  -- the files are as it leaves them
+  abbrev AreLeft : Type 0
+  AreLeft = content.files ≡ files_after whole.file files
+
+  -- IN was opened, SCRIPT was read, and the second files are bytes
+  after_script : (d : Opened) (cs : List Command) → OpensAs input files d → ReadsAs script files cs → AreInBytes (names_in cs) files → AreLeft
+      → HasSuch (stepped cs files (go_on d)) → EditsFile input script output files now
+  after_script d cs opens reads are left written =
+      let fs : List (List ℕ) = files_named (names_in cs) files in
+      let within = are_within (list_all is_within fs) (go_on d (given_all cs (map second_of fs))) (codes "too long import\n") written in
+      let come : ComeTo (names_in cs) files (map second_of fs) = (within, refl, are) in
+      let same : whole ≡ told d (steps_with files cs) output = to_steps input script d cs (map second_of fs) files opens reads come go_on in
+      let file : Opens (bytes_of files input) d.dim d.elements d.tail = opens-opening (bytes_of files input) d opens.2 opens.1 in
+      record {
+        drawing = d;
+        commands = cs;
+        opens = file;
+        reads = reads.1;
+        content = content;
+        told_is = told_is;
+        files_are = left ∙ ap (λ (o : Outcome). files_after o.file files) same;
+        stays = untouched_by_scripts (bytes_of files input) d (bytes_of files script) cs fs file reads.2 reads.1 (seconds_all (names_in cs) files within are);
+      }
+
+  module _ (bytes : AllInBytes input script files) (left : AreLeft) where
+    -- IN was opened
+    after_input : (d : Opened) → OpensAs input files d → HasSuch (scripted (bytes_of files script) (λ cs. stepped cs files (go_on d)))
+        → EditsFile input script output files now
+    after_input d opens written =
+        let text : List ℕ = bytes_of files script in
+        let behind : List Command → Outcome = λ cs. stepped cs files (go_on d) in
+        let few = is_short 1048576 (length text) (codes "too long script\n") (script_outcome (commands_of text) behind) written in
+        let found = has_commands (commands_of text) behind (subst HasSuch (script_reads text behind (commands_of text) few refl) written) in
+        let known : ScriptInBytes script files = bytes.1 (comes (bytes_of files input) d opens.0 opens.1) in
+        after_script d found.0 opens (few, found.1, known.0 few)
+        (subst (λ (r : Result (List Command) ScriptFault). SecondsInBytes r files) found.1 (known.1 few))
+        left (subst HasSuch (script_reads text behind (Ok found.0) few found.1) written)
+
+    -- nothing is known yet
+    edits_file : HasSuch whole → EditsFile input script output files now
+    edits_file written =
+        let file : List ℕ = bytes_of files input in
+        let behind : Opened → Outcome = λ d. scripted (bytes_of files script) (λ cs. stepped cs files (go_on d)) in
+        let few = is_short 67108864 (length file) (codes "too long design\n") (opened_outcome (opening file) behind) written in
+        let found = has_drawing (opening file) behind (subst HasSuch (input_opens file behind (opening file) few refl) written) in
+        after_input found.0 (few, found.1, bytes.0 few) (subst HasSuch (input_opens file behind (Ok found.0) few found.1) written)
+
+-- where it is told what the desk holds
+where_held : (words : List (List ℕ)) (input script output : List ℕ) (status : Status) (c : Content) (now : Option Content)
+    → request_of words ≡ Some (Edit input script output) → HasWritten status
+    → Leaves (outcome words c.files) status c now → FilesInBytes (request_of words) c.files → EditsFile input script output c.files now
+where_held words input script output status c now asked written leaves known =
+    let same : outcome words c.files ≡ run_outcome input script c.files (λ d gs. told d gs output) = ap (λ (r : Option Request). outcome_of r c.files) asked in
+    edits_file input script output c.files leaves.content now leaves.told_is
+    (subst (λ (r : Option Request). FilesInBytes r c.files) asked known)
+    (leaves.files_are ∙ ap (λ (o : Outcome). files_after o.file c.files) same)
+    (subst HasSuch same (subst HasWritten leaves.status_is written))
+
+pub untouched_by_runs : UntouchedByRuns
+untouched_by_runs words input script output status None now asked written ended known = tt
+untouched_by_runs words input script output status (Some c) now asked written ended known =
+    let ending = is_ending status written in
+    where_held words input script output status c now asked written (ended ending) (known ending)

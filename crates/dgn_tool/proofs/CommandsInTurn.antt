@@ -1,0 +1,119 @@
+-- The steps of a run, one after the other: what those that ran have said and done, and what those that are left will.
+use Rattle.std.proofs.Common.{◌≡◌, ℕ, ◌+◌, Bool, Ok, Err, List, [], ◌∷◌, ◌++◌, take, drop, arith, Option, Some, None, refl, sym, ap, ◌∙◌, append_assoc}
+use Rattle.std.specs.Prelude.{option_map}
+use Rattle.std.specs.Int.{from_bool}
+use Rattle.std.proofs.lemmas.List.{append-nil, take-append-drop}
+use Rattle.dgn_desk.specs.Content.{Content, spoken}
+use Rattle.dgn_desk.specs.Desk.{SaysAll}
+use Rattle.dgn_desk.specs.Seen.{Seen, Writes}
+use Rattle.dgn_desk.specs.declared.stop.Stop.{Stop}
+use Rattle.dgn_desk.specs.declared.stop.Stop.TheVariants as stops
+use Rattle.dgn_desk.proofs.InTurn.{done_so, stopped_so, then_so}
+use Rattle.dgn_desk.proofs.Telling.{spoken-append}
+use Rattle.dgn_session.specs.State.{State}
+use Rattle.dgn_answers.specs.Given.{Given, step_text, step_refused, after_step, after_all, texts_of, refused_count}
+use Rattle.dgn_files.specs.Leaving.{SaysFront, SaysAs}
+
+-- all of this text was said
+abbrev pub SaidSo : List ℕ → Seen → Seen → Type 0
+SaidSo text old now = Writes {T = Unit {0}} (Ok tt) (SaysAs {T = Unit {0}} (Ok tt) text) old now
+
+-- the commands before these are done
+pub record Ran (all left : List Given) (refused : ℕ) (from s : State) (old now : Seen) : Type 0 where
+  pub done : List ℕ
+  pub texts : texts_of all from ≡ done ++ texts_of left s
+  pub said : SaidSo done old now
+  pub count : refused_count all from ≡ refused + refused_count left s
+  pub state : after_all all from ≡ after_all left s
+
+-- nothing was said
+unsaid : (c : Option Content) → c ≡ option_map (spoken []) c
+unsaid None = refl
+unsaid (Some c) = ap (λ (t : List ℕ). Some (record c { said = t })) (sym (append-nil c.said))
+
+sum_moved : (a b c : ℕ) → a + (b + c) ≡ (a + b) + c
+sum_moved a b c = omega arith
+
+sum_zero : (a : ℕ) → a + 0 ≡ a
+sum_zero a = omega arith
+
+-- none is yet
+pub ran_none : (all : List Given) (s : State) (old : Seen) → Ran all all 0 s s old old
+ran_none all s old = record {
+  done = [];
+  texts = refl;
+  said = record { cause = refl; other = refl; told = unsaid old.content; stays = λ willing. willing; able = λ _. tt };
+  count = omega arith;
+  state = refl;
+}
+
+-- one more command
+pub ran_more : (all left : List Given) (c : Given) (refused : ℕ) (was : Bool) (line : List ℕ) (from s new : State) (old now then : Seen)
+    → Ran all (c ∷ left) refused from s old now
+    → new ≡ after_step s c → line ≡ step_text s c → Writes {T = Unit {0}} (Ok tt) (SaysAll (Ok tt) line) now then → was ≡ step_refused s c
+    → Ran all left (refused + from_bool was) from new old then
+ran_more all left c refused was line from s new old now then ran new_is line_is says was_is =
+    let text : List ℕ = step_text s c in
+    record {
+      done = ran.done ++ text;
+      texts = ran.texts
+          ∙ ap (λ (t : State). ran.done ++ (text ++ texts_of left t)) (sym new_is)
+          ∙ sym (append_assoc ran.done text (texts_of left new));
+      said = then_so tt (Ok tt) ran.said says
+          (λ before more. more ∙ ap (λ (l : List ℕ). option_map (spoken l) now.content) line_is ∙ ap (option_map (spoken text)) before
+          ∙ spoken-append ran.done text old.content);
+      count = ran.count
+          ∙ ap (λ (t : State). refused + (from_bool (step_refused s c) + refused_count left t)) (sym new_is)
+          ∙ sum_moved refused (from_bool (step_refused s c)) (refused_count left new)
+          ∙ ap (λ (b : Bool). (refused + from_bool b) + refused_count left new) (sym was_is);
+      state = ran.state ∙ ap (after_all left) (sym new_is);
+    }
+
+-- where no command is left, all is done
+pub ran_all : (all left : List Given) (refused : ℕ) (from s : State) (old now : Seen) → Ran all left refused from s old now → left ≡ []
+    → refused ≡ refused_count all from
+ran_all all left refused from s old now ran none =
+    sym (ran.count ∙ ap (λ (cs : List Given). refused + refused_count cs s) none ∙ sum_zero refused)
+
+pub ran_said : (all left : List Given) (refused : ℕ) (from s : State) (old now : Seen) → Ran all left refused from s old now → left ≡ []
+    → Writes {T = ℕ} (Ok refused) (SaysAs {T = ℕ} (Ok refused) (texts_of all from)) old now
+ran_said all left refused from s old now ran none =
+    let whole : texts_of all from ≡ ran.done = ran.texts ∙ ap (λ (cs : List Given). ran.done ++ texts_of cs s) none ∙ append-nil ran.done in
+    done_so tt refused ran.said (λ said. said ∙ ap (λ (t : List ℕ). option_map (spoken t) old.content) (sym whole))
+
+pub ran_state : (all left : List Given) (refused : ℕ) (from s : State) (old now : Seen) → Ran all left refused from s old now → left ≡ []
+    → s ≡ after_all all from
+ran_state all left refused from s old now ran none =
+    sym (ran.state ∙ ap (λ (cs : List Given). after_all cs s) none)
+
+-- where there is no memory for the next, a front of the texts was said
+pub ran_front : (all left : List Given) (refused : ℕ) (from s : State) (old now : Seen) → Ran all left refused from s old now
+    → Writes {T = ℕ} (Err stops.Memory) (SaysAs {T = ℕ} (Err stops.Memory) (texts_of all from)) old now
+ran_front all left refused from s old now ran = record {
+  cause = ran.said.cause;
+  other = ran.said.other;
+  told = (ran.done, (texts_of left s, ran.texts), ran.said.told);
+  stays = ran.said.stays;
+  able = λ _. tt;
+}
+
+-- and where the desk stops in the midst of its text, a front of that too
+pub ran_part : (all left : List Given) (c : Given) (refused : ℕ) (stop : Stop) (line : List ℕ) (from s : State) (old now then : Seen)
+    → Ran all (c ∷ left) refused from s old now → line ≡ step_text s c
+    → Writes {T = Unit {0}} (Err stop) (SaysAll (Err stop) line) now then → Writes {T = ℕ} (Err stop) (SaysAs {T = ℕ} (Err stop) (texts_of all from))
+    old then
+ran_part all left c refused stop line from s old now then ran line_is says =
+    let both : Writes {T = Unit {0}} (Err stop) (λ a b. SaysFront (texts_of all from) a b) old then =
+    then_so tt (Err stop) ran.said says (λ before part.
+    let more : List ℕ = texts_of left (after_step s c) in (
+      ran.done ++ take part.0 line,
+      (
+        drop part.0 line ++ more,
+        ran.texts
+            ∙ ap (λ (t : List ℕ). ran.done ++ (t ++ more)) (sym (take-append-drop part.0 line ∙ line_is))
+            ∙ ap (λ (t : List ℕ). ran.done ++ t) (append_assoc (take part.0 line) (drop part.0 line) more)
+            ∙ sym (append_assoc ran.done (take part.0 line) (drop part.0 line ++ more)),
+      ),
+      part.2 ∙ ap (option_map (spoken (take part.0 line))) before ∙ spoken-append ran.done (take part.0 line) old.content,
+    )) in
+    stopped_so stop both (λ front. front)

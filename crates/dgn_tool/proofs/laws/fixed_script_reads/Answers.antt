@@ -1,5 +1,0 @@
-use Rattle.std.proofs.Common.{refl}
-use Rattle.dgn_tool.proofs.laws.fixed_script_reads.Goals as goal
-
-pub returns : goal.returns
-returns c = refl

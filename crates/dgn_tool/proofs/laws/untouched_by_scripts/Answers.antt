@@ -1,5 +1,0 @@
-use Rattle.dgn_tool.proofs.ScriptEdits.{untouched_by_scripts}
-use Rattle.dgn_tool.proofs.laws.untouched_by_scripts.Goals as goal
-
-pub returns : goal.returns
-returns c = untouched_by_scripts
