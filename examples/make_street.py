@@ -15,8 +15,8 @@ A master unit is a metre of 100 centimetres, and a unit of resolution a millimet
     14      a pipe, a line string on level 30
     15, 16  a building on level 5, and a text on level 40
     17      a kerb as GDAL writes it, a complex chain with bit C of the line strings 18 and 19: an orphan
-    20      a parcel as GDAL writes it, a cell whose total leaves out its own attribute data: loose, and its rings 21 and
-            22 are orphans
+    20      a parcel as GDAL writes it, a cell whose total leaves out its own attribute data: loose, and its rings 21
+            and 22 are orphans
 
 docs/FORMAT.md has the rules."""
 
@@ -92,33 +92,53 @@ def manhole(level: int, x: int, y: int) -> bytes:
 
 def road() -> bytes:
     """Elements 1 to 13, but for the arc all that has to do with level 12."""
-    tree = plan.cell(15, 'TREE', (33000, 3000), (32800, 2800), (33200, 3200),
-                     member(plan.line(12, (32800, 2800), (33200, 3200))))
-    return b''.join([
-        string(12, (0, 0), (20000, 0), (28000, 2000)),
-        chain(12, (32000, 0), (60000, 1000), string(0, (32000, 0), (40000, 1000), (45000, 1000)),
-              string(0, (45000, 1000), (60000, 0))),
-        manhole(12, 10000, -2000),
-        arc(12, (50000, 2000), (52000, 4000)),
-        plan.path(4, 12, [(35000, -3000), (36000, -3000)], plan.LOCKED),
-        marked(plan.line(12, (36000, -3000), (37000, -3000))),
-        marked(tree[:92]) + tree[92:],
-        plan.text(12, (15000, 1000), b'OLD ROAD'),
-    ])
+    tree = plan.cell(
+        15, 'TREE', (33000, 3000), (32800, 2800), (33200, 3200), member(plan.line(12, (32800, 2800), (33200, 3200)))
+    )
+    return b''.join(
+        [
+            string(12, (0, 0), (20000, 0), (28000, 2000)),
+            chain(
+                12,
+                (32000, 0),
+                (60000, 1000),
+                string(0, (32000, 0), (40000, 1000), (45000, 1000)),
+                string(0, (45000, 1000), (60000, 0)),
+            ),
+            manhole(12, 10000, -2000),
+            arc(12, (50000, 2000), (52000, 4000)),
+            plan.path(4, 12, [(35000, -3000), (36000, -3000)], plan.LOCKED),
+            marked(plan.line(12, (36000, -3000), (37000, -3000))),
+            marked(tree[:92]) + tree[92:],
+            plan.text(12, (15000, 1000), b'OLD ROAD'),
+        ]
+    )
 
 
 def street() -> bytes:
     """Elements 14 to 22."""
-    broken = chain(12, (38000, 3000), (45000, 3500), string(0, (38000, 3000), (42000, 3500)),
-                   string(0, (42000, 3500), (44000, 3500)))
-    return b''.join([
-        string(30, (2000, -1500), (58000, -1500)),
-        ring(5, (25000, 3000), (33000, 4500)),
-        plan.text(40, (40000, -1200), b'DN 150'),
-        member(broken[:40]) + broken[40:],
-        parcel(20, (47000, -4500), (57000, -2000), ring(0, (47000, -4500), (57000, -2000)),
-               ring(0, (50000, -4000), (52000, -3000))),
-    ])
+    broken = chain(
+        12,
+        (38000, 3000),
+        (45000, 3500),
+        string(0, (38000, 3000), (42000, 3500)),
+        string(0, (42000, 3500), (44000, 3500)),
+    )
+    return b''.join(
+        [
+            string(30, (2000, -1500), (58000, -1500)),
+            ring(5, (25000, 3000), (33000, 4500)),
+            plan.text(40, (40000, -1200), b'DN 150'),
+            member(broken[:40]) + broken[40:],
+            parcel(
+                20,
+                (47000, -4500),
+                (57000, -2000),
+                ring(0, (47000, -4500), (57000, -2000)),
+                ring(0, (50000, -4000), (52000, -3000)),
+            ),
+        ]
+    )
 
 
 def main() -> None:
