@@ -7,9 +7,14 @@ plan.dgn is a plot of land: its border (element 1), which is locked; the walls, 
 (2 to 4); a pipe (5), and on it two valves, cells (6 and 9) of two lines that cross. valve.dgn is a pipe (1) with one
 such valve on it (2, of the lines 3 and 4). docs/FORMAT.md has the rules."""
 
+from __future__ import annotations
+
 import os
 import struct
 import sys
+from collections.abc import Sequence
+
+Point = Sequence[int]
 
 BORDER = [(0, 0), (4000, 0), (4000, 3000), (0, 3000), (0, 0)]
 WALLS = [(800, 900), (2600, 900), (2600, 1500), (2000, 1500), (2000, 2200), (800, 2200), (800, 900)]
@@ -18,18 +23,20 @@ PIPE = [(0, 600), (1000, 500), (3000, 650), (4000, 400)]
 LOCKED = 0x0100
 
 
-def long(value):
+def long(value: int) -> bytes:
     """A long: the high word first, and in each word the low byte first."""
     value &= 0xFFFFFFFF
     return struct.pack('<HH', value >> 16, value & 0xFFFF)
 
 
-def range_number(value):
+def range_number(value: int) -> bytes:
     """The same order, without sign, of the number and 2147483648."""
     return long(value + 0x80000000)
 
 
-def display(kind, level, low, high, behind, member=False, properties=0):
+def display(
+    kind: int, level: int, low: Point, high: Point, behind: bytes, member: bool = False, properties: int = 0
+) -> bytes:
     """An element with a display header, and what stands behind it."""
     size = 36 + len(behind)
     head = bytes([level + 128 * member, kind]) + struct.pack('<H', (size - 4) // 2)
@@ -38,30 +45,30 @@ def display(kind, level, low, high, behind, member=False, properties=0):
     return head + ranges + struct.pack('<HHH', 0, (size - 32) // 2, properties) + bytes([0, 0]) + behind
 
 
-def bounds(points):
+def bounds(points: Sequence[Point]) -> tuple[list[int], list[int]]:
     """The low and the high corner of points."""
     return [min(axis) for axis in zip(*points)], [max(axis) for axis in zip(*points)]
 
 
-def line(level, start, end, member=False):
+def line(level: int, start: Point, end: Point, member: bool = False) -> bytes:
     """An element of type 3, from start to end."""
-    return display(3, level, *bounds([start, end]), b''.join(long(v) for v in start + end), member)
+    return display(3, level, *bounds([start, end]), b''.join(long(v) for v in [*start, *end]), member)
 
 
-def path(kind, level, points, properties=0):
+def path(kind: int, level: int, points: Sequence[Point], properties: int = 0) -> bytes:
     """A line string, type 4, or a shape, type 6, through points."""
     behind = struct.pack('<H', len(points)) + b''.join(long(v) for point in points for v in point)
     return display(kind, level, *bounds(points), behind, properties=properties)
 
 
-def text(level, origin, characters):
+def text(level: int, origin: Point, characters: bytes) -> bytes:
     """A text of font 1, whose range is its origin, and a byte behind it where that makes its size even."""
     behind = bytes([1, 0]) + long(20000) + long(20000) + bytes(4) + long(origin[0]) + long(origin[1])
     behind += bytes([len(characters), 0]) + characters + bytes(len(characters) % 2)
     return display(17, level, origin, origin, behind)
 
 
-def radix(signs):
+def radix(signs: str) -> bytes:
     """A word of three signs, each a capital letter or a blank."""
     value = 0
     for sign in signs:
@@ -69,7 +76,7 @@ def radix(signs):
     return struct.pack('<H', value)
 
 
-def cell(level, name, origin, low, high, members):
+def cell(level: int, name: str, origin: Point, low: Point, high: Point, members: bytes) -> bytes:
     """A cell header of type 2 and its members, whose words from the total's end on it counts."""
     name = name.ljust(6)
     total = (92 + len(members) - 38) // 2
@@ -77,24 +84,24 @@ def cell(level, name, origin, low, high, members):
     return display(2, level, low, high, behind + long(origin[0]) + long(origin[1])) + members
 
 
-def valve(level, x, y, reach):
+def valve(level: int, x: int, y: int, reach: int) -> bytes:
     """A cell VLV at x,y, of two lines on the next level that cross there."""
     low, high = (x - reach, y - reach), (x + reach, y + reach)
     cross = line(level + 1, low, high, True) + line(level + 1, (low[0], high[1]), (high[0], low[1]), True)
     return cell(level, 'VLV', (x, y), low, high, cross)
 
 
-def house(level):
-    return path(6, level, WALLS) + line(level, *DOOR) + text(level + 1, (1000, 1700), b'HOUSE 7')
+def house(level: int) -> bytes:
+    return path(6, level, WALLS) + line(level, DOOR[0], DOOR[1]) + text(level + 1, (1000, 1700), b'HOUSE 7')
 
 
-def write(file, elements):
+def write(file: str, elements: bytes) -> None:
     tcb = bytes([8, 9, 0xFE, 2]) + bytes(1532)
     with open(file, 'wb') as out:
         out.write(tcb + elements + b'\xff\xff')
 
 
-def main():
+def main() -> None:
     folder = sys.argv[1] if len(sys.argv) > 1 else os.path.dirname(os.path.abspath(__file__))
     water = path(4, 10, PIPE) + valve(10, 1000, 500, 80) + valve(10, 3000, 650, 80)
     write(os.path.join(folder, 'plan.dgn'), path(6, 1, BORDER, LOCKED) + house(2) + water)
