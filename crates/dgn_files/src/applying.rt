@@ -15,20 +15,14 @@ use crate::putting::put_entries;
 use crate::reading::{open_design, read_file};
 use crate::saying::{end_numbered, end_with};
 use crate::writing::file_filled;
-use listing_texts::numbered_line;
 use dgn_desk::{Desk, Stop};
 use dgn_drawing::MOST_DESIGN;
+use listing_texts::numbered_line;
 use patch_file::{MOST_PATCH, PatchEntry, PatchFault, read_patch};
 use std::alloc::Global;
 
 // Reads and opens IN, and goes on with it.
-pub fn apply<D: Desk>(
-    alloc: Global,
-    desk: &mut D,
-    input: &str,
-    patch: &str,
-    output: &str,
-) -> End
+pub fn apply<D: Desk>(alloc: Global, desk: &mut D, input: &str, patch: &str, output: &str) -> End
     ensures { DeskEnds D.Desk (HasBoth input.now patch.now)
         (InputInBytes input.now (IsInBytes patch.now MOST_PATCH))
         (λ files. input_outcome (bytes_of files input.now) (λ d. patched d (bytes_of files patch.now) output.now))

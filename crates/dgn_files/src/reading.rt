@@ -16,11 +16,11 @@ ghost use Rattle.dgn_files.specs.Readings.{whole_file, opening_in, script_in, Is
 use crate::end::End;
 use crate::ending::Ending;
 use crate::saying::{end_numbered, end_with};
-use listing_texts::numbered_line;
 use dgn_desk::{Desk, ReadEnd, Stop, read_all};
 use dgn_drawing::MOST_DESIGN;
 use edit_script::{Command, MOST_SCRIPT, ScriptFault, read_script};
 use elem_index::{Design, OpenFault, read_design};
+use listing_texts::numbered_line;
 use std::alloc::{AllocError, Global};
 
 // Reads the named file whole, of at most so many bytes, or ends the run, with this line where it has more.

@@ -9,8 +9,8 @@ ghost use Rattle.dgn_tool.specs.Runs.{DeskRuns, DeskExits};
 ghost use Rattle.dgn_files.specs.Status.{number_of};
 
 use crate::top::run_words;
-use dgn_files::Status;
 use dgn_desk::Desk;
+use dgn_files::Status;
 use std::alloc::Global;
 use std::io;
 use std::process::ExitCode;

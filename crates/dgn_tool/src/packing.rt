@@ -20,14 +20,14 @@ ghost use Rattle.dgn_tool.specs.Outcome.{run_outcome};
 ghost use Rattle.dgn_import.specs.Seconds.{waiting};
 
 use crate::inputs::{Inputs, read_inputs};
-use dgn_files::{End, Ending, end_with, file_and_say};
 use dgn_answers::run_unsaid;
-use listing_texts::numbered_line;
 use dgn_desk::{Desk, Stop};
+use dgn_files::{End, Ending, end_with, file_and_say};
 use dgn_import::Second;
 use dgn_session::Session;
 use edit_script::Command;
 use elem_index::Design;
+use listing_texts::numbered_line;
 use patch_file::{MOST_PATCH, PatchEntry, patch_len, take_entry, write_patch};
 use std::alloc::{AllocError, Global};
 

@@ -11,8 +11,8 @@ ghost use Rattle.dgn_tool.specs.Runs.{DeskRuns};
 use crate::editing::edit;
 use crate::generating::generate_file;
 use crate::packing::pack;
-use dgn_files::{End, Request, Status, apply, check, read_words};
 use dgn_desk::{Desk, say_all};
+use dgn_files::{End, Request, Status, apply, check, read_words};
 use std::alloc::Global;
 
 /// Runs the program with these words, those of the command line behind the program's name, over this
