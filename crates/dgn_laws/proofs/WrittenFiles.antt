@@ -20,7 +20,7 @@ use Rattle.dgn_answers.specs.Given.{Given, given_all}
 use Rattle.dgn_files.specs.Ended.{Outcome, ended}
 use Rattle.dgn_files.specs.InBytes.{AreInBytes, SecondsInBytes, ScriptInBytes, AllInBytes}
 use Rattle.dgn_tool.specs.RunInBytes.{FilesInBytes}
-use Rattle.dgn_tool.specs.Outcome.{told, run_outcome, outcome_of, outcome, IsEnding}
+use Rattle.dgn_tool.specs.Outcome.{edited, run_outcome, outcome_of, outcome, IsEnding}
 use Rattle.dgn_files.specs.InputOutcomes.{script_outcome, scripted, opened_outcome}
 use Rattle.dgn_files.specs.Leaving.{files_after, Leaves}
 use Rattle.dgn_files.specs.Readings.{OpensAs, ReadsAs, ComeTo}
@@ -90,7 +90,7 @@ seconds_all (n ∷ names) files within are =
 module _ (input script output : List ℕ) (files : Files) (content : Content) (now : Option Content) (told_is : now ≡ Some content) where
   -- what a drawing and steps come to
   abbrev go_on : Opened → List Given → Outcome
-  go_on d gs = told d gs output
+  go_on d gs = edited d gs output
 
   -- what the run comes to
   abbrev whole : Outcome
@@ -107,7 +107,7 @@ module _ (input script output : List ℕ) (files : Files) (content : Content) (n
       let fs : List (List ℕ) = files_named (names_in cs) files in
       let within = are_within (list_all is_within fs) (go_on d (given_all cs (map second_of fs))) (codes "too long import\n") written in
       let come : ComeTo (names_in cs) files (map second_of fs) = (within, refl, are) in
-      let same : whole ≡ told d (steps_with files cs) output = to_steps input script d cs (map second_of fs) files opens reads come go_on in
+      let same : whole ≡ edited d (steps_with files cs) output = to_steps input script d cs (map second_of fs) files opens reads come go_on in
       let file : Opens (bytes_of files input) d.dim d.elements d.tail = opens-opening (bytes_of files input) d opens.2 opens.1 in
       record {
         drawing = d;
@@ -148,7 +148,7 @@ where_held : (words : List (List ℕ)) (input script output : List ℕ) (status 
     → request_of words ≡ Some (Edit input script output) → HasWritten status
     → Leaves (outcome words c.files) status c now → FilesInBytes (request_of words) c.files → EditsFile input script output c.files now
 where_held words input script output status c now asked written leaves known =
-    let same : outcome words c.files ≡ run_outcome input script c.files (λ d gs. told d gs output) = ap (λ (r : Option Request). outcome_of r c.files) asked in
+    let same : outcome words c.files ≡ run_outcome input script c.files (λ d gs. edited d gs output) = ap (λ (r : Option Request). outcome_of r c.files) asked in
     edits_file input script output c.files leaves.content now leaves.told_is
     (subst (λ (r : Option Request). FilesInBytes r c.files) asked known)
     (leaves.files_are ∙ ap (λ (o : Outcome). files_after o.file c.files) same)

@@ -26,7 +26,7 @@ use Rattle.dgn_files.specs.Request.{Apply, request_of}
 use Rattle.dgn_files.specs.Ended.{Outcome, ended, filed_then_said}
 use Rattle.dgn_answers.specs.Given.{Given}
 use Rattle.dgn_tool.specs.Laws.{IsEditIn, steps_of}
-use Rattle.dgn_tool.specs.Outcome.{told, outcome}
+use Rattle.dgn_tool.specs.Outcome.{edited, outcome}
 use Rattle.dgn_files.specs.declared.status.Status.TheVariants as statuses
 
 -- the packed entries of the steps stand, one after the other, on the elements of the file, and make of them those after
@@ -111,6 +111,6 @@ WritesTheSame =
     ≡ record {
       status = statuses.Done;
       text = numbered (codes "applied ") (length (packed_after (steps_of cs seconds) (begun d)));
-      file = (told d (steps_of cs seconds) output).file;
+      file = (edited d (steps_of cs seconds) output).file;
       says_first = false;
     }

@@ -27,12 +27,12 @@ use Rattle.dgn_files.specs.Leaving.{Leaves, Stops}
 use Rattle.dgn_files.specs.SecondFiles.{names_in, files_named, seconded}
 
 -- what the steps come to in a state, with this tail: their texts, and the file of the drawing after them
-abbrev pub told_from : State → List ℕ → List Given → List ℕ → Outcome
-told_from s tail gs output = said_then_filed (status_with (refused_count gs s)) (texts_of gs s) output (file_after s tail gs)
+abbrev pub edited_from : State → List ℕ → List Given → List ℕ → Outcome
+edited_from s tail gs output = said_then_filed (status_with (refused_count gs s)) (texts_of gs s) output (file_after s tail gs)
 
 -- and on a drawing
-abbrev pub told : Opened → List Given → List ℕ → Outcome
-told d gs output = told_from (begun d) d.tail gs output
+abbrev pub edited : Opened → List Given → List ℕ → Outcome
+edited d gs output = edited_from (begun d) d.tail gs output
 
 -- what it comes to with these commands, where it goes on so with their steps
 abbrev pub stepped : List Command → Files → (List Given → Outcome) → Outcome
@@ -50,7 +50,7 @@ usage_line = codes "usage: dgnedit edit IN SCRIPT OUT, check IN, gen SEED COUNT 
 -- what a run with this request comes to
 abbrev pub outcome_of : Option Request → Files → Outcome
 outcome_of None files = ended statuses.Usage usage_line
-outcome_of (Some (Edit input script output)) files = run_outcome input script files (λ d gs. told d gs output)
+outcome_of (Some (Edit input script output)) files = run_outcome input script files (λ d gs. edited d gs output)
 outcome_of (Some (Check input)) files = input_outcome (bytes_of files input) checked
 outcome_of (Some (Gen seed count output)) files = generation seed count output
 outcome_of (Some (Pack input script patch)) files = run_outcome input script files (λ d gs. packed d gs patch)

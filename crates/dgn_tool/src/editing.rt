@@ -9,7 +9,7 @@ ghost use Rattle.dgn_files.specs.Ends.{DeskComes, DeskEnds};
 ghost use Rattle.dgn_files.specs.InBytes.{AllInBytes};
 ghost use Rattle.dgn_answers.specs.Given.{given_all};
 ghost use Rattle.dgn_files.specs.InputOutcomes.{HasAll};
-ghost use Rattle.dgn_tool.specs.Outcome.{run_outcome, told, told_from};
+ghost use Rattle.dgn_tool.specs.Outcome.{run_outcome, edited, edited_from};
 ghost use Rattle.dgn_import.specs.Seconds.{waiting};
 
 use crate::commands::run_all;
@@ -32,7 +32,7 @@ pub(crate) fn edit<D: Desk>(
     output: &str,
 ) -> End
     ensures { DeskEnds D.Desk (HasAll input.now script.now) (AllInBytes input.now script.now)
-        (λ files. run_outcome input.now script.now files (λ d gs. told d gs output.now)) desk.old desk.new result }
+        (λ files. run_outcome input.now script.now files (λ d gs. edited d gs output.now)) desk.old desk.new result }
 {
     match read_inputs(alloc, desk, input, script) {
         Ok(
@@ -58,7 +58,7 @@ fn run_script<D: Desk>(
     requires whole { IsWhole design }
     requires sound { AllByRecursion IsSound seconds.old.items }
     ensures { DeskComes D.Desk
-        (λ _. told (opened_of design) (given_all commands.now (waiting seconds.old.items)) output.now)
+        (λ _. edited (opened_of design) (given_all commands.now (waiting seconds.old.items)) output.now)
         desk.old desk.new result }
 {
     let mut session = Session::start(alloc, design)?;
@@ -76,7 +76,7 @@ fn finish<D: Desk>(
 ) -> Result<Ending, Stop>
     requires { AllByRecursion IsSound seconds.old.items }
     ensures { DeskComes D.Desk
-        (λ _. told_from (state_of session.old) session.old.tail
+        (λ _. edited_from (state_of session.old) session.old.tail
         (given_all commands.now (waiting seconds.old.items)) output.now)
         desk.old desk.new result }
 {

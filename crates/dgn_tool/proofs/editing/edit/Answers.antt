@@ -5,7 +5,7 @@ use Rattle.dgn_files.specs.Ends.{DeskComes}
 use Rattle.dgn_files.specs.InBytes.{AllInBytes}
 use Rattle.dgn_answers.specs.Given.{given_all}
 use Rattle.dgn_files.specs.InputOutcomes.{HasAll}
-use Rattle.dgn_tool.specs.Outcome.{run_outcome, told}
+use Rattle.dgn_tool.specs.Outcome.{run_outcome, edited}
 use Rattle.dgn_import.specs.Seconds.{waiting}
 use Rattle.dgn_files.proofs.RunParts.{then_comes}
 use Rattle.dgn_tool.proofs.editing.edit.Goals as goal
@@ -17,10 +17,10 @@ returns-in-Ok g c =
     let vs = waiting inputs.seconds.items in
     let o = c.args.output.now in
     then_comes c.in-Ok.ensures.read (HasAll c.args.input.now c.args.script.now) (AllInBytes c.args.input.now c.args.script.now)
-    (λ files. run_outcome c.args.input.now c.args.script.now files (λ x gs. told x gs o)) (told d (given_all inputs.commands.items vs) o)
+    (λ files. run_outcome c.args.input.now c.args.script.now files (λ x gs. edited x gs o)) (edited d (given_all inputs.commands.items vs) o)
     c.run_script.result c.of.result
-    (λ files known. known.0 (λ x gs. told x gs o)) (λ files known. known.1) c.of.ensures
-    (subst (λ (cs : List Command). DeskComes g.D.Desk (λ _. told d (given_all cs vs) o) c.read_inputs.new.desk c.run_script.new.desk c.run_script.result)
+    (λ files known. known.0 (λ x gs. edited x gs o)) (λ files known. known.1) c.of.ensures
+    (subst (λ (cs : List Command). DeskComes g.D.Desk (λ _. edited d (given_all cs vs) o) c.read_inputs.new.desk c.run_script.new.desk c.run_script.result)
     c.deref.ensures.value c.run_script.ensures)
 
 pub returns-in-Err : goal.returns-in-Err
