@@ -1,8 +1,8 @@
 use Rattle.std.proofs.Common.{◌≡◌, ◌++◌, List, ℕ, Bool, codes, ap, ◌∙◌, sym, subst}
 use Rattle.dgn_session.specs.State.{SessionValue}
 use Rattle.dgn_answers.specs.Commands.{undo_answer}
-use Rattle.dgn_answers.proofs.Logged.{undo_logs}
-use Rattle.dgn_answers.proofs.Undone.{not_refused}
+use Rattle.dgn_answers.proofs.LogSteps.{undo_logs}
+use Rattle.dgn_answers.proofs.UndoRefusals.{not_refused}
 use Rattle.dgn_answers.proofs.answers.answer_undo.Goals as goal
 
 pub returns-in-Ok-clause-text : goal.returns-in-Ok-clause-text
