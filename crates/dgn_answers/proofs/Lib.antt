@@ -1,7 +1,7 @@
 mod Links
-mod Undone
-pub mod Logged
-mod Imported
+mod UndoRefusals
+pub mod LogSteps
+mod ImportCauses
 pub mod Stepping
-mod Tallied
+mod TallySteps
 pub mod Counting

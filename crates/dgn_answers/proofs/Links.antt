@@ -10,19 +10,19 @@ use Rattle.elem_index.proofs.Places.{each_at}
 use Rattle.dgn_drawing.proofs.FirstElements.{dimension_is}
 use Rattle.listing_texts.specs.LinkTexts.{links_text_in}
 use Rattle.listing_texts.proofs.AttributeData.{links-spell}
-use Rattle.dgn_answers.specs.Commands.{links_told, links_said}
+use Rattle.dgn_answers.specs.Commands.{links_answer_of, links_answer}
 
-said_of : (dim n : ℕ) (b : List ℕ) (found : Option Element) → IsDimension dim → ((e : Element) → found ≡ Some e → IsWellFormed dim e)
-    → Some b ≡ option_map spell found → links_text_in b ≡ links_told n found
-said_of dim n b None axes good is = absurd (let f = is in cc)
-said_of dim n b (Some e) axes good is =
+links_read : (dim n : ℕ) (b : List ℕ) (found : Option Element) → IsDimension dim → ((e : Element) → found ≡ Some e → IsWellFormed dim e)
+    → Some b ≡ option_map spell found → links_text_in b ≡ links_answer_of n found
+links_read dim n b None axes good is = absurd (let f = is in cc)
+links_read dim n b (Some e) axes good is =
     let same : b ≡ spell e = cc in
     ap links_text_in same ∙ links-spell dim e axes (good e refl)
 
-pub said_so : (d : Design) → IsWhole d → (n : ℕ) (b : List ℕ) → Some b ≡ option_map spell (slice_get (elements d) n)
-    → links_text_in b ≡ links_said (elements d) n
-said_so d whole n b is =
-    said_of d.dim n b (slice_get (elements d) n) (subst IsDimension (sym whole.is_open.opens.axes) (dimension_is (d.body.items ++ d.tail.items)))
+pub links_answered : (d : Design) → IsWhole d → (n : ℕ) (b : List ℕ) → Some b ≡ option_map spell (slice_get (elements d) n)
+    → links_text_in b ≡ links_answer (elements d) n
+links_answered d whole n b is =
+    links_read d.dim n b (slice_get (elements d) n) (subst IsDimension (sym whole.is_open.opens.axes) (dimension_is (d.body.items ++ d.tail.items)))
     (λ e found. each_at (IsWellFormed d.dim) (elements d) n e whole.is_open.opens.each found) is
 
 -- what is known is known where there is an error

@@ -27,35 +27,35 @@ abbrev pub begun : Opened → State
 begun d = machine.begun d.dim d.elements (length d.tail)
 
 -- what `tree` says of element n
-abbrev pub tree_said : List Element → ℕ → List ℕ
-tree_said es n = if nat_lt n (length es) then tree_text es n else cause_text (causes.Unknown n)
+abbrev pub tree_answer : List Element → ℕ → List ℕ
+tree_answer es n = if nat_lt n (length es) then tree_text es n else cause_text (causes.Unknown n)
 
 -- what `links` says of element n
-abbrev pub links_told : ℕ → Option Element → List ℕ
-links_told n None = cause_text (causes.Unknown n)
-links_told n (Some e) = links_text e
+abbrev pub links_answer_of : ℕ → Option Element → List ℕ
+links_answer_of n None = cause_text (causes.Unknown n)
+links_answer_of n (Some e) = links_text e
 
-abbrev pub links_said : List Element → ℕ → List ℕ
-links_said es n = links_told n (slice_get es n)
+abbrev pub links_answer : List Element → ℕ → List ℕ
+links_answer es n = links_answer_of n (slice_get es n)
 
 -- what is said of what an edit came to
-abbrev pub edit_said : Applied → List ℕ
-edit_said (Done made) = codes "ok\n"
-edit_said (Refused cause) = cause_text cause
+abbrev pub edit_answer : Applied → List ℕ
+edit_answer (Done made) = codes "ok\n"
+edit_answer (Refused cause) = cause_text cause
 
 -- what is said of an undo that is refused, or is not
-abbrev pub undo_said : Bool → List ℕ
-undo_said refused = if refused then codes "refused nothing\n" else codes "ok\n"
+abbrev pub undo_answer : Bool → List ℕ
+undo_answer refused = if refused then codes "refused nothing\n" else codes "ok\n"
 
 -- what is said where a fence is wanted and none is set
-abbrev pub no_fence_said : List ℕ
-no_fence_said = codes "refused no-fence\n"
+abbrev pub no_fence_line : List ℕ
+no_fence_line = codes "refused no-fence\n"
 
 -- what is said of what an edit of these roots came to, where a fence chose them
-abbrev pub fenced_said : Option Applied → Option (List ℕ) → List ℕ
-fenced_said (Some (Done made)) (Some ns) = numbered (codes "ok ") (length ns)
-fenced_said (Some (Refused cause)) ns = cause_text cause
-fenced_said applied ns = no_fence_said
+abbrev pub fence_edit_answer : Option Applied → Option (List ℕ) → List ℕ
+fence_edit_answer (Some (Done made)) (Some ns) = numbered (codes "ok ") (length ns)
+fence_edit_answer (Some (Refused cause)) ns = cause_text cause
+fence_edit_answer applied ns = no_fence_line
 
 -- and whether it is refused
 abbrev pub fenced_refused : Option Applied → Bool
@@ -63,9 +63,9 @@ fenced_refused None = true
 fenced_refused (Some applied) = machine.is_refused applied
 
 -- what `select` says of the roots that a fence chose
-abbrev pub selection_said : Option (List ℕ) → List ℕ
-selection_said None = no_fence_said
-selection_said (Some ns) = selected_text ns
+abbrev pub selection_answer : Option (List ℕ) → List ℕ
+selection_answer None = no_fence_line
+selection_answer (Some ns) = selected_text ns
 
 abbrev pub selection_refused : Option (List ℕ) → Bool
 selection_refused None = true
@@ -79,8 +79,8 @@ abbrev pub has_many : List Pt → Bool
 has_many corners = nat_lt 256 (length corners)
 
 -- what `fence` says with these corners
-abbrev pub fence_said : List Pt → List ℕ
-fence_said corners = if has_few corners then codes "refused few\n" else if has_many corners then codes "refused many\n" else codes "ok\n"
+abbrev pub fence_answer : List Pt → List ℕ
+fence_answer corners = if has_few corners then codes "refused few\n" else if has_many corners then codes "refused many\n" else codes "ok\n"
 
 abbrev pub fence_refused : List Pt → Bool
 fence_refused corners = has_few corners || has_many corners
@@ -97,20 +97,20 @@ is_import other = false
 -- what a command says
 abbrev pub text_of : State → Command → List ℕ
 text_of s (command.Import name by) = []
-text_of s (command.Edit e) = edit_said (applied e s)
-text_of s (command.Fenced mode e) = fenced_said (fence_applied mode e s) (selection mode s)
-text_of s command.Undo = undo_said (undo_refused s)
+text_of s (command.Edit e) = edit_answer (applied e s)
+text_of s (command.Fenced mode e) = fence_edit_answer (fence_applied mode e s) (selection mode s)
+text_of s command.Undo = undo_answer (undo_refused s)
 text_of s (command.Levels mask) = codes "ok\n"
-text_of s (command.Fence corners) = fence_said corners
+text_of s (command.Fence corners) = fence_answer corners
 text_of s command.NoFence = codes "ok\n"
 text_of s command.Show = items_text (shown s.dim s.mask s.top)
-text_of s (command.Tree n) = tree_said s.top n
+text_of s (command.Tree n) = tree_answer s.top n
 text_of s command.Elements = elements_text s.top
 text_of s command.Refs = refs_text s.top
-text_of s (command.Links n) = links_said s.top n
-text_of s (command.Select mode) = selection_said (selection mode s)
+text_of s (command.Links n) = links_answer s.top n
+text_of s (command.Select mode) = selection_answer (selection mode s)
 text_of s command.Audit = findings_text (findings s.dim s.top)
-text_of s (command.Fit n) = edit_said (fit_applied n s)
+text_of s (command.Fit n) = edit_answer (fit_applied n s)
 
 -- whether it is refused
 abbrev pub is_refused : State → Command → Bool

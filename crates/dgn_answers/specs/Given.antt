@@ -10,7 +10,7 @@ use Rattle.dgn_session.specs.State.{State}
 use Rattle.edit_script.specs.declared.command.Command.{Command}
 use Rattle.edit_script.specs.declared.command.Command.TheVariants as command
 use Rattle.dgn_answers.specs.Commands.{text_of, is_refused, after_command, trees_of}
-use Rattle.dgn_answers.specs.Imports.{importing_of, import_said, import_refused, import_left}
+use Rattle.dgn_answers.specs.Imports.{importing_of, import_answer, import_refused, import_left}
 
 -- a command that is no import, or an import with what its second file comes to
 pub data Given : Type 0 where
@@ -40,7 +40,7 @@ given_all (c ∷ cs) vs = given c vs ∷ given_all cs (seconds_behind c vs)
 -- what a step says
 abbrev pub step_text : State → Given → List ℕ
 step_text s (Plain c) = text_of s c
-step_text s (Import v by) = import_said (importing_of s v by)
+step_text s (Import v by) = import_answer (importing_of s v by)
 
 -- whether it is refused
 abbrev pub step_refused : State → Given → Bool

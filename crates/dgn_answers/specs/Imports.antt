@@ -15,8 +15,8 @@ use Rattle.edit_ops.specs.Causes.{too_long}
 use Rattle.edit_ops.specs.declared.cause.Cause.{Cause}
 use Rattle.edit_ops.specs.declared.cause.Cause.TheVariants as causes
 use Rattle.listing_texts.specs.NumberedLines.{numbered}
-use Rattle.dgn_answers.specs.declared.come.Come.{Come}
-use Rattle.dgn_answers.specs.declared.come.Come.TheVariants as come
+use Rattle.dgn_answers.specs.declared.gathering.Gathering as code
+use Rattle.dgn_answers.specs.declared.gathering.Gathering.TheVariants as gatherings
 
 -- the bytes of trees are appended, and how many trees they are; or nothing is, and this line says why
 pub data Importing : Type 0 where
@@ -24,18 +24,18 @@ pub data Importing : Type 0 where
   Declines : List ℕ → Importing
 
 -- the line that says why a second file doesn't open, and where
-abbrev pub fault_said : SecondFault → List ℕ
-fault_said faults.NotDesign = codes "refused import not-design at 0\n"
-fault_said (faults.Cut at) = numbered (codes "refused import cut at ") at
-fault_said (faults.Short at) = numbered (codes "refused import short at ") at
-fault_said (faults.Attr at) = numbered (codes "refused import attributes at ") at
+abbrev pub second_fault_line : SecondFault → List ℕ
+second_fault_line faults.NotDesign = codes "refused import not-design at 0\n"
+second_fault_line (faults.Cut at) = numbered (codes "refused import cut at ") at
+second_fault_line (faults.Short at) = numbered (codes "refused import short at ") at
+second_fault_line (faults.Attr at) = numbered (codes "refused import attributes at ") at
 
 -- the line of the cause of a tree, whose number counts in the second file. It is one of the first three
-abbrev pub tree_cause_said : Cause → List ℕ
-tree_cause_said (causes.Floating m) = numbered (codes "refused import floating ") m
-tree_cause_said (causes.Opaque m) = numbered (codes "refused import opaque ") m
-tree_cause_said (causes.OffPlane m) = numbered (codes "refused import off-plane ") m
-tree_cause_said other = cause_text other
+abbrev pub tree_cause_line : Cause → List ℕ
+tree_cause_line (causes.Floating m) = numbered (codes "refused import floating ") m
+tree_cause_line (causes.Opaque m) = numbered (codes "refused import opaque ") m
+tree_cause_line (causes.OffPlane m) = numbered (codes "refused import off-plane ") m
+tree_cause_line other = cause_text other
 
 -- trees are appended, unless the drawing would be too long with them
 abbrev pub unless_long : Option Cause → List ℕ → ℕ → Importing
@@ -45,31 +45,31 @@ unless_long (Some cause) b count = Declines (cause_text cause)
 -- what an import comes to in a state, by what is gathered from its second file
 abbrev pub importing : State → Gathering → Importing
 importing s (Trees b count) = unless_long (too_long (length (spelling s.top) + s.rest + length b)) b count
-importing s (Bad fault) = Declines (fault_said fault)
+importing s (Bad fault) = Declines (second_fault_line fault)
 importing s Dimension = Declines (codes "refused import dimension\n")
-importing s (Refused cause) = Declines (tree_cause_said cause)
+importing s (Refused cause) = Declines (tree_cause_line cause)
 
 -- and by what the file comes to
 abbrev pub importing_of : State → SecondValue → Option Displacement → Importing
 importing_of s v by = importing s (gathered s.dim v by)
 
--- what came of a second drawing, as what is gathered from it
-abbrev pub gathering_of : Come → Gathering
-gathering_of (come.Trees g) = Trees g.bytes g.trees
-gathering_of (come.Bad fault) = Bad fault
-gathering_of come.Dimension = Dimension
-gathering_of (come.Refused cause) = Refused cause
+-- what is gathered from a second drawing, as the definition has it
+abbrev pub gathering_of : code.Gathering → Gathering
+gathering_of (gatherings.Trees g) = Trees g.bytes g.trees
+gathering_of (gatherings.Bad fault) = Bad fault
+gathering_of gatherings.Dimension = Dimension
+gathering_of (gatherings.Refused cause) = Refused cause
 
 -- trees can stand behind a drawing of the dimension, and a cause is that of a tree
-abbrev pub FitsBehind : ℕ → Come → Type 0
-FitsBehind dim (come.Trees g) = AreTrees dim g.bytes
-FitsBehind dim (come.Refused cause) = IsOfATree cause
+abbrev pub FitsBehind : ℕ → code.Gathering → Type 0
+FitsBehind dim (gatherings.Trees g) = AreTrees dim g.bytes
+FitsBehind dim (gatherings.Refused cause) = IsOfATree cause
 FitsBehind dim other = Unit {0}
 
 -- what an import says
-abbrev pub import_said : Importing → List ℕ
-import_said (Appends b count) = numbered (codes "ok ") count
-import_said (Declines line) = line
+abbrev pub import_answer : Importing → List ℕ
+import_answer (Appends b count) = numbered (codes "ok ") count
+import_answer (Declines line) = line
 
 -- whether it is refused
 abbrev pub import_refused : Importing → Bool

@@ -1,7 +1,7 @@
 ghost use Rattle.std.specs.Prelude.{◌≡◌, ◌+◌, ◌≤◌, ◌++◌, codes, false, length, vec_len, vec_capacity, IfOk, OnOk, OnErr};
 ghost use Rattle.listing_texts.specs.Lines.{AppendsFrontOf};
 ghost use Rattle.dgn_session.specs.State.{state_of, applied, edited, undone, undo_refused, with_mask, is_refused as is_refusal};
-ghost use Rattle.dgn_answers.specs.Commands.{edit_said, undo_said, is_import, text_of, is_refused, after_command, trees_of};
+ghost use Rattle.dgn_answers.specs.Commands.{edit_answer, undo_answer, is_import, text_of, is_refused, after_command, trees_of};
 ghost use Rattle.dgn_answers.specs.Logs.{LogsAs};
 ghost use Rattle.edit_script.specs.declared.command.Command.{Command};
 
@@ -103,7 +103,7 @@ fn answer_edit(
     edit: &Edit,
     out: &mut Vec<u8>,
 ) -> Result<Answered, AllocError>
-    ensures text { OnOk result (out.new.items ≡ out.old.items ++ edit_said (applied edit.now (state_of s.old))) }
+    ensures text { OnOk result (out.new.items ≡ out.old.items ++ edit_answer (applied edit.now (state_of s.old))) }
     ensures refused { IfOk result (λ a. a.refused ≡ is_refusal (applied edit.now (state_of s.old))) }
     ensures trees { IfOk result (λ a. a.trees ≡ 0) }
     ensures state { OnOk result (state_of s.new ≡ edited edit.now (state_of s.old)) }
@@ -111,7 +111,7 @@ fn answer_edit(
     ensures tail { s.new.tail ≡ s.old.tail }
     ensures kept { OnErr result (s.new ≡ s.old) }
     ensures front { OnErr result
-        (AppendsFrontOf (edit_said (applied edit.now (state_of s.old))) out.old.items out.new.items) }
+        (AppendsFrontOf (edit_answer (applied edit.now (state_of s.old))) out.old.items out.new.items) }
 {
     out.reserve(ROOM)?;
     match s.edit(edit) {
@@ -129,7 +129,7 @@ fn answer_edit(
 
 // Takes the last edit back, appends what is said of it, and answers what it came to.
 fn answer_undo(s: &mut Session, out: &mut Vec<u8>) -> Result<Answered, AllocError>
-    ensures text { OnOk result (out.new.items ≡ out.old.items ++ undo_said (undo_refused (state_of s.old))) }
+    ensures text { OnOk result (out.new.items ≡ out.old.items ++ undo_answer (undo_refused (state_of s.old))) }
     ensures refused { IfOk result (λ a. a.refused ≡ undo_refused (state_of s.old)) }
     ensures trees { IfOk result (λ a. a.trees ≡ 0) }
     ensures state { OnOk result (state_of s.new ≡ undone (state_of s.old)) }

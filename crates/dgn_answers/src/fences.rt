@@ -4,8 +4,8 @@ ghost use Rattle.std.specs.Prelude.{◌≡◌, ◌+◌, ◌≤◌, ◌++◌, cod
 ghost use Rattle.listing_texts.specs.Lines.{AppendsFrontOf};
 ghost use Rattle.dgn_session.specs.State.{state_of, selection, fence_applied, fence_edited, with_fence};
 ghost use Rattle.listing_texts.specs.NumberedLines.{numbered};
-ghost use Rattle.dgn_answers.specs.Commands.{fenced_said, fenced_refused, trees_edited, fence_said, fence_refused, fence_set};
-ghost use Rattle.dgn_answers.specs.Commands.{selection_said, selection_refused};
+ghost use Rattle.dgn_answers.specs.Commands.{fence_edit_answer, fenced_refused, trees_edited, fence_answer, fence_refused, fence_set};
+ghost use Rattle.dgn_answers.specs.Commands.{selection_answer, selection_refused};
 ghost use Rattle.dgn_answers.specs.Logs.{LogsAs};
 ghost use Rattle.edit_script.specs.declared.command.Command.{Command};
 
@@ -28,7 +28,7 @@ pub(crate) fn answer_fenced(
     out: &mut Vec<u8>,
 ) -> Result<Answered, AllocError>
     ensures text { OnOk result (out.new.items ≡ out.old.items
-        ++ fenced_said (fence_applied mode edit.now (state_of s.old)) (selection mode (state_of s.old))) }
+        ++ fence_edit_answer (fence_applied mode edit.now (state_of s.old)) (selection mode (state_of s.old))) }
     ensures refused { IfOk result (λ a. a.refused ≡ fenced_refused (fence_applied mode edit.now (state_of s.old))) }
     ensures trees { IfOk result (λ a. a.trees
         ≡ trees_edited (fence_applied mode edit.now (state_of s.old)) (selection mode (state_of s.old))) }
@@ -37,7 +37,7 @@ pub(crate) fn answer_fenced(
     ensures tail { s.new.tail ≡ s.old.tail }
     ensures kept { OnErr result (s.new ≡ s.old) }
     ensures front { OnErr result (AppendsFrontOf
-        (fenced_said (fence_applied mode edit.now (state_of s.old)) (selection mode (state_of s.old)))
+        (fence_edit_answer (fence_applied mode edit.now (state_of s.old)) (selection mode (state_of s.old)))
         out.old.items out.new.items) }
 {
     out.reserve(ROOM)?;
@@ -79,7 +79,7 @@ pub(crate) fn answer_fence(
     corners: &[Pt],
     out: &mut Vec<u8>,
 ) -> Result<Answered, AllocError>
-    ensures text { OnOk result (out.new.items ≡ out.old.items ++ fence_said corners.now) }
+    ensures text { OnOk result (out.new.items ≡ out.old.items ++ fence_answer corners.now) }
     ensures refused { IfOk result (λ a. a.refused ≡ fence_refused corners.now) }
     ensures trees { IfOk result (λ a. a.trees ≡ 0) }
     ensures state { OnOk result (state_of s.new ≡ fence_set corners.now (state_of s.old)) }
@@ -131,11 +131,11 @@ pub(crate) fn answer_select(
     mode: Mode,
     out: &mut Vec<u8>,
 ) -> Result<Answered, AllocError>
-    ensures text { OnOk result (out.new.items ≡ out.old.items ++ selection_said (selection mode (state_of s.now))) }
+    ensures text { OnOk result (out.new.items ≡ out.old.items ++ selection_answer (selection mode (state_of s.now))) }
     ensures refused { IfOk result (λ a. a.refused ≡ selection_refused (selection mode (state_of s.now))) }
     ensures trees { IfOk result (λ a. a.trees ≡ 0) }
     ensures front { OnErr result
-        (AppendsFrontOf (selection_said (selection mode (state_of s.now))) out.old.items out.new.items) }
+        (AppendsFrontOf (selection_answer (selection mode (state_of s.now))) out.old.items out.new.items) }
 {
     match s.select(mode) {
         Ok(found) => {

@@ -8,13 +8,13 @@ ghost use Rattle.dgn_import.specs.Seconds.{value_of, IsSound};
 ghost use Rattle.listing_texts.specs.Lines.{AppendsFrontOf};
 ghost use Rattle.dgn_session.specs.State.{state_of};
 ghost use Rattle.listing_texts.specs.NumberedLines.{numbered};
-ghost use Rattle.dgn_answers.specs.Imports.{fault_said, tree_cause_said, importing, importing_of, gathering_of, FitsBehind};
-ghost use Rattle.dgn_answers.specs.Imports.{import_said, import_refused, import_left};
+ghost use Rattle.dgn_answers.specs.Imports.{second_fault_line, tree_cause_line, importing, importing_of, gathering_of, FitsBehind};
+ghost use Rattle.dgn_answers.specs.Imports.{import_answer, import_refused, import_left};
 ghost use Rattle.dgn_answers.specs.Logs.{ImportLogsAs};
 
 use crate::answers::{ROOM, put_known};
-use crate::come::Come;
 use crate::fences::put_count;
+use crate::gathering::Gathering;
 use dgn_drawing::Shift;
 use dgn_import::{Gathered, ImportFault, Second, SecondFault, gather};
 use dgn_listing::write_cause;
@@ -40,7 +40,7 @@ pub fn answer_import(
 ) -> Result<bool, AllocError>
     requires sound { IsSound second.now }
     ensures text { OnOk result (out.new.items ≡ out.old.items
-        ++ import_said (importing_of (state_of s.old) (value_of second.now) (option_map (λ b. b.now) by.entry))) }
+        ++ import_answer (importing_of (state_of s.old) (value_of second.now) (option_map (λ b. b.now) by.entry))) }
     ensures refused { IfOk result (λ refused. refused
         ≡ import_refused (importing_of (state_of s.old) (value_of second.now) (option_map (λ b. b.now) by.entry))) }
     ensures state { OnOk result (state_of s.new
@@ -50,84 +50,84 @@ pub fn answer_import(
     ensures tail { s.new.tail ≡ s.old.tail }
     ensures kept { OnErr result (s.new ≡ s.old) }
     ensures front { OnErr result (AppendsFrontOf
-        (import_said (importing_of (state_of s.old) (value_of second.now) (option_map (λ b. b.now) by.entry)))
+        (import_answer (importing_of (state_of s.old) (value_of second.now) (option_map (λ b. b.now) by.entry)))
         out.old.items out.new.items) }
 {
-    let come = come_of(alloc, s, second, by)?;
-    answer_come(alloc, s, come, out)
+    let gathering = gather_second(alloc, s, second, by)?;
+    answer_gathering(alloc, s, gathering, out)
 }
 
-// What comes of a second drawing for an import in a session.
-fn come_of(
+// What is gathered from a second drawing for an import in a session.
+fn gather_second(
     alloc: Global,
     s: &Session,
     second: &Second,
     by: Option<&Shift>,
-) -> Result<Come, AllocError>
+) -> Result<Gathering, AllocError>
     requires sound { IsSound second.now }
-    ensures come { IfOk result (λ come. importing (state_of s.now) (gathering_of come)
+    ensures gathered { IfOk result (λ gathering. importing (state_of s.now) (gathering_of gathering)
         ≡ importing_of (state_of s.now) (value_of second.now) (option_map (λ b. b.now) by.entry)) }
     ensures fits { IfOk result (FitsBehind s.now.dim) }
 {
     match gather(alloc, s.design().dim, second, by) {
-        Ok(found) => Ok(Come::Trees(found)),
-        Err(ImportFault::Bad(fault)) => Ok(Come::Bad(fault)),
-        Err(ImportFault::Dimension) => Ok(Come::Dimension),
-        Err(ImportFault::Refused(cause)) => Ok(Come::Refused(cause)),
+        Ok(found) => Ok(Gathering::Trees(found)),
+        Err(ImportFault::Bad(fault)) => Ok(Gathering::Bad(fault)),
+        Err(ImportFault::Dimension) => Ok(Gathering::Dimension),
+        Err(ImportFault::Refused(cause)) => Ok(Gathering::Refused(cause)),
         Err(ImportFault::Memory) => Err(AllocError),
     }
 }
 
 // The same of one that nobody wants any more, whose memory is given back before its trees are appended.
-pub(crate) fn come_of_last(
+pub(crate) fn gather_last(
     alloc: Global,
     s: &Session,
     second: Second,
     by: Option<&Shift>,
-) -> Result<Come, AllocError>
+) -> Result<Gathering, AllocError>
     requires sound { IsSound second }
-    ensures come { IfOk result (λ come. importing (state_of s.now) (gathering_of come)
+    ensures gathered { IfOk result (λ gathering. importing (state_of s.now) (gathering_of gathering)
         ≡ importing_of (state_of s.now) (value_of second) (option_map (λ b. b.now) by.entry)) }
     ensures fits { IfOk result (FitsBehind s.now.dim) }
 {
-    come_of(alloc, s, &second, by)
+    gather_second(alloc, s, &second, by)
 }
 
-// Appends the trees that came of a second drawing, appends to `out` what the import says, and answers whether it was
+// Appends the trees that were gathered from a second drawing, appends to `out` what the import says, and answers whether it was
 // refused.
-pub(crate) fn answer_come(
+pub(crate) fn answer_gathering(
     alloc: Global,
     s: &mut Session,
-    come: Come,
+    gathering: Gathering,
     out: &mut Vec<u8>,
 ) -> Result<bool, AllocError>
-    requires fits { FitsBehind s.old.dim come }
+    requires fits { FitsBehind s.old.dim gathering }
     ensures text { OnOk result (out.new.items ≡ out.old.items
-        ++ import_said (importing (state_of s.old) (gathering_of come))) }
+        ++ import_answer (importing (state_of s.old) (gathering_of gathering))) }
     ensures refused { IfOk result (λ refused. refused
-        ≡ import_refused (importing (state_of s.old) (gathering_of come))) }
+        ≡ import_refused (importing (state_of s.old) (gathering_of gathering))) }
     ensures state { OnOk result (state_of s.new
-        ≡ import_left (importing (state_of s.old) (gathering_of come)) (state_of s.old)) }
-    ensures logged { OnOk result (ImportLogsAs (importing (state_of s.old) (gathering_of come)) s.old s.new) }
+        ≡ import_left (importing (state_of s.old) (gathering_of gathering)) (state_of s.old)) }
+    ensures logged { OnOk result (ImportLogsAs (importing (state_of s.old) (gathering_of gathering)) s.old s.new) }
     ensures tail { s.new.tail ≡ s.old.tail }
     ensures kept { OnErr result (s.new ≡ s.old) }
     ensures front { OnErr result (AppendsFrontOf
-        (import_said (importing (state_of s.old) (gathering_of come))) out.old.items out.new.items) }
+        (import_answer (importing (state_of s.old) (gathering_of gathering))) out.old.items out.new.items) }
 {
     out.reserve(ROOM)?;
     // What a session holds is such as its type keeps, which is known where a value of it is read.
     let _dim = s.design().dim;
-    match come {
-        Come::Trees(found) => append_gathered(alloc, s, &found, out),
-        Come::Bad(fault) => {
+    match gathering {
+        Gathering::Trees(found) => append_gathered(alloc, s, &found, out),
+        Gathering::Bad(fault) => {
             put_fault(out, fault);
             Ok(true)
         }
-        Come::Dimension => {
+        Gathering::Dimension => {
             put_known(out, b"refused import dimension\n");
             Ok(true)
         }
-        Come::Refused(cause) => {
+        Gathering::Refused(cause) => {
             put_tree_cause(out, cause);
             Ok(true)
         }
@@ -145,7 +145,7 @@ fn append_gathered(
     requires body { s.old.body ≡ spelling (state_of s.old).top }
     requires room { vec_len out.old + 64 ≤ vec_capacity out.old }
     ensures text { OnOk result (out.new.items ≡ out.old.items
-        ++ import_said (importing (state_of s.old) (Trees found.now.bytes found.now.trees))) }
+        ++ import_answer (importing (state_of s.old) (Trees found.now.bytes found.now.trees))) }
     ensures refused { IfOk result (λ refused. refused
         ≡ import_refused (importing (state_of s.old) (Trees found.now.bytes found.now.trees))) }
     ensures state { OnOk result (state_of s.new
@@ -155,7 +155,7 @@ fn append_gathered(
     ensures tail { s.new.tail ≡ s.old.tail }
     ensures kept { OnErr result (s.new ≡ s.old) }
     ensures front { OnErr result (AppendsFrontOf
-        (import_said (importing (state_of s.old) (Trees found.now.bytes found.now.trees))) out.old.items out.new.items) }
+        (import_answer (importing (state_of s.old) (Trees found.now.bytes found.now.trees))) out.old.items out.new.items) }
 {
     match s.append_trees(found.bytes.as_slice()) {
         Ok(()) => {
@@ -173,7 +173,7 @@ fn append_gathered(
 // Appends why a second file doesn't open. There is room for it.
 fn put_fault(out: &mut Vec<u8>, fault: SecondFault)
     requires { vec_len out.old + 64 ≤ vec_capacity out.old }
-    ensures { out.new.items ≡ out.old.items ++ fault_said fault }
+    ensures { out.new.items ≡ out.old.items ++ second_fault_line fault }
 {
     match fault {
         SecondFault::NotDesign => put_known(out, b"refused import not-design at 0\n"),
@@ -187,7 +187,7 @@ fn put_fault(out: &mut Vec<u8>, fault: SecondFault)
 fn put_tree_cause(out: &mut Vec<u8>, cause: Cause)
     requires room { vec_len out.old + 64 ≤ vec_capacity out.old }
     requires of_a_tree { IsOfATree cause }
-    ensures { out.new.items ≡ out.old.items ++ tree_cause_said cause }
+    ensures { out.new.items ≡ out.old.items ++ tree_cause_line cause }
 {
     match cause {
         Cause::Floating(m) => put_line(out, b"refused import floating ", m),

@@ -5,8 +5,8 @@
 
 mod answered;
 mod answers;
-mod come;
 mod fences;
+mod gathering;
 mod importing;
 mod listings;
 mod ranges;

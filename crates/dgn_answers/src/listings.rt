@@ -7,7 +7,7 @@ ghost use Rattle.listing_texts.specs.Lines.{AppendsFrontOf};
 ghost use Rattle.listing_texts.specs.ElementTexts.{elements_text};
 ghost use Rattle.listing_texts.specs.RefTexts.{refs_text};
 ghost use Rattle.dgn_session.specs.State.{state_of};
-ghost use Rattle.dgn_answers.specs.Commands.{tree_said, links_said, text_of};
+ghost use Rattle.dgn_answers.specs.Commands.{tree_answer, links_answer, text_of};
 ghost use Rattle.edit_script.specs.declared.command.Command.{Command};
 
 use crate::answered::Answered;
@@ -45,11 +45,11 @@ pub(crate) fn answer_tree(
 ) -> Result<Answered, AllocError>
     requires whole { IsWhole design.now }
     requires nesting { nesting.now.rows ≡ map row_of (elements design.now) }
-    ensures text { OnOk result (out.new.items ≡ out.old.items ++ tree_said (elements design.now) n) }
+    ensures text { OnOk result (out.new.items ≡ out.old.items ++ tree_answer (elements design.now) n) }
     ensures refused { IfOk result (λ a. a.refused ≡ not (nat_lt n (length (elements design.now)))) }
     ensures trees { IfOk result (λ a. a.trees ≡ 0) }
     ensures front { OnErr result
-        (AppendsFrontOf (tree_said (elements design.now) n) out.old.items out.new.items) }
+        (AppendsFrontOf (tree_answer (elements design.now) n) out.old.items out.new.items) }
 {
     if n < design.count() {
         write_tree(alloc, out, design, nesting, n)?;
@@ -101,11 +101,11 @@ pub(crate) fn answer_links(
     out: &mut Vec<u8>,
 ) -> Result<Answered, AllocError>
     requires { IsWhole design.now }
-    ensures text { OnOk result (out.new.items ≡ out.old.items ++ links_said (elements design.now) n) }
+    ensures text { OnOk result (out.new.items ≡ out.old.items ++ links_answer (elements design.now) n) }
     ensures refused { IfOk result (λ a. a.refused ≡ not (nat_lt n (length (elements design.now)))) }
     ensures trees { IfOk result (λ a. a.trees ≡ 0) }
     ensures front { OnErr result
-        (AppendsFrontOf (links_said (elements design.now) n) out.old.items out.new.items) }
+        (AppendsFrontOf (links_answer (elements design.now) n) out.old.items out.new.items) }
 {
     match design.element(n) {
         Some(bytes) => {

@@ -4,7 +4,7 @@ ghost use Rattle.std.specs.Prelude.{◌≡◌, ◌++◌, false, IfOk, OnOk, OnEr
 ghost use Rattle.listing_texts.specs.Lines.{AppendsFrontOf};
 ghost use Rattle.dgn_session.specs.State.{state_of, is_refused as is_refusal};
 ghost use Rattle.dgn_session.specs.Fits.{fit_applied, fit_made};
-ghost use Rattle.dgn_answers.specs.Commands.{edit_said, text_of};
+ghost use Rattle.dgn_answers.specs.Commands.{edit_answer, text_of};
 ghost use Rattle.dgn_answers.specs.Logs.{LogsAs};
 ghost use Rattle.edit_script.specs.declared.command.Command.{Command};
 
@@ -39,7 +39,7 @@ pub(crate) fn answer_fit(
     n: u32,
     out: &mut Vec<u8>,
 ) -> Result<Answered, AllocError>
-    ensures text { OnOk result (out.new.items ≡ out.old.items ++ edit_said (fit_applied n (state_of s.old))) }
+    ensures text { OnOk result (out.new.items ≡ out.old.items ++ edit_answer (fit_applied n (state_of s.old))) }
     ensures refused { IfOk result (λ a. a.refused ≡ is_refusal (fit_applied n (state_of s.old))) }
     ensures trees { IfOk result (λ a. a.trees ≡ 0) }
     ensures state { OnOk result (state_of s.new ≡ fit_made n (state_of s.old)) }
@@ -47,7 +47,7 @@ pub(crate) fn answer_fit(
     ensures tail { s.new.tail ≡ s.old.tail }
     ensures kept { OnErr result (s.new ≡ s.old) }
     ensures front { OnErr result
-        (AppendsFrontOf (edit_said (fit_applied n (state_of s.old))) out.old.items out.new.items) }
+        (AppendsFrontOf (edit_answer (fit_applied n (state_of s.old))) out.old.items out.new.items) }
 {
     out.reserve(ROOM)?;
     match s.fit(n) {

@@ -11,7 +11,7 @@ ghost use Rattle.dgn_import.specs.Seconds.{waiting};
 
 use crate::answered::Answered;
 use crate::answers::respond;
-use crate::importing::{answer_come, come_of_last};
+use crate::importing::{answer_gathering, gather_last};
 use dgn_import::{Second, SecondFault};
 use dgn_session::Session;
 use edit_script::Command;
@@ -46,8 +46,8 @@ pub fn take_step(
     match c {
         Command::Import(_, by) => {
             let second = next_second(seconds);
-            let come = come_of_last(alloc, s, second, by.as_ref())?;
-            let refused = answer_come(alloc, s, come, out)?;
+            let gathering = gather_last(alloc, s, second, by.as_ref())?;
+            let refused = answer_gathering(alloc, s, gathering, out)?;
             Ok(Answered { refused, trees: 0 })
         }
         _ => respond(alloc, s, c, out),

@@ -23,8 +23,8 @@ pub struct Tally {
     pub trees: Vec<u32>,
 }
 
-/// Runs the commands in order in a session, each import with the next of the second files, and says nothing of them. There
-/// is an error exactly where there is no memory.
+/// Runs the commands in order in a session, each import with the next of the second files, and says nothing of them.
+/// An error says that there was no memory.
 pub fn run_unsaid(
     alloc: Global,
     session: &mut Session,

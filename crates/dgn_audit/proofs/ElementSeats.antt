@@ -27,7 +27,8 @@ use Rattle.dgn_audit.specs.Hulls.{is_vertices, hull_in, tree_hull}
 use Rattle.dgn_audit.specs.Findings.{finding_as}
 use Rattle.dgn_audit.specs.Reading.{hull_read, finding_read}
 use Rattle.dgn_audit.specs.Seats.{IsSeat}
-use Rattle.dgn_audit.specs.Backwards.{Pass, box_for, without, with_hulls, past, read_one, read_marked, read_back}
+use Rattle.dgn_audit.specs.OpenBoxes.{Pass, box_for, without, with_hulls, past, read_one, read_marked}
+use Rattle.dgn_audit.proofs.ReadBack.{read_back}
 use Rattle.dgn_audit.proofs.ElementHulls.{hull_said, hull_loud, loud_findings, loud_long, row_holds}
 
 some_same : {A : Type 0} (x y : A) → Some x ≡ Some y → x ≡ y

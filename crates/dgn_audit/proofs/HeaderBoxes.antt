@@ -9,7 +9,7 @@ use Rattle.range_code.specs.Ranges.{join_of}
 use Rattle.dgn_audit.specs.declared.finding.Finding.{Finding}
 use Rattle.dgn_audit.specs.declared.open_box.OpenBox.{OpenBox}
 use Rattle.dgn_audit.specs.Hulls.{hull_join}
-use Rattle.dgn_audit.specs.Backwards.{box_for, without, with_hull, with_hulls, past}
+use Rattle.dgn_audit.specs.OpenBoxes.{box_for, without, with_hull, with_hulls, past}
 use Rattle.dgn_audit.proofs.Boxes.{join_assoc}
 
 -- the first box is that of a header before n

@@ -1,4 +1,5 @@
 pub mod Boxes
+pub mod ReadBack
 pub mod ElementHulls
 pub mod ElementSeats
 pub mod HeaderBoxes

@@ -145,10 +145,6 @@ pub record IsRanged (dim : ℕ) (r : Box3) (e : Element) : Type 0 where
   pub good : IsWellFormed dim (with_range dim r e)
   pub row : row_of (with_range dim r e) ≡ row_of e
 
-span_from : (n p m : ℕ) (ps : List Put) → n ≤ p → Span p ps m → Span n ps m
-span_from n p m [] le s = omega (arith, s)
-span_from n p m (q ∷ qs) le s = (let f = s.0 in omega arith, s.1)
-
 ranges_span : (dim : ℕ) (r : Box3) (m : ℕ) → IsDimension dim → 36 ≤ m → Span 0 (map (range_put r 0) (range_spots dim)) m
 ranges_span dim r m axes long =
     in_both (λ (d : ℕ). Span 0 (map (range_put r 0) (range_spots d)) m)

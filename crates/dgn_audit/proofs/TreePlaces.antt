@@ -1,7 +1,7 @@
 -- The tree of one element, where it stands; and what holds of the fitted elements of trees.
 use Rattle.std.proofs.Common.{◌≡◌, ℕ, zero, suc, ◌+◌, ◌-◌, ◌<◌, ◌≤◌, List, [], ◌∷◌, ◌++◌, length, take, drop, Option, Some, None, Bool, true, false, cond}
 use Rattle.std.proofs.Common.{refl, sym, ap, ◌∙◌, subst, arith, append_assoc, length-append, inl, inr}
-use Rattle.std.specs.Prelude.{◌==◌, ◌&&◌, nat_lt, slice_get}
+use Rattle.std.specs.Prelude.{◌==◌, ◌&&◌, nat_lt, slice_get, option_map, unwrap_or, IfSome}
 use Rattle.std.specs.List.{AllByRecursion}
 use Rattle.std.proofs.lemmas.List.{append-nil, length-drop}
 use Rattle.std.proofs.lemmas.Bool.{cond-true, cond-false, cond_both, cases_Bool, ltb-true, ltb-false}
@@ -18,15 +18,17 @@ use Rattle.dgn_drawing.specs.Numbering.{Mark, end_of, marks, mark_of, headers_in
 use Rattle.nest_tree.proofs.NestingSteps.{flat-forest}
 use Rattle.level_view.proofs.ItemsBack.{Stands, head_marked, head_listed, below_stands, behind_stands, all_stand}
 use Rattle.edit_ops.specs.Trees.{count_in, tree_at}
+use Rattle.dgn_audit.specs.declared.keep.Keep.{Keep}
 use Rattle.dgn_audit.specs.declared.keep.Keep.TheVariants as keeps
 use Rattle.dgn_audit.specs.declared.finding.Finding.{Finding}
 use Rattle.dgn_audit.specs.Hulls.{tree_hull, hull_of}
-use Rattle.dgn_audit.specs.Findings.{is_fitted, finding_of, finding_as, findings_in, fitted_in}
-use Rattle.dgn_audit.specs.Backwards.{read_back}
+use Rattle.dgn_audit.specs.Findings.{is_fitted, finding_of, finding_as, findings_in, findings_of, fitted_in}
+use Rattle.dgn_audit.proofs.ReadBack.{read_back}
 use Rattle.dgn_audit.specs.Planned.{IsSpotted}
+use Rattle.dgn_audit.specs.Seats.{bounds_of}
 use Rattle.dgn_audit.proofs.ElementHulls.{row_spotted}
 use Rattle.dgn_audit.proofs.HeaderBoxes.{IsBefore, before_on}
-use Rattle.dgn_audit.proofs.TreeHulls.{part_read}
+use Rattle.dgn_audit.proofs.TreeHulls.{all_read, part_read}
 
 -- the head of a group is counted
 abbrev pub IsCountedAs : Knot → ℕ → Type 0
@@ -243,14 +245,40 @@ module _ (dim : ℕ) (es : List Element) where
           ap (length {A = Element}) (append-nil (flat part_tree.below)),
         )
 
-    -- and they are found from its end back
-    pub part_found : (first end : ℕ) → first ≡ n → end ≡ part_mark.end → (read_back keeps.Fitted dim es first (end - first)).noted ≡ fitted_in dim es n
-    part_found first end at to =
-        let count : end - first ≡ suc (length (flat part_tree.below)) = omega (arith, at, to, part_end) in
-        ap (λ (k : ℕ). (read_back keeps.Fitted dim es k (end - first)).noted) at
-        ∙ part_read keeps.Fitted dim es part_tree.knot part_tree.head part_tree.below n part_tree.depth part_tree.parent part_tree.stands part_tree.before
-        (end - first) count
-        ∙ ap (findings_in keeps.Fitted dim n) (sym part_tree.tree)
+    part_bounds : bounds_of es (Some n) ≡ (n, part_mark.end)
+    part_bounds = ap (λ (o : Option Mark). unwrap_or (option_map (λ (m : Mark). (n, m.end)) o) (n, n)) part_marked
+
+module _ (keep : Keep) (dim : ℕ) (es : List Element) where
+  -- the elements of a part, or of all, from the first one to the end
+  pub record HasBounds (part : Option ℕ) (first end : ℕ) : Type 0 where
+    pub ordered : first ≤ end
+    pub within : end ≤ length es
+    -- they are read from the end back
+    pub found : (read_back keep dim es first (end - first)).noted ≡ findings_of keep dim es part
+
+  all_bounds : HasBounds None 0 (length es)
+  all_bounds =
+      let all : length es - 0 ≡ length es = omega arith in
+      record {
+        ordered = omega arith;
+        within = omega arith;
+        found = ap (λ (k : ℕ). (read_back keep dim es 0 k).noted) all ∙ all_read keep dim es;
+      }
+
+  tree_bounds : (n : ℕ) (known : n < length es) → HasBounds (Some n) n (part_mark dim es n known).end
+  tree_bounds n known =
+      let t = part_tree dim es n known in
+      let count : (part_mark dim es n known).end - n ≡ suc (length (flat t.below)) = omega (arith, part_end dim es n known) in
+      record {
+        ordered = omega (arith, part_after dim es n known);
+        within = part_within dim es n known;
+        found = part_read keep dim es t.knot t.head t.below n t.depth t.parent t.stands t.before ((part_mark dim es n known).end - n) count
+            ∙ ap (findings_in keep dim n) (sym t.tree);
+      }
+
+  pub has_bounds : (part : Option ℕ) → IfSome part (λ n. n < length es) → (x : ℕ × ℕ) → x ≡ bounds_of es part → HasBounds part x.0 x.1
+  has_bounds None known x is = subst (λ (y : ℕ × ℕ). HasBounds None y.0 y.1) (sym is) all_bounds
+  has_bounds (Some n) known x is = subst (λ (y : ℕ × ℕ). HasBounds (Some n) y.0 y.1) (sym (is ∙ part_bounds dim es n known)) (tree_bounds n known)
 
 -- the headers above an element have lesser numbers
 headers_before : {A : Type 0} (n first : ℕ) (f : Forest A) → AllByRecursion (λ h. h < first + n) (headers_in n first f)

@@ -54,6 +54,11 @@ findings_in keep dim n (Tree knot e below behind) =
 abbrev pub findings : ℕ → List Element → List Finding
 findings dim es = findings_in keeps.Differing dim 0 (forest row_of es)
 
+-- what is told of the live elements of the part of element n, or of all where none is named
+abbrev pub findings_of : Keep → ℕ → List Element → Option ℕ → List Finding
+findings_of keep dim es None = findings_in keep dim 0 (forest row_of es)
+findings_of keep dim es (Some n) = findings_in keep dim n (tree_at n (forest row_of es))
+
 -- the fitted elements of the part of element n, with their hulls
 abbrev pub fitted_in : ℕ → List Element → ℕ → List Finding
 fitted_in dim es n = findings_in keeps.Fitted dim n (tree_at n (forest row_of es))

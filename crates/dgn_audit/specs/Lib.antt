@@ -3,7 +3,7 @@ pub mod Findings
 pub mod Fitting
 pub mod Seats
 pub mod Reading
-pub mod Backwards
+pub mod OpenBoxes
 pub mod Planned
 pub mod Laws
 pub mod FitCauses

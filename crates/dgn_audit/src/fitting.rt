@@ -21,7 +21,7 @@ use crate::finding::Finding;
 use crate::fit_cause::FitCause;
 use crate::fit_fault::FitFault;
 use crate::keep::Keep;
-use crate::reading::read_between;
+use crate::reading::read_part;
 use dgn_drawing::MOST_DESIGN;
 use dgn_layout::Spot;
 use dgn_words::put_range_long;
@@ -111,10 +111,7 @@ fn fitted_in(alloc: Global, d: &Design, t: &Nest, n: u32) -> Result<Vec<Finding>
     ensures fitted { IfOk result (λ noted. reverse noted.items ≡ fitted_in d.now.dim (elements d.now) n) }
     ensures spotted { IfOk result (λ noted. AllByRecursion (IsSpotted (elements d.now)) (reverse noted.items)) }
 {
-    let Some((first, end)) = t.span(n) else {
-        unreachable!()
-    };
-    read_between(alloc, d, t, first, end, Keep::Fitted)
+    read_part(alloc, d, t, Some(n), Keep::Fitted)
 }
 
 // What is put into fitted elements, of which the last one stands first, or the least of them that is locked.

@@ -1,14 +1,16 @@
-// The hulls of the elements between two numbers, found from the last element back to the first. Both lists grow towards
-// the front of the drawing, so what is least stands last.
+// The hulls of the elements of a part, found from the last element back to the first. Both lists grow towards the front of the
+// drawing, so what is least stands last.
 
-ghost use Rattle.std.specs.Prelude.{◌≡◌, ◌-◌, ◌<◌, ◌≤◌, ◌∷◌, ◌++◌, length, map, reverse, slice_get, vec_len, vec_capacity, Option, Some, OnOk, IfOk};
+ghost use Rattle.std.specs.Prelude.{◌≡◌, ◌<◌, ◌≤◌, ◌∷◌, ◌++◌, length, map, reverse, slice_get, vec_len, vec_capacity, Option, Some, OnOk, IfOk, IfSome};
 ghost use Rattle.dgn_drawing.specs.Rows.{row_of};
 ghost use Rattle.dgn_drawing.specs.Numbering.{mark_of};
 ghost use Rattle.dgn_drawing.specs.WellFormed.{IsDimension};
 ghost use Rattle.elem_index.specs.Design.{elements, IsWhole};
 ghost use Rattle.dgn_audit.specs.Hulls.{hull_join};
 ghost use Rattle.dgn_audit.specs.Reading.{is_kept_read, finding_read};
-ghost use Rattle.dgn_audit.specs.Backwards.{pass_of, box_for, without, with_hull, with_hulls, begins_below, past, read_marked, read_back};
+ghost use Rattle.dgn_audit.specs.Findings.{findings_of};
+ghost use Rattle.dgn_audit.specs.OpenBoxes.{pass_of, box_for, without, with_hull, with_hulls, begins_below, past, read_marked};
+ghost use Rattle.dgn_audit.specs.Seats.{bounds_of};
 
 use crate::finding::Finding;
 use crate::hulls::{hull_of, is_fitted};
@@ -170,23 +172,39 @@ fn read(
     tell(d.dim, keep, n, seat, hull, noted)
 }
 
-// What is told of the elements from number `first` on and before number `end`, the last one first. A box is held for each
-// header above the element that is being read of which a member with a hull has been read. The room for as many as can be
-// open is taken once.
-pub(crate) fn read_between(
+// The numbers of the first element of the part of element `n` and behind its last one, or of the whole drawing where none is
+// named.
+fn bounds(d: &Design, t: &Nest, part: Option<u32>) -> (u32, u32)
+    requires whole { IsWhole d.now }
+    requires nesting { t.now.rows ≡ map row_of (elements d.now) }
+    requires known { IfSome part (λ n. n < length (elements d.now)) }
+    ensures { result ≡ bounds_of (elements d.now) part }
+{
+    let Some(n) = part else {
+        return (0, d.count());
+    };
+    let Some(span) = t.span(n) else {
+        unreachable!()
+    };
+    span
+}
+
+// What is told of the part of element `n`, or of the whole drawing where none is named, the last element first. A box is held
+// for each header above the element that is being read of which a member with a hull has been read. The room for as many as
+// can be open is taken once.
+pub(crate) fn read_part(
     alloc: Global,
     d: &Design,
     t: &Nest,
-    first: u32,
-    end: u32,
+    part: Option<u32>,
     keep: Keep,
 ) -> Result<Vec<Finding>, AllocError>
     requires whole { IsWhole d.now }
     requires nesting { t.now.rows ≡ map row_of (elements d.now) }
-    requires ordered { first ≤ end }
-    requires within { end ≤ length (elements d.now) }
-    ensures { IfOk result (λ noted. reverse noted.items ≡ (read_back keep d.now.dim (elements d.now) first (end - first)).noted) }
+    requires known { IfSome part (λ n. n < length (elements d.now)) }
+    ensures { IfOk result (λ noted. reverse noted.items ≡ findings_of keep d.now.dim (elements d.now) part) }
 {
+    let (first, end) = bounds(d, t, part);
     let mut boxes = Vec::with_capacity(alloc, MOST_OPEN)?;
     let mut noted = Vec::new(alloc);
     for n in (first..end).rev() {

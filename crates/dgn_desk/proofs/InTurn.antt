@@ -17,11 +17,6 @@ pub stopped_so : {T U : Type 0} {P Q : Option Content → Option Content → Typ
 stopped_so stops.Failed did so = record { cause = did.cause; other = did.other; told = so did.told; stays = did.stays; able = did.able }
 stopped_so stops.Memory did so = record { cause = did.cause; other = did.other; told = so did.told; stays = did.stays; able = did.able }
 
--- whatever it answers
-pub changed_so : {T : Type 0} {P Q : Option Content → Option Content → Type 0} {old new : Seen} (r : Result T Stop)
-    → Writes r P old new → (P old.content new.content → Q old.content new.content) → Writes r Q old new
-changed_so r did so = record { cause = did.cause; other = did.other; told = so did.told; stays = did.stays; able = did.able }
-
 -- a second call behind one that came to its end
 pub then_so : {T U : Type 0} {P Q R : Option Content → Option Content → Type 0} {old mid new : Seen} (x : T) (r : Result U Stop)
     → Writes (Ok x) P old mid → Writes r Q mid new → (P old.content mid.content → Q mid.content new.content → R old.content new.content)

@@ -1,12 +1,13 @@
-ghost use Rattle.std.specs.Prelude.{◌≡◌, ◌≤◌, length, None, IfOk, IsErrOf, false};
+ghost use Rattle.std.specs.Prelude.{◌≡◌, ◌≤◌, length, Some, None, Ok, Err, IfOk, OnErr, IsErrOf, false};
 ghost use Rattle.std.proofs.Common.{rules};
 ghost use Rattle.dgn_desk.specs.Desk.{Counts, TakesSome};
+ghost use Rattle.dgn_desk.specs.NumberedDesk.{one_more};
 
 use crate::desk::Desk;
 use crate::failing::failed;
 use crate::stop::Stop;
 use std::fs;
-use std::io::{Read, Write};
+use std::io::{self, Read, Write};
 use std::rt::Files;
 
 /// The desk of the machine: the files of the system and standard output.
@@ -65,11 +66,8 @@ impl<R: Files + Print + Drop> Desk for HostDesk<R> {
         ensures other { self.new.write_faults ≡ self.old.write_faults }
         ensures memory { ¬ IsErrOf result Stop.Memory }
     {
-        let Ok(file) = fs::open(&self.rt, name) else {
-            return failed(&mut self.read_faults);
-        };
-        self.reading = Some(file);
-        Ok(())
+        let given = fs::open(&self.rt, name);
+        begun(given, &mut self.reading, &mut self.read_faults)
     }
 
     /// Where no file was begun, 0.
@@ -82,10 +80,8 @@ impl<R: Files + Print + Drop> Desk for HostDesk<R> {
         let Some(file) = &mut self.reading else {
             return Ok(0);
         };
-        match file.read(buf) {
-            Ok(count) => Ok(count),
-            Err(_) => failed(&mut self.read_faults),
-        }
+        let given = file.read(buf);
+        answered(given, &mut self.read_faults)
     }
 
     fn begin_write(&mut self, name: &str) -> Result<(), Stop>
@@ -93,11 +89,8 @@ impl<R: Files + Print + Drop> Desk for HostDesk<R> {
         ensures other { self.new.read_faults ≡ self.old.read_faults }
         ensures memory { ¬ IsErrOf result Stop.Memory }
     {
-        let Ok(file) = fs::create(&self.rt, name) else {
-            return failed(&mut self.write_faults);
-        };
-        self.writing = Some(file);
-        Ok(())
+        let given = fs::create(&self.rt, name);
+        begun(given, &mut self.writing, &mut self.write_faults)
     }
 
     /// Where no file was begun, `Failed`.
@@ -110,10 +103,8 @@ impl<R: Files + Print + Drop> Desk for HostDesk<R> {
         let Some(file) = &mut self.writing else {
             return failed(&mut self.write_faults);
         };
-        match file.write(bytes) {
-            Ok(count) if count > 0 || bytes.is_empty() => Ok(count),
-            _ => failed(&mut self.write_faults),
-        }
+        let given = file.write(bytes);
+        taken(bytes, given, &mut self.write_faults)
     }
 
     fn say(&mut self, bytes: &[u8]) -> Result<usize, Stop>
@@ -122,10 +113,50 @@ impl<R: Files + Print + Drop> Desk for HostDesk<R> {
         ensures taken { IfOk result (TakesSome bytes.now) }
         ensures memory { ¬ IsErrOf result Stop.Memory }
     {
-        match self.rt.write_some(bytes) {
-            Ok(count) if count > 0 || bytes.is_empty() => Ok(count),
-            _ => failed(&mut self.write_faults),
-        }
+        let given = self.rt.write_some(bytes);
+        taken(bytes, given, &mut self.write_faults)
+    }
+}
+
+// Takes the file that the system gave in the place of another, where each error is `Failed`, and is counted.
+fn begun<F: Drop>(given: io::Result<F>, file: &mut Option<F>, faults: &mut u64) -> Result<(), Stop>
+    ensures taken { IfOk given (λ f. file.new ≡ Some f) }
+    ensures cause { Counts faults.old faults.new result }
+    ensures failed { OnErr given (result ≡ Err Stop.Failed) }
+    ensures counted { OnErr given (faults.new ≡ one_more faults.old) }
+    ensures memory { ¬ IsErrOf result Stop.Memory }
+{
+    let Ok(one) = given else {
+        return failed(faults);
+    };
+    *file = Some(one);
+    Ok(())
+}
+
+// What the system gave, where each error is `Failed`, and is counted.
+fn answered(given: io::Result<usize>, faults: &mut u64) -> Result<usize, Stop>
+    ensures given { IfOk given (λ count. result ≡ Ok count) }
+    ensures cause { Counts faults.old faults.new result }
+    ensures failed { OnErr given (result ≡ Err Stop.Failed) }
+    ensures counted { OnErr given (faults.new ≡ one_more faults.old) }
+{
+    match given {
+        Ok(count) => Ok(count),
+        Err(_) => failed(faults),
+    }
+}
+
+// The same of how many of these bytes it took. None of some is an error too.
+fn taken(bytes: &[u8], given: io::Result<usize>, faults: &mut u64) -> Result<usize, Stop>
+    requires { IfOk given (λ count. count ≤ length bytes.now) }
+    ensures cause { Counts faults.old faults.new result }
+    ensures taken { IfOk result (TakesSome bytes.now) }
+    ensures failed { OnErr given (result ≡ Err Stop.Failed) }
+    ensures memory { ¬ IsErrOf result Stop.Memory }
+{
+    match answered(given, faults) {
+        Ok(0) if !bytes.is_empty() => failed(faults),
+        answer => answer,
     }
 }
 

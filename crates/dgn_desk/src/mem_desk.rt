@@ -77,8 +77,7 @@ impl MemDesk {
         }
     }
 
-    /// Sets a file. A reading of it that was begun goes on over its former bytes.
-    /// There is an error exactly where there is no memory.
+    /// Sets a file. A reading of it that was begun goes on over its former bytes. An error says that there was no memory.
     pub fn add(&mut self, name: &str, bytes: Vec<u8>) -> Result<(), AllocError>
         ensures ok { OnOk result (self.new ≡ record self.old {
           content = record self.old.content {
@@ -90,7 +89,7 @@ impl MemDesk {
         self.under.add(name, bytes)
     }
 
-    /// Puts a number on the list of the calls that are to fail. There is an error exactly where there is no memory.
+    /// Puts a number on the list of the calls that are to fail. An error says that there was no memory.
     pub fn fail_at(&mut self, call: u64) -> Result<(), AllocError>
         ensures ok { OnOk result (self.new ≡ record self.old { fails = self.old.fails ++ call ∷ [] }) }
         ensures err { OnErr result (self.new ≡ self.old) }

@@ -68,8 +68,7 @@ impl SureDesk {
         }
     }
 
-    /// Sets a file. A reading of it that was begun goes on over its former bytes.
-    /// There is an error exactly where there is no memory.
+    /// Sets a file. A reading of it that was begun goes on over its former bytes. An error says that there was no memory.
     pub fn add(&mut self, name: &str, bytes: Vec<u8>) -> Result<(), AllocError>
         ensures ok { OnOk result (self.new ≡ record self.old {
           content = record self.old.content {

@@ -1,11 +1,10 @@
 -- The outline of an item, and what is taken where bounds alone tell it.
-use Rattle.std.proofs.Common.{◌≡◌, inl, inr, ℕ, zero, suc, ◌+◌, ◌≤◌, ◌==◌, ℤ, Bool, true, false, Option, Some, None, option_map, List, [], ◌∷◌, length, map}
+use Rattle.std.proofs.Common.{◌≡◌, inl, inr, ℕ, zero, suc, ◌+◌, ◌==◌, ℤ, Bool, true, false, Option, Some, None, option_map, List, [], ◌∷◌, map}
 use Rattle.std.proofs.Common.{drop, refl, sym, subst, ap, ◌∙◌, cond, arith}
 use Rattle.std.specs.Prelude.{slice_get}
 use Rattle.std.specs.List.{fold, list_any, list_all}
 use Rattle.std.specs.Option.{option_to_list}
 use Rattle.std.proofs.lemmas.Bool.{cond-true, cond-false, cases_Bool, and_parts}
-use Rattle.std.proofs.lemmas.List.{drop_all}
 use Rattle.range_code.specs.declared.Box3.{Box3}
 use Rattle.plane_geom.specs.declared.pt.Pt.{Pt}
 use Rattle.plane_geom.specs.Polygons.{edges, is_within}
@@ -35,22 +34,6 @@ one_more (y ∷ ys) zero x b is = let same : y ≡ x = cc in ap (λ (z : List �
 one_more (y ∷ ys) (suc i) x b is =
     let e : suc i + 1 ≡ suc (i + 1) = omega arith in
     one_more ys i x b is ∙ ap (λ (k : ℕ). fold grown (grown b (flat x)) (map flat (drop k (y ∷ ys)))) (sym e)
-
-outlined : Pt → Bounds → Outline
-outlined p b = record { first = p; around = b }
-
--- all points
-pub all_points : (xs : List (List ℤ)) (x : List ℤ) (b : Bounds) → slice_get xs 0 ≡ Some x → b ≡ fold grown (at (flat x)) (map flat (drop 1 xs))
-    → Some (record { first = flat x; around = b }) ≡ path_outline (map flat xs)
-unfolding outlined
-all_points [] x b is grew = absurd cc
-all_points (y ∷ ys) x b is grew =
-    let same : x ≡ y = cc in
-    ap (λ (a : Bounds). Some (outlined (flat x) a)) grew ∙ ap (λ (z : List ℤ). Some (outlined (flat z) (fold grown (at (flat z)) (map flat ys)))) same
-
--- no point is left behind the last one
-pub none_left : (xs : List (List ℤ)) (i : ℕ) (b : Bounds) → length xs ≤ i → fold grown b (map flat (drop i xs)) ≡ b
-none_left xs i b past = rw (drop_all i xs past) refl
 
 -- ---- an outline has the first point and the bounds
 

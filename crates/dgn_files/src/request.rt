@@ -1,6 +1,6 @@
-ghost use Rattle.std.specs.Prelude.{◌≡◌, map, string_bytes, option_map, IfSome};
+ghost use Rattle.std.specs.Prelude.{◌≡◌, map, codes, string_bytes, option_map, IfSome};
 ghost use Rattle.edit_script.specs.Numbers.{number_within};
-ghost use Rattle.dgn_files.specs.Request.{request_of, check_of, four_words, pack_of, apply_of, generation_of};
+ghost use Rattle.dgn_files.specs.Request.{request_of, check_of, four_words, edit_of, pack_of, apply_of, generation_of};
 ghost use Rattle.dgn_files.specs.RequestView.{seen, IsCounted};
 
 use edit_script::number;
@@ -63,10 +63,9 @@ fn read_two<'a>(command: &str, input: &'a str) -> Option<Request<'a>>
     ensures asked { option_map seen result ≡ check_of command.now input.now }
     ensures counted { IfSome result IsCounted }
 {
-    if command == "check" {
-        Some(Request::Check { input })
-    } else {
-        None
+    match command.as_bytes() {
+        b"check" => Some(Request::Check { input }),
+        _ => None,
     }
 }
 
@@ -80,26 +79,28 @@ fn read_four<'a>(
     ensures asked { option_map seen result ≡ four_words command.now second.now third.now fourth.now }
     ensures counted { IfSome result IsCounted }
 {
-    if command == "edit" {
-        if second == fourth {
-            return None;
-        }
-        return Some(Request::Edit {
-            input: second,
-            script: third,
-            output: fourth,
-        });
+    match command.as_bytes() {
+        b"edit" => read_edit(second, third, fourth),
+        b"pack" => read_pack(second, third, fourth),
+        b"apply" => read_apply(second, third, fourth),
+        b"gen" => read_generation(second, third, fourth),
+        _ => None,
     }
-    if command == "pack" {
-        return read_pack(second, third, fourth);
+}
+
+// The request to edit, where the first word and the last are different.
+fn read_edit<'a>(input: &'a str, script: &'a str, output: &'a str) -> Option<Request<'a>>
+    ensures asked { option_map seen result ≡ edit_of (codes "edit") input.now script.now output.now }
+    ensures counted { IfSome result IsCounted }
+{
+    if input == output {
+        return None;
     }
-    if command == "apply" {
-        return read_apply(second, third, fourth);
-    }
-    if command == "gen" {
-        return read_generation(second, third, fourth);
-    }
-    None
+    Some(Request::Edit {
+        input,
+        script,
+        output,
+    })
 }
 
 // The request to pack, where the first word and the last are different.

@@ -209,24 +209,24 @@ multiplier_so : (word : List ℕ) → IfSome (multiplier_named word) IsMultiplie
 multiplier_so word = of_some IsMultiplier pos (number_within 2147483647 word)
     (IfSome_then (number_within 2147483647 word) (number_most 2147483647 word) multiplier_is)
 
-lettering_so : (f j : Option ℕ) (wide high : Option ℤ) (p : Option PointGiven) → IfSome f (λ n. n < 256) → IfSome j (λ n. n < 256)
-    → IfSome wide IsMultiplier → IfSome high IsMultiplier → IfSome p IsGiven → IfSome (lettering_of f j wide high p) IsLettering
-lettering_so None j wide high p k l m n o = tt
-lettering_so (Some f) None wide high p k l m n o = tt
-lettering_so (Some f) (Some j) None high p k l m n o = tt
-lettering_so (Some f) (Some j) (Some wide) None p k l m n o = tt
-lettering_so (Some f) (Some j) (Some wide) (Some high) None k l m n o = tt
-lettering_so (Some f) (Some j) (Some wide) (Some high) (Some p) k l m n o = record { font = k; just = l; wide = m; high = n; origin = o }
+lettering_so : (f j : Option ℕ) (length height : Option ℤ) (p : Option PointGiven) → IfSome f (λ n. n < 256) → IfSome j (λ n. n < 256)
+    → IfSome length IsMultiplier → IfSome height IsMultiplier → IfSome p IsGiven → IfSome (lettering_of f j length height p) IsLettering
+lettering_so None j length height p k l m n o = tt
+lettering_so (Some f) None length height p k l m n o = tt
+lettering_so (Some f) (Some j) None height p k l m n o = tt
+lettering_so (Some f) (Some j) (Some length) None p k l m n o = tt
+lettering_so (Some f) (Some j) (Some length) (Some height) None k l m n o = tt
+lettering_so (Some f) (Some j) (Some length) (Some height) (Some p) k l m n o = record { font = k; just = l; length = m; height = n; origin = o }
 
 pub lettering_holds : (words : List (List ℕ)) → IfSome (lettering_named words) IsLettering
 lettering_holds [] = tt
 lettering_holds (f ∷ []) = tt
 lettering_holds (f ∷ j ∷ []) = tt
-lettering_holds (f ∷ j ∷ wide ∷ []) = tt
-lettering_holds (f ∷ j ∷ wide ∷ high ∷ []) = tt
-lettering_holds (f ∷ j ∷ wide ∷ high ∷ p ∷ words) =
-    lettering_so (number_within 255 f) (number_within 255 j) (multiplier_named wide) (multiplier_named high) (point_named p) (number_below 255 f)
-    (number_below 255 j) (multiplier_so wide) (multiplier_so high) (point_holds p)
+lettering_holds (f ∷ j ∷ length ∷ []) = tt
+lettering_holds (f ∷ j ∷ length ∷ height ∷ []) = tt
+lettering_holds (f ∷ j ∷ length ∷ height ∷ p ∷ words) =
+    lettering_so (number_within 255 f) (number_within 255 j) (multiplier_named length) (multiplier_named height) (point_named p) (number_below 255 f)
+    (number_below 255 j) (multiplier_so length) (multiplier_so height) (point_holds p)
 
 -- and its characters, which are bytes of the line
 pub chars_hold : (bytes : List ℕ) → IsBytes bytes → IfSome (chars_given bytes) IsChars

@@ -61,8 +61,8 @@ impl Model for Session {
 }
 
 impl Session {
-    /// Begins a session on the design `d`, with all levels shown, no fence and nothing to undo. There is an error exactly
-    /// where there is no memory.
+    /// Begins a session on the design `d`, with all levels shown, no fence and nothing to undo. An error says that there
+    /// was no memory.
     pub fn start(alloc: Global, d: Design) -> Result<Session, AllocError>
         requires { IsWhole d }
         ensures value { IfOk result (λ s. s ≡ started d) }
@@ -164,15 +164,15 @@ impl Session {
         Ok(())
     }
 
-    /// The items that the display shows of the drawing (`level_view::show`), in file order. There is an error exactly
-    /// where there is no memory.
+    /// The items that the display shows of the drawing (`level_view::show`), in file order. An error says that there was
+    /// no memory.
     pub fn show(&self) -> Result<Vec<Item>, AllocError>
         ensures { IfOk result (λ found. found.items ≡ shown self.now.dim self.now.mask (state_of self.now).top) }
     {
         show(self.alloc, &self.design, &self.nest, self.mask)
     }
 
-    /// How many items `show` gives. No item is made for it. There is an error exactly where there is no memory.
+    /// How many items `show` gives. No item is made for it. An error says that there was no memory.
     pub fn count_shown(&self) -> Result<usize, AllocError>
         ensures { IfOk result
             (λ count. count ≡ length (shown self.now.dim self.now.mask (state_of self.now).top)) }

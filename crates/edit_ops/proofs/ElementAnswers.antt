@@ -1,5 +1,5 @@
 -- What is read of an element says what stands against an edit of it, and what the edit puts into it.
-use Rattle.std.proofs.Common.{◌≡◌, ℕ, ◌+◌, ◌≤◌, List, [], ◌∷◌, length, Bool, true, false, cond, Option, Some, None, Result, Ok, Err, refl, sym, ap, ◌∙◌}
+use Rattle.std.proofs.Common.{◌≡◌, ℕ, ◌+◌, ◌≤◌, List, [], ◌∷◌, length, Bool, true, false, cond, Option, Some, None, refl, sym, ap, ◌∙◌}
 use Rattle.std.proofs.Common.{subst, arith}
 use Rattle.std.specs.Prelude.{◌&&◌, not, slice_get, option_map}
 use Rattle.std.specs.List.{AllByRecursion, list_all}
@@ -27,10 +27,7 @@ use Rattle.dgn_drawing.proofs.SpotValues.{holds_points, sits}
 use Rattle.elem_index.specs.declared.design.Design.{Design}
 use Rattle.elem_index.specs.Design.{elements, IsWhole}
 use Rattle.elem_index.specs.Offsets.{offset_of}
-use Rattle.edit_ops.specs.declared.cause.Cause.{Cause}
 use Rattle.edit_ops.specs.declared.cause.Cause.TheVariants as causes
-use Rattle.edit_ops.specs.declared.edit_fault.EditFault.{EditFault}
-use Rattle.edit_ops.specs.declared.edit_fault.EditFault.TheVariants as faults
 use Rattle.edit_ops.specs.declared.finding.Found.{Found}
 use Rattle.edit_ops.specs.declared.asked.Test.{Test}
 use Rattle.edit_ops.specs.declared.asked.Test.TheVariants as tests
@@ -168,10 +165,3 @@ module _ (d : Design) (whole : IsWhole d) (m : ℕ) (f : Found) (found : IsFound
       ap (λ (k : ℕ). locked_in k f.bytes.now) found.kind
       ∙ ap (locked_in e.kind) found.bytes
       ∙ lock_read d.dim e axes found.good (is_silent (class_of e.kind)) refl
-
--- an edit that isn't refused has no cause
-abbrev pub fine : Result (Unit {0}) EditFault
-fine = Ok tt
-
-abbrev pub refused : Cause → Result (Unit {0}) EditFault
-refused cause = Err (faults.Refused cause)

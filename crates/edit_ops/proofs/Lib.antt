@@ -41,7 +41,6 @@ pub mod RootsTogether
 pub mod FenceLaws
 pub mod JoinedPlans
 pub mod PlanBehind
-pub mod ChosenRoots
 pub mod CopyRefusals
 pub mod WalksAgree
 pub mod RisesAgree

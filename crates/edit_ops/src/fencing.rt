@@ -1,4 +1,4 @@
-ghost use Rattle.std.specs.Prelude.{◌≡◌, ◌+◌, ◌≤◌, [], length, map, IfOk, IfErr};
+ghost use Rattle.std.specs.Prelude.{◌≡◌, ◌+◌, ◌<◌, ◌≤◌, [], length, map, IfOk, IfErr, IsErrOf};
 ghost use Rattle.dgn_drawing.specs.Rows.{row_of};
 ghost use Rattle.elem_index.specs.Design.{elements, IsWhole};
 ghost use Rattle.edit_ops.specs.Applying.{apply};
@@ -23,7 +23,7 @@ use std::alloc::Global;
 /// Otherwise the plan has the patches of all roots in their order, and the bytes that each appends, one behind the
 /// other. Of no root it is a plan without either.
 ///
-/// It takes the time of the trees that it edits. Memory says that there was none for the plan.
+/// It takes the time of the trees that it edits. Memory says that there was none for the plan of some root.
 pub fn plan_all(
     alloc: Global,
     d: &Design,
@@ -39,6 +39,7 @@ pub fn plan_all(
     ensures kept { IfOk result (λ _. IsFenceEdit edit.now) }
     ensures refused { IfErr result
         (IsRefused (apply_all d.now.dim (elements d.now) (length d.now.tail.items) edit.now roots.now)) }
+    ensures some { IsErrOf result EditFault.Memory → 0 < length roots.now }
 {
     keep_values(edit);
     let mut all = Plan {
@@ -68,6 +69,7 @@ fn join_plans(
         (λ _. IsFencePlan d.now.dim (elements d.now) (length d.now.tail.items) edit.now roots.now all.new) }
     ensures refused { IfErr result
         (IsRefused (apply_all d.now.dim (elements d.now) (length d.now.tail.items) edit.now roots.now)) }
+    ensures some { IsErrOf result EditFault.Memory → 0 < length roots.now }
 {
     let mut numbers = no_numbers(alloc);
     'roots: for n in roots {

@@ -27,7 +27,7 @@ use std::mem;
 /// plane. Nothing else refuses it: not the length of a file, of which `out` needn't become a part. After a refusal,
 /// and where there is no memory, `out` is as before.
 ///
-/// Room that `out` has is kept. It takes the time of the part.
+/// It takes the time of the part.
 pub fn copy_tree(
     alloc: Global,
     d: &Design,

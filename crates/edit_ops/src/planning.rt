@@ -1,4 +1,4 @@
-ghost use Rattle.std.specs.Prelude.{◌≡◌, ◌+◌, ◌<◌, ◌≤◌, ◌++◌, length, map, Some, None, IfOk, IfErr, OnOk};
+ghost use Rattle.std.specs.Prelude.{◌≡◌, ◌+◌, ◌<◌, ◌≤◌, ◌++◌, length, map, Some, None, IfOk, IfErr, IfSome, IsErrOf, OnOk};
 ghost use Rattle.std.specs.Option.{option_or};
 ghost use Rattle.dgn_drawing.specs.declared.edit.Edit.{Edit};
 ghost use Rattle.dgn_drawing.specs.Spelling.{spelling};
@@ -51,7 +51,7 @@ use std::alloc::Global;
 /// headers above and of the live elements, with the bytes that the result has there, and the bytes to append.
 ///
 /// It takes the time of the part and of the headers above it, not of the drawing. Memory says that there was none
-/// for the plan.
+/// for the plan, of an edit whose element, where it names one, there is.
 pub fn plan(
     alloc: Global,
     d: &Design,
@@ -67,6 +67,7 @@ pub fn plan(
     ensures kept { IfOk result (λ _. IsEdit edit.now) }
     ensures refused { IfErr result
         (IsRefused (apply d.now.dim (elements d.now) (length d.now.tail.items + pending) edit.now)) }
+    ensures known { IsErrOf result EditFault.Memory → IfSome (target_of edit.now) (λ n. n < length (elements d.now)) }
 {
     let mut plan = Plan {
         patches: PatchList::new(alloc),
@@ -96,6 +97,7 @@ pub(crate) fn plan_behind(
     ensures kept { IfOk result (λ _. IsEdit edit.now) }
     ensures refused { IfErr result
         (IsRefused (apply d.now.dim (elements d.now) (length d.now.tail.items + pending) edit.now)) }
+    ensures known { IsErrOf result EditFault.Memory → IfSome (target_of edit.now) (λ n. n < length (elements d.now)) }
 {
     match target(edit) {
         Some(n) => plan_part(alloc, d, t, n, edit, pending, numbers, all),
@@ -123,6 +125,7 @@ fn plan_part(
         (λ _. IsPlanBehind d.now.dim (elements d.now) (length d.now.tail.items + pending) edit.now all.old all.new) }
     ensures refused { IfErr result
         (IsRefused (apply d.now.dim (elements d.now) (length d.now.tail.items + pending) edit.now)) }
+    ensures known { IsErrOf result EditFault.Memory → n < length (elements d.now) }
 {
     if let Some(cause) = unknown(d, n) {
         return Err(EditFault::Refused(cause));
@@ -251,6 +254,7 @@ fn plan_append(
         (λ _. IsPlanBehind d.now.dim (elements d.now) (length d.now.tail.items + pending) edit.now all.old all.new) }
     ensures refused { IfErr result
         (IsRefused (apply d.now.dim (elements d.now) (length d.now.tail.items + pending) edit.now)) }
+    ensures known { IsErrOf result EditFault.Memory → IfSome (target_of edit.now) (λ n. n < length (elements d.now)) }
 {
     let Edit::Append(new) = edit else {
         unreachable!()

@@ -55,17 +55,17 @@ multiplier_named word = option_map pos (number_within 2147483647 word)
 
 -- how the characters of a text stand, and where
 abbrev pub lettering_of : Option ℕ → Option ℕ → Option ℤ → Option ℤ → Option PointGiven → Option Lettering
-lettering_of None j wide high p = None
-lettering_of (Some f) None wide high p = None
-lettering_of (Some f) (Some j) None high p = None
-lettering_of (Some f) (Some j) (Some wide) None p = None
-lettering_of (Some f) (Some j) (Some wide) (Some high) None = None
-lettering_of (Some f) (Some j) (Some wide) (Some high) (Some p) = Some (record { font = f; just = j; wide = wide; high = high; origin = p })
+lettering_of None j length height p = None
+lettering_of (Some f) None length height p = None
+lettering_of (Some f) (Some j) None height p = None
+lettering_of (Some f) (Some j) (Some length) None p = None
+lettering_of (Some f) (Some j) (Some length) (Some height) None = None
+lettering_of (Some f) (Some j) (Some length) (Some height) (Some p) = Some (record { font = f; just = j; length = length; height = height; origin = p })
 
 -- `F J M M P`, the first five words
 abbrev pub lettering_named : List (List ℕ) → Option Lettering
-lettering_named (f ∷ j ∷ wide ∷ high ∷ p ∷ words) =
-    lettering_of (number_within 255 f) (number_within 255 j) (multiplier_named wide) (multiplier_named high) (point_named p)
+lettering_named (f ∷ j ∷ length ∷ height ∷ p ∷ words) =
+    lettering_of (number_within 255 f) (number_within 255 j) (multiplier_named length) (multiplier_named height) (point_named p)
 lettering_named _ = None
 
 -- the characters of a text
@@ -82,7 +82,7 @@ abbrev pub text_appending : Option Pen → Option Lettering → Option (List ℕ
 text_appending None t chars = None
 text_appending (Some pen) None chars = None
 text_appending (Some pen) (Some t) None = None
-text_appending (Some pen) (Some t) (Some chars) = Some (appending pen t.origin.axes (shapes.Text t.font t.just t.wide t.high t.origin.at chars))
+text_appending (Some pen) (Some t) (Some chars) = Some (appending pen t.origin.axes (shapes.Text t.font t.just t.length t.height t.origin.at chars))
 
 -- `text LV C W S F J M M P CHARS`, by the bytes behind `text`, of which CHARS are those behind the ninth word
 abbrev pub text_command : List ℕ → Option Command
@@ -104,8 +104,8 @@ pub record IsMultiplier (v : ℤ) : Type 0 where
 pub record IsLettering (t : Lettering) : Type 0 where
   pub font : t.font < 256
   pub just : t.just < 256
-  pub wide : IsMultiplier t.wide
-  pub high : IsMultiplier t.high
+  pub length : IsMultiplier t.length
+  pub height : IsMultiplier t.height
   pub origin : IsGiven t.origin
 
 -- 1 to 255 bytes

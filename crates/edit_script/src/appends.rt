@@ -28,8 +28,8 @@ pub struct Pen {
 pub struct Lettering {
     font: u8,
     just: u8,
-    wide: i32,
-    high: i32,
+    length: i32,
+    height: i32,
     origin: PointGiven,
 }
 
@@ -93,8 +93,8 @@ pub fn read_text(alloc: Global, rest: &[u8]) -> Result<Option<Command>, AllocErr
     let shape = NewShape::Text {
         font: lettering.font,
         just: lettering.just,
-        length: lettering.wide,
-        height: lettering.high,
+        length: lettering.length,
+        height: lettering.height,
         origin,
         chars,
     };
@@ -157,10 +157,10 @@ fn read_lettering(rest: &[u8]) -> Option<(Lettering, &[u8])>
 {
     let (font, behind) = next_word(rest)?;
     let (just, behind) = next_word(behind)?;
-    let (wide, behind) = next_word(behind)?;
-    let (high, behind) = next_word(behind)?;
+    let (length, behind) = next_word(behind)?;
+    let (height, behind) = next_word(behind)?;
     let (origin, behind) = next_word(behind)?;
-    let lettering = lettering_with(font, just, wide, high, origin)?;
+    let lettering = lettering_with(font, just, length, height, origin)?;
     Some((lettering, behind))
 }
 
@@ -168,24 +168,24 @@ fn read_lettering(rest: &[u8]) -> Option<(Lettering, &[u8])>
 fn lettering_with(
     font: &[u8],
     just: &[u8],
-    wide: &[u8],
-    high: &[u8],
+    length: &[u8],
+    height: &[u8],
     origin: &[u8],
 ) -> Option<Lettering>
     ensures value { result ≡ lettering_of (number_within 255 font.now) (number_within 255 just.now)
-        (multiplier_named wide.now) (multiplier_named high.now) (point_named origin.now) }
+        (multiplier_named length.now) (multiplier_named height.now) (point_named origin.now) }
     ensures fits { IfSome result IsLettering }
 {
     let font = byte(font)?;
     let just = byte(just)?;
-    let wide = multiplier(wide)?;
-    let high = multiplier(high)?;
+    let length = multiplier(length)?;
+    let height = multiplier(height)?;
     let origin = point(origin)?;
     Some(Lettering {
         font,
         just,
-        wide,
-        high,
+        length,
+        height,
         origin,
     })
 }

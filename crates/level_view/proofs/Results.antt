@@ -14,7 +14,3 @@ ok_lists (Err e) o l is same = tt
 pub ok_same : {A E : Type 0} (r : Result (Unit {0}) E) (x y z : List A) → OnOk r (x ≡ y) → y ≡ z → OnOk r (x ≡ z)
 ok_same (Ok done) x y z is same = is ∙ same
 ok_same (Err e) x y z is same = tt
-
-pub ok_gives : {V B E : Type 0} (f : V → B) (r : Result V E) (x y : B) → IfOk r (λ v. f v ≡ x) → x ≡ y → IfOk r (λ v. f v ≡ y)
-ok_gives f (Ok v) x y is same = is ∙ same
-ok_gives f (Err e) x y is same = tt

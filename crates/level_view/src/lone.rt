@@ -1,12 +1,13 @@
 // Roots that stand alone.
 
-ghost use Rattle.std.specs.Prelude.{◌≡◌, ◌↔◌, map, Some, IsNone, IfSome};
+ghost use Rattle.std.specs.Prelude.{◌≡◌, ◌↔◌, map, slice_get, option_map, Some, IsNone, IfSome};
 ghost use Rattle.dgn_drawing.specs.declared.mask.Mask.{Mask};
 ghost use Rattle.dgn_drawing.specs.Faults.{IsSoundIn};
 ghost use Rattle.dgn_drawing.specs.Nesting.{itself, Leaf};
 ghost use Rattle.dgn_drawing.specs.Numbering.{knot_of};
 ghost use Rattle.dgn_drawing.specs.Reading.{element_at};
 ghost use Rattle.dgn_drawing.specs.Rows.{row_of};
+ghost use Rattle.dgn_drawing.specs.Spelling.{spell};
 ghost use Rattle.dgn_drawing.specs.Shown.{tree_shown, shown_alone, IsRoot};
 ghost use Rattle.elem_index.specs.Design.{elements, IsWhole};
 
@@ -21,6 +22,7 @@ pub fn lone_element<'a>(d: &'a Design, t: &Nest, n: u32) -> Option<&'a [u8]>
     requires nesting { t.now.rows ≡ map row_of (elements d.now) }
     requires root { IsRoot itself t.now.rows n }
     ensures none { IsNone result ↔ (knot_of itself t.now.rows n ≡ Some Leaf → ⊥) }
+    ensures bytes { IfSome result (λ b. Some b.now ≡ option_map spell (slice_get (elements d.now) n)) }
     ensures sound { IfSome result (λ b. IsSoundIn d.now.dim b.now) }
     ensures shown { IfSome result (λ b. (mask : Mask)
         → tree_shown d.now.dim mask (elements d.now) n ≡ shown_alone d.now.dim mask n 0 (element_at d.now.dim b.now)) }

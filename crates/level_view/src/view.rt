@@ -53,8 +53,8 @@ pub fn tree_items(
     Ok(items)
 }
 
-/// Puts the items of `tree_items` into `items`, in the place of what stands there. The list keeps its memory, so one list
-/// serves the trees of many roots. Where there is no memory, some items or none stand there.
+/// Puts the items of `tree_items` into `items`, in the place of what stands there, so that one list serves the trees of many
+/// roots. Where there is no memory, some items or none stand there.
 pub fn tree_items_into(
     alloc: Global,
     d: &Design,

@@ -181,14 +181,14 @@ fn push_run(
     axes: usize,
     font: u8,
     just: u8,
-    wide: i32,
-    high: i32,
+    length: i32,
+    height: i32,
 ) -> Result<(), AllocError>
-    ensures { OnOk result (bytes.new.items ≡ bytes.old.items ++ run_made axes font just wide high) }
+    ensures { OnOk result (bytes.new.items ≡ bytes.old.items ++ run_made axes font just length height) }
 {
     bytes.extend_from_slice(&[font, just])?;
-    push_long(bytes, wide)?;
-    push_long(bytes, high)?;
+    push_long(bytes, length)?;
+    push_long(bytes, height)?;
     if axes == 2 {
         push_long(bytes, 0)
     } else {

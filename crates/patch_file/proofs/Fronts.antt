@@ -1,5 +1,5 @@
 -- Where a writer of several pieces stops for want of memory: the pieces before are written, and a front of one.
-use Rattle.std.proofs.Common.{ℕ, ◌≡◌, ◌+◌, ◌<◌, ◌++◌, List, length, take, drop, map, get_or, Result, Ok, Err, ap, sym, ◌∙◌, subst, arith, append_assoc, [], ◌∷◌}
+use Rattle.std.proofs.Common.{ℕ, ◌≡◌, ◌+◌, ◌<◌, ◌++◌, List, length, take, drop, map, get_or, Result, Ok, Err, ap, sym, ◌∙◌, subst, append_assoc, [], ◌∷◌}
 use Rattle.std.specs.Prelude.{OnOk}
 use Rattle.std.specs.List.{flat_map}
 use Rattle.std.proofs.lemmas.List.{append-nil, take-append-drop, drop_more, take_more, map-append}
@@ -7,18 +7,10 @@ use Rattle.std.proofs.lemmas.List.Concat.{flat_map-append, flat_map-cons}
 use Rattle.patch_bytes.specs.Fronts.{AppendsFrontOf}
 pub use Rattle.patch_bytes.proofs.Fronts.{first, later, said, last}
 
--- nothing of it
-pub none : (text old new : List ℕ) → new ≡ old → AppendsFrontOf text old new
-none text old new same = record { count = 0; within = omega arith; bytes = same ∙ sym (append-nil old) }
-
 -- the last piece, where it is written
 pub ended : {E : Type 0} (r : Result (Unit {0}) E) (a b old mid new : List ℕ) → mid ≡ old ++ a → OnOk r (new ≡ mid ++ b) → OnOk r (new ≡ old ++ (a ++ b))
 ended (Ok x) a b old mid new before f = f ∙ (ap (λ (t : List ℕ). t ++ b) before ∙ append_assoc old a b)
 ended (Err e) a b old mid new before f = tt
-
--- two pieces behind one another
-pub joined : (a b old mid new : List ℕ) → mid ≡ old ++ a → new ≡ mid ++ b → new ≡ old ++ (a ++ b)
-joined a b old mid new before f = f ∙ (ap (λ (t : List ℕ). t ++ b) before ∙ append_assoc old a b)
 
 -- the pieces of items, up to one, of that one, and of the others
 pub pieces_at : {X Y : Type 0} (g : X → Y) (f : Y → List ℕ) (xs : List X) (i : ℕ) (x : X) → i < length xs → x ≡ get_or xs i x

@@ -1,4 +1,4 @@
-use Rattle.dgn_answers.proofs.Logged.{edit_logs}
+use Rattle.dgn_answers.proofs.LogSteps.{edit_logs}
 use Rattle.dgn_answers.proofs.answers.answer_edit.Goals as goal
 
 pub returns-in-Ok-clause-logged : goal.returns-in-Ok-clause-logged

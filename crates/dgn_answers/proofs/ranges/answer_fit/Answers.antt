@@ -1,4 +1,4 @@
-use Rattle.dgn_answers.proofs.Logged.{fit_logs}
+use Rattle.dgn_answers.proofs.LogSteps.{fit_logs}
 use Rattle.dgn_answers.proofs.ranges.answer_fit.Goals as goal
 
 pub returns-in-Ok-clause-logged : goal.returns-in-Ok-clause-logged

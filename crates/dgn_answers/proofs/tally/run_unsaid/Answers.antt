@@ -8,8 +8,8 @@ use Rattle.dgn_answers.specs.Given.{Given, given, given_all}
 use Rattle.dgn_import.specs.Seconds.{waiting}
 use Rattle.dgn_answers.proofs.Stepping.{next_step, none_left}
 use Rattle.dgn_answers.proofs.Counting.{refused_few}
-use Rattle.dgn_answers.proofs.Tallied.{Tallied, tallied_more, tallied_count, tallied_trees, tallied_state}
-use Rattle.dgn_answers.proofs.Logged.{LogsSo, logs_more, logs_all}
+use Rattle.dgn_answers.proofs.TallySteps.{Tallied, tallied_more, tallied_count, tallied_trees, tallied_state}
+use Rattle.dgn_answers.proofs.LogSteps.{LogsSo, logs_more, logs_all}
 use Rattle.dgn_answers.proofs.tally.run_unsaid.Goals as goal
 
 pub commands-preserved : goal.commands-preserved

@@ -4,8 +4,8 @@ use Rattle.std.specs.List.{AllByRecursion}
 use Rattle.dgn_import.specs.Seconds.{IsSound}
 use Rattle.dgn_answers.specs.Given.{given_all}
 use Rattle.dgn_import.specs.Seconds.{waiting}
-use Rattle.dgn_answers.proofs.Tallied.{Tallied}
-use Rattle.dgn_answers.proofs.Logged.{LogsSo}
+use Rattle.dgn_answers.proofs.TallySteps.{Tallied}
+use Rattle.dgn_answers.proofs.LogSteps.{LogsSo}
 use Rattle.dgn_answers.proofs.tally.run_unsaid.Given as goal
 
 abbrev pub invariant-commands : goal.invariant-commands

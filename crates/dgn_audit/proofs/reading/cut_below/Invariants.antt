@@ -1,6 +1,6 @@
 use Rattle.std.proofs.Common.{◌≡◌, reverse}
 use Rattle.std.specs.Prelude.{vec_len}
-use Rattle.dgn_audit.specs.Backwards.{past}
+use Rattle.dgn_audit.specs.OpenBoxes.{past}
 use Rattle.dgn_audit.proofs.reading.cut_below.Given as goal
 
 abbrev pub invariant-loop-noted : goal.invariant-loop-noted

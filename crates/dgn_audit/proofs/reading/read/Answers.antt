@@ -1,7 +1,7 @@
 use Rattle.std.proofs.Common.{◌++◌, List, Some, refl, ap, ◌∙◌, length, reverse, arith}
 use Rattle.dgn_audit.specs.declared.open_box.OpenBox.{OpenBox}
 use Rattle.dgn_audit.specs.Reading.{finding_read}
-use Rattle.dgn_audit.specs.Backwards.{Pass, without, with_hulls}
+use Rattle.dgn_audit.specs.OpenBoxes.{Pass, without, with_hulls}
 use Rattle.dgn_audit.proofs.ElementSeats.{seat_long, seat_holds, hull_long, bare_read, hull_is_read, ok_gives, hull_from}
 use Rattle.dgn_audit.proofs.reading.read.Goals as goal
 

@@ -2,7 +2,7 @@ use Rattle.std.proofs.Common.{◌≡◌, ◌++◌, ◌∙◌, ap, sym, subst, ar
 use Rattle.std.specs.List.{AllByRecursion}
 use Rattle.dgn_drawing.specs.declared.row.Row.{Row}
 use Rattle.nest_tree.specs.Shapes.{IsRow}
-use Rattle.dgn_session.proofs.Following.{block_each, followed_more, followed_all}
+use Rattle.dgn_session.proofs.NestingGrowth.{block_each, followed_more, followed_all}
 use Rattle.dgn_session.proofs.appended.nest_appended.Goals as goal
 
 pub grow-requires-clause-each : goal.grow-requires-clause-each

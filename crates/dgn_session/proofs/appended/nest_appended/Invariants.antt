@@ -1,5 +1,5 @@
 use Rattle.std.proofs.Common.{length}
-use Rattle.dgn_session.proofs.Following.{HasFollowed}
+use Rattle.dgn_session.proofs.NestingGrowth.{HasFollowed}
 use Rattle.dgn_session.proofs.appended.nest_appended.Given as goal
 
 abbrev pub invariant-blocks-2 : goal.invariant-blocks-2

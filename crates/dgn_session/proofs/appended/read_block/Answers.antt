@@ -3,7 +3,7 @@ use Rattle.dgn_drawing.specs.declared.row.Row.{Row}
 use Rattle.elem_head.specs.declared.types.Head.{Head}
 use Rattle.elem_head.specs.Head.{size_of}
 use Rattle.elem_index.proofs.Places.{is_false}
-use Rattle.dgn_session.proofs.Spelled.{head_there, first_there, sound_first, left_more, next_within, block_before, block_at_end}
+use Rattle.dgn_session.proofs.SpelledRows.{head_there, first_there, sound_first, left_more, next_within, block_before, block_at_end}
 use Rattle.dgn_session.proofs.appended.read_block.Goals as goal
 
 pub head-requires : goal.head-requires

@@ -1,5 +1,5 @@
 use Rattle.std.proofs.Common.{◌-◌, ◌≤◌, length}
-use Rattle.dgn_session.proofs.Spelled.{AreLeft}
+use Rattle.dgn_session.proofs.SpelledRows.{AreLeft}
 use Rattle.dgn_session.proofs.appended.read_block.Given as goal
 
 pub record Reading (l : goal.Live-elements) : Type 0 where

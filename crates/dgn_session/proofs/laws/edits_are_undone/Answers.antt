@@ -1,4 +1,4 @@
-use Rattle.dgn_session.proofs.Restored.{edits_are_undone, fence_edits_are_undone, imports_are_undone, opened_stay}
+use Rattle.dgn_session.proofs.EntriesBack.{edits_are_undone, fence_edits_are_undone, imports_are_undone, opened_stay}
 use Rattle.dgn_session.proofs.laws.edits_are_undone.Goals as goal
 
 pub returns-clause-undone : goal.returns-clause-undone

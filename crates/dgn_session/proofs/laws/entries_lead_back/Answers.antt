@@ -1,4 +1,4 @@
-use Rattle.dgn_session.proofs.Restored.{entries_are_counted, entries_lead_back}
+use Rattle.dgn_session.proofs.EntriesBack.{entries_are_counted, entries_lead_back}
 use Rattle.dgn_session.proofs.laws.entries_lead_back.Goals as goal
 
 pub returns-clause-counted : goal.returns-clause-counted

@@ -1,4 +1,4 @@
-use Rattle.dgn_session.proofs.Refitted.{fits_are_undone, opened_stay_fitted}
+use Rattle.dgn_session.proofs.FitCarriedOut.{fits_are_undone, opened_stay_fitted}
 use Rattle.dgn_session.proofs.laws.fits_are_undone.Goals as goal
 
 pub returns-clause-undone : goal.returns-clause-undone

@@ -2,7 +2,7 @@ use Rattle.std.proofs.Common.{refl, sym, ◌∙◌, arith}
 use Rattle.dgn_drawing.specs.Reading.{element_at}
 use Rattle.elem_index.specs.Design.{elements}
 use Rattle.level_view.proofs.Places.{sound_here, element_here}
-use Rattle.dgn_session.proofs.Overlapping.{root_there, tree_within, next_clear, tree_clear}
+use Rattle.dgn_session.proofs.ItemsApart.{root_there, tree_within, next_clear, tree_clear}
 use Rattle.dgn_session.proofs.selecting.some_overlaps.Goals as goal
 
 pub end_of-end-requires : goal.end_of-end-requires

@@ -1,5 +1,5 @@
 use Rattle.elem_index.specs.Design.{elements}
-use Rattle.dgn_session.proofs.Overlapping.{ClearTo}
+use Rattle.dgn_session.proofs.ItemsApart.{ClearTo}
 use Rattle.dgn_session.proofs.selecting.some_overlaps.Given as goal
 
 -- no element before the next one overlaps the fence by itself

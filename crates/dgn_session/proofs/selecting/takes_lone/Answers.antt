@@ -3,7 +3,7 @@ use Rattle.dgn_drawing.specs.Reading.{element_at}
 use Rattle.dgn_drawing.specs.Shown.{its_item, shown_alone}
 use Rattle.dgn_fence.specs.Taken.{takes}
 use Rattle.level_view.proofs.Heads.{deleted_hides, mask_hides, is_shown}
-use Rattle.dgn_session.proofs.Lone.{nothing_taken, ok_then}
+use Rattle.dgn_session.proofs.LoneElements.{nothing_taken, ok_then}
 use Rattle.dgn_session.proofs.selecting.takes_lone.Goals as goal
 use Rattle.dgn_session.proofs.selecting.takes_lone.Goals.{then-head-via-then-head, then-head-via-else-head+then-not-shows}
 

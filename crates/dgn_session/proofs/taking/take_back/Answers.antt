@@ -3,8 +3,8 @@ use Rattle.undo_log.specs.Entries.{IsUndone}
 use Rattle.elem_index.specs.declared.design.Design.{Design}
 use Rattle.elem_index.specs.Design.{elements}
 use Rattle.elem_index.proofs.Places.{length-offsets, few_elements}
-use Rattle.dgn_session.proofs.Keeping.{same_items}
-use Rattle.dgn_session.proofs.Cutting.{can_undo, is_undone, some_left, free_behind, behind_after, kept_before}
+use Rattle.dgn_session.proofs.EditKeepsSession.{same_items}
+use Rattle.dgn_session.proofs.LastEditBack.{can_undo, is_undone, some_left, free_behind, behind_after, kept_before}
 use Rattle.dgn_session.proofs.taking.take_back.Goals as goal
 
 pub count_below-count-requires : goal.count_below-count-requires

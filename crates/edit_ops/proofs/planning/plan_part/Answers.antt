@@ -23,6 +23,7 @@ returns-in-Some c = record {
   refused =
       unknown_refused c.args.d.now.dim (elements c.args.d.now) (length c.args.d.now.tail.items + c.args.pending)
       c.args.edit.now c.args.n c.in-Some.cause c.requires.target (sym c.unknown.ensures ∙ c.in-Some.is);
+  known = λ memory. absurd (let x = memory in cc);
 }
 
 pub returns-in-Copy : goal.returns-in-Copy
@@ -49,6 +50,7 @@ returns-in-Copy c =
           (ap (λ (x : Edit). spelling (flat (copied d.dim es x c.args.n))) (sym named)))
           refl more);
       refused = stopped_refused d.dim es rest e c.args.n _ c.plan_copy.result c.requires.target known same c.plan_copy.ensures.refused;
+      known = λ _. known;
     }
 
 pub plan_in_place-requires-clause-in_place : goal.plan_in_place-requires-clause-in_place
@@ -78,4 +80,5 @@ returns c =
           c.in_default-edit.not-Copy (later_first d.dim es rest e c.args.n c.requires.target known ∙ same ∙ free) refl refl)
           more refl);
       refused = stopped_refused d.dim es rest e c.args.n _ c.plan_in_place.result c.requires.target known same c.plan_in_place.ensures.refused;
+      known = λ _. known;
     }

@@ -6,7 +6,7 @@ pub returns-clause-fits : goal.returns-clause-fits
 returns-clause-fits c = record {
   font = c.in_ok-font.ensures.fits;
   just = c.in_ok-just.ensures.fits;
-  wide = subst IsMultiplier (sym (to_z-of_z {w = w32} (search rules))) c.in_ok-wide.ensures.fits;
-  high = subst IsMultiplier (sym (to_z-of_z {w = w32} (search rules))) c.in_ok-high.ensures.fits;
+  length = subst IsMultiplier (sym (to_z-of_z {w = w32} (search rules))) c.in_ok-length.ensures.fits;
+  height = subst IsMultiplier (sym (to_z-of_z {w = w32} (search rules))) c.in_ok-height.ensures.fits;
   origin = c.in_ok-origin.ensures.fits;
 }

@@ -1,12 +1,18 @@
 use Rattle.std.proofs.Common.{◌≡◌, List, ℕ, Some, ap, sym, ◌∙◌}
 use Rattle.dgn_drawing.specs.declared.mask.Mask.{Mask}
 use Rattle.dgn_drawing.specs.Faults.{IsSoundIn}
+use Rattle.std.specs.Prelude.{option_map, slice_get}
 use Rattle.dgn_drawing.specs.Reading.{element_at}
+use Rattle.dgn_drawing.specs.Spelling.{spell}
 use Rattle.dgn_drawing.specs.Shown.{tree_shown, shown_alone}
 use Rattle.elem_index.specs.Design.{elements}
 use Rattle.level_view.proofs.LeafRoots.{leaf_knot, leaf_shown, if_mapped}
 use Rattle.level_view.proofs.Places.{sound_here, element_here}
 use Rattle.level_view.proofs.lone.lone_element.Goals as goal
+
+pub returns-in-Some-Leaf-clause-bytes : goal.returns-in-Some-Leaf-clause-bytes
+returns-in-Some-Leaf-clause-bytes c =
+    if_mapped _ _ c.element.result (λ (b : List ℕ). Some b ≡ option_map spell (slice_get (elements c.args.d.now) c.args.n)) c.element.ensures.bytes (λ b is. is)
 
 pub returns-in-Some-Leaf-clause-sound : goal.returns-in-Some-Leaf-clause-sound
 returns-in-Some-Leaf-clause-sound c =

@@ -21,12 +21,12 @@ returns-in_ok-push_word-in-Chain c =
 
 pub returns-in_ok-push_point-in-Text : goal.returns-in_ok-push_point-in-Text
 returns-in_ok-push_point-in-Text c =
-    let wide : FitsSigned w32 c.in-Text.length = search rules in
-    let high : FitsSigned w32 c.in-Text.height = search rules in
+    let length : FitsSigned w32 c.in-Text.length = search rules in
+    let height : FitsSigned w32 c.in-Text.height = search rules in
     on_ok_weaker c.push_chars.result
     (text_pushed c.args.axes c.args.shape.now c.in-Text.font c.in-Text.just c.in-Text.length c.in-Text.height
     (to_z w32 (of_z w32 c.in-Text.length)) (to_z w32 (of_z w32 c.in-Text.height)) c.in-Text.origin c.in-Text.chars c.as_slice-in-Text.result.now
     c.args.bytes.now.items c.push_run.new.bytes.items c.push_point.new.bytes.items c.push_chars.new.bytes.items
-    c.in-Text.is (to_z-of_z w32 c.in-Text.length wide) (to_z-of_z w32 c.in-Text.height high)
+    c.in-Text.is (to_z-of_z w32 c.in-Text.length length) (to_z-of_z w32 c.in-Text.height height)
     c.as_slice-in-Text.ensures c.in_ok-push_run-in-Text.ensures c.in_ok-push_point-in-Text.ensures)
     c.push_chars.ensures

@@ -4,7 +4,7 @@ use Rattle.dgn_import.specs.Gathering.{AreTrees}
 use Rattle.dgn_session.specs.State.{SessionValue, state_of, value_with}
 use Rattle.dgn_session.specs.Imported.{imported, import_entry}
 use Rattle.dgn_session.specs.Kept.{value_of}
-use Rattle.dgn_session.proofs.Appending.{trees_sound, imported_state, imported_value}
+use Rattle.dgn_session.proofs.AppendedTrees.{trees_sound, imported_state, imported_value}
 use Rattle.dgn_session.proofs.session.Session.append_trees.Goals as goal
 
 pub carry_bytes-requires-clause-sound : goal.carry_bytes-requires-clause-sound

@@ -9,7 +9,7 @@ use Rattle.edit_ops.specs.Fields.{edited_fields}
 use Rattle.edit_ops.specs.Laws.{ChangesItsFields}
 use Rattle.dgn_session.specs.State.{SessionValue, state_of, applied, pushed, edited, entry, value_with}
 use Rattle.dgn_session.specs.Kept.{value_of}
-use Rattle.dgn_session.proofs.Carried.{edit_done, edit_made, edit_changes, sound, made_here, done_state, value_after}
+use Rattle.dgn_session.proofs.PlanCarriedOut.{edit_done, edit_made, edit_changes, sound, made_here, done_state, value_after}
 use Rattle.dgn_session.proofs.session.Session.edit.Goals as goal
 
 -- an error that is handed on stands as it came

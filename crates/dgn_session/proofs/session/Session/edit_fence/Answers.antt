@@ -12,9 +12,9 @@ use Rattle.edit_ops.specs.Fenced.{fenced_fields, AreRoots}
 use Rattle.edit_ops.specs.FenceLaws.{ChangesFencedFields}
 use Rattle.dgn_session.specs.State.{SessionValue, state_of, pushed_if, selection, fence_applied, fence_edited, fence_entry, value_with}
 use Rattle.dgn_session.specs.Kept.{value_of}
-use Rattle.dgn_session.proofs.Carried.{fence_made, fence_changes, sound, made_here, done_state, value_after}
+use Rattle.dgn_session.proofs.PlanCarriedOut.{fence_made, fence_changes, sound, made_here, done_state, value_after}
 use Rattle.dgn_import.proofs.TakenRoots.{chosen_few}
-use Rattle.dgn_session.proofs.Chosen.{selection_is, applied_is}
+use Rattle.dgn_session.proofs.FenceEditSteps.{selection_is, applied_is}
 use Rattle.dgn_session.proofs.session.Session.edit_fence.Goals as goal
 
 pub carry-requires-clause-sound : goal.carry-requires-clause-sound

@@ -7,8 +7,8 @@ use Rattle.dgn_audit.specs.Fitting.{fit_fields}
 use Rattle.dgn_session.specs.State.{SessionValue, state_of, pushed, value_with}
 use Rattle.dgn_session.specs.Fits.{fit_applied, fit_made, fit_entry, IsFit}
 use Rattle.dgn_session.specs.Kept.{value_of}
-use Rattle.dgn_session.proofs.Carried.{sound, made_here, done_state, value_after}
-use Rattle.dgn_session.proofs.Refitted.{fit_here, none_behind, fit_done, fit_is}
+use Rattle.dgn_session.proofs.PlanCarriedOut.{sound, made_here, done_state, value_after}
+use Rattle.dgn_session.proofs.FitCarriedOut.{fit_here, none_behind, fit_done, fit_is}
 use Rattle.dgn_session.proofs.session.Session.fit.Goals as goal
 
 pub carry-requires-clause-sound : goal.carry-requires-clause-sound

@@ -26,9 +26,9 @@ use Rattle.edit_ops.proofs.FenceLaws.{fenced_changes}
 use Rattle.dgn_session.specs.State.{SessionValue, state_of, pushed, undone, entry_with, value_with}
 use Rattle.dgn_session.specs.Kept.{OpensAt, AreKept, value_of}
 use Rattle.dgn_session.specs.Carried.{IsSoundPlan}
-use Rattle.dgn_session.proofs.Becoming.{Become, edit_becomes, fence_becomes}
-use Rattle.dgn_session.proofs.Planned.{text_is, made_are, plan_sound, entry_leads, entry_is}
-use Rattle.dgn_session.proofs.Cutting.{opens_kept}
+use Rattle.dgn_session.proofs.EditedBody.{Become, edit_becomes, fence_becomes}
+use Rattle.dgn_session.proofs.PlannedBody.{text_is, made_are, plan_sound, entry_leads, entry_is}
+use Rattle.dgn_session.proofs.LastEditBack.{opens_kept}
 use Rattle.dgn_session.proofs.Steps.{pushed_state, undone_state}
 
 -- a session's value, by its dimension, body, tail and entries

@@ -26,8 +26,8 @@ use Rattle.edit_ops.proofs.DesignElements.{four_bytes}
 use Rattle.nest_tree.specs.Nested.{Nested}
 use Rattle.dgn_session.specs.Kept.{rows_of, OpensAt, Leads, AreKept, IsKept}
 use Rattle.dgn_session.specs.Carried.{HasLast, IsCutAt}
-use Rattle.dgn_session.proofs.Planned.{front_long}
-use Rattle.dgn_session.proofs.Keeping.{same_items, offsets_front, opens_same, open_of, kept_same}
+use Rattle.dgn_session.proofs.PlannedBody.{front_long}
+use Rattle.dgn_session.proofs.EditKeepsSession.{same_items, offsets_front, opens_same, open_of, kept_same}
 
 -- an element behind another begins behind it
 offset_less : (es : List Element) (k n : ℕ) → k < n → n ≤ length es → offset_of es k < offset_of es n

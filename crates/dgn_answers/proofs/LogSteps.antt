@@ -14,7 +14,7 @@ use Rattle.edit_script.specs.declared.command.Command.TheVariants as command
 use Rattle.dgn_answers.specs.Given.{Given, after_step}
 use Rattle.dgn_answers.specs.Remaining.{Made, Alone, Fenced, Fitted, with_made, with_all_made, without_newest, with_step, with_steps}
 use Rattle.dgn_answers.specs.Logs.{entry_made, IsLogOf, LogsAs, StepLogsAs, AllLogAs}
-use Rattle.dgn_answers.proofs.Undone.{not_refused}
+use Rattle.dgn_answers.proofs.UndoRefusals.{not_refused}
 
 -- one more
 pub log_more : (old new : SessionValue) (left : List Made) (m : Made) → new.entries ≡ old.entries ++ entry_made old.dim m ∷ [] → new.dim ≡ old.dim

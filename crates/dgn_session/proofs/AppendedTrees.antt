@@ -22,9 +22,9 @@ use Rattle.dgn_session.specs.State.{state_of, value_with}
 use Rattle.dgn_session.specs.Imported.{imported, import_entry}
 use Rattle.dgn_session.specs.Kept.{OpensAt, AreKept, value_of}
 use Rattle.dgn_session.specs.Carried.{IsSoundPlan, plan_of}
-use Rattle.dgn_session.proofs.Becoming.{Become}
-use Rattle.dgn_session.proofs.Carried.{sound, done_state, value_after, made_here}
-use Rattle.dgn_session.proofs.Cutting.{opens_kept}
+use Rattle.dgn_session.proofs.EditedBody.{Become}
+use Rattle.dgn_session.proofs.PlanCarriedOut.{sound, done_state, value_after, made_here}
+use Rattle.dgn_session.proofs.LastEditBack.{opens_kept}
 use Rattle.dgn_drawing.specs.declared.limits.TheConstants.{MOST_DESIGN}
 
 module _ (d : Design) (l : LogState) (mask : Mask) (fence : Option (List Pt)) (kept : AreKept d.dim d.tail.items d.body.items (reverse l.entries))

@@ -1,19 +1,18 @@
--- Hulls found from the last element back to the first: when a header is read, the box of its members is known. Of the
--- headers above the element that is being read, those have a box of which members with hulls have been read. Contracts of
--- private functions alone cite this.
-use Rattle.std.specs.Prelude.{ℕ, zero, suc, ◌+◌, ◌==◌, nat_lt, Bool, false, if◌then◌else◌, Option, Some, None, List, [], ◌∷◌, ◌++◌, reverse, slice_get}
+-- The boxes of headers while elements are read from the last one back, and what one element makes of them: when a header
+-- is read, the hull of its members' trees is its box. Of the headers above the element that is being read, those have a box
+-- of which members with hulls have been read. Contracts of private functions alone cite this.
+use Rattle.std.specs.Prelude.{ℕ, ◌==◌, nat_lt, Bool, false, if◌then◌else◌, Option, Some, None, List, [], ◌∷◌, ◌++◌, reverse}
 use Rattle.range_code.specs.declared.Box3.{Box3}
 use Rattle.range_code.specs.Ranges.{join_of}
 use Rattle.dgn_drawing.specs.Element.{Element}
-use Rattle.dgn_drawing.specs.Rows.{row_of}
-use Rattle.dgn_drawing.specs.Numbering.{Mark, mark_of}
+use Rattle.dgn_drawing.specs.Numbering.{Mark}
 use Rattle.dgn_audit.specs.declared.keep.Keep.{Keep}
 use Rattle.dgn_audit.specs.declared.finding.Finding.{Finding}
 use Rattle.dgn_audit.specs.declared.open_box.OpenBox.{OpenBox}
 use Rattle.dgn_audit.specs.Hulls.{tree_hull}
 use Rattle.dgn_audit.specs.Findings.{finding_as}
 
--- what is kept while elements are read: the boxes of headers, the nearest header's first, and what is told, the least
+-- what is had while elements are read: the boxes of headers, the nearest header's first, and what is told, the least
 -- number first
 pub record Pass : Type 0 where
   pub open_boxes : List OpenBox
@@ -72,8 +71,3 @@ read_one keep dim n m e pass = record {
 abbrev pub read_marked : Keep → ℕ → ℕ → Option Mark → Option Element → Pass → Pass
 read_marked keep dim n (Some m) (Some e) pass = read_one keep dim n m e pass
 read_marked keep dim n marked element pass = pass
-
--- so many elements, of which the first has number n
-abbrev pub read_back : Keep → ℕ → List Element → ℕ → ℕ → Pass
-read_back keep dim es n zero = record { open_boxes = []; noted = [] }
-read_back keep dim es n (suc count) = read_marked keep dim n (mark_of row_of es n) (slice_get es n) (read_back keep dim es (n + 1) count)

@@ -1,9 +1,9 @@
 use dgn_import::{Gathered, SecondFault};
 use edit_ops::Cause;
 
-// What comes of a second drawing for an import: trees to append, or why there are none.
+// What is gathered from a second drawing for an import: trees to append, or why there are none.
 #[derive(Drop)]
-pub enum Come {
+pub enum Gathering {
     // The trees.
     Trees(Gathered),
     // Its file doesn't open.

@@ -22,7 +22,7 @@ use Rattle.edit_ops.specs.Fields.{Field, filled}
 use Rattle.dgn_session.specs.State.{entry_with}
 use Rattle.dgn_session.specs.Kept.{OpensAt}
 use Rattle.dgn_session.specs.Carried.{Spells, IsChange, IsSoundPlan}
-use Rattle.dgn_session.proofs.Becoming.{Become}
+use Rattle.dgn_session.proofs.EditedBody.{Become}
 use Rattle.dgn_session.proofs.Rising.{filled_rise, olds_filled}
 use Rattle.dgn_session.proofs.Leading.{leads_back}
 

@@ -23,9 +23,9 @@ use Rattle.dgn_audit.proofs.FindingsEnd.{ends_findings}
 use Rattle.dgn_session.specs.State.{pushed, undone, undo_refused}
 use Rattle.dgn_session.specs.Kept.{OpensAt, AreKept}
 use Rattle.dgn_session.specs.Fits.{fit_applied, IsFit, FitsAreUndone, OpenedStayFitted}
-use Rattle.dgn_session.proofs.Becoming.{Become}
-use Rattle.dgn_session.proofs.Cutting.{opens_kept}
-use Rattle.dgn_session.proofs.Restored.{pushed_stays}
+use Rattle.dgn_session.proofs.EditedBody.{Become}
+use Rattle.dgn_session.proofs.LastEditBack.{opens_kept}
+use Rattle.dgn_session.proofs.EntriesBack.{pushed_stays}
 use Rattle.dgn_drawing.specs.declared.limits.TheConstants.{MOST_DESIGN}
 
 -- the elements become the fitted ones

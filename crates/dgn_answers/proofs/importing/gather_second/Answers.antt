@@ -1,8 +1,8 @@
 use Rattle.std.proofs.Common.{subst}
 use Rattle.dgn_import.specs.Answers.{TellsFault}
 use Rattle.dgn_import.specs.Seconds.{value_of}
-use Rattle.dgn_answers.proofs.Imported.{of_a_tree}
-use Rattle.dgn_answers.proofs.importing.come_of.Goals as goal
+use Rattle.dgn_answers.proofs.ImportCauses.{of_a_tree}
+use Rattle.dgn_answers.proofs.importing.gather_second.Goals as goal
 
 pub returns-in-Err-Refused-clause-fits : goal.returns-in-Err-Refused-clause-fits
 returns-in-Err-Refused-clause-fits c =

@@ -21,8 +21,8 @@ use Rattle.dgn_session.specs.State.{State, pushed, pushed_if, dropped, undone, a
 use Rattle.dgn_session.specs.Kept.{rows_of, AreKept}
 use Rattle.dgn_session.specs.Laws.{EditsAreUndone, FenceEditsAreUndone, ImportsAreUndone, last_of, opened_in, OpenedStay, EntriesAreCounted}
 use Rattle.dgn_session.specs.Laws.{EntriesLeadBack, IsUnheld, OpenedStandsStill}
-use Rattle.dgn_session.proofs.Planned.{front_long}
-use Rattle.dgn_session.proofs.Cutting.{leads_fit, opens_kept}
+use Rattle.dgn_session.proofs.PlannedBody.{front_long}
+use Rattle.dgn_session.proofs.LastEditBack.{leads_fit, opens_kept}
 use Rattle.dgn_session.proofs.Steps.{bodies_first}
 
 pub edits_are_undone : EditsAreUndone

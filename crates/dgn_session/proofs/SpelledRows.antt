@@ -85,11 +85,6 @@ module _ (b : List ℕ) (rows : List Row) (at : ℕ) (rest : List ℕ) (are : Ar
       let f = first_of_left b rows at rest are is within some.0 some.1 some.2 in
       omega (arith, f.long, first_there some size said)
 
-  pub some_bytes : IsSpelling b → (size : ℕ) → size ≡ size_said rest → 4 ≤ size
-  some_bytes some size said =
-      let f = first_of_left b rows at rest are is within some.0 some.1 some.2 in
-      omega (arith, f.said, f.large)
-
   first_is : (dim : ℕ) (es : List Element) (spells : Spells dim es b) (size : ℕ) (first : List ℕ) → size ≡ size_said rest → first ≡ take size rest
       → first ≡ spell (first_of_left b rows at rest are is within dim es spells).element
   first_is dim es spells size first said front =
