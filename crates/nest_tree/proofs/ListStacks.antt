@@ -1,12 +1,14 @@
 -- The lists that are being read, each in the next: reading goes on in the innermost one, a list that has ended
 -- is left, and that of the elements below the one that was read is entered.
 use Rattle.std.proofs.Common.{◌≡◌, ℕ, ◌+◌, ◌-◌, ◌≤◌, ◌<◌, List, [], ◌∷◌, ◌++◌, length, take, drop, map, get_or, refl, sym, ap, ◌∙◌, subst, arith}
-use Rattle.std.specs.Prelude.{Option, Some, None, IfSome}
-use Rattle.std.proofs.lemmas.List.{drop_more, length-drop, length-take, get_or-map, length-append, take_more}
+use Rattle.std.specs.Prelude.{Option, Some, None, IfSome, option_map, slice_get}
+use Rattle.std.proofs.lemmas.List.{drop_more, length-drop, length-take, length-map, get_or-map, length-append, take_more}
+use Rattle.std.proofs.lemmas.Option.{slice_get-get_or, slice_get-map}
 use Rattle.dgn_drawing.specs.declared.row.Row.{Row}
 use Rattle.dgn_drawing.specs.Nesting.{shape, member_count, front_count, is_spline_part, has_bit, itself, nest, forest, flat, Forest, Tree, NoTree}
 use Rattle.dgn_drawing.specs.Numbering.{Mark, end_of, marks}
 use Rattle.nest_tree.specs.declared.knot.Knot.{Knot}
+use Rattle.nest_tree.specs.Linked.{Link}
 use Rattle.nest_tree.specs.declared.shape.Scope.{Scope}
 use Rattle.nest_tree.specs.declared.shape.Shape as code
 use Rattle.nest_tree.specs.declared.open_list.OpenList.{OpenList}
@@ -182,6 +184,13 @@ module _ (rows : List Row) (at : ℕ) (f : OpenList) (going : Going rows at f) (
 
     pub link_read : link_of mark_read ≡ record { parent = f.parent; depth = f.depth; knot = s.knot }
     link_read = sym (ap (λ (x : code.Shape). record { parent = f.parent; depth = f.depth; knot = x.knot }) said)
+
+    pub known_link : Some (record { parent = f.parent; depth = f.depth; knot = s.knot }) ≡ option_map link_of (slice_get (marks_in rows) at)
+    known_link =
+        let e = ends in
+        let long = length-marks_in rows in
+        let found = slice_get-get_or (map link_of (marks_in rows)) at (link_of mark_read) (omega (arith, length-map (marks_in rows) link_of)) in
+        sym (sym (slice_get-map link_of (marks_in rows) at) ∙ found ∙ ap (λ (l : Link). Some l) (mark_is link_of (link_of mark_read) ∙ link_read))
 
     list_said : list_read ≡ record { scope = s.inside; end = at + 1 + s.count; depth = f.depth + 1; parent = Some at }
     list_said = sym (ap (λ (x : code.Shape). record { scope = x.inside; end = at + 1 + x.count; depth = f.depth + 1; parent = Some at }) said)

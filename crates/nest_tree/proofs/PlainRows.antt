@@ -1,9 +1,10 @@
 -- Roots with nothing below them, behind other elements: their marks, and what is kept of all.
 use Rattle.std.proofs.Common.{◌≡◌, ℕ, zero, suc, ◌+◌, ◌≤◌, ◌<◌, List, [], ◌∷◌, ◌++◌, length, take, drop, map, get_or, replicate, refl, sym, ap, ◌∙◌, arith}
 use Rattle.std.proofs.Common.{length-append, true, false, Bool, inl, inr}
-use Rattle.std.specs.Prelude.{None, ◌&&◌, ◌||◌, ◌==◌, not}
+use Rattle.std.specs.Prelude.{Some, None, option_map, slice_get, ◌&&◌, ◌||◌, ◌==◌, not}
 use Rattle.std.specs.List.{AllByRecursion, range_with_len}
-use Rattle.std.proofs.lemmas.List.{map-append, get_or-append-add}
+use Rattle.std.proofs.lemmas.List.{map-append, get_or-append-add, length-replicate}
+use Rattle.std.proofs.lemmas.Option.{slice_get-get_or, slice_get-map}
 use Rattle.std.proofs.lemmas.Bool.{cond-true, cond-false, cases_Bool, or_cases, and_parts, eqb-true, both_ways}
 use Rattle.dgn_layout.specs.declared.types.Class.{Class}
 use Rattle.dgn_layout.specs.Classes.{class_of, is_among}
@@ -22,7 +23,8 @@ use Rattle.nest_tree.proofs.FirstLinks.{all_marks, all_links}
 use Rattle.nest_tree.proofs.MemberBytes.{no_row}
 use Rattle.nest_tree.proofs.OpenLists.{length-links}
 use Rattle.nest_tree.proofs.GrownNestings.{grown_words, length-grown, grown_broken, length-kept_ends}
-use Rattle.nest_tree.proofs.BrokenList.{one_fails, said}
+use Rattle.nest_tree.proofs.BrokenList.{one_fails}
+use Rattle.nest_tree.proofs.LookUps.{broken_is}
 
 -- rows of which all pass a test from the front on pass it
 pub all_pass : (test : Row → Bool) (rows : List Row) → front_count test rows ≡ length rows → AllByRecursion (λ r. test r ≡ true) rows
@@ -149,9 +151,13 @@ module _ (rows new all : List Row) (ends : List ℕ) (links : List Link) (broken
       let row : (get_or all (length rows + k) no_row).cbit ≡ false =
       ap (λ (l : List Row). (get_or l (length rows + k) no_row).cbit) is
       ∙ ap (λ (r : Row). r.cbit) (get_or-append-add rows new k no_row) ∙ plain_at new k plain inside in
-      sym (said all (links ++ replicate (length new) plain_link) links_are (length rows + k) plain_link no_row
-      (omega (arith, ap (length {A = Row}) is, length-append rows new)))
-      ∙ ap (λ (l : Link). broken_by_link (length rows + k) l (get_or all (length rows + k) no_row)) link
+      let within : length rows + k < length all = omega (arith, ap (length {A = Row}) is, length-append rows new) in
+      let many : length rows + k < length (links ++ replicate (length new) plain_link) =
+      omega (arith, length-append links (replicate (length new) plain_link), length-replicate (length new) plain_link) in
+      let kept_link : Some plain_link ≡ option_map link_of (slice_get (marks_in all) (length rows + k)) =
+      sym (slice_get-get_or (links ++ replicate (length new) plain_link) (length rows + k) plain_link many ∙ ap (λ (l : Link). Some l) link)
+      ∙ ap (λ (l : List Link). slice_get l (length rows + k)) links_are ∙ slice_get-map link_of (marks_in all) (length rows + k) in
+      sym (broken_is all (length rows + k) plain_link (get_or all (length rows + k) no_row) kept_link (sym (slice_get-get_or all (length rows + k) no_row within)))
       ∙ plain_unbroken (length rows + k) (get_or all (length rows + k) no_row) row
 
   broken_yet : (k : ℕ) → k ≤ length new → broken ≡ passing (is_broken itself all) 0 (length rows + k)

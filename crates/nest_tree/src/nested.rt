@@ -10,7 +10,7 @@ ghost use Rattle.nest_tree.specs.Passing.{broken_in, first_at, if_below};
 ghost use Rattle.nest_tree.specs.Plain.{IsPlain, IsPlainKind, kept_rows};
 ghost use Rattle.nest_tree.specs.Nested.{Nested, nested_of, IsNest};
 
-use crate::broken::{add_broken, cut_broken};
+use crate::broken::cut_broken;
 use crate::knot::Knot;
 use crate::link::Link;
 use crate::link_list::LinkList;
@@ -139,16 +139,18 @@ impl Nest {
         if rows.is_empty() {
             return;
         }
-        let first = self.ends.len();
         let seen = self.seen.then(&Step::Behind(rows));
         set_sums(rows, &mut self.sums);
-        read_on(&seen, rows, &self.sums, &mut self.ends, &mut self.links);
+        read_on(
+            &seen,
+            rows,
+            &self.sums,
+            &mut self.ends,
+            &mut self.links,
+            &mut self.broken,
+        );
         self.sums.clear();
         self.sums.shrink_to(KEPT_SUMS);
-        match add_broken(&seen, first, rows, &self.links, &mut self.broken) {
-            Ok(()) => {}
-            Err(_) => unreachable!(),
-        }
         self.seen = seen;
     }
 

@@ -1,13 +1,15 @@
-// Reading of rows, one behind the other, which finds the place of each element.
+// Reading of rows, one behind the other, which finds the place of each element, and which ones are broken.
 
-ghost use Rattle.std.specs.Prelude.{◌≡◌, ◌<◌, ◌≤◌, ◌*◌, ◌+◌, length, drop, None, vec_capacity};
+ghost use Rattle.std.specs.Prelude.{◌≡◌, ◌<◌, ◌≤◌, ◌*◌, ◌+◌, length, drop, None, vec_len, vec_capacity};
 ghost use Rattle.std.specs.List.{AllByRecursion};
 ghost use Rattle.dgn_drawing.specs.Nesting.{Whole, itself, nest};
-ghost use Rattle.dgn_drawing.specs.Numbering.{marks};
+ghost use Rattle.dgn_drawing.specs.Numbering.{marks, is_broken};
 ghost use Rattle.nest_tree.specs.Sums.{weights, sums_from};
 ghost use Rattle.nest_tree.specs.Shapes.{IsRow};
 ghost use Rattle.nest_tree.specs.Places.{marks_in, ArePlaces};
+ghost use Rattle.nest_tree.specs.Passing.{passing, broken_in};
 
+use crate::broken::add_if_broken;
 use crate::link::Link;
 use crate::link_list::LinkList;
 use crate::open_list::{OpenList, all_elements, list_at};
@@ -16,13 +18,14 @@ use crate::shape::shape_at;
 use dgn_drawing::Row;
 
 // Reads on behind the elements that have their places: `rows` are those from there on, and `sums` their
-// sums. There is room for the places of all.
+// sums. There is room for the places of all, and for the numbers of the broken ones.
 pub(crate) fn read_on(
     seen: &SeenRows,
     rows: &[Row],
     sums: &[u64],
     ends: &mut Vec<u32>,
     links: &mut LinkList,
+    broken: &mut Vec<u32>,
 )
     requires few { length seen.now.list < 4294967295 }
     requires rows { rows.now ≡ drop (length ends.old.items) seen.now.list }
@@ -34,7 +37,10 @@ pub(crate) fn read_on(
         ≡ marks (nest itself Whole (drop (length ends.old.items) seen.now.list)) (length ends.old.items) 0 None }
     requires room_for_ends { length seen.now.list ≤ vec_capacity ends.old }
     requires room_for_links { length seen.now.list ≤ length links.old.items + links.old.spare }
-    ensures { ArePlaces seen.now.list (length seen.now.list) ends.new.items links.new.items }
+    requires begun { broken.old.items ≡ passing (is_broken itself seen.now.list) 0 (length ends.old.items) }
+    requires room_for_broken { vec_len broken.old + length rows.now ≤ vec_capacity broken.old }
+    ensures places { ArePlaces seen.now.list (length seen.now.list) ends.new.items links.new.items }
+    ensures broken { broken.new.items ≡ broken_in seen.now.list }
 {
     let first = ends.len();
     let count = first + rows.len();
@@ -45,7 +51,9 @@ pub(crate) fn read_on(
         let shape = shape_at(rows, sums, around.scope, at - first, list_end - first);
         let end = (at + 1 + shape.count) as u32;
         ends.push_reserved(end);
-        links.push(Link::new(around.parent, around.depth, shape.knot));
+        let link = Link::new(around.parent, around.depth, shape.knot);
+        links.push(link);
+        add_if_broken(seen, at as u32, link, rows[at - first], broken);
         // Where it has nothing below it, no list is entered.
         list = around;
         if shape.count != 0 {

@@ -1,14 +1,18 @@
-use Rattle.std.proofs.Common.{◌≡◌, ◌<◌, ◌≤◌, sym, ap, ◌∙◌, ◌++◌, ◌∷◌, [], ◌+◌, ℕ, List, drop, length, subst, arith, Fits, w32, w64, IfSome}
+use Rattle.std.proofs.Common.{◌≡◌, ◌<◌, ◌≤◌, ◌-◌, get_or, sym, ap, ◌∙◌, ◌++◌, ◌∷◌, [], ◌+◌, ℕ, List, drop, length, subst, arith, Fits, w32, w64, IfSome}
 use borrow.Author.Count.{falls}
-use Rattle.std.proofs.lemmas.List.{length_push, length-drop}
+use Rattle.std.specs.Prelude.{Some, slice_get}
+use Rattle.std.proofs.lemmas.List.{length_push, length-drop, get_or-drop}
+use Rattle.std.proofs.lemmas.Option.{slice_get-get_or}
+use Rattle.nest_tree.proofs.MemberBytes.{no_row}
 use Rattle.dgn_drawing.specs.declared.row.Row.{Row}
 use Rattle.nest_tree.specs.Linked.{Link}
 use Rattle.std.specs.List.{AllByRecursion}
 use Rattle.nest_tree.specs.Places.{marks_in, ArePlaces, Going}
 use Rattle.nest_tree.specs.declared.open_list.OpenList.{OpenList}
 use Rattle.nest_tree.proofs.HeadersApart.{parent_small, NotBefore, reached}
-use Rattle.nest_tree.proofs.ListStacks.{going_on, going_past, going_deep, going_ends}
+use Rattle.nest_tree.proofs.ListStacks.{known_link, going_on, going_past, going_deep, going_ends}
 use Rattle.nest_tree.proofs.OpenLists.{length-ends, length-links, between, shaped, end_fits, one_more}
+use Rattle.nest_tree.proofs.BrokenList.{all_asked}
 use Rattle.nest_tree.proofs.reading.read_on.Goals as goal
 use Rattle.nest_tree.proofs.reading.read_on.Goals.{then-shape-ne0, else-shape-ne0}
 
@@ -20,6 +24,13 @@ seen_at list rows kept len first at are within known_of same before = omega (ari
 all_seen : (list rows : List Row) (kept len first at : ℕ) → rows ≡ drop kept list → kept ≤ length list → first ≡ len → len ≡ kept → first + length rows ≤ at
     → at ≤ length list → at ≡ length list
 all_seen list rows kept len first at are within known_of same done most = omega (arith, length-drop kept list, ap (length {A = Row}) are)
+
+row_at : (list rows : List Row) (kept len first at : ℕ) → rows ≡ drop kept list → first ≡ len → len ≡ kept → first ≤ at → at < length list
+    → Some (get_or rows (at - first) no_row) ≡ slice_get list at
+row_at list rows kept len first at are known_of same from before =
+    let place : kept + (at - first) ≡ at = omega arith in
+    ap (λ (l : List Row). Some (get_or l (at - first) no_row)) are ∙ ap (λ (r : Row). Some r) (get_or-drop kept list (at - first) no_row)
+    ∙ ap (λ (k : ℕ). Some (get_or list k no_row)) place ∙ sym (slice_get-get_or list at no_row before)
 
 room_for_end : (list : List Row) (at : ℕ) (ends : List ℕ) (links : List Link) (len cap : ℕ) → ArePlaces list at ends links → len ≡ length ends
     → at < length list → length list ≤ cap → len < cap
@@ -87,8 +98,8 @@ pub overflow_add-list : goal.overflow_add-list
 overflow_add-list c =
     omega (arith, going_deep c.args.seen.now.list c.loop-at.at c.list_at-around.result c.list_at-around.ensures.going, c.requires.few, c.loop-at-test.true)
 
-pub new-requires : goal.new-requires
-new-requires c = parent_small c.args.seen.now.list c.loop-at.at c.list_at-around.result c.list_at-around.ensures.going (let few =
+pub new-link-requires : goal.new-link-requires
+new-link-requires c = parent_small c.args.seen.now.list c.loop-at.at c.list_at-around.result c.list_at-around.ensures.going (let few =
     c.requires.few in let test = c.loop-at-test.true in omega (arith, c.loop-at.invariant.0.within))
 
 pub loop-at-preserved : goal.loop-at-preserved
@@ -113,14 +124,16 @@ loop-at-preserved c =
       )
     ] in
     let ends = c.push_reserved.ensures.items in
-    let links = c.push.ensures.items ∙ ap (λ (x : Link). c.loop-at.links.items ++ x ∷ []) c.new.ensures in (
+    let links = c.push.ensures.items ∙ ap (λ (x : Link). c.loop-at.links.items ++ x ∷ []) c.new-link.ensures in (
       subst (λ (l : List ℕ). ArePlaces c.args.seen.now.list (c.loop-at.at + 1) l c.push.new.self.items) (sym ends)
           (subst (λ (l : List Link). ArePlaces c.args.seen.now.list (c.loop-at.at + 1)
           (c.loop-at.ends.items ++ (c.loop-at.at + 1 + c.shape_at-shape.result.count) ∷ []) l) (sym links) more),
       on.0,
       omega (arith, c.loop-at.invariant.2, c.push_reserved.ensures.capacity),
-      omega (arith, c.loop-at.invariant.3, c.push.ensures.room, ap (length {A = Link}) c.push.ensures.items, length_push c.loop-at.links.items c.new.result),
+      omega (arith, c.loop-at.invariant.3, c.push.ensures.room, ap (length {A = Link}) c.push.ensures.items, length_push c.loop-at.links.items c.new-link.result),
       on.1,
+      c.add_if_broken.ensures.list,
+      omega (arith, c.loop-at.invariant.6, c.loop-at-test.true, c.add_if_broken.ensures.most, c.add_if_broken.ensures.room),
     )
 
 pub list_at-around-requires-clause-header : goal.list_at-around-requires-clause-header
@@ -170,8 +183,32 @@ overflow_cast-at c = at_fits c.loop-at.at (length c.args.seen.now.list)
 pub loop-at-smaller : goal.loop-at-smaller
 loop-at-smaller c = falls (c.len-first.result + length c.args.rows.now) c.loop-at.at c.loop-at-test.true
 
-pub returns : goal.returns
-returns c =
+pub add_if_broken-requires-clause-link : goal.add_if_broken-requires-clause-link
+add_if_broken-requires-clause-link c =
+    let first : c.len-first.result ≡ length c.args.ends.now.items = c.len-first.ensures ∙ c.args.ends.now.ok.0 in
+    let are : c.args.rows.now ≡ drop c.len-first.result c.args.seen.now.list = c.requires.rows ∙ ap (λ (n : ℕ). drop n c.args.seen.now.list) (sym first) in
+    let shape = shaped c.args.seen.now.list c.args.rows.now c.len-first.result are c.loop-at.at c.list_at-around.result c.list_at-around.ensures.going
+    c.list_at-around.ensures.inside c.requires.few c.loop-at.auto.at c.shape_at-shape.result c.shape_at-shape.ensures in
+    ap (λ (x : Link). Some x) c.new-link.ensures
+    ∙ known_link c.args.seen.now.list c.loop-at.at c.list_at-around.result c.list_at-around.ensures.going c.list_at-around.ensures.inside
+    c.shape_at-shape.result shape
+
+pub add_if_broken-requires-clause-row : goal.add_if_broken-requires-clause-row
+add_if_broken-requires-clause-row c =
+    row_at _ _ _ _ _ _ c.requires.rows c.len-first.ensures c.args.ends.now.ok.0 c.loop-at.auto.at
+    (seen_at _ _ _ _ _ _ c.requires.rows c.requires.places.within c.len-first.ensures c.args.ends.now.ok.0 c.loop-at-test.true)
+
+pub add_if_broken-requires-clause-room : goal.add_if_broken-requires-clause-room
+add_if_broken-requires-clause-room c = omega (arith, c.loop-at.invariant.6, c.loop-at-test.true)
+
+pub returns-clause-places : goal.returns-clause-places
+returns-clause-places c =
     let all = all_seen _ _ _ _ _ _ c.requires.rows c.requires.places.within c.len-first.ensures c.args.ends.now.ok.0 c.loop-at-test.false
     c.loop-at.invariant.0.within in
     subst (λ (n : ℕ). ArePlaces c.args.seen.now.list n c.loop-at.ends.items c.loop-at.links.items) all c.loop-at.invariant.0
+
+pub returns-clause-broken : goal.returns-clause-broken
+returns-clause-broken c =
+    let all = all_seen _ _ _ _ _ _ c.requires.rows c.requires.places.within c.len-first.ensures c.args.ends.now.ok.0 c.loop-at-test.false
+    c.loop-at.invariant.0.within in
+    all_asked c.args.seen.now.list c.loop-at.at c.loop-at.broken.items (omega (arith, all)) (omega (arith, all)) c.loop-at.invariant.5
