@@ -225,6 +225,6 @@ module _ (rows : List Row) where
         same ∙ so_far ∙ sym (one_fails (is_broken itself rows) 0 n (said false test)) ∙ ap (passing (is_broken itself rows) 0) next
 
   -- all have been asked
-  pub all_asked : (n : ℕ) (list : List ℕ) → n ≤ length rows → length rows ≤ n → list ≡ passing (is_broken itself rows) 0 n → list ≡ broken_in rows
+  pub all_listed : (list : List ℕ) → list ≡ passing (is_broken itself rows) 0 (length rows) → list ≡ broken_in rows
   unfolding broken_in
-  all_asked n list within past is = let all : n ≡ length rows = omega arith in is ∙ ap (passing (is_broken itself rows) 0) all
+  all_listed list is = is

@@ -7,6 +7,7 @@ pub mod Fronts
 pub mod MemberBytes
 pub mod RowSums
 pub mod ShapeTests
+pub mod LeafShapes
 pub mod ListEntry
 pub mod ListStacks
 pub mod HeaderChains

@@ -10,7 +10,7 @@ ghost use Rattle.nest_tree.specs.Plain.{is_header, is_plain, is_plain_kind, run_
 use dgn_drawing::Row;
 
 // Whether elements of that type can have others below them.
-fn is_header(kind: u8) -> bool
+pub(crate) fn is_header(kind: u8) -> bool
     ensures { result ≡ is_header (class_of kind) }
 {
     matches!(kind, 2 | 7 | 12 | 14 | 18 | 19 | 24 | 27 | 34)

@@ -29,7 +29,7 @@ pub(crate) struct Shape {
     pub(crate) count: usize,
 }
 
-const LEAF: Shape = Shape {
+pub(crate) const LEAF: Shape = Shape {
     knot: Knot::Leaf,
     inside: Scope::Members,
     count: 0,

@@ -4,8 +4,8 @@ use Rattle.std.proofs.lemmas.Bool.Decides.{nat_tests}
 use Rattle.dgn_drawing.specs.declared.row.Row.{Row}
 use Rattle.nest_tree.specs.Nested.{Nested}
 use Rattle.nest_tree.specs.Places.{NestApart}
-use Rattle.nest_tree.proofs.OpenLists.{length-links}
-use Rattle.nest_tree.proofs.GrownNestings.{least_room, length-grown, length-kept_ends, grown_new, grown_words, grown_places, grown_apart, grown_broken}
+use Rattle.nest_tree.proofs.GrownNestings.{least_room, grown_new, grown_words, grown_places, grown_apart, grown_broken}
+use Rattle.nest_tree.proofs.BrokenList.{all_listed}
 use Rattle.nest_tree.proofs.nested.Nest.add_any.Goals as goal
 
 apart_of : (new : List Row) (t : Nested) (rows : List Row) → rows ≡ t.rows → 0 < length rows → (0 < length t.rows → NestApart t.rows new) → NestApart rows new
@@ -29,13 +29,6 @@ read_on-requires-clause-rows c =
     c.self.invariant (apart_of c.args.rows.now c.args.self.now c.self.inside.seen.list (ap (λ (t : Nested). t.rows) c.self.view_is)
     c.self.invariant.some c.requires.apart) c.then-seen.ensures
 
-pub read_on-requires-clause-places : goal.read_on-requires-clause-places
-read_on-requires-clause-places c =
-    grown_places c.self.inside.seen.list c.args.rows.now c.then-seen.result.list c.self.inside.ends.items c.self.inside.links.items
-    c.self.inside.broken.items c.self.invariant
-    (apart_of c.args.rows.now c.args.self.now c.self.inside.seen.list (ap (λ (t : Nested). t.rows) c.self.view_is) c.self.invariant.some c.requires.apart)
-    c.then-seen.ensures
-
 pub read_on-requires-clause-apart : goal.read_on-requires-clause-apart
 read_on-requires-clause-apart c =
     grown_apart c.self.inside.seen.list c.args.rows.now c.then-seen.result.list c.self.inside.ends.items c.self.inside.links.items
@@ -43,47 +36,23 @@ read_on-requires-clause-apart c =
     (apart_of c.args.rows.now c.args.self.now c.self.inside.seen.list (ap (λ (t : Nested). t.rows) c.self.view_is) c.self.invariant.some c.requires.apart)
     c.then-seen.ensures
 
-pub read_on-requires-clause-room_for_ends : goal.read_on-requires-clause-room_for_ends
-read_on-requires-clause-room_for_ends c =
+pub read_on-requires-clause-read : goal.read_on-requires-clause-read
+read_on-requires-clause-read c =
+    let apart = apart_of c.args.rows.now c.args.self.now c.self.inside.seen.list (ap (λ (t : Nested). t.rows) c.self.view_is) c.self.invariant.some
+    c.requires.apart in
+    record {
+      places = grown_places c.self.inside.seen.list c.args.rows.now c.then-seen.result.list c.self.inside.ends.items c.self.inside.links.items
+          c.self.inside.broken.items c.self.invariant apart c.then-seen.ensures;
+      are_broken = grown_broken c.self.inside.seen.list c.args.rows.now c.then-seen.result.list c.self.inside.ends.items c.self.inside.links.items
+          c.self.inside.broken.items c.self.invariant apart c.then-seen.ensures (length c.self.inside.ends.items) refl;
+    }
+
+pub read_on-requires-clause-room : goal.read_on-requires-clause-room
+read_on-requires-clause-room c =
     let room = least_room (length c.args.rows.now) (vec_capacity c.self.inside.sums - 1) (vec_capacity c.self.inside.ends - vec_len c.self.inside.ends)
     c.self.inside.links.spare (vec_capacity c.self.inside.broken - vec_len c.self.inside.broken)
     (subst (λ (t : Nested). length c.args.rows.now ≤ t.spare) (sym c.self.view_is) c.requires.room) in
-    let long = length-grown c.self.inside.seen.list c.args.rows.now c.then-seen.result.list c.self.inside.ends.items c.self.inside.links.items
-    c.self.inside.broken.items c.self.invariant
-    (apart_of c.args.rows.now c.args.self.now c.self.inside.seen.list (ap (λ (t : Nested). t.rows) c.self.view_is) c.self.invariant.some c.requires.apart)
-    c.then-seen.ensures in
-    let kept = length-kept_ends c.self.inside.seen.list c.args.rows.now c.then-seen.result.list c.self.inside.ends.items c.self.inside.links.items
-    c.self.inside.broken.items c.self.invariant
-    (apart_of c.args.rows.now c.args.self.now c.self.inside.seen.list (ap (λ (t : Nested). t.rows) c.self.view_is) c.self.invariant.some c.requires.apart)
-    c.then-seen.ensures in
-    omega (arith, room.1, c.self.inside.ends.ok.0, c.self.inside.ends.ok.1)
-
-pub read_on-requires-clause-room_for_links : goal.read_on-requires-clause-room_for_links
-read_on-requires-clause-room_for_links c =
-    let room = least_room (length c.args.rows.now) (vec_capacity c.self.inside.sums - 1) (vec_capacity c.self.inside.ends - vec_len c.self.inside.ends)
-    c.self.inside.links.spare (vec_capacity c.self.inside.broken - vec_len c.self.inside.broken)
-    (subst (λ (t : Nested). length c.args.rows.now ≤ t.spare) (sym c.self.view_is) c.requires.room) in
-    let long = length-grown c.self.inside.seen.list c.args.rows.now c.then-seen.result.list c.self.inside.ends.items c.self.inside.links.items
-    c.self.inside.broken.items c.self.invariant
-    (apart_of c.args.rows.now c.args.self.now c.self.inside.seen.list (ap (λ (t : Nested). t.rows) c.self.view_is) c.self.invariant.some c.requires.apart)
-    c.then-seen.ensures in
-    let kept = length-links c.self.inside.seen.list (length c.self.inside.seen.list)
-    c.self.inside.ends.items c.self.inside.links.items c.self.invariant.places in
-    omega (arith, room.2)
-
-pub read_on-requires-clause-begun : goal.read_on-requires-clause-begun
-read_on-requires-clause-begun c =
-    grown_broken c.self.inside.seen.list c.args.rows.now c.then-seen.result.list c.self.inside.ends.items c.self.inside.links.items
-    c.self.inside.broken.items c.self.invariant
-    (apart_of c.args.rows.now c.args.self.now c.self.inside.seen.list (ap (λ (t : Nested). t.rows) c.self.view_is) c.self.invariant.some c.requires.apart)
-    c.then-seen.ensures (length c.self.inside.ends.items) refl
-
-pub read_on-requires-clause-room_for_broken : goal.read_on-requires-clause-room_for_broken
-read_on-requires-clause-room_for_broken c =
-    let room = least_room (length c.args.rows.now) (vec_capacity c.self.inside.sums - 1) (vec_capacity c.self.inside.ends - vec_len c.self.inside.ends)
-    c.self.inside.links.spare (vec_capacity c.self.inside.broken - vec_len c.self.inside.broken)
-    (subst (λ (t : Nested). length c.args.rows.now ≤ t.spare) (sym c.self.view_is) c.requires.room) in
-    omega (arith, room.3, c.self.inside.broken.ok.0, c.self.inside.broken.ok.1)
+    record { for_ends = room.1; for_links = room.2; for_broken = room.3 }
 
 pub set_sums-requires-clause-few : goal.set_sums-requires-clause-few
 set_sums-requires-clause-few c = fewer (length c.args.self.now.rows) (length c.args.rows.now) 4294967295 c.requires.few
@@ -110,7 +79,7 @@ invariant_of-self c = record {
       (apart_of c.args.rows.now c.args.self.now c.self.inside.seen.list (ap (λ (t : Nested). t.rows) c.self.view_is) c.self.invariant.some c.requires.apart)
       c.then-seen.ensures c.set_sums.ensures.words;
   places = c.read_on.ensures.places;
-  are_broken = c.read_on.ensures.broken;
+  are_broken = all_listed c.then-seen.result.list c.read_on.new.broken.items c.read_on.ensures.are_broken;
 }
 
 pub returns : goal.returns
