@@ -27,6 +27,7 @@ pub mod PlainRows
 pub mod PlainElements
 pub mod NumbersPushed
 pub mod HeadersApart
+pub mod RowDepths
 pub mod RowBlocks
 pub mod Walks
 pub mod FirstParts

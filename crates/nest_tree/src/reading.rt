@@ -4,6 +4,7 @@ ghost use Rattle.std.specs.Prelude.{◌≡◌, ◌<◌, ◌≤◌, ◌*◌, ◌+
 ghost use Rattle.std.specs.List.{AllByRecursion};
 ghost use Rattle.dgn_drawing.specs.Nesting.{Whole, itself, nest};
 ghost use Rattle.dgn_drawing.specs.Numbering.{marks};
+ghost use Rattle.nest_tree.specs.Depths.{IsWordTotal};
 ghost use Rattle.nest_tree.specs.Sums.{weights, sums_from};
 ghost use Rattle.nest_tree.specs.Shapes.{code_shape, rows_between, shape_in, IsRow};
 ghost use Rattle.nest_tree.specs.Places.{marks_in, Going};
@@ -31,6 +32,7 @@ pub(crate) fn read_on(
     requires few { length seen.now.list < 4294967295 }
     requires rows { rows.now ≡ drop (length ends.old.items) seen.now.list }
     requires each { AllByRecursion IsRow rows.now }
+    requires words { AllByRecursion IsWordTotal rows.now }
     requires light { weights rows.now ≤ 4294967295 * length rows.now }
     requires sums { sums.now ≡ sums_from 0 rows.now }
     requires read { AreRead seen.now.list (length ends.old.items) ends.old.items links.old.items broken.old.items }
@@ -72,6 +74,7 @@ fn put_element(
     requires few { length seen.now.list < 4294967295 }
     requires going { Going seen.now.list at around }
     requires inside { at < around.end }
+    requires near { around.depth < 65536 }
     requires row { Some row ≡ slice_get seen.now.list at }
     requires shape { shape ≡ code_shape (shape_in around.scope (rows_between seen.now.list at around.end)) }
     requires read { AreRead seen.now.list at ends.old.items links.old.items broken.old.items }

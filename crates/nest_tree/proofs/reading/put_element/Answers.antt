@@ -17,8 +17,8 @@ pub push_reserved-requires : goal.push_reserved-requires
 push_reserved-requires c =
     omega (arith, going_ends c.args.seen.now.list c.args.at c.args.around c.requires.going, c.requires.inside, c.requires.room.for_ends)
 
-pub new-link-requires : goal.new-link-requires
-new-link-requires c = parent_small c.args.seen.now.list c.args.at c.args.around c.requires.going
+pub new-link-requires-clause-above : goal.new-link-requires-clause-above
+new-link-requires-clause-above c = parent_small c.args.seen.now.list c.args.at c.args.around c.requires.going
     (omega (arith, going_ends c.args.seen.now.list c.args.at c.args.around c.requires.going, c.requires.inside, c.requires.few))
 
 pub push-requires-clause-room : goal.push-requires-clause-room

@@ -15,6 +15,9 @@ use Rattle.nest_tree.specs.declared.open_list.OpenList.{OpenList}
 use Rattle.nest_tree.proofs.HeadersApart.{NotBefore, reached}
 use Rattle.nest_tree.proofs.ListStacks.{leaf_read, going_past, going_ends}
 use Rattle.nest_tree.proofs.OpenLists.{between, shaped}
+use Rattle.nest_tree.specs.Depths.{IsWordTotal}
+use Rattle.nest_tree.specs.Shapes.{IsRow}
+use Rattle.nest_tree.proofs.RowDepths.{near_apart, near_list}
 use Rattle.nest_tree.proofs.reading.read_on.Goals as goal
 use Rattle.nest_tree.proofs.reading.read_on.Goals.{then-is_header, else-is_header}
 
@@ -148,3 +151,29 @@ loop-at-preserved c = elim c.if-is_header.branch [
         header = c.list_at-around.ensures.header;
       }
 ]
+
+pub put_element-requires-clause-near : goal.put_element-requires-clause-near
+put_element-requires-clause-near c =
+    let first : length c.args.ends.now.items ≡ c.len-first.result = sym c.args.ends.now.ok.0 ∙ sym c.len-first.ensures in
+    let each = subst (AllByRecursion IsRow) c.requires.rows c.requires.each in
+    let words = subst (AllByRecursion IsWordTotal) c.requires.rows c.requires.words in
+    let near = near_apart c.args.seen.now.list (length c.args.ends.now.items) c.requires.apart each words in
+    omega (
+      arith,
+      near_list c.args.seen.now.list c.loop-at.at c.list_at-around.result c.list_at-around.ensures.going c.list_at-around.ensures.inside
+          (length c.args.ends.now.items) (let from = c.loop-at.auto.at in omega arith)
+          (seen_at _ _ _ _ _ _ c.requires.rows c.requires.read.places.within c.len-first.ensures c.args.ends.now.ok.0 c.loop-at-test.true) near,
+    )
+
+pub put_element-requires-else-is_header-clause-near : goal.put_element-requires-else-is_header-clause-near
+put_element-requires-else-is_header-clause-near c =
+    let first : length c.args.ends.now.items ≡ c.len-first.result = sym c.args.ends.now.ok.0 ∙ sym c.len-first.ensures in
+    let each = subst (AllByRecursion IsRow) c.requires.rows c.requires.each in
+    let words = subst (AllByRecursion IsWordTotal) c.requires.rows c.requires.words in
+    let near = near_apart c.args.seen.now.list (length c.args.ends.now.items) c.requires.apart each words in
+    omega (
+      arith,
+      near_list c.args.seen.now.list c.loop-at.at c.list_at-around.result c.list_at-around.ensures.going c.list_at-around.ensures.inside
+          (length c.args.ends.now.items) (let from = c.loop-at.auto.at in omega arith)
+          (seen_at _ _ _ _ _ _ c.requires.rows c.requires.read.places.within c.len-first.ensures c.args.ends.now.ok.0 c.loop-at-test.true) near,
+    )
