@@ -6,7 +6,7 @@ use Rattle.dgn_layout.specs.declared.types.Class.{Class}
 use Rattle.dgn_layout.specs.Classes.{class_of, is_among}
 use Rattle.dgn_drawing.specs.declared.row.Row.{Row}
 use Rattle.dgn_drawing.specs.Nesting.{Scope, leaf, shape, itself, is_counted, is_all, is_spline_part, has_bit, member_count, front_count}
-use Rattle.nest_tree.specs.Plain.{is_header}
+use Rattle.dgn_drawing.specs.Nesting.{is_header}
 use Rattle.nest_tree.proofs.NestingSteps.{shape_cases}
 
 counted_header : (c : Class) → is_counted c ≡ true → is_header c ≡ true

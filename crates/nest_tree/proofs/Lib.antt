@@ -15,6 +15,7 @@ pub mod OpenLists
 mod WorkedNestings
 pub mod FirstLinks
 pub mod NumbersApart
+pub mod ClosedRows
 pub mod LeastNumber
 pub mod Depths
 pub mod LookUps

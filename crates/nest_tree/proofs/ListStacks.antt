@@ -16,7 +16,7 @@ use Rattle.nest_tree.specs.declared.open_list.OpenList.{OpenList}
 use Rattle.nest_tree.specs.Shapes.{code_knot, defined_scope, code_shape, rows_between, shape_in}
 use Rattle.nest_tree.specs.Places.{marks_in, link_of, parent_in, depth_in, knot_in, kind_in, scope_below, list_in, list_around, resume, IsInside, IsStack}
 use Rattle.nest_tree.specs.Places.{Going}
-use Rattle.nest_tree.specs.Plain.{is_header}
+use Rattle.dgn_drawing.specs.Nesting.{is_header}
 use Rattle.nest_tree.proofs.NestingSteps.{nest_nil, count_within, flat-forest}
 use Rattle.nest_tree.proofs.LeafShapes.{leaf_shape}
 use Rattle.nest_tree.proofs.MemberBytes.{no_row, between_cons}

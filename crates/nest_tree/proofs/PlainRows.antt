@@ -13,7 +13,8 @@ use Rattle.dgn_drawing.specs.Nesting.{front_count}
 use Rattle.dgn_drawing.specs.Numbering.{Mark, marks, is_broken}
 use Rattle.nest_tree.specs.Linked.{Link, plain_link}
 use Rattle.nest_tree.specs.Depths.{IsWordTotal}
-use Rattle.nest_tree.specs.Plain.{is_header, IsPlain, plain_mark}
+use Rattle.dgn_drawing.specs.Nesting.{is_header}
+use Rattle.nest_tree.specs.Plain.{IsPlain, plain_mark}
 use Rattle.nest_tree.specs.Passing.{passing, broken_in}
 use Rattle.nest_tree.specs.Places.{marks_in, link_of, end_of_mark, broken_by_link, NestApart}
 use Rattle.nest_tree.specs.Nested.{IsNest}

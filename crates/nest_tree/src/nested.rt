@@ -1,8 +1,8 @@
-ghost use Rattle.std.specs.Prelude.{◌≡◌, ◌≤◌, ◌<◌, ◌+◌, ◌-◌, ◌++◌, ◌↔◌, nat_lt, length, take, drop, map, slice_get, option_map, vec_len, vec_capacity};
+ghost use Rattle.std.specs.Prelude.{◌≡◌, ◌≤◌, ◌<◌, ◌+◌, ◌-◌, ◌++◌, ◌↔◌, ◌⊎◌, nat_lt, length, take, drop, map, slice_get, option_map, vec_len, vec_capacity};
 ghost use Rattle.std.specs.Prelude.{IsNone, IfSome, OnOk};
 ghost use Rattle.std.specs.List.{AllByRecursion};
 ghost use Rattle.nest_tree.specs.Depths.{IsSized, IsWordTotal};
-ghost use Rattle.dgn_drawing.specs.Nesting.{BeginsFree, itself};
+ghost use Rattle.dgn_drawing.specs.Nesting.{BeginsFree, IsClosed, itself};
 ghost use Rattle.dgn_drawing.specs.Numbering.{span_of, depth_of, parent_of, knot_of, root_of, first_broken_of};
 ghost use Rattle.nest_tree.specs.Shapes.{code_knot, IsRow};
 ghost use Rattle.nest_tree.specs.Places.{marks_in, link_of, end_of_mark, NestApart};
@@ -91,6 +91,18 @@ impl Nest {
         requires few { length self.old.rows + length rows.now < 4294967295 }
         requires each { AllByRecursion IsRow rows.now }
         requires free { BeginsFree itself rows.now }
+        ensures { self.new.rows ≡ self.old.rows ++ rows.now }
+    {
+        self.add(rows);
+    }
+
+    /// Adds the elements with these rows behind the others, of which they nest apart, since the first of them has no bit C
+    /// or none of the others waits for more. It takes no memory.
+    pub fn grow_apart(&mut self, rows: &[Row])
+        requires room { length rows.now ≤ self.old.spare }
+        requires few { length self.old.rows + length rows.now < 4294967295 }
+        requires each { AllByRecursion IsRow rows.now }
+        requires apart { BeginsFree itself rows.now ⊎ IsClosed itself self.old.rows }
         ensures { self.new.rows ≡ self.old.rows ++ rows.now }
     {
         self.add(rows);

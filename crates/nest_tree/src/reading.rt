@@ -14,10 +14,9 @@ use crate::broken::add_if_broken;
 use crate::link::Link;
 use crate::link_list::LinkList;
 use crate::open_list::{OpenList, all_elements, list_at};
-use crate::plain::is_header;
 use crate::seen::SeenRows;
 use crate::shape::{LEAF, Shape, shape_at};
-use dgn_drawing::Row;
+use dgn_drawing::{Row, is_header};
 
 // Reads on behind the elements that have their places: `rows` are those from there on, and `sums` their
 // sums. There is room for the places of all, and for the numbers of the broken ones.
