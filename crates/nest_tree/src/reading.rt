@@ -43,12 +43,20 @@ pub(crate) fn read_on(
     let first = ends.len();
     let count = first + rows.len();
     let mut list = all_elements(seen, count);
+    let mut near = 0;
     for at in first..count {
         let around = list_at(seen, first, rows, ends, links, at as u32, list);
         let row = rows[at - first];
         if is_header(row.kind) {
             let list_end = around.end as usize;
-            let shape = shape_at(rows, sums, around.scope, at - first, list_end - first);
+            let shape = shape_at(
+                rows,
+                sums,
+                around.scope,
+                at - first,
+                list_end - first,
+                &mut near,
+            );
             put_element(seen, around, at as u32, row, shape, ends, links, broken);
             list = list_behind(seen, around, at as u32, shape);
         } else {
