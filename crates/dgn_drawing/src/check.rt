@@ -7,7 +7,7 @@ ghost use Rattle.dgn_layout.specs.Classes.{class_of, is_silent};
 ghost use Rattle.dgn_layout.specs.Ends.{body_end as end_of};
 ghost use Rattle.dgn_layout.specs.declared.types.Class.{Class};
 ghost use Rattle.dgn_drawing.specs.Faults.{element_fault, IsSound};
-ghost use Rattle.dgn_drawing.specs.Nesting.{is_counted};
+ghost use Rattle.dgn_drawing.specs.Nesting.{is_counted, is_header};
 ghost use Rattle.dgn_drawing.specs.Rows.{row_at, total_in};
 ghost use Rattle.dgn_drawing.specs.WellFormed.{IsDimension};
 
@@ -73,6 +73,13 @@ pub fn is_counted(kind: u8) -> bool
     ensures { result ≡ is_counted (class_of kind) }
 {
     matches!(kind, 2 | 7 | 12 | 14 | 18 | 19)
+}
+
+/// Whether elements of type `kind` can have others below them: whether their class is counted or a run (`dgn_layout`).
+pub fn is_header(kind: u8) -> bool
+    ensures { result ≡ is_header (class_of kind) }
+{
+    matches!(kind, 2 | 7 | 12 | 14 | 18 | 19 | 24 | 27 | 34)
 }
 
 // Where the body of an element ends, of a type that isn't silent. None exactly where the element ends before that.

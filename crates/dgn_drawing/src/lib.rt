@@ -19,7 +19,7 @@ mod symb_change;
 pub mod types;
 
 pub use body_fault::BodyFault;
-pub use check::{check_elem, is_counted, row_of};
+pub use check::{check_elem, is_counted, is_header, row_of};
 pub use edit::Edit;
 pub use fence_edit::FenceEdit;
 pub use items::item;

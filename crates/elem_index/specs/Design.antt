@@ -1,13 +1,13 @@
 -- A design: the dimension, body and tail of a file that opens, the offsets of its elements, and a byte of each. And
 -- when what is kept can follow a body that has grown, or one that has lost its last elements.
-use Rattle.std.specs.Prelude.{ℕ, ◌≡◌, ◌+◌, ◌-◌, ◌≤◌, ◌<◌, min, List, [], ◌∷◌, ◌++◌, length, take, drop, map, vec_len, vec_capacity}
+use Rattle.std.specs.Prelude.{ℕ, ◌≡◌, ◌⊎◌, ◌+◌, ◌-◌, ◌≤◌, ◌<◌, min, List, [], ◌∷◌, ◌++◌, length, take, drop, map, vec_len, vec_capacity}
 use Rattle.elem_index.specs.declared.design.Design.{Design}
 use Rattle.elem_head.specs.Head.{kind_of, has_bit_c}
 use Rattle.dgn_drawing.specs.Element.{Element}
 use Rattle.dgn_drawing.specs.Spelling.{bit}
 use Rattle.dgn_drawing.specs.declared.row.Row.{Row}
 use Rattle.dgn_drawing.specs.Rows.{row_of}
-use Rattle.dgn_drawing.specs.Nesting.{BeginsFree}
+use Rattle.dgn_drawing.specs.Nesting.{BeginsFree, IsClosed, itself}
 use Rattle.dgn_drawing.specs.Opening.{Opens, elements_of}
 use Rattle.elem_index.specs.Offsets.{offsets_of}
 use Rattle.dgn_drawing.specs.declared.limits.TheConstants.{MOST_DESIGN}
@@ -40,6 +40,12 @@ kind_bytes es = map kind_byte (map row_of es)
 abbrev pub elements : Design → List Element
 elements d = elements_of d.dim d.body.items
 
+-- the rows so far of those from number n on, up to number m
+pub record AreRows (es : List Element) (n m : ℕ) (rows : List Row) : Type 0 where
+  pub within : m ≤ length es
+  pub count : n + length rows ≡ m
+  pub are : map row_of (take n es) ++ rows ≡ map row_of (take m es)
+
 -- body and tail are those of a file of at most MOST_DESIGN bytes that opens, in the design's dimension
 pub record IsOpen (d : Design) : Type 0 where
   pub few : length d.body.items + length d.tail.items ≤ MOST_DESIGN
@@ -66,12 +72,14 @@ pub record IsBehind (count : ℕ) (d : Design) : Type 0 where
   pub first : take count (kept_of d) ≡ offsets_of (elements d)
   pub kinds : take count (kinds_of d) ≡ kind_bytes (elements d)
 
--- the rows of some elements from number n on; the first element behind them, if there is one, has no bit C
+-- the rows of some elements from number n on: of as many as there are, or of 4096 at the least; the elements behind them
+-- can't belong to one of them, since the first one has no bit C or no header among them waits for more
 pub record IsBlock (es : List Element) (n : ℕ) (rows : List Row) : Type 0 where
   pub some : 0 < length rows
   pub within : n + length rows ≤ length es
+  pub many : (n + length rows ≡ length es) ⊎ (4096 ≤ length rows)
   pub are : map row_of (take n es) ++ rows ≡ map row_of (take (n + length rows) es)
-  pub free : BeginsFree row_of (drop (n + length rows) es)
+  pub apart : BeginsFree row_of (drop (n + length rows) es) ⊎ IsClosed itself rows
 
 -- dimension, body and tail stay, with the room that body and tail have
 pub record SameText (old new : Design) : Type 0 where

@@ -19,7 +19,8 @@ use Rattle.elem_index.specs.Design.{elements, kind_bytes, IsWhole}
 use Rattle.elem_index.proofs.Places.{body_is, stands_at, offset_past, length-offsets, get_or-offsets}
 use Rattle.elem_index.proofs.KindBytes.{length-kind_bytes}
 use Rattle.elem_index.proofs.KeptRows.{here, found, uncounted, row_is}
-use Rattle.nest_tree.specs.Plain.{is_header, IsPlainKind, next_place, kept_row, kept_rows}
+use Rattle.dgn_drawing.specs.Nesting.{is_header}
+use Rattle.nest_tree.specs.Plain.{IsPlainKind, next_place, kept_row, kept_rows}
 use Rattle.dgn_drawing.specs.declared.limits.TheConstants.{MOST_DESIGN}
 
 -- a class that is no header's counts no members

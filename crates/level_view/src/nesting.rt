@@ -78,7 +78,7 @@ fn nest_block(d: &Design, nest: &mut Nest, n: u32, rows: &mut Vec<Row>) -> Resul
 {
     d.row_block(n, rows)?;
     nest.reserve(rows.len() as u32)?;
-    nest.grow(rows);
+    nest.grow_apart(rows);
     Ok(n + rows.len() as u32)
 }
 

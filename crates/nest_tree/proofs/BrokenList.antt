@@ -1,12 +1,10 @@
 -- The broken numbers as a rising list: it is made one number behind the other, and the first broken number of a
 -- span is the first of the list that isn't below the span.
-use Rattle.std.proofs.Common.{◌≡◌, ℕ, zero, suc, ◌+◌, ◌-◌, ◌≤◌, ◌<◌, List, [], ◌∷◌, ◌++◌, length, map, get_or, refl, sym, ap, ◌∙◌, subst, arith}
+use Rattle.std.proofs.Common.{◌≡◌, ℕ, zero, suc, ◌+◌, ◌-◌, ◌≤◌, ◌<◌, List, [], ◌∷◌, ◌++◌, length, get_or, refl, sym, ap, ◌∙◌, subst, arith}
 use Rattle.std.proofs.Common.{length-append, true, false, Bool, inl, inr}
 use Rattle.std.specs.Prelude.{Option, Some, None, option_map, slice_get, nat_lt}
-use Rattle.std.proofs.lemmas.List.{length-map}
 use Rattle.std.specs.List.Sorted.{IsPartitionedBy, IsPartitionPoint}
 use Rattle.std.proofs.lemmas.List.Sorted.{IsPartitionedBy-ltb}
-use Rattle.std.proofs.lemmas.Option.{slice_get-get_or, slice_get-map}
 use Rattle.std.proofs.lemmas.Bool.{cases_Bool, cases_lt, cond-true, cond-false, lt-ltb, le-ltb}
 use Rattle.dgn_drawing.specs.declared.row.Row.{Row}
 use Rattle.dgn_drawing.specs.Nesting.{itself, Forest, NoTree, Tree, flat, forest}
@@ -15,7 +13,7 @@ use Rattle.nest_tree.specs.Linked.{Link}
 use Rattle.nest_tree.specs.Places.{marks_in, link_of, end_of_mark, broken_by_link}
 use Rattle.nest_tree.specs.Passing.{passing, broken_in, first_at, if_below}
 use Rattle.nest_tree.proofs.NestingSteps.{flat-forest}
-use Rattle.nest_tree.proofs.ListStacks.{length-marks, length-marks_in}
+use Rattle.nest_tree.proofs.ListStacks.{length-marks}
 use Rattle.nest_tree.proofs.HeaderChains.{get_first, get_behind}
 use Rattle.nest_tree.proofs.LeastNumber.{first_is}
 use Rattle.nest_tree.proofs.LookUps.{found_of, known_of, broken_is}
@@ -205,38 +203,28 @@ module _ (rows : List Row) where
       let halves = point (subst (IsPartitionedBy (λ m. nat_lt m n)) (sym is) (parted (is_broken itself rows) (length rows) n)) in
       at_point n list i (λ k d less. halves.0 k d (omega arith) less) (λ k d more inside. halves.1 k d more inside) ∙ ap (first_at n) is
 
-  -- where the links of all elements are kept
-  module _ (links : List Link) (are : links ≡ map link_of (marks_in rows)) where
-    pub length-links_of : length links ≡ length rows
-    length-links_of = ap (length {A = Link}) are ∙ length-map (marks_in rows) link_of ∙ length-marks_in rows
-
-    -- what is kept of an element says whether it is broken
-    pub said : (n : ℕ) (d : Link) (e : Row) → n < length rows → broken_by_link n (get_or links n d) (get_or rows n e) ≡ is_broken itself rows n
-    said n d e inside =
-        let long = length-links_of in
-        broken_is rows n (get_or links n d) (get_or rows n e)
-        (sym (slice_get-get_or links n d (omega arith)) ∙ ap (λ (l : List Link). slice_get l n) are ∙ slice_get-map link_of (marks_in rows) n)
-        (sym (slice_get-get_or rows n e inside))
+  -- what is kept of an element, and its row, say whether it is broken
+  module _ (n : ℕ) (link : Link) (row : Row) (is : Some link ≡ option_map link_of (slice_get (marks_in rows) n)) (here : Some row ≡ slice_get rows n)
+      (list new : List ℕ) (so_far : list ≡ passing (is_broken itself rows) 0 n) where
+    said : (b : Bool) → broken_by_link n link row ≡ b → is_broken itself rows (0 + n) ≡ b
+    said b test =
+        let place : n ≡ 0 + n = omega arith in
+        ap (is_broken itself rows) (sym place) ∙ sym (broken_is rows n link row is here) ∙ test
 
     -- so the list grows by one that is, and by no other
-    pub broken_kept : (n : ℕ) (d : Link) (e : Row) (list new : List ℕ) → n < length rows → list ≡ passing (is_broken itself rows) 0 n
-        → broken_by_link n (get_or links n d) (get_or rows n e) ≡ true → new ≡ list ++ n ∷ [] → new ≡ passing (is_broken itself rows) 0 (n + 1)
-    broken_kept n d e list new inside so_far is grown =
+    pub broken_kept : broken_by_link n link row ≡ true → new ≡ list ++ n ∷ [] → new ≡ passing (is_broken itself rows) 0 (n + 1)
+    broken_kept test grown =
         let place : n ≡ 0 + n = omega arith in
         let next : suc n ≡ n + 1 = omega arith in
-        let test : is_broken itself rows (0 + n) ≡ true = ap (is_broken itself rows) (sym place) ∙ sym (said n d e inside) ∙ is in
         grown ∙ ap (λ (l : List ℕ). l ++ n ∷ []) so_far ∙ ap (λ (k : ℕ). passing (is_broken itself rows) 0 n ++ k ∷ []) place
-        ∙ sym (one_passes (is_broken itself rows) 0 n test) ∙ ap (passing (is_broken itself rows) 0) next
+        ∙ sym (one_passes (is_broken itself rows) 0 n (said true test)) ∙ ap (passing (is_broken itself rows) 0) next
 
-    pub sound_passed : (n : ℕ) (d : Link) (e : Row) (list new : List ℕ) → n < length rows → list ≡ passing (is_broken itself rows) 0 n
-        → broken_by_link n (get_or links n d) (get_or rows n e) ≡ false → new ≡ list → new ≡ passing (is_broken itself rows) 0 (n + 1)
-    sound_passed n d e list new inside so_far is same =
-        let place : n ≡ 0 + n = omega arith in
+    pub sound_passed : broken_by_link n link row ≡ false → new ≡ list → new ≡ passing (is_broken itself rows) 0 (n + 1)
+    sound_passed test same =
         let next : suc n ≡ n + 1 = omega arith in
-        let test : is_broken itself rows (0 + n) ≡ false = ap (is_broken itself rows) (sym place) ∙ sym (said n d e inside) ∙ is in
-        same ∙ so_far ∙ sym (one_fails (is_broken itself rows) 0 n test) ∙ ap (passing (is_broken itself rows) 0) next
+        same ∙ so_far ∙ sym (one_fails (is_broken itself rows) 0 n (said false test)) ∙ ap (passing (is_broken itself rows) 0) next
 
   -- all have been asked
-  pub all_asked : (n : ℕ) (list : List ℕ) → n ≤ length rows → length rows ≤ n → list ≡ passing (is_broken itself rows) 0 n → list ≡ broken_in rows
+  pub all_listed : (list : List ℕ) → list ≡ passing (is_broken itself rows) 0 (length rows) → list ≡ broken_in rows
   unfolding broken_in
-  all_asked n list within past is = let all : n ≡ length rows = omega arith in is ∙ ap (passing (is_broken itself rows) 0) all
+  all_listed list is = is

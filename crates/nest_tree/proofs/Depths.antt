@@ -20,11 +20,11 @@ all_join : {A : Type 0} (P : A → Type 0) (xs ys : List A) → AllByRecursion P
 all_join P [] ys front back = back
 all_join P (x ∷ xs) ys front back = (front.0, all_join P xs ys front.1 back)
 
-all_weaker : {A : Type 0} (P Q : A → Type 0) (xs : List A) → ((x : A) → P x → Q x) → AllByRecursion P xs → AllByRecursion Q xs
+pub all_weaker : {A : Type 0} (P Q : A → Type 0) (xs : List A) → ((x : A) → P x → Q x) → AllByRecursion P xs → AllByRecursion Q xs
 all_weaker P Q [] weaker each = tt
 all_weaker P Q (x ∷ xs) weaker each = (weaker x each.0, all_weaker P Q xs weaker each.1)
 
-abbrev bytes : List Row → ℕ
+abbrev pub bytes : List Row → ℕ
 bytes l = bytes_of itself l
 
 bytes_split : (k : ℕ) (l : List Row) → bytes (take k l) + bytes (drop k l) ≡ bytes l
@@ -62,7 +62,7 @@ spline_size h sized spline =
     ]
 
 -- a group has no more bytes than its total says
-group_bytes : (h : Row) (r : List Row) (k : ℕ) → member_count itself h r ≡ Some k → h.size + bytes (take k r) ≡ whole_of h
+pub group_bytes : (h : Row) (r : List Row) (k : ℕ) → member_count itself h r ≡ Some k → h.size + bytes (take k r) ≡ whole_of h
 group_bytes h r k is =
     elim (cases_Bool (nat_le h.size (whole_of h))) [
       | inl small ↦
@@ -80,17 +80,17 @@ group_left h r k sized word counted is =
     let sum = group_bytes h r k is in
     omega arith
 
-short_front : (k m : ℕ) (r : List Row) → length r ≤ m → length (take k r) ≤ m
+pub short_front : (k m : ℕ) (r : List Row) → length r ≤ m → length (take k r) ≤ m
 short_front k m r short = omega (arith, length-take k r)
 
-short_rest : (k m : ℕ) (r : List Row) → length r ≤ m → length (drop k r) ≤ m
+pub short_rest : (k m : ℕ) (r : List Row) → length r ≤ m → length (drop k r) ≤ m
 short_rest k m r short = omega (arith, length-drop k r)
 
 -- what holds of the marks of a head, of those below it and of those behind it, holds of all
-abbrev Each : (Mark → Type 0) → Forest Row → ℕ → ℕ → Option ℕ → Type 0
+abbrev pub Each : (Mark → Type 0) → Forest Row → ℕ → ℕ → Option ℕ → Type 0
 Each P t n d p = AllByRecursion P (marks t n d p)
 
-each_cons : (P : Mark → Type 0) (scope : Scope) (h : Row) (r : List Row) (n d : ℕ) (p : Option ℕ)
+pub each_cons : (P : Mark → Type 0) (scope : Scope) (h : Row) (r : List Row) (n d : ℕ) (p : Option ℕ)
     → ((m : Mark) → m.depth ≡ d → P m)
     → Each P (nest itself (shape itself scope h r).inside (take (shape itself scope h r).count r)) (n + 1) (d + 1) (Some n)
     → ((k : ℕ) → Each P (nest itself scope (drop (shape itself scope h r).count r)) k d p)
@@ -103,11 +103,11 @@ each_cons P scope h r n d p own below behind =
     (own mark refl, all_join P (marks t (n + 1) (d + 1) (Some n)) (marks rest (end_of n t) d p) below (behind (end_of n t))) in
     subst (λ (x : Forest Row). Each P x n d p) (sym (nest_cons itself scope h r)) all
 
-each_nil : (P : Mark → Type 0) (scope : Scope) (n d : ℕ) (p : Option ℕ) → Each P (nest itself scope []) n d p
+pub each_nil : (P : Mark → Type 0) (scope : Scope) (n d : ℕ) (p : Option ℕ) → Each P (nest itself scope []) n d p
 each_nil P scope n d p = subst (λ (x : Forest Row). Each P x n d p) (sym (nest_nil itself scope)) tt
 
 -- parts of a B-spline lie in their list
-parts_flat : (m : ℕ) (l : List Row) (n d : ℕ) (p : Option ℕ) → length l ≤ m → Each (λ x. x.depth ≤ d) (nest itself Parts l) n d p
+pub parts_flat : (m : ℕ) (l : List Row) (n d : ℕ) (p : Option ℕ) → length l ≤ m → Each (λ x. x.depth ≤ d) (nest itself Parts l) n d p
 parts_flat m [] n d p short = each_nil (λ x. x.depth ≤ d) Parts n d p
 parts_flat zero (h ∷ r) n d p short = absurd (omega arith)
 parts_flat (suc m) (h ∷ r) n d p short =

@@ -32,7 +32,7 @@ pub reached : (rows : List Row) (first : ℕ) → drop first (marks_in rows) ≡
 reached rows first apart =
     subst (AllByRecursion (NotBefore first)) (sym apart) (parents_from (nest itself Whole (drop first rows)) first first 0 None (omega arith) tt)
 
-all_at : {A : Type 0} (P : A → Type 0) (l : List A) (i : ℕ) (d : A) → AllByRecursion P l → i < length l → P (get_or l i d)
+pub all_at : {A : Type 0} (P : A → Type 0) (l : List A) (i : ℕ) (d : A) → AllByRecursion P l → i < length l → P (get_or l i d)
 all_at P [] i d each within = absurd (omega arith)
 all_at P (x ∷ l) zero d each within = each.0
 all_at P (x ∷ l) (suc i) d each within = all_at P l i d each.1 (omega arith)

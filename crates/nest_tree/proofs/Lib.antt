@@ -7,6 +7,7 @@ pub mod Fronts
 pub mod MemberBytes
 pub mod RowSums
 pub mod ShapeTests
+pub mod LeafShapes
 pub mod ListEntry
 pub mod ListStacks
 pub mod HeaderChains
@@ -14,6 +15,7 @@ pub mod OpenLists
 mod WorkedNestings
 pub mod FirstLinks
 pub mod NumbersApart
+pub mod ClosedRows
 pub mod LeastNumber
 pub mod Depths
 pub mod LookUps
@@ -26,6 +28,7 @@ pub mod PlainRows
 pub mod PlainElements
 pub mod NumbersPushed
 pub mod HeadersApart
+pub mod RowDepths
 pub mod RowBlocks
 pub mod Walks
 pub mod FirstParts

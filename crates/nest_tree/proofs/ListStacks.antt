@@ -1,19 +1,24 @@
 -- The lists that are being read, each in the next: reading goes on in the innermost one, a list that has ended
 -- is left, and that of the elements below the one that was read is entered.
-use Rattle.std.proofs.Common.{◌≡◌, ℕ, ◌+◌, ◌-◌, ◌≤◌, ◌<◌, List, [], ◌∷◌, ◌++◌, length, take, drop, map, get_or, refl, sym, ap, ◌∙◌, subst, arith}
-use Rattle.std.specs.Prelude.{Option, Some, None, IfSome}
-use Rattle.std.proofs.lemmas.List.{drop_more, length-drop, length-take, get_or-map, length-append, take_more}
+use Rattle.std.proofs.Common.{◌≡◌, ℕ, ◌+◌, ◌-◌, ◌≤◌, ◌<◌, List, [], ◌∷◌, ◌++◌, length, take, drop, map, get_or, refl, sym, ap, ◌∙◌, subst, arith, false}
+use Rattle.std.specs.Prelude.{Option, Some, None, IfSome, option_map, slice_get}
+use Rattle.std.proofs.lemmas.List.{drop_more, length-drop, length-take, length-map, get_or-map, length-append, take_more}
+use Rattle.std.proofs.lemmas.Option.{slice_get-get_or, slice_get-map}
+use Rattle.dgn_layout.specs.Classes.{class_of}
 use Rattle.dgn_drawing.specs.declared.row.Row.{Row}
-use Rattle.dgn_drawing.specs.Nesting.{shape, member_count, front_count, is_spline_part, has_bit, itself, nest, forest, flat, Forest, Tree, NoTree}
+use Rattle.dgn_drawing.specs.Nesting.{leaf, shape, member_count, front_count, is_spline_part, has_bit, itself, nest, forest, flat, Forest, Tree, NoTree}
 use Rattle.dgn_drawing.specs.Numbering.{Mark, end_of, marks}
 use Rattle.nest_tree.specs.declared.knot.Knot.{Knot}
+use Rattle.nest_tree.specs.Linked.{Link}
 use Rattle.nest_tree.specs.declared.shape.Scope.{Scope}
 use Rattle.nest_tree.specs.declared.shape.Shape as code
 use Rattle.nest_tree.specs.declared.open_list.OpenList.{OpenList}
 use Rattle.nest_tree.specs.Shapes.{code_knot, defined_scope, code_shape, rows_between, shape_in}
 use Rattle.nest_tree.specs.Places.{marks_in, link_of, parent_in, depth_in, knot_in, kind_in, scope_below, list_in, list_around, resume, IsInside, IsStack}
 use Rattle.nest_tree.specs.Places.{Going}
+use Rattle.dgn_drawing.specs.Nesting.{is_header}
 use Rattle.nest_tree.proofs.NestingSteps.{nest_nil, count_within, flat-forest}
+use Rattle.nest_tree.proofs.LeafShapes.{leaf_shape}
 use Rattle.nest_tree.proofs.MemberBytes.{no_row, between_cons}
 use Rattle.nest_tree.proofs.ListEntry.{at_place, below_cases, mark_here, list_here, enters}
 
@@ -173,6 +178,16 @@ module _ (rows : List Row) (at : ℕ) (f : OpenList) (going : Going rows at f) (
   shape_is : shape_in f.scope (rows_between rows at f.end) ≡ shape itself (defined_scope f.scope) h (take (f.end - at - 1) r)
   shape_is = let e = ends in ap (shape_in f.scope) (between_cons rows at f.end no_row inside (omega arith))
 
+  -- one of a type that heads nothing is a leaf
+  pub leaf_read : (row : Row) → Some row ≡ slice_get rows at → is_header (class_of row.kind) ≡ false
+      → code_shape leaf ≡ code_shape (shape_in f.scope (rows_between rows at f.end))
+  leaf_read row here none =
+      let e = ends in
+      let found : Some row ≡ Some h = here ∙ slice_get-get_or rows at no_row (omega arith) in
+      let same : row ≡ h = cc in
+      ap code_shape (sym (shape_is ∙ leaf_shape (defined_scope f.scope) h (take (f.end - at - 1) r)
+      (subst (λ (x : Row). is_header (class_of x.kind) ≡ false) same none)))
+
   module _ (s : code.Shape) (is : s ≡ code_shape (shape_in f.scope (rows_between rows at f.end))) where
     said : s ≡ code_shape (shape itself (defined_scope f.scope) h (take (f.end - at - 1) r))
     said = is ∙ ap code_shape shape_is
@@ -180,8 +195,21 @@ module _ (rows : List Row) (at : ℕ) (f : OpenList) (going : Going rows at f) (
     pub end_read : mark_read.end ≡ at + 1 + s.count
     end_read = sym (ap (λ (x : code.Shape). at + 1 + x.count) said)
 
+    pub end_fits : length rows < 4294967295 → at + 1 + s.count < 4294967295
+    end_fits few =
+        let e = ends in
+        let most = count_read in
+        omega (arith, end_read)
+
     pub link_read : link_of mark_read ≡ record { parent = f.parent; depth = f.depth; knot = s.knot }
     link_read = sym (ap (λ (x : code.Shape). record { parent = f.parent; depth = f.depth; knot = x.knot }) said)
+
+    pub known_link : Some (record { parent = f.parent; depth = f.depth; knot = s.knot }) ≡ option_map link_of (slice_get (marks_in rows) at)
+    known_link =
+        let e = ends in
+        let long = length-marks_in rows in
+        let found = slice_get-get_or (map link_of (marks_in rows)) at (link_of mark_read) (omega (arith, length-map (marks_in rows) link_of)) in
+        sym (sym (slice_get-map link_of (marks_in rows) at) ∙ found ∙ ap (λ (l : Link). Some l) (mark_is link_of (link_of mark_read) ∙ link_read))
 
     list_said : list_read ≡ record { scope = s.inside; end = at + 1 + s.count; depth = f.depth + 1; parent = Some at }
     list_said = sym (ap (λ (x : code.Shape). record { scope = x.inside; end = at + 1 + x.count; depth = f.depth + 1; parent = Some at }) said)

@@ -5,14 +5,11 @@ use Rattle.std.proofs.Common.{cond, inl, inr}
 use Rattle.std.specs.Prelude.{Option, Some, None, option_map, ◌==◌, ◌&&◌, nat_le, ◌⊎◌, Result, Ok, Err}
 use Rattle.std.specs.Result.{MatchResult, result_ok}
 use Rattle.std.specs.List.{AllByRecursion}
-use Rattle.std.specs.List.Sorted.{IsBinarySearchResult}
-use Rattle.std.specs.Ordering.{nat_cmp}
 use Rattle.std.proofs.lemmas.List.{get_or-take, get_or-drop, length-take, length-drop, take-take, drop_more}
-use Rattle.std.proofs.lemmas.List.Sorted.{searched}
-use Rattle.std.proofs.lemmas.Bool.{cond-true, cond-false, cases_Bool, eq-eqb, ne_eqb, and_from, and_left, and_right, le-leb, lt-leb, cases_lt}
+use Rattle.std.proofs.lemmas.Bool.{cond-true, cond-false, cases_Bool, eq-eqb, ne_eqb, and_from, and_left, and_right, le-leb, lt-leb, cases_lt, cases_eq}
 use Rattle.dgn_drawing.specs.declared.row.Row.{Row}
 use Rattle.dgn_drawing.specs.Nesting.{whole_of, filling, member_count, itself}
-use Rattle.nest_tree.specs.Sums.{weight, weights, sums_from, bytes_left, members_in}
+use Rattle.nest_tree.specs.Sums.{weight, weights, sums_from, bytes_left, members_in, Rises, IsPlaceOf}
 use Rattle.nest_tree.specs.Shapes.{IsRow, IsBetween, rows_between}
 
 -- rows of elements
@@ -165,9 +162,27 @@ module _ (rows : List Row) (at end : ℕ) (some : at < end) (bounds : end ≤ le
           | inr high ↦ let above = miss.2 k high (omega arith) in omega arith
         ]))
 
-    pub search_members : (r : Result ℕ ℕ) → IsBinarySearchResult (λ y. nat_cmp y (get_or list 0 0 + bytes)) list r
-        → result_ok r ≡ filling itself bytes (rows_behind rows at end)
-    search_members r hits = answered r (searched list (get_or list 0 0 + bytes) r hits rising)
+    -- what stands at the place of the sum says how many members there are
+    pub placed_some : (i : ℕ) → i < length list → get_or list i 0 ≡ get_or list 0 0 + bytes → Some i ≡ filling itself bytes (rows_behind rows at end)
+    placed_some i within here = answered (Ok i) (within, here)
+
+    pub placed_none : (i : ℕ) → IsPlaceOf list (get_or list 0 0 + bytes) i → (i < length list → get_or list i 0 ≡ get_or list 0 0 + bytes → ⊥)
+        → None ≡ filling itself bytes (rows_behind rows at end)
+    placed_none i place other =
+        answered (Err i) (
+          place.within,
+          place.before,
+          λ k from within.
+              let high = place.from k from within in
+              let first : i < length list = omega arith in
+              let low = place.from i (omega arith) first in
+              let up = rising i k from within in
+              let apart = other first in
+              elim (cases_eq (get_or list i 0) (get_or list 0 0 + bytes)) [
+                | inl same ↦ absurd (apart same)
+                | inr differ ↦ omega arith
+              ],
+        )
 
 pub all_take : {A : Type 0} (P : A → Type 0) (n : ℕ) (l : List A) → AllByRecursion P l → AllByRecursion P (take n l)
 all_take P zero l each = tt
@@ -205,13 +220,23 @@ module _ (rows : List Row) (sums : List ℕ) (at end : ℕ) (between : IsBetween
   pub no_members : bytes_left (get_or rows at d) ≡ None → None ≡ members_in (rows_between rows at end)
   no_members none = sym (ap members_in first ∙ count_none (get_or rows at d) _ none)
 
-  pub members_found : (bytes : ℕ) → bytes_left (get_or rows at d) ≡ Some bytes → bytes < 131109
-      → (list : List ℕ) → list ≡ take (end - at) (drop (at + 1) sums) → (r : Result ℕ ℕ)
-      → IsBinarySearchResult (λ y. nat_cmp y (get_or list 0 0 + bytes)) list r → result_ok r ≡ members_in (rows_between rows at end)
-  members_found bytes left few list is r hits =
-      let are : list ≡ take (end - at) (drop (at + 1) (sums_from 0 rows)) = is ∙ ap (λ (s : List ℕ). take (end - at) (drop (at + 1) s)) between.are_sums in
-      search_members rows at end between.some between.bounds list are each_behind bytes few r hits
-      ∙ sym (ap members_in first ∙ count_some (get_or rows at d) _ bytes left)
+  module _ (bytes : ℕ) (left : bytes_left (get_or rows at d) ≡ Some bytes) (few : bytes < 131109) (list : List ℕ)
+      (is : list ≡ take (end - at) (drop (at + 1) sums)) where
+    are : list ≡ take (end - at) (drop (at + 1) (sums_from 0 rows))
+    are = is ∙ ap (λ (s : List ℕ). take (end - at) (drop (at + 1) s)) between.are_sums
+
+    told : filling itself bytes (rows_behind rows at end) ≡ members_in (rows_between rows at end)
+    told = sym (ap members_in first ∙ count_some (get_or rows at d) _ bytes left)
+
+    pub sums_rise : Rises list
+    sums_rise = rising rows at end between.some between.bounds list are
+
+    pub members_found : (i : ℕ) → i < length list → get_or list i 0 ≡ get_or list 0 0 + bytes → Some i ≡ members_in (rows_between rows at end)
+    members_found i within here = placed_some rows at end between.some between.bounds list are each_behind bytes few i within here ∙ told
+
+    pub none_found : (i : ℕ) → IsPlaceOf list (get_or list 0 0 + bytes) i → (i < length list → get_or list i 0 ≡ get_or list 0 0 + bytes → ⊥)
+        → None ≡ members_in (rows_between rows at end)
+    none_found i place other = placed_none rows at end between.some between.bounds list are each_behind bytes few i place other ∙ told
 
   -- and the sum that is looked for fits
   weights_rise : (i : ℕ) (l : List Row) → weights (take i l) ≤ weights l

@@ -15,7 +15,7 @@ use Rattle.nest_tree.specs.Sums.{weights, sums_from}
 use Rattle.nest_tree.specs.Shapes.{code_knot, code_shape, shape_in, rows_between, IsRow, IsBetween}
 use Rattle.nest_tree.specs.Places.{marks_in, link_of, ArePlaces, end_in, parent_in, depth_in, knot_in, kind_in, scope_below, list_in, resume, Going}
 use Rattle.nest_tree.proofs.MemberBytes.{no_row}
-use Rattle.nest_tree.proofs.ListStacks.{length-marks_in, take_marks, end_read, link_read, going_ends, count_read, mark_read}
+use Rattle.nest_tree.proofs.ListStacks.{length-marks_in, take_marks, end_read, link_read, going_ends, mark_read}
 
 abbrev pub no_mark : Mark
 no_mark = record { knot = nesting.Leaf; depth = 0; parent = None; end = 0 }
@@ -137,9 +137,3 @@ module _ (rows new : List Row) (first : ℕ) (are : new ≡ drop first rows) (at
   pub shaped : (s : code.Shape) → s ≡ code_shape (shape_in f.scope (rows_between new (at - first) (f.end - first)))
       → s ≡ code_shape (shape_in f.scope (rows_between rows at f.end))
   shaped s is = is ∙ ap (λ (l : List Row). code_shape (shape_in f.scope l)) same_between
-
-  pub end_fits : (s : code.Shape) → s ≡ code_shape (shape_in f.scope (rows_between rows at f.end)) → at + 1 + s.count < 4294967295
-  end_fits s is =
-      let bound = going_ends rows at f going in
-      let most = count_read rows at f going inside in
-      omega (arith, end_read rows at f going inside s is)

@@ -7,7 +7,8 @@ use Rattle.dgn_layout.specs.Classes.{class_of}
 use Rattle.dgn_drawing.specs.declared.row.Row.{Row}
 use Rattle.dgn_drawing.specs.Nesting.{BeginsFree, itself}
 use Rattle.nest_tree.specs.Depths.{IsWordTotal}
-use Rattle.nest_tree.specs.Plain.{is_header, IsPlain, IsPlainKind, next_place, kept_row, kept_rows}
+use Rattle.dgn_drawing.specs.Nesting.{is_header}
+use Rattle.nest_tree.specs.Plain.{IsPlain, IsPlainKind, next_place, kept_row, kept_rows}
 use Rattle.nest_tree.proofs.PlainRows.{no_bit}
 
 -- such an element has the row of a root with nothing below it

@@ -1,28 +1,31 @@
 -- Roots with nothing below them, behind other elements: their marks, and what is kept of all.
 use Rattle.std.proofs.Common.{◌≡◌, ℕ, zero, suc, ◌+◌, ◌≤◌, ◌<◌, List, [], ◌∷◌, ◌++◌, length, take, drop, map, get_or, replicate, refl, sym, ap, ◌∙◌, arith}
 use Rattle.std.proofs.Common.{length-append, true, false, Bool, inl, inr}
-use Rattle.std.specs.Prelude.{None, ◌&&◌, ◌||◌, ◌==◌, not}
+use Rattle.std.specs.Prelude.{Some, None, option_map, slice_get, ◌&&◌, ◌==◌, not}
 use Rattle.std.specs.List.{AllByRecursion, range_with_len}
-use Rattle.std.proofs.lemmas.List.{map-append, get_or-append-add}
-use Rattle.std.proofs.lemmas.Bool.{cond-true, cond-false, cases_Bool, or_cases, and_parts, eqb-true, both_ways}
-use Rattle.dgn_layout.specs.declared.types.Class.{Class}
-use Rattle.dgn_layout.specs.Classes.{class_of, is_among}
+use Rattle.std.proofs.lemmas.List.{map-append, get_or-append-add, length-replicate}
+use Rattle.std.proofs.lemmas.Option.{slice_get-get_or, slice_get-map}
+use Rattle.std.proofs.lemmas.Bool.{cond-true, cond-false, cases_Bool}
+use Rattle.dgn_layout.specs.Classes.{class_of}
 use Rattle.dgn_drawing.specs.declared.row.Row.{Row}
-use Rattle.dgn_drawing.specs.Nesting.{Whole, Members, Leaf, Forest, NoTree, Tree, Shape, leaf, shape, nest, itself, is_counted, is_all, is_spline_part}
-use Rattle.dgn_drawing.specs.Nesting.{has_bit, member_count, front_count}
+use Rattle.dgn_drawing.specs.Nesting.{Whole, Members, Leaf, Forest, NoTree, Tree, Shape, leaf, shape, nest, itself}
+use Rattle.dgn_drawing.specs.Nesting.{front_count}
 use Rattle.dgn_drawing.specs.Numbering.{Mark, marks, is_broken}
 use Rattle.nest_tree.specs.Linked.{Link, plain_link}
 use Rattle.nest_tree.specs.Depths.{IsWordTotal}
-use Rattle.nest_tree.specs.Plain.{is_header, IsPlain, plain_mark}
+use Rattle.dgn_drawing.specs.Nesting.{is_header}
+use Rattle.nest_tree.specs.Plain.{IsPlain, plain_mark}
 use Rattle.nest_tree.specs.Passing.{passing, broken_in}
 use Rattle.nest_tree.specs.Places.{marks_in, link_of, end_of_mark, broken_by_link, NestApart}
 use Rattle.nest_tree.specs.Nested.{IsNest}
-use Rattle.nest_tree.proofs.NestingSteps.{shape_cases, nest_cons, nest_nil}
+use Rattle.nest_tree.proofs.NestingSteps.{nest_cons, nest_nil}
 use Rattle.nest_tree.proofs.FirstLinks.{all_marks, all_links}
 use Rattle.nest_tree.proofs.MemberBytes.{no_row}
 use Rattle.nest_tree.proofs.OpenLists.{length-links}
 use Rattle.nest_tree.proofs.GrownNestings.{grown_words, length-grown, grown_broken, length-kept_ends}
-use Rattle.nest_tree.proofs.BrokenList.{one_fails, said}
+use Rattle.nest_tree.proofs.BrokenList.{one_fails}
+use Rattle.nest_tree.proofs.LookUps.{broken_is}
+use Rattle.nest_tree.proofs.LeafShapes.{leaf_shape}
 
 -- rows of which all pass a test from the front on pass it
 pub all_pass : (test : Row → Bool) (rows : List Row) → front_count test rows ≡ length rows → AllByRecursion (λ r. test r ≡ true) rows
@@ -47,36 +50,9 @@ no_bit r plain = (both_true r.cbit (is_header (class_of r.kind)) plain).0
 no_header : (r : Row) → IsPlain r → is_header (class_of r.kind) ≡ false
 no_header r plain = (both_true r.cbit (is_header (class_of r.kind)) plain).1
 
-counted_header : (c : Class) → is_counted c ≡ true → is_header c ≡ true
-counted_header Class.Vertices is = absurd (let e = is in cc)
-counted_header Class.Words is = absurd (let e = is in cc)
-counted_header Class.Counted is = refl
-counted_header Class.Run is = absurd (let e = is in cc)
-counted_header Class.Floating is = absurd (let e = is in cc)
-counted_header Class.Boxed is = absurd (let e = is in cc)
-counted_header Class.Silent is = absurd (let e = is in cc)
-
-header_among : (kind : ℕ) (k : ℕ) → (kind == k) ≡ true → is_header (class_of k) ≡ true → is_header (class_of kind) ≡ true
-header_among kind k is header = ap (λ (n : ℕ). is_header (class_of n)) (eqb-true kind k is) ∙ header
-
-spline_header : (kind : ℕ) → is_among kind (24 ∷ 27 ∷ []) ≡ true → is_header (class_of kind) ≡ true
-spline_header kind spline = elim (or_cases (kind == 24) ((kind == 27) || false) spline) [
-  | inl a ↦ header_among kind 24 a refl
-  | inr b ↦ elim (or_cases (kind == 27) false b) [
-    | inl a ↦ header_among kind 27 a refl
-    | inr never ↦ absurd (both_ways false refl never)
-  ]
-]
-
 -- nothing stands below such a root
 plain_shape : (h : Row) (r : List Row) → IsPlain h → shape itself Whole h r ≡ leaf
-plain_shape h r plain =
-    let none = no_header h plain in
-    shape_cases (λ s. s ≡ leaf) Whole h (member_count itself h r) (front_count (λ e. is_spline_part (itself e)) r) (front_count (λ e. has_bit (itself e)) r)
-    refl
-    (λ counted. absurd (both_ways (is_header (class_of h.kind)) none (counted_header (class_of h.kind) counted)))
-    (λ _ spline. absurd (both_ways (is_header (class_of h.kind)) none (spline_header h.kind spline)))
-    (λ _ shared. absurd (both_ways (is_header (class_of h.kind)) none (header_among h.kind 34 (and_parts (h.kind == 34) (is_all Whole) shared).0 refl)))
+plain_shape h r plain = leaf_shape Whole h r (no_header h plain)
 
 plain_tree : (h : Row) (r : List Row) → IsPlain h → nest itself Whole (h ∷ r) ≡ Tree Leaf h NoTree (nest itself Whole r)
 plain_tree h r plain =
@@ -149,9 +125,13 @@ module _ (rows new all : List Row) (ends : List ℕ) (links : List Link) (broken
       let row : (get_or all (length rows + k) no_row).cbit ≡ false =
       ap (λ (l : List Row). (get_or l (length rows + k) no_row).cbit) is
       ∙ ap (λ (r : Row). r.cbit) (get_or-append-add rows new k no_row) ∙ plain_at new k plain inside in
-      sym (said all (links ++ replicate (length new) plain_link) links_are (length rows + k) plain_link no_row
-      (omega (arith, ap (length {A = Row}) is, length-append rows new)))
-      ∙ ap (λ (l : Link). broken_by_link (length rows + k) l (get_or all (length rows + k) no_row)) link
+      let within : length rows + k < length all = omega (arith, ap (length {A = Row}) is, length-append rows new) in
+      let many : length rows + k < length (links ++ replicate (length new) plain_link) =
+      omega (arith, length-append links (replicate (length new) plain_link), length-replicate (length new) plain_link) in
+      let kept_link : Some plain_link ≡ option_map link_of (slice_get (marks_in all) (length rows + k)) =
+      sym (slice_get-get_or (links ++ replicate (length new) plain_link) (length rows + k) plain_link many ∙ ap (λ (l : Link). Some l) link)
+      ∙ ap (λ (l : List Link). slice_get l (length rows + k)) links_are ∙ slice_get-map link_of (marks_in all) (length rows + k) in
+      sym (broken_is all (length rows + k) plain_link (get_or all (length rows + k) no_row) kept_link (sym (slice_get-get_or all (length rows + k) no_row within)))
       ∙ plain_unbroken (length rows + k) (get_or all (length rows + k) no_row) row
 
   broken_yet : (k : ℕ) → k ≤ length new → broken ≡ passing (is_broken itself all) 0 (length rows + k)

@@ -3,6 +3,7 @@ pub mod Linked
 pub mod Shapes
 pub mod Places
 pub mod Passing
+pub mod Read
 pub mod Plain
 pub mod Nested
 pub mod Stepped

@@ -1,17 +1,10 @@
 -- Roots with nothing below them, as most elements of a drawing are: how their rows tell them, and what is kept
 -- of them.
 use Rattle.std.specs.Prelude.{ℕ, ◌≡◌, ◌<◌, ◌-◌, ◌%◌, ◌&&◌, leb, nat_lt, not, if◌then◌else◌, Bool, true, false, None, List, [], ◌∷◌, slice_index}
-use Rattle.dgn_layout.specs.declared.types.Class.{Class}
 use Rattle.dgn_layout.specs.Classes.{class_of}
 use Rattle.dgn_drawing.specs.declared.row.Row.{Row}
-use Rattle.dgn_drawing.specs.Nesting.{Leaf, front_count}
+use Rattle.dgn_drawing.specs.Nesting.{Leaf, front_count, is_header}
 use Rattle.dgn_drawing.specs.Numbering.{Mark}
-
--- whether elements of a class can have others below them
-abbrev pub is_header : Class → Bool
-is_header Class.Counted = true
-is_header Class.Run = true
-is_header other = false
 
 -- whether a row is that of a root with nothing below it, where it stands in the list of all elements
 abbrev pub is_plain : Row → Bool

@@ -1,18 +1,16 @@
 // Which elements are broken: loose headers and orphans.
 
-ghost use Rattle.std.specs.Prelude.{◌≡◌, ◌+◌, ◌-◌, ◌<◌, ◌≤◌, nat_lt, length, drop, map, vec_len, vec_capacity, OnOk, OnErr};
+ghost use Rattle.std.specs.Prelude.{◌≡◌, ◌+◌, ◌<◌, ◌≤◌, nat_lt, Some, option_map, slice_get, vec_len, vec_capacity};
 ghost use Rattle.dgn_drawing.specs.Nesting.{itself};
 ghost use Rattle.dgn_drawing.specs.Numbering.{is_broken};
 ghost use Rattle.nest_tree.specs.Places.{marks_in, link_of, broken_by_link};
-ghost use Rattle.nest_tree.specs.Passing.{passing, broken_in, below};
+ghost use Rattle.nest_tree.specs.Passing.{passing, below};
 ghost use Rattle.std.specs.List.Sorted.{IsPartitionedBy};
 
 use crate::knot::Knot;
 use crate::link::Link;
-use crate::link_list::LinkList;
 use crate::seen::SeenRows;
 use dgn_drawing::Row;
-use std::alloc::AllocError;
 
 // Whether element `n` is broken, by what is kept of it.
 fn is_broken_as(n: u32, link: Link, row: Row) -> bool
@@ -22,29 +20,19 @@ fn is_broken_as(n: u32, link: Link, row: Row) -> bool
     matches!(link.knot(), Knot::Loose) || orphan
 }
 
-// Adds the numbers of the broken elements from number `first` on, with these rows, to those of the
-// others. It finds memory where there is room for one number of each.
-pub(crate) fn add_broken(
-    _seen: &SeenRows,
-    first: usize,
-    rows: &[Row],
-    links: &LinkList,
-    list: &mut Vec<u32>,
-) -> Result<(), AllocError>
-    requires few { length _seen.now.list < 4294967295 }
-    requires rows { rows.now ≡ drop first _seen.now.list }
-    requires links { links.now.items ≡ map link_of (marks_in _seen.now.list) }
-    requires within { first ≤ length _seen.now.list }
-    requires begun { list.old.items ≡ passing (is_broken itself _seen.now.list) 0 first }
-    ensures list { OnOk result (list.new.items ≡ broken_in _seen.now.list) }
-    ensures full { OnErr result (vec_capacity list.old < vec_len list.old + (length _seen.now.list - first)) }
+// Adds number `n` to the broken ones before it, if element `n` is broken, of which that is kept. There is room for it.
+pub(crate) fn add_if_broken(_seen: &SeenRows, n: u32, link: Link, row: Row, list: &mut Vec<u32>)
+    requires link { Some link ≡ option_map link_of (slice_get (marks_in _seen.now.list) n) }
+    requires row { Some row ≡ slice_get _seen.now.list n }
+    requires begun { list.old.items ≡ passing (is_broken itself _seen.now.list) 0 n }
+    requires room { vec_len list.old < vec_capacity list.old }
+    ensures list { list.new.items ≡ passing (is_broken itself _seen.now.list) 0 (n + 1) }
+    ensures most { vec_len list.new ≤ vec_len list.old + 1 }
+    ensures room { vec_capacity list.old ≤ vec_capacity list.new }
 {
-    for n in first..links.len() {
-        if is_broken_as(n as u32, links.at(n as u32), rows[n - first]) {
-            list.push(n as u32)?;
-        }
+    if is_broken_as(n, link, row) {
+        list.push_reserved(n);
     }
-    Ok(())
 }
 
 // Takes the numbers from `count` on away.

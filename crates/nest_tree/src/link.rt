@@ -12,7 +12,7 @@ pub(crate) struct Link {
     // The number of the header that it stands below, or `NONE`.
     parent: u32,
     // How many headers lie above it.
-    depth: u32,
+    depth: u16,
     // What it is.
     knot: Knot,
 }
@@ -31,14 +31,15 @@ impl Model for Link {
 }
 
 impl Link {
-    // What is kept of an element with that header, in that depth.
+    // What is kept of an element with that header, in that depth. No element lies deeper than a word says.
     pub(crate) fn new(parent: Option<u32>, depth: u32, knot: Knot) -> Link
-        requires { IfSome parent (λ p. p < 4294967295) }
+        requires above { IfSome parent (λ p. p < 4294967295) }
+        requires near { depth < 65536 }
         ensures { result ≡ record { parent = parent; depth = depth; knot = knot } }
     {
         Link {
             parent: parent.unwrap_or(NONE),
-            depth,
+            depth: depth as u16,
             knot,
         }
     }
@@ -58,7 +59,7 @@ impl Link {
     pub(crate) fn depth(self) -> u32
         ensures { result ≡ self.depth }
     {
-        self.depth
+        u32::from(self.depth)
     }
 
     // What it is.

@@ -1,8 +1,8 @@
-ghost use Rattle.std.specs.Prelude.{◌≡◌, ◌≤◌, ◌<◌, ◌+◌, ◌-◌, ◌++◌, ◌↔◌, nat_lt, length, take, drop, map, slice_get, option_map, vec_len, vec_capacity};
+ghost use Rattle.std.specs.Prelude.{◌≡◌, ◌≤◌, ◌<◌, ◌+◌, ◌-◌, ◌++◌, ◌↔◌, ◌⊎◌, nat_lt, length, take, drop, map, slice_get, option_map, vec_len, vec_capacity};
 ghost use Rattle.std.specs.Prelude.{IsNone, IfSome, OnOk};
 ghost use Rattle.std.specs.List.{AllByRecursion};
 ghost use Rattle.nest_tree.specs.Depths.{IsSized, IsWordTotal};
-ghost use Rattle.dgn_drawing.specs.Nesting.{BeginsFree, itself};
+ghost use Rattle.dgn_drawing.specs.Nesting.{BeginsFree, IsClosed, itself};
 ghost use Rattle.dgn_drawing.specs.Numbering.{span_of, depth_of, parent_of, knot_of, root_of, first_broken_of};
 ghost use Rattle.nest_tree.specs.Shapes.{code_knot, IsRow};
 ghost use Rattle.nest_tree.specs.Places.{marks_in, link_of, end_of_mark, NestApart};
@@ -10,7 +10,7 @@ ghost use Rattle.nest_tree.specs.Passing.{broken_in, first_at, if_below};
 ghost use Rattle.nest_tree.specs.Plain.{IsPlain, IsPlainKind, kept_rows};
 ghost use Rattle.nest_tree.specs.Nested.{Nested, nested_of, IsNest};
 
-use crate::broken::{add_broken, cut_broken};
+use crate::broken::cut_broken;
 use crate::knot::Knot;
 use crate::link::Link;
 use crate::link_list::LinkList;
@@ -96,6 +96,18 @@ impl Nest {
         self.add(rows);
     }
 
+    /// Adds the elements with these rows behind the others, of which they nest apart, since the first of them has no bit C
+    /// or none of the others waits for more. It takes no memory.
+    pub fn grow_apart(&mut self, rows: &[Row])
+        requires room { length rows.now ≤ self.old.spare }
+        requires few { length self.old.rows + length rows.now < 4294967295 }
+        requires each { AllByRecursion IsRow rows.now }
+        requires apart { BeginsFree itself rows.now ⊎ IsClosed itself self.old.rows }
+        ensures { self.new.rows ≡ self.old.rows ++ rows.now }
+    {
+        self.add(rows);
+    }
+
     // Adds the elements with these rows behind the others, of which they nest apart.
     pub(crate) fn add(&mut self, rows: &[Row])
         requires room { length rows.now ≤ self.old.spare }
@@ -139,16 +151,18 @@ impl Nest {
         if rows.is_empty() {
             return;
         }
-        let first = self.ends.len();
         let seen = self.seen.then(&Step::Behind(rows));
         set_sums(rows, &mut self.sums);
-        read_on(&seen, rows, &self.sums, &mut self.ends, &mut self.links);
+        read_on(
+            &seen,
+            rows,
+            &self.sums,
+            &mut self.ends,
+            &mut self.links,
+            &mut self.broken,
+        );
         self.sums.clear();
         self.sums.shrink_to(KEPT_SUMS);
-        match add_broken(&seen, first, rows, &self.links, &mut self.broken) {
-            Ok(()) => {}
-            Err(_) => unreachable!(),
-        }
         self.seen = seen;
     }
 

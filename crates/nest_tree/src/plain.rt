@@ -2,19 +2,11 @@
 
 ghost use Rattle.std.specs.Prelude.{◌≡◌, ◌+◌, ◌<◌, ◌≤◌, ◌++◌, IsTrue, length, take, slice_index, vec_len, vec_capacity};
 ghost use Rattle.std.specs.List.{AllByRecursion, range_with_len};
-ghost use Rattle.dgn_layout.specs.Classes.{class_of};
 ghost use Rattle.dgn_drawing.specs.Nesting.{front_count};
 ghost use Rattle.nest_tree.specs.Depths.{IsWordTotal};
-ghost use Rattle.nest_tree.specs.Plain.{is_header, is_plain, is_plain_kind, run_count, IsPlainKind};
+ghost use Rattle.nest_tree.specs.Plain.{is_plain, is_plain_kind, run_count, IsPlainKind};
 
-use dgn_drawing::Row;
-
-// Whether elements of that type can have others below them.
-fn is_header(kind: u8) -> bool
-    ensures { result ≡ is_header (class_of kind) }
-{
-    matches!(kind, 2 | 7 | 12 | 14 | 18 | 19 | 24 | 27 | 34)
-}
+use dgn_drawing::{Row, is_header};
 
 // Whether that is the row of a root with nothing below it, where it stands in the list of all elements.
 fn is_plain(row: Row) -> bool

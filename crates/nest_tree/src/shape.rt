@@ -29,7 +29,7 @@ pub(crate) struct Shape {
     pub(crate) count: usize,
 }
 
-const LEAF: Shape = Shape {
+pub(crate) const LEAF: Shape = Shape {
     knot: Knot::Leaf,
     inside: Scope::Members,
     count: 0,
@@ -86,8 +86,16 @@ fn is_spline(kind: u8) -> bool
     matches!(kind, 24 | 27)
 }
 
-// The shape of element `at` in a list of that scope, which ends before element `end`.
-pub(crate) fn shape_at(rows: &[Row], sums: &[u64], scope: Scope, at: usize, end: usize) -> Shape
+// The shape of element `at` in a list of that scope, which ends before element `end`. The last header that was asked for
+// its members had so many, or so many elements before the place where its total ends, as `near` says.
+pub(crate) fn shape_at(
+    rows: &[Row],
+    sums: &[u64],
+    scope: Scope,
+    at: usize,
+    end: usize,
+    near: &mut usize,
+) -> Shape
     requires { IsBetween rows.now sums.now at end }
     ensures { result ≡ code_shape (shape_in scope (rows_between rows.now at end)) }
 {
@@ -97,7 +105,7 @@ pub(crate) fn shape_at(rows: &[Row], sums: &[u64], scope: Scope, at: usize, end:
     if is_parts(scope) {
         LEAF
     } else if is_counted(kind) {
-        header(members(rows, sums, at, end))
+        header(members(rows, sums, at, end, near))
     } else if is_spline(kind) {
         run(Scope::Parts, list)
     } else if is_shared(kind, scope) {

@@ -1,9 +1,9 @@
 // Sums of bytes from the front of the rows, which tell at once how many members a header has.
 
-ghost use Rattle.std.specs.Prelude.{◌≡◌, ◌+◌, ◌<◌, ◌≤◌, ◌*◌, ◌-◌, length, vec_capacity, IfSome};
+ghost use Rattle.std.specs.Prelude.{◌≡◌, ◌+◌, ◌<◌, ◌≤◌, ◌*◌, ◌-◌, length, vec_capacity, nat_lt, IsTrue, IfSome};
 ghost use Rattle.std.specs.List.{AllByRecursion};
 ghost use Rattle.nest_tree.specs.Depths.{IsWordTotal};
-ghost use Rattle.nest_tree.specs.Sums.{weight, weights, sums_from, bytes_left, members_in};
+ghost use Rattle.nest_tree.specs.Sums.{weight, weights, sums_from, bytes_left, members_in, Rises, IsPlaceOf};
 ghost use Rattle.nest_tree.specs.Shapes.{rows_between, IsBetween};
 
 use dgn_drawing::Row;
@@ -59,13 +59,49 @@ fn bytes_left(row: Row) -> Option<u64>
 }
 
 // How many of the rows behind row `at` and before row `end` are its members, if it has any number of
-// them.
-pub(crate) fn members(rows: &[Row], sums: &[u64], at: usize, end: usize) -> Option<usize>
+// them. Headers that follow one another often have as many: `near` is the place that was found last.
+pub(crate) fn members(
+    rows: &[Row],
+    sums: &[u64],
+    at: usize,
+    end: usize,
+    near: &mut usize,
+) -> Option<usize>
     requires { IsBetween rows.now sums.now at end }
     ensures { result ≡ members_in (rows_between rows.now at end) }
 {
     let bytes = bytes_left(rows[at])?;
     let (_, rest) = sums.split_at(at + 1);
     let (list, _) = rest.split_at(end - at);
-    list.binary_search(&(list[0] + bytes)).ok()
+    let wanted = list[0] + bytes;
+    let place = place_of(list, wanted, *near);
+    *near = place;
+    if place < list.len() && list[place] == wanted {
+        Some(place)
+    } else {
+        None
+    }
+}
+
+// The place of the first number that isn't below the wanted one, in a list that rises. The guess is tried first.
+fn place_of(list: &[u64], wanted: u64, guess: usize) -> usize
+    requires { Rises list.now }
+    ensures { IsPlaceOf list.now wanted result }
+{
+    if is_place(list, wanted, guess) {
+        return guess;
+    }
+    list.partition_point(
+        |sum: &u64| -> bool
+            ensures { result ≡ nat_lt sum.now wanted }
+        { *sum < wanted },
+    )
+}
+
+// Whether that is the place, before the last number.
+fn is_place(list: &[u64], wanted: u64, guess: usize) -> bool
+    requires { Rises list.now }
+    ensures { IsTrue result → IsPlaceOf list.now wanted guess }
+{
+    guess < list.len() && wanted <= list[guess] && (guess == 0 || list[guess - 1] < wanted)
 }

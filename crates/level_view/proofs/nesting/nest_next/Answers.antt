@@ -1,4 +1,4 @@
-use Rattle.std.proofs.Common.{◌+◌, arith}
+use Rattle.std.proofs.Common.{◌+◌, arith, inl}
 use Rattle.elem_index.proofs.Places.{few_elements}
 use Rattle.level_view.proofs.PlainRuns.{free_from}
 use Rattle.level_view.proofs.nesting.nest_next.Goals as goal
@@ -11,6 +11,6 @@ returns-clause-nested c =
     record {
       within = c.run_from-run.ensures.within;
       are = c.nest_run.ensures;
-      free = free_from c.args.d.now c.requires.whole (c.args.n + c.run_from-run.result)
-          (λ more. c.run_from-run.ensures.free (omega (arith, c.if-run-lt-LONG_RUN.false)) more) c.run_from-run.ensures.within;
+      apart = inl (free_from c.args.d.now c.requires.whole (c.args.n + c.run_from-run.result)
+          (λ more. c.run_from-run.ensures.free (omega (arith, c.if-run-lt-LONG_RUN.false)) more) c.run_from-run.ensures.within);
     }

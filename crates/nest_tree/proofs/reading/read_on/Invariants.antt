@@ -1,10 +1,13 @@
-use Rattle.std.proofs.Common.{◌≤◌, ◌+◌, length, vec_capacity}
+use Rattle.std.proofs.Common.{◌≤◌, ◌-◌, length, vec_len, vec_capacity}
 use Rattle.std.specs.Prelude.{IfSome}
-use Rattle.nest_tree.specs.Places.{ArePlaces, Going}
+use Rattle.nest_tree.specs.Places.{Going}
+use Rattle.nest_tree.specs.Read.{AreRead, HaveRoom}
 use Rattle.nest_tree.proofs.reading.read_on.Given as goal
 
 abbrev pub invariant-loop-at : goal.invariant-loop-at
-invariant-loop-at l =
-    ArePlaces l.seen.list l.at l.ends.items l.links.items × Going l.seen.list l.at l.list × (length l.seen.list ≤ vec_capacity l.ends)
-    × (length l.seen.list ≤ length l.links.items + l.links.spare)
-    × IfSome l.list.parent (λ p. l.first ≤ p)
+invariant-loop-at l = record {
+  read : AreRead l.seen.list l.at l.ends.items l.links.items l.broken.items;
+  going : Going l.seen.list l.at l.list;
+  room : HaveRoom (length l.seen.list - l.at) (vec_capacity l.ends - vec_len l.ends) l.links.spare (vec_capacity l.broken - vec_len l.broken);
+  header : IfSome l.list.parent (λ p. l.first ≤ p);
+}

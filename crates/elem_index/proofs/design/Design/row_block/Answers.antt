@@ -1,35 +1,50 @@
-use Rattle.std.proofs.Common.{◌∙◌, ◌++◌, ◌∷◌, [], List, ap, sym, subst, arith, append_assoc, length, map, take, drop, ℕ}
-use Rattle.std.proofs.lemmas.List.{length_push}
-use Rattle.dgn_drawing.specs.declared.row.Row.{Row}
-use Rattle.dgn_drawing.specs.Rows.{row_of}
-use Rattle.dgn_drawing.specs.Nesting.{BeginsFree}
-use Rattle.elem_index.specs.Design.{elements}
-use Rattle.elem_index.proofs.KeptRows.{rows_more, free_here}
+use Rattle.std.proofs.Common.{◌≡◌, ◌<◌, ◌∙◌, ap, sym, subst, arith, length, ℕ, false}
+use Rattle.std.specs.Prelude.{not}
+use Rattle.dgn_drawing.specs.Nesting.{is_open, itself}
+use Rattle.elem_index.specs.Design.{elements, AreRows}
+use Rattle.elem_index.proofs.Places.{few_elements}
+use Rattle.elem_index.proofs.RowBlocks.{row_behind, ends_free, ends_last, ends_closed}
 use Rattle.elem_index.proofs.design.Design.row_block.Goals as goal
+use Rattle.elem_index.proofs.design.Design.row_block.Goals.{else-end-count-via-then-end-count+then-row+else-is_open, else-end-count-via-then-end-count+else-row}
+use Rattle.elem_index.proofs.design.Design.row_block.Goals.{else-end-count-via-else-end-count}
 
-pub returns-then-not-row : goal.returns-then-not-row
-returns-then-not-row c =
-    let place = c.loop-at.invariant.1 in
-    let within = c.loop-at.invariant.2 in
-    let many = c.if-len-ge-ROW_BLOCK.true in
-    record {
-      block = record {
-        some = omega (arith, c.len.ensures, c.loop-at.rows.ok.0);
-        within = omega arith;
-        are = c.loop-at.invariant.0 ∙ ap (λ (k : ℕ). map row_of (take k (elements c.args.self.now))) (sym place);
-        free = subst (λ (k : ℕ). BeginsFree row_of (drop k (elements c.args.self.now))) (sym place)
-            (free_here (elements c.args.self.now) c.loop-at.at c.row-row.result c.row-row.ensures c.if-not-row.true);
-      };
-    }
+pub overflow_add-n : goal.overflow_add-n
+overflow_add-n c = omega (arith, few_elements c.args.self.now c.requires.whole, c.requires.known)
 
 pub loop-at-preserved : goal.loop-at-preserved
 loop-at-preserved c =
-    let before = map row_of (take c.args.n (elements c.args.self.now)) in
-    let items = c.in_ok-push.ensures.items in
-    let test = c.loop-at-test.true in (
-      ap (λ (l : List Row). before ++ l) items ∙ sym (append_assoc before c.loop-at.rows.items (c.row-row.result ∷ []))
-          ∙ ap (λ (l : List Row). l ++ c.row-row.result ∷ []) c.loop-at.invariant.0
-          ∙ sym (rows_more (elements c.args.self.now) c.loop-at.at c.row-row.result c.row-row.ensures),
-      omega (arith, ap (length {A = Row}) items, length_push c.loop-at.rows.items c.row-row.result, c.loop-at.invariant.1),
-      omega (arith, c.count-at-end.ensures),
-    )
+    let inside : c.loop-at.at < length (elements c.args.self.now) = omega (arith, c.loop-at-test.true, c.min-end.ensures, c.count.ensures) in
+    record {
+      rows = row_behind (elements c.args.self.now) c.args.n c.loop-at.at c.loop-at.rows.items c.push_reserved.new.self.items c.row.result
+          c.loop-at.invariant.rows inside c.row.ensures c.push_reserved.ensures.items;
+      room = omega (arith, c.loop-at.invariant.room, c.push_reserved.ensures.len, c.push_reserved.ensures.capacity, c.loop-at-test.true, c.min-end.ensures);
+    }
+
+pub add_marked-requires-clause-rows : goal.add_marked-requires-clause-rows
+add_marked-requires-clause-rows c =
+    let last : c.loop-at.at ≡ c.min-end.result =
+    let upper = c.loop-at.auto.at-end (omega (arith, c.min-end.ensures, c.count.ensures, c.requires.known)) in omega (arith, c.loop-at-test.false) in
+    subst (λ (m : ℕ). AreRows (elements c.args.self.now) c.args.n m c.loop-at.rows.items) last c.loop-at.invariant.rows
+
+pub returns : goal.returns
+returns c =
+    let upper = c.loop-at.auto.at-end (omega (arith, c.min-end.ensures, c.count.ensures, c.requires.known)) in
+    let last : c.loop-at.at ≡ c.min-end.result = omega (arith, c.loop-at-test.false) in
+    let so_far = subst (λ (m : ℕ). AreRows (elements c.args.self.now) c.args.n m c.loop-at.rows.items) last c.loop-at.invariant.rows in
+    let some : 0 < length c.loop-at.rows.items = omega (arith, so_far.count, c.min-end.ensures, c.count.ensures, c.requires.known) in
+    elim c.else-end-count.branch [
+      | else-end-count-via-then-end-count+then-row+else-is_open w ↦ record {
+        block = ends_closed (elements c.args.self.now) c.args.n c.min-end.result c.loop-at.rows.items so_far some
+            (omega (arith, so_far.count, c.min-end.ensures, w.if-end-count.true, c.count.ensures, c.count-2.ensures))
+            (ap (is_open itself false) (sym w.deref.ensures.value) ∙ sym w.is_open.ensures ∙ w.if-is_open.false);
+      }
+      | else-end-count-via-then-end-count+else-row w ↦ record {
+        block = ends_free (elements c.args.self.now) c.args.n c.min-end.result c.loop-at.rows.items so_far some
+            (omega (arith, so_far.count, c.min-end.ensures, w.if-end-count.true, c.count.ensures, c.count-2.ensures))
+            w.row-then-end-count.result w.row-then-end-count.ensures (ap not w.if-row.false);
+      }
+      | else-end-count-via-else-end-count w ↦ record {
+        block = ends_last (elements c.args.self.now) c.args.n c.min-end.result c.loop-at.rows.items so_far some
+            (omega (arith, w.if-end-count.false, c.count-2.ensures));
+      }
+    ]

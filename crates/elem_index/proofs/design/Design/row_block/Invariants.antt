@@ -1,9 +1,9 @@
-use Rattle.std.proofs.Common.{◌≡◌, ◌+◌, ◌≤◌, ◌++◌, length, map, take}
-use Rattle.dgn_drawing.specs.Rows.{row_of}
-use Rattle.elem_index.specs.Design.{elements}
+use Rattle.std.proofs.Common.{◌+◌, ◌≤◌, ◌-◌, vec_len, vec_capacity}
+use Rattle.elem_index.specs.Design.{elements, AreRows}
 use Rattle.elem_index.proofs.design.Design.row_block.Given as goal
 
 abbrev pub invariant-loop-at : goal.invariant-loop-at
-invariant-loop-at l =
-    (map row_of (take l.n (elements l.self)) ++ l.rows.items ≡ map row_of (take l.at (elements l.self))) × (l.n + length l.rows.items ≡ l.at)
-    × (l.at ≤ length (elements l.self))
+invariant-loop-at l = record {
+  rows : AreRows (elements l.self) l.n l.at l.rows.items;
+  room : vec_len l.rows + (l.n + 4096 - l.at) ≤ vec_capacity l.rows;
+}

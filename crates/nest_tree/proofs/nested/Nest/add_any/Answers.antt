@@ -1,12 +1,11 @@
-use Rattle.std.proofs.Common.{◌≡◌, ◌≤◌, ◌++◌, ◌==◌, Bool, false, ◌∙◌, ◌-◌, ◌+◌, ◌<◌, ap, sym, subst, arith, List, length, drop, vec_len, vec_capacity, ℕ}
+use Rattle.std.proofs.Common.{refl, ◌≡◌, ◌≤◌, ◌++◌, ◌==◌, Bool, false, ◌∙◌, ◌-◌, ◌+◌, ◌<◌, ap, sym, subst, arith, List, length, vec_len, vec_capacity, ℕ}
 use Rattle.std.proofs.lemmas.List.{length-append}
 use Rattle.std.proofs.lemmas.Bool.Decides.{nat_tests}
 use Rattle.dgn_drawing.specs.declared.row.Row.{Row}
 use Rattle.nest_tree.specs.Nested.{Nested}
 use Rattle.nest_tree.specs.Places.{NestApart}
-use Rattle.nest_tree.proofs.OpenLists.{length-links}
-use Rattle.nest_tree.proofs.FirstLinks.{all_links}
-use Rattle.nest_tree.proofs.GrownNestings.{least_room, length-grown, length-kept_ends, grown_new, grown_words, grown_places, grown_apart, grown_broken}
+use Rattle.nest_tree.proofs.GrownNestings.{least_room, grown_new, grown_words, grown_places, grown_apart, grown_broken}
+use Rattle.nest_tree.proofs.BrokenList.{all_listed}
 use Rattle.nest_tree.proofs.nested.Nest.add_any.Goals as goal
 
 apart_of : (new : List Row) (t : Nested) (rows : List Row) → rows ≡ t.rows → 0 < length rows → (0 < length t.rows → NestApart t.rows new) → NestApart rows new
@@ -21,9 +20,6 @@ room_for_sums n cap empty is some room = grind (arith, nat_tests)
 few_grown : (new rows all : List Row) (t : Nested) (most : ℕ) → rows ≡ t.rows → all ≡ rows ++ new → length t.rows + length new < most → length all < most
 few_grown new rows all t most same is few = omega (arith, length-append rows new, ap (length {A = Row}) is, ap (length {A = Row}) same)
 
-kept_within : (new rows all : List Row) (len first : ℕ) → len ≡ length rows → first ≡ len → all ≡ rows ++ new → first ≤ length all
-kept_within new rows all len first kept known_of is = omega (arith, length-append rows new, ap (length {A = Row}) is)
-
 some_grown : (new rows all : List Row) → all ≡ rows ++ new → 0 < length rows → 0 < length all
 some_grown new rows all is some = omega (arith, length-append rows new, ap (length {A = Row}) is)
 
@@ -33,13 +29,6 @@ read_on-requires-clause-rows c =
     c.self.invariant (apart_of c.args.rows.now c.args.self.now c.self.inside.seen.list (ap (λ (t : Nested). t.rows) c.self.view_is)
     c.self.invariant.some c.requires.apart) c.then-seen.ensures
 
-pub read_on-requires-clause-places : goal.read_on-requires-clause-places
-read_on-requires-clause-places c =
-    grown_places c.self.inside.seen.list c.args.rows.now c.then-seen.result.list c.self.inside.ends.items c.self.inside.links.items
-    c.self.inside.broken.items c.self.invariant
-    (apart_of c.args.rows.now c.args.self.now c.self.inside.seen.list (ap (λ (t : Nested). t.rows) c.self.view_is) c.self.invariant.some c.requires.apart)
-    c.then-seen.ensures
-
 pub read_on-requires-clause-apart : goal.read_on-requires-clause-apart
 read_on-requires-clause-apart c =
     grown_apart c.self.inside.seen.list c.args.rows.now c.then-seen.result.list c.self.inside.ends.items c.self.inside.links.items
@@ -47,69 +36,23 @@ read_on-requires-clause-apart c =
     (apart_of c.args.rows.now c.args.self.now c.self.inside.seen.list (ap (λ (t : Nested). t.rows) c.self.view_is) c.self.invariant.some c.requires.apart)
     c.then-seen.ensures
 
-pub read_on-requires-clause-room_for_ends : goal.read_on-requires-clause-room_for_ends
-read_on-requires-clause-room_for_ends c =
+pub read_on-requires-clause-read : goal.read_on-requires-clause-read
+read_on-requires-clause-read c =
+    let apart = apart_of c.args.rows.now c.args.self.now c.self.inside.seen.list (ap (λ (t : Nested). t.rows) c.self.view_is) c.self.invariant.some
+    c.requires.apart in
+    record {
+      places = grown_places c.self.inside.seen.list c.args.rows.now c.then-seen.result.list c.self.inside.ends.items c.self.inside.links.items
+          c.self.inside.broken.items c.self.invariant apart c.then-seen.ensures;
+      are_broken = grown_broken c.self.inside.seen.list c.args.rows.now c.then-seen.result.list c.self.inside.ends.items c.self.inside.links.items
+          c.self.inside.broken.items c.self.invariant apart c.then-seen.ensures (length c.self.inside.ends.items) refl;
+    }
+
+pub read_on-requires-clause-room : goal.read_on-requires-clause-room
+read_on-requires-clause-room c =
     let room = least_room (length c.args.rows.now) (vec_capacity c.self.inside.sums - 1) (vec_capacity c.self.inside.ends - vec_len c.self.inside.ends)
     c.self.inside.links.spare (vec_capacity c.self.inside.broken - vec_len c.self.inside.broken)
     (subst (λ (t : Nested). length c.args.rows.now ≤ t.spare) (sym c.self.view_is) c.requires.room) in
-    let long = length-grown c.self.inside.seen.list c.args.rows.now c.then-seen.result.list c.self.inside.ends.items c.self.inside.links.items
-    c.self.inside.broken.items c.self.invariant
-    (apart_of c.args.rows.now c.args.self.now c.self.inside.seen.list (ap (λ (t : Nested). t.rows) c.self.view_is) c.self.invariant.some c.requires.apart)
-    c.then-seen.ensures in
-    let kept = length-kept_ends c.self.inside.seen.list c.args.rows.now c.then-seen.result.list c.self.inside.ends.items c.self.inside.links.items
-    c.self.inside.broken.items c.self.invariant
-    (apart_of c.args.rows.now c.args.self.now c.self.inside.seen.list (ap (λ (t : Nested). t.rows) c.self.view_is) c.self.invariant.some c.requires.apart)
-    c.then-seen.ensures in
-    omega (arith, room.1, c.self.inside.ends.ok.0, c.self.inside.ends.ok.1)
-
-pub read_on-requires-clause-room_for_links : goal.read_on-requires-clause-room_for_links
-read_on-requires-clause-room_for_links c =
-    let room = least_room (length c.args.rows.now) (vec_capacity c.self.inside.sums - 1) (vec_capacity c.self.inside.ends - vec_len c.self.inside.ends)
-    c.self.inside.links.spare (vec_capacity c.self.inside.broken - vec_len c.self.inside.broken)
-    (subst (λ (t : Nested). length c.args.rows.now ≤ t.spare) (sym c.self.view_is) c.requires.room) in
-    let long = length-grown c.self.inside.seen.list c.args.rows.now c.then-seen.result.list c.self.inside.ends.items c.self.inside.links.items
-    c.self.inside.broken.items c.self.invariant
-    (apart_of c.args.rows.now c.args.self.now c.self.inside.seen.list (ap (λ (t : Nested). t.rows) c.self.view_is) c.self.invariant.some c.requires.apart)
-    c.then-seen.ensures in
-    let kept = length-links c.self.inside.seen.list (length c.self.inside.seen.list)
-    c.self.inside.ends.items c.self.inside.links.items c.self.invariant.places in
-    omega (arith, room.2)
-
-pub add_broken-requires-clause-rows : goal.add_broken-requires-clause-rows
-add_broken-requires-clause-rows c =
-    let first : length c.self.inside.ends.items ≡ c.len-first.result = sym c.self.inside.ends.ok.0 ∙ sym c.len-first.ensures in
-    grown_new c.self.inside.seen.list c.args.rows.now c.then-seen.result.list c.self.inside.ends.items c.self.inside.links.items c.self.inside.broken.items
-    c.self.invariant (apart_of c.args.rows.now c.args.self.now c.self.inside.seen.list (ap (λ (t : Nested). t.rows) c.self.view_is)
-    c.self.invariant.some c.requires.apart) c.then-seen.ensures ∙ ap (λ (k : ℕ). drop k c.then-seen.result.list) first
-
-pub add_broken-requires-clause-links : goal.add_broken-requires-clause-links
-add_broken-requires-clause-links c = all_links c.then-seen.result.list c.read_on.new.ends.items c.read_on.new.links.items c.read_on.ensures
-
-pub add_broken-requires-clause-begun : goal.add_broken-requires-clause-begun
-add_broken-requires-clause-begun c =
-    let first : length c.self.inside.ends.items ≡ c.len-first.result = sym c.self.inside.ends.ok.0 ∙ sym c.len-first.ensures in
-    grown_broken c.self.inside.seen.list c.args.rows.now c.then-seen.result.list c.self.inside.ends.items c.self.inside.links.items
-    c.self.inside.broken.items c.self.invariant
-    (apart_of c.args.rows.now c.args.self.now c.self.inside.seen.list (ap (λ (t : Nested). t.rows) c.self.view_is) c.self.invariant.some c.requires.apart)
-    c.then-seen.ensures c.len-first.result (sym first)
-
-pub unreachable-requires : goal.unreachable-requires
-unreachable-requires c =
-    let room = least_room (length c.args.rows.now) (vec_capacity c.self.inside.sums - 1) (vec_capacity c.self.inside.ends - vec_len c.self.inside.ends)
-    c.self.inside.links.spare (vec_capacity c.self.inside.broken - vec_len c.self.inside.broken)
-    (subst (λ (t : Nested). length c.args.rows.now ≤ t.spare) (sym c.self.view_is) c.requires.room) in
-    let first : length c.self.inside.ends.items ≡ c.len-first.result = sym c.self.inside.ends.ok.0 ∙ sym c.len-first.ensures in
-    let long = length-grown c.self.inside.seen.list c.args.rows.now c.then-seen.result.list c.self.inside.ends.items c.self.inside.links.items
-    c.self.inside.broken.items c.self.invariant
-    (apart_of c.args.rows.now c.args.self.now c.self.inside.seen.list (ap (λ (t : Nested). t.rows) c.self.view_is) c.self.invariant.some c.requires.apart)
-    c.then-seen.ensures in
-    let kept = length-kept_ends c.self.inside.seen.list c.args.rows.now c.then-seen.result.list c.self.inside.ends.items c.self.inside.links.items
-    c.self.inside.broken.items c.self.invariant
-    (apart_of c.args.rows.now c.args.self.now c.self.inside.seen.list (ap (λ (t : Nested). t.rows) c.self.view_is) c.self.invariant.some c.requires.apart)
-    c.then-seen.ensures in
-    let full : vec_capacity c.self.inside.broken < vec_len c.self.inside.broken + (length c.then-seen.result.list - c.len-first.result) =
-    c.in-Err.ensures.full in
-    omega (arith, room.3, c.self.inside.broken.ok.0, c.self.inside.broken.ok.1)
+    record { for_ends = room.1; for_links = room.2; for_broken = room.3 }
 
 pub set_sums-requires-clause-few : goal.set_sums-requires-clause-few
 set_sums-requires-clause-few c = fewer (length c.args.self.now.rows) (length c.args.rows.now) 4294967295 c.requires.few
@@ -126,20 +69,6 @@ read_on-requires-clause-few c =
     few_grown c.args.rows.now c.self.inside.seen.list c.then-seen.result.list c.args.self.now 4294967295 (ap (λ (t : Nested). t.rows) c.self.view_is)
     c.then-seen.ensures c.requires.few
 
-pub add_broken-requires-clause-few : goal.add_broken-requires-clause-few
-add_broken-requires-clause-few c =
-    few_grown c.args.rows.now c.self.inside.seen.list c.then-seen.result.list c.args.self.now 4294967295 (ap (λ (t : Nested). t.rows) c.self.view_is)
-    c.then-seen.ensures c.requires.few
-
-pub add_broken-requires-clause-within : goal.add_broken-requires-clause-within
-add_broken-requires-clause-within c =
-    kept_within c.args.rows.now c.self.inside.seen.list c.then-seen.result.list c.self.inside.ends.len c.len-first.result
-    (c.self.inside.ends.ok.0
-    ∙ length-kept_ends c.self.inside.seen.list c.args.rows.now c.then-seen.result.list c.self.inside.ends.items c.self.inside.links.items
-    c.self.inside.broken.items c.self.invariant
-    (apart_of c.args.rows.now c.args.self.now c.self.inside.seen.list (ap (λ (t : Nested). t.rows) c.self.view_is) c.self.invariant.some c.requires.apart)
-    c.then-seen.ensures) c.len-first.ensures c.then-seen.ensures
-
 pub invariant_of-self : goal.invariant_of-self
 invariant_of-self c = record {
   some = some_grown c.args.rows.now c.self.inside.seen.list c.then-seen.result.list c.then-seen.ensures c.self.invariant.some;
@@ -149,8 +78,8 @@ invariant_of-self c = record {
       c.self.inside.broken.items c.self.invariant
       (apart_of c.args.rows.now c.args.self.now c.self.inside.seen.list (ap (λ (t : Nested). t.rows) c.self.view_is) c.self.invariant.some c.requires.apart)
       c.then-seen.ensures c.set_sums.ensures.words;
-  places = c.read_on.ensures;
-  are_broken = c.in-Ok.ensures.list;
+  places = c.read_on.ensures.places;
+  are_broken = all_listed c.then-seen.result.list c.read_on.new.broken.items c.read_on.ensures.are_broken;
 }
 
 pub returns : goal.returns
