@@ -29,7 +29,7 @@ steps_with files cs = steps_of cs (files_named (names_in cs) files)
 
 -- what a run leaves that edited IN by SCRIPT into OUT: IN opens as a drawing, and SCRIPT reads to commands; OUT is the file
 -- that their steps make of the drawing, and every other file is as before; and that file opens, and has IN's byte at each
--- place in IN's elements that is in no field of an edit that is left
+-- place in IN's elements that is in no field of a remaining edit
 pub record EditsFile (input script output : List ℕ) (files : Files) (now : Option Content) : Type 0 where
   pub drawing : Opened
   pub commands : List Command

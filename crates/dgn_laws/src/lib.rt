@@ -15,7 +15,7 @@ pub fn scripts_hold_edits()
     ensures { ScriptsHoldEdits }
 {}
 
-/// So it is with every script, of which nothing is asked but that it is bytes and reads to its commands.
+/// Untouched bytes stay with every script, of which nothing is asked but that it is bytes and reads to its commands.
 pub fn untouched_by_scripts()
     ensures { UntouchedByScripts }
 {}
@@ -23,8 +23,8 @@ pub fn untouched_by_scripts()
 /// And so it is with every run that edits IN by SCRIPT into OUT, over every desk that tells what it holds: where it ends with
 /// Done or SomeRefused, the clauses `outcome` and `bytes` of `run` give that IN opens, that SCRIPT reads to commands, that OUT
 /// holds the file that these make of IN, with the second files that they name, and that no other file changed; and that file
-/// opens, and has IN's byte at each place in IN's elements that is in no field of an edit that is left. Nothing is asked of the
-/// files but what these clauses say.
+/// opens, and has IN's byte at each place in IN's elements that is in no field of a remaining edit. Nothing is asked of the files
+/// but what these clauses say.
 pub fn untouched_by_runs()
     ensures { UntouchedByRuns }
 {}

@@ -70,7 +70,7 @@ abbrev pub IsUnheld : ℕ → List Entry → Type 0
 IsUnheld k entries = AllByRecursion (λ (e : Entry). AllByRecursion (λ (p : Put). Holds p k → ⊥) e.patches) entries
 
 -- of the opened body each element has the same row, so the same size, and the same offset; and each byte that is in no
--- patch of an entry that is left is the same
+-- patch of a remaining entry is the same
 pub record StandsStill (dim : ℕ) (opened b : List ℕ) (entries : List Entry) : Type 0 where
   pub rows : rows_of dim opened ≡ take (length (rows_of dim opened)) (rows_of dim b)
   pub offsets : (n : ℕ) → n < length (elements_of dim opened) → offset_of (elements_of dim b) n ≡ offset_of (elements_of dim opened) n

@@ -40,7 +40,7 @@ behind_after s t gs = t ++ filling (length (spelling s.top)) t (length (spelling
 
 -- the file that the steps make of an opened one opens with the elements after them and the same tail, with what fills
 -- its last block behind; its elements have no fewer bytes; and it has the file's byte at each place in the elements of the
--- file that no edit that is left writes
+-- file that no remaining edit writes
 pub record IsEditedFile (f : List ℕ) (s : State) (t : List ℕ) (gs : List Given) : Type 0 where
   pub opens : Opens (file_after s t gs) s.dim (after_all gs s).top (behind_after s t gs)
   pub long : length (spelling s.top) ≤ length (spelling (after_all gs s).top)
