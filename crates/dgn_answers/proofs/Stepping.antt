@@ -1,14 +1,17 @@
 -- The steps of commands with second files, one after the other.
-use Rattle.std.proofs.Common.{◌≡◌, ◌+◌, List, [], ◌∷◌, ℕ, drop, sym, ap, ◌∙◌}
+use Rattle.std.proofs.Common.{◌≡◌, ◌<◌, ◌+◌, List, [], ◌∷◌, ℕ, drop, length, sym, ap, ◌∙◌}
+use Rattle.std.specs.List.{get_or}
+use Rattle.std.proofs.lemmas.List.{drop_more}
 use Rattle.dgn_import.specs.Seconds.{SecondValue}
 use Rattle.edit_script.specs.declared.command.Command.{Command}
 use Rattle.dgn_answers.specs.Given.{given, seconds_behind, given_all}
 
 -- the first of those that are left, and the others
-pub next_step : (cs : List Command) (i : ℕ) (c : Command) (vs vs' : List SecondValue) → drop i cs ≡ c ∷ drop (i + 1) cs → vs' ≡ seconds_behind c vs
+pub next_step : (cs : List Command) (i : ℕ) (c : Command) (vs vs' : List SecondValue) → i < length cs → c ≡ get_or cs i c → vs' ≡ seconds_behind c vs
     → given_all (drop i cs) vs ≡ given c vs ∷ given_all (drop (i + 1) cs) vs'
-next_step cs i c vs vs' split behind =
-    ap (λ (l : List Command). given_all l vs) split ∙ ap (λ (ws : List SecondValue). given c vs ∷ given_all (drop (i + 1) cs) ws) (sym behind)
+next_step cs i c vs vs' more is behind =
+    ap (λ (l : List Command). given_all l vs) (drop_more cs i c more ∙ ap (λ (x : Command). x ∷ drop (i + 1) cs) (sym is))
+    ∙ ap (λ (ws : List SecondValue). given c vs ∷ given_all (drop (i + 1) cs) ws) (sym behind)
 
 -- none is left
 pub none_left : (cs : List Command) (i : ℕ) (vs : List SecondValue) → drop i cs ≡ [] → given_all (drop i cs) vs ≡ []

@@ -47,6 +47,10 @@ ran_none all s old = record {
   state = refl;
 }
 
+-- what is put into a text that was cleared is all of it
+pub line_so : (line out before text : List ℕ) → line ≡ out → out ≡ before ++ text → before ≡ [] → line ≡ text
+line_so line out before text is put none = is ∙ put ∙ ap (λ (b : List ℕ). b ++ text) none
+
 -- one more command
 pub ran_more : (all left : List Given) (c : Given) (refused : ℕ) (was : Bool) (line : List ℕ) (from s new : State) (old now then : Seen)
     → Ran all (c ∷ left) refused from s old now

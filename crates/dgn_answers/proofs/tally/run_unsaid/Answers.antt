@@ -15,14 +15,13 @@ use Rattle.dgn_answers.proofs.tally.run_unsaid.Goals as goal
 pub commands-preserved : goal.commands-preserved
 commands-preserved c =
     let command : Command = c.command-item.result in
-    let split : drop c.commands.command-index c.args.commands.now ≡ command ∷ drop (c.commands.command-index + 1) c.args.commands.now =
-    drop_more c.args.commands.now c.commands.command-index command c.commands-test.true
-    ∙ ap (λ (x : Command). x ∷ drop (c.commands.command-index + 1) c.args.commands.now) (sym c.command-item.is) in
     let vs : List SecondValue = waiting c.commands.seconds.items in
     let all : List Given = given_all c.args.commands.now (waiting c.args.seconds.now.items) in
     let more : List Given = given_all (drop (c.commands.command-index + 1) c.args.commands.now) (waiting c.take_step.new.seconds.items) in
     let step : Given = given command vs in
-    let next = next_step c.args.commands.now c.commands.command-index command vs (waiting c.take_step.new.seconds.items) split c.take_step.ensures.left in
+    let next =
+    next_step c.args.commands.now c.commands.command-index command vs (waiting c.take_step.new.seconds.items) c.commands-test.true c.command-item.is
+    c.take_step.ensures.left in
     let done = subst (λ (left : List Given). Tallied all left c.commands.refused c.commands.trees.items (state_of c.args.session.now)
     (state_of c.commands.session)) next c.commands.invariant.done in
     let logged = subst (λ (left : List Given). LogsSo all left c.args.session.now c.commands.session) next c.commands.invariant.logged in

@@ -8,7 +8,7 @@ use Rattle.edit_script.specs.declared.command.Command.{Command}
 use Rattle.dgn_answers.specs.Given.{Given, given, given_all, step_text}
 use Rattle.dgn_import.specs.Seconds.{waiting}
 use Rattle.dgn_answers.proofs.Stepping.{next_step, none_left}
-use Rattle.dgn_tool.proofs.CommandsInTurn.{Ran, ran_none, ran_more, ran_front, ran_part, ran_all, ran_said, ran_state}
+use Rattle.dgn_tool.proofs.CommandsInTurn.{Ran, line_so, ran_none, ran_more, ran_front, ran_part, ran_all, ran_said, ran_state}
 use Rattle.dgn_answers.proofs.Counting.{refused_few}
 use Rattle.dgn_tool.proofs.commands.run_all.Goals as goal
 
@@ -23,9 +23,6 @@ commands-init g c = record {
 pub commands-preserved : goal.commands-preserved
 commands-preserved g c =
     let command : Command = c.command-item.result in
-    let split : drop c.commands.command-index c.args.commands.now ≡ command ∷ drop (c.commands.command-index + 1) c.args.commands.now =
-    drop_more c.args.commands.now c.commands.command-index command c.commands-test.true
-    ∙ ap (λ (x : Command). x ∷ drop (c.commands.command-index + 1) c.args.commands.now) (sym c.command-item.is) in
     let vs : List SecondValue = waiting c.commands.seconds.items in
     let all : List Given = given_all c.args.commands.now (waiting c.args.seconds.now.items) in
     let more : List Given = given_all (drop (c.commands.command-index + 1) c.args.commands.now) (waiting c.take_step.new.seconds.items) in
@@ -33,13 +30,14 @@ commands-preserved g c =
     let from = state_of c.args.session.now in
     let old = seen g.D.Desk c.args.desk.now in
     let mid = seen g.D.Desk c.commands.desk in
-    let next = next_step c.args.commands.now c.commands.command-index command vs (waiting c.take_step.new.seconds.items) split c.take_step.ensures.left in
+    let next =
+    next_step c.args.commands.now c.commands.command-index command vs (waiting c.take_step.new.seconds.items) c.commands-test.true c.command-item.is
+    c.take_step.ensures.left in
     let ran = subst (λ (left : List Given). Ran all left c.commands.refused from (state_of c.commands.session) old mid) next c.commands.invariant.ran in
     let did = c.in-Ok.ensures in
     let text : List ℕ = step_text (state_of c.commands.session) step in
-    let line : c.deref.result.now ≡ text =
-    ◌∙◌ {A = List ℕ} {b = c.take_step.new.out.items} c.deref.ensures.value
-    (◌∙◌ {A = List ℕ} {b = c.clear.new.self.items ++ text} did.text (ap (λ (before : List ℕ). before ++ text) c.clear.ensures.items)) in
+    let line =
+    line_so c.deref.result.now c.take_step.new.out.items c.clear.new.self.items text c.deref.ensures.value did.text c.clear.ensures.items in
     record {
       ran = subst (λ (n : ℕ). Ran all more (c.commands.refused + n) from (state_of c.take_step.new.s) old (seen g.D.Desk c.say_all.new.desk))
           (sym c.from-refused.ensures)
@@ -86,9 +84,6 @@ pub returns-in_err-say_all-clause-said : goal.returns-in_err-say_all-clause-said
 returns-in_err-say_all-clause-said g c =
     let p = err_from_is_err_and c.from_residual.result c.from_residual.ensures.1 in
     let command : Command = c.command-item.result in
-    let split : drop c.commands.command-index c.args.commands.now ≡ command ∷ drop (c.commands.command-index + 1) c.args.commands.now =
-    drop_more c.args.commands.now c.commands.command-index command c.commands-test.true
-    ∙ ap (λ (x : Command). x ∷ drop (c.commands.command-index + 1) c.args.commands.now) (sym c.command-item.is) in
     let vs : List SecondValue = waiting c.commands.seconds.items in
     let all : List Given = given_all c.args.commands.now (waiting c.args.seconds.now.items) in
     let more : List Given = given_all (drop (c.commands.command-index + 1) c.args.commands.now) (waiting c.take_step.new.seconds.items) in
@@ -96,12 +91,13 @@ returns-in_err-say_all-clause-said g c =
     let from = state_of c.args.session.now in
     let old = seen g.D.Desk c.args.desk.now in
     let mid = seen g.D.Desk c.commands.desk in
-    let next = next_step c.args.commands.now c.commands.command-index command vs (waiting c.take_step.new.seconds.items) split c.take_step.ensures.left in
+    let next =
+    next_step c.args.commands.now c.commands.command-index command vs (waiting c.take_step.new.seconds.items) c.commands-test.true c.command-item.is
+    c.take_step.ensures.left in
     let ran = subst (λ (left : List Given). Ran all left c.commands.refused from (state_of c.commands.session) old mid) next c.commands.invariant.ran in
     let text : List ℕ = step_text (state_of c.commands.session) step in
-    let line : c.deref.result.now ≡ text =
-    ◌∙◌ {A = List ℕ} {b = c.take_step.new.out.items} c.deref.ensures.value
-    (◌∙◌ {A = List ℕ} {b = c.clear.new.self.items ++ text} c.in-Ok.ensures.text (ap (λ (before : List ℕ). before ++ text) c.clear.ensures.items)) in
+    let line =
+    line_so c.deref.result.now c.take_step.new.out.items c.clear.new.self.items text c.deref.ensures.value c.in-Ok.ensures.text c.clear.ensures.items in
     rw (p.1, p.2) (ran_part all more step c.commands.refused c.in_err-say_all.field-0.0 c.deref.result.now from (state_of c.commands.session) old mid
     (seen g.D.Desk c.say_all.new.desk) ran line c.in_err-say_all.ensures)
 
