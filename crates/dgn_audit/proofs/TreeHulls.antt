@@ -17,8 +17,8 @@ use Rattle.dgn_audit.specs.declared.finding.Finding.{Finding}
 use Rattle.dgn_audit.specs.declared.open_box.OpenBox.{OpenBox}
 use Rattle.dgn_audit.specs.Hulls.{hull_join, tree_hull, hull_of}
 use Rattle.dgn_audit.specs.Findings.{is_kept, finding_of, finding_as, findings_in}
-use Rattle.dgn_audit.specs.OpenBoxes.{Pass, box_for, without, with_hulls, past, findings_before, read_one, read_marked}
-use Rattle.dgn_audit.proofs.ReadBack.{read_back}
+use Rattle.dgn_audit.specs.OpenBoxes.{box_for, without, with_hulls, past}
+use Rattle.dgn_audit.proofs.ReadBack.{Pass, findings_before, read_one, read_marked, read_back}
 use Rattle.dgn_audit.proofs.HeaderBoxes.{TopBelow, IsBefore, top_on, before_on, top_hulls, members_box, members_without, hulls_joined, passed}
 
 -- what is told of one element has its number
