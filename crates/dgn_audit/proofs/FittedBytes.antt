@@ -16,6 +16,7 @@ use Rattle.dgn_drawing.specs.Changes.{points_in}
 use Rattle.dgn_drawing.specs.Rows.{row_of}
 use Rattle.dgn_drawing.specs.Nesting.{Knot, Leaf, Group, Run, Loose, Forest, NoTree, Tree, flat, forest}
 use Rattle.dgn_drawing.specs.Numbering.{end_of, root_of}
+use Rattle.nest_tree.proofs.GrownNestings.{all_both}
 use Rattle.nest_tree.proofs.NestingSteps.{flat-forest}
 use Rattle.elem_index.specs.Offsets.{offset_of}
 use Rattle.level_view.proofs.ItemsBack.{Stands, below_stands, behind_stands}
@@ -178,11 +179,7 @@ module _ (dim : ℕ) (axes : IsDimension dim) where
       let inner : AllByRecursion (IsWellFormed dim) (flat (cond e.deleted below (fitted dim below))) =
       cond_both e.deleted below (fitted dim below) (λ (g : Forest Element). AllByRecursion (IsWellFormed dim) (flat g)) (λ _. in_below)
       (λ _. fitted_each below in_below) in
-      (put.good, both (flat (cond e.deleted below (fitted dim below))) (flat (fitted dim behind)) inner (fitted_each behind in_behind))
-    where
-      both : (xs ys : List Element) → AllByRecursion (IsWellFormed dim) xs → AllByRecursion (IsWellFormed dim) ys → AllByRecursion (IsWellFormed dim) (xs ++ ys)
-      both [] ys one two = two
-      both (x ∷ xs) ys one two = (one.0, both xs ys one.1 two)
+      (put.good, all_both (IsWellFormed dim) (flat (cond e.deleted below (fitted dim below))) (flat (fitted dim behind)) inner (fitted_each behind in_behind))
 
 -- where the bytes of an element that follows begin
 take_front : {A : Type 0} (es front rest : List A) (n : ℕ) → drop n es ≡ front ++ rest → take (n + length front) es ≡ take n es ++ front
