@@ -306,8 +306,6 @@ module _ (dim : ℕ) (axes : IsDimension dim) (es : List Element) (each : AllByR
   -- and is its fields with the bytes that the fitted drawing has there
   pub puts_filled : fit_puts dim es (fitted_in dim es n) ≡ filled (spelling (flat (fitted_forest dim es n))) (root_fields dim es (Some n))
   puts_filled =
-      let text : List ℕ = spelling (flat (fitted_forest dim es n)) in
-      let ps : List Put = fit_puts dim es (fitted_in dim es n) in
       sym (turned_reads (spelling es) (spelling (flat (fitted_forest dim es n))) (fit_puts dim es (fitted_in dim es n))
       (whole_span (spelling es) (spelling (flat (fitted_forest dim es n))) (fit_puts dim es (fitted_in dim es n)) drawing_turned)
       (whole_turned (spelling es) (spelling (flat (fitted_forest dim es n))) (fit_puts dim es (fitted_in dim es n)) drawing_turned))

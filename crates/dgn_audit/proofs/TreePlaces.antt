@@ -91,8 +91,6 @@ first_stands : (es : List Element) (knot : Knot) (h : Element) (below behind : F
     → Stands es (Tree knot h below behind) n depth parent → Stands es (Tree knot h below NoTree) n depth parent
 first_stands es knot h below behind n depth parent stands =
     let mark : Mark = record { knot = knot; depth = depth; parent = parent; end = end_of n below } in
-    let inner : List Mark = marks below (n + 1) (depth + 1) (Some n) in
-    let outer : List Mark = marks behind (end_of n below) depth parent in
     record {
       marks_behind = marks behind (end_of n below) depth parent ++ stands.marks_behind;
       behind = flat behind ++ stands.behind;
