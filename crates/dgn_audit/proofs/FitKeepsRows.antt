@@ -167,8 +167,6 @@ pub fits_change : FitsChangeTheirFields
 fits_change f dim es t n made opens done =
     let at = done_at dim es n made done in
     let axes : IsDimension dim = axes_of f dim es t opens at.root at.known in
-    let new : List Element = flat (fitted_forest dim es at.root) in
-    let ps : List Put = fit_puts dim es (fitted_in dim es at.root) in
     let turned = drawing_turned dim axes es opens.each at.root at.known in
     let span : Span 0 (fit_puts dim es (fitted_in dim es at.root)) (length (spelling es)) =
     whole_span (spelling es) (spelling (flat (fitted_forest dim es at.root))) (fit_puts dim es (fitted_in dim es at.root)) turned in

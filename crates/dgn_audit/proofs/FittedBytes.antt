@@ -158,7 +158,6 @@ module _ (dim : ℕ) (axes : IsDimension dim) where
   fitted_turned (Tree knot e below behind) p each =
       let in_below = each_first (IsWellFormed dim) (flat below) (flat behind) each.1 in
       let in_behind = each_last (IsWellFormed dim) (flat below) (flat behind) each.1 in
-      let members : Option Box3 = hull_of dim below in
       let put = head_put knot e (hull_of dim below) (tree_hull dim knot e (hull_of dim below)) refl
       (tree_good dim knot e (hull_of dim below) each.0 (hulls_good dim below in_below)) each.0 in
       let head = dead_kept e e.deleted p knot (hull_in dim knot e.kind e.body (hull_of dim below)) below (fitted dim below)
