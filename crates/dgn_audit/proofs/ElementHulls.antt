@@ -72,20 +72,21 @@ row_points dim kind b Plain form sits = absurd (other (kind == 3) form)
     other true is = cc
     other false is = cc
 
+-- a shown body has not the form of a silent one
+pub shown_apart : (parts : Parts) → form_of_parts parts ≡ form_of_body (Silent []) → ⊥
+shown_apart (Line points) is = cc
+shown_apart (Points points) is = cc
+shown_apart (Text run origin spare chars) is = cc
+shown_apart (Node total run origin) is = cc
+shown_apart (Cell total name run origin) is = cc
+shown_apart (Header total number) is = cc
+shown_apart Plain is = cc
+
 -- nothing is read of a silent class
 silent_hull : (dim : ℕ) (knot : Knot) (class : Class) (kind : ℕ) (b : Body) (members : Option Box3) → is_silent class ≡ true
     → form_in class kind ≡ form_of_body b → hull_in dim knot kind b members ≡ None
 silent_hull dim knot class kind (Silent rest) members silent form = refl
-silent_hull dim knot Class.Silent kind (Shown d parts rest) members silent form = absurd (shown parts form)
-  where
-    shown : (parts : Parts) → form_of_body (Silent []) ≡ form_of_parts parts → ⊥
-    shown (Line points) is = cc
-    shown (Points points) is = cc
-    shown (Text run origin spare chars) is = cc
-    shown (Node total run origin) is = cc
-    shown (Cell total name run origin) is = cc
-    shown (Header total number) is = cc
-    shown Plain is = cc
+silent_hull dim knot Class.Silent kind (Shown d parts rest) members silent form = absurd (shown_apart parts (sym form))
 silent_hull dim knot Class.Vertices kind (Shown d parts rest) members silent form = absurd (both_ways false refl silent)
 silent_hull dim knot Class.Words kind (Shown d parts rest) members silent form = absurd (both_ways false refl silent)
 silent_hull dim knot Class.Counted kind (Shown d parts rest) members silent form = absurd (both_ways false refl silent)

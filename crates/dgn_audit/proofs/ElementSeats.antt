@@ -1,8 +1,8 @@
 -- An element among the trees of a design, by what is asked of it; and what reading it makes of what was read behind it.
-use Rattle.std.proofs.Common.{◌≡◌, ℕ, suc, ◌+◌, ◌-◌, ◌≤◌, List, ◌++◌, length, map, Option, Some, None, Result, Ok, Err, true, false, refl, sym, ap, ◌∙◌}
+use Rattle.std.proofs.Common.{◌≡◌, ℕ, suc, ◌+◌, ◌-◌, ◌≤◌, List, ◌++◌, length, map, Option, Some, None, true, false, refl, sym, ap, ◌∙◌}
 use Rattle.std.proofs.Common.{subst, arith}
-use Rattle.std.specs.Prelude.{slice_get, option_map, OnOk}
-use Rattle.std.proofs.lemmas.Bool.{cond-false}
+use Rattle.std.specs.Prelude.{slice_get, option_map}
+use Rattle.std.proofs.lemmas.Bool.{cond-true, cond-false}
 use Rattle.range_code.specs.declared.Box3.{Box3}
 use Rattle.dgn_layout.specs.Classes.{class_of, is_silent}
 use Rattle.dgn_layout.specs.Spots.{HoldsPoints}
@@ -27,16 +27,12 @@ use Rattle.dgn_audit.specs.Hulls.{is_vertices, hull_in, tree_hull}
 use Rattle.dgn_audit.specs.Findings.{finding_as}
 use Rattle.dgn_audit.specs.Reading.{hull_read, finding_read}
 use Rattle.dgn_audit.specs.Seats.{IsSeat}
-use Rattle.dgn_audit.specs.OpenBoxes.{Pass, box_for, without, with_hulls, past, read_one, read_marked}
-use Rattle.dgn_audit.proofs.ReadBack.{read_back}
+use Rattle.dgn_audit.specs.OpenBoxes.{box_for, without, with_hulls, past}
+use Rattle.dgn_audit.proofs.ReadBack.{Pass, read_one, read_marked, read_back}
 use Rattle.dgn_audit.proofs.ElementHulls.{hull_said, hull_loud, loud_findings, loud_long, row_holds}
 
 some_same : {A : Type 0} (x y : A) → Some x ≡ Some y → x ≡ y
 some_same x y is = cc
-
-pub ok_gives : {E : Type 0} (r : Result (Unit {0}) E) (P Q : Type 0) → OnOk r P → (P → Q) → OnOk r Q
-ok_gives (Ok done) P Q p step = step p
-ok_gives (Err e) P Q p step = tt
 
 -- an element's mark, by what is told of it
 module _ (es : List Element) (rows : List Row) (are : rows ≡ map row_of es) (n : ℕ) (knot : code.Knot) (parent : Option ℕ) (first end : ℕ)
@@ -124,6 +120,20 @@ module _ (d : Design) (whole : IsWhole d) (n : ℕ) (s : Seat) (is : IsSeat d n 
     no_hull : (parent : Option ℕ) (boxes : List OpenBox) → with_hulls parent None boxes ≡ boxes
     no_hull None boxes = refl
     no_hull (Some p) boxes = refl
+
+    -- a dead one takes what is told of the elements below it away
+    pub dead_read : s.deleted ≡ true → record { open_boxes = without n os; noted = past s.end fs }
+        ≡ read_marked keep d.dim n (mark_of row_of (elements d) n) (slice_get (elements d) n) (record { open_boxes = os; noted = fs })
+    dead_read dead =
+        let died : is.element.deleted ≡ true = sym is.deleted ∙ dead in
+        ap (λ (k : ℕ). record { open_boxes = without n os; noted = past k fs }) is.end
+        ∙ ap (λ (b : List OpenBox). record { open_boxes = b; noted = past is.mark.end fs }) (sym (no_hull is.mark.parent (without n os)))
+        ∙ ap (λ (h : Option Box3). made h (past is.mark.end fs))
+        (sym (cond-true is.element.deleted None (hull_in d.dim is.mark.knot is.element.kind is.element.body (box_for n os)) died))
+        ∙ ap (made (tree_hull d.dim is.mark.knot is.element (box_for n os)))
+        (sym (cond-true is.element.deleted (past is.mark.end fs)
+        (finding_as keep d.dim is.mark.knot n is.element (tree_hull d.dim is.mark.knot is.element (box_for n os)) ++ fs) died))
+        ∙ marked_is
 
     module _ (lives : s.deleted ≡ false) where
       alive : is.element.deleted ≡ false

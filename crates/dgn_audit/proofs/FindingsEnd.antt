@@ -188,8 +188,6 @@ module _ (dim : ℕ) (axes : IsDimension dim) where
       → (e.deleted ≡ false → findings_in keeps.Differing dim (n + 1) g ≡ [])
       → first_finding knot n (head_fitted dim knot e (tree_hull dim knot e (hull_of dim below))) (hull_of dim g) g ≡ []
   tree_none knot n e below g same none =
-      let h : Option Box3 = tree_hull dim knot e (hull_of dim below) in
-      let x : Element = head_fitted dim knot e (tree_hull dim knot e (hull_of dim below)) in
       cond_both (head_fitted dim knot e (tree_hull dim knot e (hull_of dim below))).deleted []
       (finding_as keeps.Differing dim knot n (head_fitted dim knot e (tree_hull dim knot e (hull_of dim below)))
       (tree_hull dim knot (head_fitted dim knot e (tree_hull dim knot e (hull_of dim below))) (hull_of dim g)) ++ findings_in keeps.Differing dim (n + 1) g)
@@ -335,7 +333,6 @@ module _ (dim : ℕ) (axes : IsDimension dim) where
   findings_left zero k root end (Tree knot e below behind) known at to =
       let size : length (flat below ++ []) ≡ length (flat below) = ap (length {A = Element}) (append-nil (flat below)) in
       let ends : end ≡ end_of k below = omega (arith, at, to, size) in
-      let first : List Finding = headed e (finding_as keeps.Differing dim knot k e (tree_hull dim knot e (hull_of dim below))) (noted (k + 1) below) in
       let gone : filter (is_outside root end)
       (headed e (finding_as keeps.Differing dim knot k e (tree_hull dim knot e (hull_of dim below))) (noted (k + 1) below)) ≡ [] =
       ap (filter (is_outside root end))

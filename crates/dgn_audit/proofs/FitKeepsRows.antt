@@ -9,7 +9,7 @@ use Rattle.patch_bytes.proofs.PutsLaid.{write_other}
 use Rattle.patch_bytes.proofs.RisingPuts.{span_within}
 use Rattle.range_code.specs.declared.Box3.{Box3}
 use Rattle.dgn_drawing.specs.declared.row.Row.{Row}
-use Rattle.dgn_drawing.specs.Element.{Body, Silent, Shown, Parts, Line, Points, Text, Node, Cell, Header, Plain, Element, form_of_body, form_of_parts}
+use Rattle.dgn_drawing.specs.Element.{Body, Silent, Shown, Element, form_of_body}
 use Rattle.dgn_drawing.specs.Spelling.{spelling}
 use Rattle.dgn_drawing.specs.WellFormed.{IsDimension, IsWellFormed}
 use Rattle.dgn_drawing.specs.Rows.{row_of}
@@ -36,6 +36,7 @@ use Rattle.dgn_audit.specs.Laws.{FitsItsFields, FittedDrawingsOpen, FitsChangeTh
 use Rattle.dgn_audit.proofs.FittedBytes.{head_put, tree_good, hulls_good, fitted_each, drawing_turned, puts_filled, puts_fields}
 use Rattle.dgn_audit.proofs.TreePlaces.{root_known}
 use Rattle.dgn_audit.proofs.FitFieldsRise.{fitted_lie, fitted_in_tree}
+use Rattle.dgn_audit.proofs.ElementHulls.{shown_apart}
 
 module _ (dim : ℕ) (axes : IsDimension dim) where
   -- fitted trees have the rows of the old ones
@@ -62,16 +63,7 @@ stays_so f (v ∷ vs) = (refl, stays_so f vs)
 silent_stays : (dim : ℕ) (x : Element) (b : Body) → form_of_body b ≡ form_of_body (Silent []) → (members : Option Box3)
     → hull_in dim Leaf x.kind b members ≡ None
 silent_stays dim x (Silent rest) is members = refl
-silent_stays dim x (Shown d parts rest) is members = absurd (shown parts is)
-  where
-    shown : (parts : Parts) → form_of_parts parts ≡ form_of_body (Silent []) → ⊥
-    shown (Line points) is = cc
-    shown (Points points) is = cc
-    shown (Text run origin spare chars) is = cc
-    shown (Node total run origin) is = cc
-    shown (Cell total name run origin) is = cc
-    shown (Header total number) is = cc
-    shown Plain is = cc
+silent_stays dim x (Shown d parts rest) is members = absurd (shown_apart parts is)
 
 -- the first element stays, which is silent
 begins_so : (dim : ℕ) (x : Element) (xs : List Element) (n : ℕ) → IsTcb x
@@ -175,8 +167,6 @@ pub fits_change : FitsChangeTheirFields
 fits_change f dim es t n made opens done =
     let at = done_at dim es n made done in
     let axes : IsDimension dim = axes_of f dim es t opens at.root at.known in
-    let new : List Element = flat (fitted_forest dim es at.root) in
-    let ps : List Put = fit_puts dim es (fitted_in dim es at.root) in
     let turned = drawing_turned dim axes es opens.each at.root at.known in
     let span : Span 0 (fit_puts dim es (fitted_in dim es at.root)) (length (spelling es)) =
     whole_span (spelling es) (spelling (flat (fitted_forest dim es at.root))) (fit_puts dim es (fitted_in dim es at.root)) turned in

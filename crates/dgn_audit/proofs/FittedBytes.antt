@@ -16,6 +16,7 @@ use Rattle.dgn_drawing.specs.Changes.{points_in}
 use Rattle.dgn_drawing.specs.Rows.{row_of}
 use Rattle.dgn_drawing.specs.Nesting.{Knot, Leaf, Group, Run, Loose, Forest, NoTree, Tree, flat, forest}
 use Rattle.dgn_drawing.specs.Numbering.{end_of, root_of}
+use Rattle.nest_tree.proofs.GrownNestings.{all_both}
 use Rattle.nest_tree.proofs.NestingSteps.{flat-forest}
 use Rattle.elem_index.specs.Offsets.{offset_of}
 use Rattle.level_view.proofs.ItemsBack.{Stands, below_stands, behind_stands}
@@ -157,7 +158,6 @@ module _ (dim : ℕ) (axes : IsDimension dim) where
   fitted_turned (Tree knot e below behind) p each =
       let in_below = each_first (IsWellFormed dim) (flat below) (flat behind) each.1 in
       let in_behind = each_last (IsWellFormed dim) (flat below) (flat behind) each.1 in
-      let members : Option Box3 = hull_of dim below in
       let put = head_put knot e (hull_of dim below) (tree_hull dim knot e (hull_of dim below)) refl
       (tree_good dim knot e (hull_of dim below) each.0 (hulls_good dim below in_below)) each.0 in
       let head = dead_kept e e.deleted p knot (hull_in dim knot e.kind e.body (hull_of dim below)) below (fitted dim below)
@@ -178,11 +178,7 @@ module _ (dim : ℕ) (axes : IsDimension dim) where
       let inner : AllByRecursion (IsWellFormed dim) (flat (cond e.deleted below (fitted dim below))) =
       cond_both e.deleted below (fitted dim below) (λ (g : Forest Element). AllByRecursion (IsWellFormed dim) (flat g)) (λ _. in_below)
       (λ _. fitted_each below in_below) in
-      (put.good, both (flat (cond e.deleted below (fitted dim below))) (flat (fitted dim behind)) inner (fitted_each behind in_behind))
-    where
-      both : (xs ys : List Element) → AllByRecursion (IsWellFormed dim) xs → AllByRecursion (IsWellFormed dim) ys → AllByRecursion (IsWellFormed dim) (xs ++ ys)
-      both [] ys one two = two
-      both (x ∷ xs) ys one two = (one.0, both xs ys one.1 two)
+      (put.good, all_both (IsWellFormed dim) (flat (cond e.deleted below (fitted dim below))) (flat (fitted dim behind)) inner (fitted_each behind in_behind))
 
 -- where the bytes of an element that follows begin
 take_front : {A : Type 0} (es front rest : List A) (n : ℕ) → drop n es ≡ front ++ rest → take (n + length front) es ≡ take n es ++ front
@@ -309,8 +305,6 @@ module _ (dim : ℕ) (axes : IsDimension dim) (es : List Element) (each : AllByR
   -- and is its fields with the bytes that the fitted drawing has there
   pub puts_filled : fit_puts dim es (fitted_in dim es n) ≡ filled (spelling (flat (fitted_forest dim es n))) (root_fields dim es (Some n))
   puts_filled =
-      let text : List ℕ = spelling (flat (fitted_forest dim es n)) in
-      let ps : List Put = fit_puts dim es (fitted_in dim es n) in
       sym (turned_reads (spelling es) (spelling (flat (fitted_forest dim es n))) (fit_puts dim es (fitted_in dim es n))
       (whole_span (spelling es) (spelling (flat (fitted_forest dim es n))) (fit_puts dim es (fitted_in dim es n)) drawing_turned)
       (whole_turned (spelling es) (spelling (flat (fitted_forest dim es n))) (fit_puts dim es (fitted_in dim es n)) drawing_turned))

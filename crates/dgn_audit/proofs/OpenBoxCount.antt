@@ -25,8 +25,8 @@ use Rattle.edit_ops.proofs.RootRows.{marks_by_rows}
 use Rattle.dgn_audit.specs.declared.keep.Keep.{Keep}
 use Rattle.dgn_audit.specs.declared.open_box.OpenBox.{OpenBox}
 use Rattle.dgn_audit.specs.Hulls.{tree_hull}
-use Rattle.dgn_audit.specs.OpenBoxes.{box_for, without, with_hull, with_hulls, read_marked}
-use Rattle.dgn_audit.proofs.ReadBack.{read_back}
+use Rattle.dgn_audit.specs.OpenBoxes.{box_for, without, with_hull, with_hulls}
+use Rattle.dgn_audit.proofs.ReadBack.{read_marked, read_back}
 
 -- the boxes are those of some of these headers, in their order
 abbrev IsAmong : List OpenBox → List ℕ → Type 0

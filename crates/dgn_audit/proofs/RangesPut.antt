@@ -163,13 +163,11 @@ ranged dim r e axes box good shown = by_body e.body shown.body good refl
   where
     by_body : (b : Body) → b ≡ Shown shown.display shown.parts shown.rest → IsWellFormed dim e → b ≡ e.body → IsRanged dim r e
     by_body b is well same =
-        let d = shown.display in
         let body : e.body ≡ Shown shown.display shown.parts shown.rest = sym same ∙ is in
         let held : IsWellFormed dim (old dim axes r box e shown.display shown.parts shown.rest) =
         subst (λ (x : Body). IsWellFormed dim (record { level = e.level; bit6 = e.bit6; cbit = e.cbit; kind = e.kind; deleted = e.deleted; body = x }))
         body well in
         let long : 36 ≤ size_of e = shown_long dim e well shown in
-        let words : ℕ = length (body_bytes (Shown shown.display shown.parts shown.rest)) / 2 in
         let spelled : spell (with_range dim r e) ≡ write (spell e) (map (range_put r 0) (range_spots dim)) =
         ap (λ (x : Body). spell (record { level = e.level; bit6 = e.bit6; cbit = e.cbit; kind = e.kind; deleted = e.deleted; body = body_fitted dim r x })) body
         ∙ shown_bytes e (display_fitted dim r shown.display) shown.parts shown.rest (length (body_bytes (Shown shown.display shown.parts shown.rest)) / 2)

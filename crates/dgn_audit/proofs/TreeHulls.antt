@@ -10,6 +10,7 @@ use Rattle.dgn_drawing.specs.Element.{Element}
 use Rattle.dgn_drawing.specs.Rows.{row_of}
 use Rattle.dgn_drawing.specs.Nesting.{Knot, Forest, NoTree, Tree, flat, forest}
 use Rattle.dgn_drawing.specs.Numbering.{Mark, end_of, mark_of}
+use Rattle.nest_tree.proofs.GrownNestings.{all_both}
 use Rattle.nest_tree.proofs.NestingSteps.{flat-forest}
 use Rattle.level_view.proofs.ItemsBack.{Stands, head_marked, head_listed, below_stands, behind_stands, all_stand}
 use Rattle.dgn_audit.specs.declared.keep.Keep.{Keep}
@@ -17,8 +18,8 @@ use Rattle.dgn_audit.specs.declared.finding.Finding.{Finding}
 use Rattle.dgn_audit.specs.declared.open_box.OpenBox.{OpenBox}
 use Rattle.dgn_audit.specs.Hulls.{hull_join, tree_hull, hull_of}
 use Rattle.dgn_audit.specs.Findings.{is_kept, finding_of, finding_as, findings_in}
-use Rattle.dgn_audit.specs.OpenBoxes.{Pass, box_for, without, with_hulls, past, findings_before, read_one, read_marked}
-use Rattle.dgn_audit.proofs.ReadBack.{read_back}
+use Rattle.dgn_audit.specs.OpenBoxes.{box_for, without, with_hulls, past}
+use Rattle.dgn_audit.proofs.ReadBack.{Pass, findings_before, read_one, read_marked, read_back}
 use Rattle.dgn_audit.proofs.HeaderBoxes.{TopBelow, IsBefore, top_on, before_on, top_hulls, members_box, members_without, hulls_joined, passed}
 
 -- what is told of one element has its number
@@ -34,7 +35,6 @@ pub finding_each : (P : ℕ → Type 0) (keep : Keep) (dim n : ℕ) (f : Forest 
     → AllByRecursion (λ (x : Finding). P x.number) (findings_in keep dim n f)
 finding_each P keep dim n NoTree each = tt
 finding_each P keep dim n (Tree knot e below behind) each =
-    let hull = tree_hull dim knot e (hull_of dim below) in
     let inner = finding_each P keep dim (n + 1) below
     (λ k from to. each k (omega (arith, from)) (omega (arith, to, length-append (flat below) (flat behind)))) in
     let outer = finding_each P keep dim (end_of n below) behind
@@ -44,14 +44,14 @@ finding_each P keep dim n (Tree knot e below behind) each =
     (cond e.deleted [] (finding_as keep dim knot n e (tree_hull dim knot e (hull_of dim below)) ++ findings_in keep dim (n + 1) below)) =
     cond_both e.deleted [] (finding_as keep dim knot n e (tree_hull dim knot e (hull_of dim below)) ++ findings_in keep dim (n + 1) below)
     (λ (l : List Finding). AllByRecursion (λ (x : Finding). P x.number) l)
-    (λ _. tt) (λ _. both (finding_as keep dim knot n e (tree_hull dim knot e (hull_of dim below))) (findings_in keep dim (n + 1) below) head inner) in
-    both (cond e.deleted [] (finding_as keep dim knot n e (tree_hull dim knot e (hull_of dim below)) ++ findings_in keep dim (n + 1) below))
+    (λ _. tt) (λ _. all_both (λ (x : Finding). P x.number) (finding_as keep dim knot n e (tree_hull dim knot e (hull_of dim below))) (findings_in keep dim (n + 1) below) head inner) in
+    all_both (λ (x : Finding). P x.number) (cond e.deleted [] (finding_as keep dim knot n e (tree_hull dim knot e (hull_of dim below)) ++ findings_in keep dim (n + 1) below))
     (findings_in keep dim (end_of n below) behind) tree outer
-  where
-    both : (xs ys : List Finding) → AllByRecursion (λ (x : Finding). P x.number) xs → AllByRecursion (λ (x : Finding). P x.number) ys
-        → AllByRecursion (λ (x : Finding). P x.number) (xs ++ ys)
-    both [] ys one two = two
-    both (x ∷ xs) ys one two = (one.0, both xs ys one.1 two)
+
+-- numbers from m on are numbers from a lesser one on
+raised : (m k : ℕ) (xs : List Finding) → k ≤ m → AllByRecursion (λ (f : Finding). m ≤ f.number) xs → AllByRecursion (λ (f : Finding). k ≤ f.number) xs
+raised m k [] less each = tt
+raised m k (x ∷ xs) less each = (omega (arith, less, each.0), raised m k xs less each.1)
 
 -- what was read behind trees that stand from number n on and end before m
 pub record IsBehind (n m : ℕ) (pass : Pass) : Type 0 where
@@ -77,15 +77,12 @@ module _ (keep : Keep) (dim : ℕ) where
       (joined_to keep dim (n + 1) (Some n) below (joined_to keep dim (end_of n below) parent behind pass))
       ≡ joined_to keep dim n parent (Tree knot e below behind) pass
   head_joins knot e below behind n depth parent pass before is =
-      let os : List OpenBox = with_hulls parent (hull_of dim behind) pass.open_boxes in
-      let fs : List Finding = findings_in keep dim (end_of n below) behind ++ pass.noted in
       let top : TopBelow n (with_hulls parent (hull_of dim behind) pass.open_boxes) = top_hulls n parent (hull_of dim behind) pass.open_boxes before is.top in
       let box : box_for n (with_hulls (Some n) (hull_of dim below) (with_hulls parent (hull_of dim behind) pass.open_boxes)) ≡ hull_of dim below =
       members_box n (hull_of dim below) (with_hulls parent (hull_of dim behind) pass.open_boxes) top in
       let left : without n (with_hulls (Some n) (hull_of dim below) (with_hulls parent (hull_of dim behind) pass.open_boxes))
       ≡ with_hulls parent (hull_of dim behind) pass.open_boxes =
       members_without n (hull_of dim below) (with_hulls parent (hull_of dim behind) pass.open_boxes) top in
-      let hull : Option Box3 = tree_hull dim knot e (hull_of dim below) in
       let boxes : with_hulls parent
       (tree_hull dim knot e (box_for n (with_hulls (Some n) (hull_of dim below) (with_hulls parent (hull_of dim behind) pass.open_boxes))))
       (without n (with_hulls (Some n) (hull_of dim below) (with_hulls parent (hull_of dim behind) pass.open_boxes)))
@@ -97,7 +94,7 @@ module _ (keep : Keep) (dim : ℕ) where
       let low : AllByRecursion (λ (f : Finding). f.number < end_of n below) (findings_in keep dim (n + 1) below) =
       finding_each (λ k. k < end_of n below) keep dim (n + 1) below (λ k from to. to) in
       let high : AllByRecursion (λ (f : Finding). end_of n below ≤ f.number) (findings_in keep dim (end_of n below) behind ++ pass.noted) =
-      each_from (findings_in keep dim (end_of n below) behind) pass.noted
+      all_both (λ (f : Finding). end_of n below ≤ f.number) (findings_in keep dim (end_of n below) behind) pass.noted
       (finding_each (λ k. end_of n below ≤ k) keep dim (end_of n below) behind (λ k from to. from))
       (raised (n + length (flat (Tree knot e below behind))) (end_of n below) pass.noted (omega (arith, length-append (flat below) (flat behind))) is.high) in
       let noted : findings_before keep dim n (record { knot = knot; depth = depth; parent = parent; end = end_of n below }) e
@@ -120,15 +117,6 @@ module _ (keep : Keep) (dim : ℕ) where
         noted = l;
       }) noted
     where
-      each_from : (xs ys : List Finding) → AllByRecursion (λ (f : Finding). end_of n below ≤ f.number) xs
-          → AllByRecursion (λ (f : Finding). end_of n below ≤ f.number) ys → AllByRecursion (λ (f : Finding). end_of n below ≤ f.number) (xs ++ ys)
-      each_from [] ys one two = two
-      each_from (x ∷ xs) ys one two = (one.0, each_from xs ys one.1 two)
-
-      raised : (m k : ℕ) (xs : List Finding) → k ≤ m → AllByRecursion (λ (f : Finding). m ≤ f.number) xs → AllByRecursion (λ (f : Finding). k ≤ f.number) xs
-      raised m k [] less each = tt
-      raised m k (x ∷ xs) less each = (omega (arith, less, each.0), raised m k xs less each.1)
-
       by_deleted : (t : Bool) (inner : List Finding) → AllByRecursion (λ (f : Finding). f.number < end_of n below) inner
           → AllByRecursion (λ (f : Finding). end_of n below ≤ f.number) (findings_in keep dim (end_of n below) behind ++ pass.noted)
           → cond t (past (end_of n below) (inner ++ (findings_in keep dim (end_of n below) behind ++ pass.noted)))
@@ -154,10 +142,8 @@ module _ (keep : Keep) (dim : ℕ) where
         ∙ ap (λ (os : List OpenBox). record { open_boxes = os; noted = (read_back keep dim es (n + 0) count).noted })
         (sym (no_hull parent (read_back keep dim es (n + 0) count).open_boxes))
     trees_read (Tree knot e below behind) n depth parent stands before count is =
-        let size : ℕ = length (flat (Tree knot e below behind)) in
         let long : length (flat (Tree knot e below behind)) ≡ suc (length (flat below) + length (flat behind)) =
         omega (arith, length-append (flat below) (flat behind)) in
-        let last : Pass = read_back keep dim es (n + length (flat (Tree knot e below behind))) count in
         let steps : length (flat (Tree knot e below behind)) + count ≡ suc (length (flat below) + (length (flat behind) + count)) = omega (arith, long) in
         let after : end_of n below + length (flat behind) ≡ n + length (flat (Tree knot e below behind)) = omega (arith, long) in
         let mid : n + 1 + length (flat below) ≡ end_of n below = omega arith in
@@ -179,7 +165,7 @@ module _ (keep : Keep) (dim : ℕ) where
           top = top_hulls (n + 1) parent (hull_of dim behind) (read_back keep dim es (n + length (flat (Tree knot e below behind))) count).open_boxes
               (before_on n (n + 1) parent (omega arith) before)
               (top_on n (n + 1) (read_back keep dim es (n + length (flat (Tree knot e below behind))) count).open_boxes (omega arith) is.top);
-          high = high_both (end_of n below) (findings_in keep dim (end_of n below) behind)
+          high = all_both (λ (f : Finding). end_of n below ≤ f.number) (findings_in keep dim (end_of n below) behind)
               (read_back keep dim es (n + length (flat (Tree knot e below behind))) count).noted
               (finding_each (λ k. end_of n below ≤ k) keep dim (end_of n below) behind (λ k from to. from))
               (raised (n + length (flat (Tree knot e below behind))) (end_of n below)
@@ -206,15 +192,6 @@ module _ (keep : Keep) (dim : ℕ) where
         (joined_to keep dim (end_of n below) parent behind (read_back keep dim es (n + length (flat (Tree knot e below behind))) count))))
         (head_listed es knot e below behind n depth parent stands)
         ∙ head_joins knot e below behind n depth parent (read_back keep dim es (n + length (flat (Tree knot e below behind))) count) before is
-      where
-        high_both : (m : ℕ) (xs ys : List Finding) → AllByRecursion (λ (f : Finding). m ≤ f.number) xs → AllByRecursion (λ (f : Finding). m ≤ f.number) ys
-            → AllByRecursion (λ (f : Finding). m ≤ f.number) (xs ++ ys)
-        high_both m [] ys one two = two
-        high_both m (x ∷ xs) ys one two = (one.0, high_both m xs ys one.1 two)
-
-        raised : (m k : ℕ) (xs : List Finding) → k ≤ m → AllByRecursion (λ (f : Finding). m ≤ f.number) xs → AllByRecursion (λ (f : Finding). k ≤ f.number) xs
-        raised m k [] less each = tt
-        raised m k (x ∷ xs) less each = (omega (arith, less, each.0), raised m k xs less each.1)
 
     -- of all elements: the findings
     pub all_read : (read_back keep dim es 0 (length es)).noted ≡ findings_in keep dim 0 (forest row_of es)

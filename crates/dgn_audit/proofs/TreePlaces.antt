@@ -15,12 +15,12 @@ use Rattle.dgn_drawing.specs.Rows.{row_of}
 use Rattle.dgn_drawing.specs.Nesting.{Scope, Whole, Knot, Leaf, Group, Run, Loose, is_parts, is_all, is_counted, member_count, group_or_loose, Shape, shape}
 use Rattle.dgn_drawing.specs.Nesting.{Forest, NoTree, Tree, nest_within, flat, forest}
 use Rattle.dgn_drawing.specs.Numbering.{Mark, end_of, marks, mark_of, headers_in, headers_of, first_or, root_of}
+use Rattle.nest_tree.proofs.GrownNestings.{all_both}
 use Rattle.nest_tree.proofs.NestingSteps.{flat-forest}
 use Rattle.level_view.proofs.ItemsBack.{Stands, head_marked, head_listed, below_stands, behind_stands, all_stand}
 use Rattle.edit_ops.specs.Trees.{count_in, tree_at}
 use Rattle.dgn_audit.specs.declared.keep.Keep.{Keep}
 use Rattle.dgn_audit.specs.declared.keep.Keep.TheVariants as keeps
-use Rattle.dgn_audit.specs.declared.finding.Finding.{Finding}
 use Rattle.dgn_audit.specs.Hulls.{tree_hull, hull_of}
 use Rattle.dgn_audit.specs.Findings.{is_fitted, finding_of, finding_as, findings_in, findings_of, fitted_in}
 use Rattle.dgn_audit.proofs.ReadBack.{read_back}
@@ -91,8 +91,6 @@ first_stands : (es : List Element) (knot : Knot) (h : Element) (below behind : F
     → Stands es (Tree knot h below behind) n depth parent → Stands es (Tree knot h below NoTree) n depth parent
 first_stands es knot h below behind n depth parent stands =
     let mark : Mark = record { knot = knot; depth = depth; parent = parent; end = end_of n below } in
-    let inner : List Mark = marks below (n + 1) (depth + 1) (Some n) in
-    let outer : List Mark = marks behind (end_of n below) depth parent in
     record {
       marks_behind = marks behind (end_of n below) depth parent ++ stands.marks_behind;
       behind = flat behind ++ stands.behind;
@@ -176,10 +174,6 @@ rooted es n known =
     (omega (arith, known, ap (length {A = Element}) (flat-forest row_of es)))
 
 module _ (dim : ℕ) (es : List Element) where
-  both : (P : Finding → Type 0) (xs ys : List Finding) → AllByRecursion P xs → AllByRecursion P ys → AllByRecursion P (xs ++ ys)
-  both P [] ys one two = two
-  both P (x ∷ xs) ys one two = (one.0, both P xs ys one.1 two)
-
   alone_spotted : (knot : Knot) (n : ℕ) (e : Element) (hull : Option Box3) → slice_get es n ≡ Some e → IsCountedAs knot e.kind
       → AllByRecursion (IsSpotted es) (finding_as keeps.Fitted dim knot n e hull)
   alone_spotted knot n e None there counted = tt
@@ -192,16 +186,15 @@ module _ (dim : ℕ) (es : List Element) where
       → AllByRecursion (IsSpotted es) (findings_in keeps.Fitted dim n f)
   findings_spotted NoTree n depth parent stands counted = tt
   findings_spotted (Tree knot e below behind) n depth parent stands counted =
-      let hull = tree_hull dim knot e (hull_of dim below) in
       let head = alone_spotted knot n e (tree_hull dim knot e (hull_of dim below)) (head_listed es knot e below behind n depth parent stands) counted.0 in
       let inner = findings_spotted below (n + 1) (depth + 1) (Some n) (below_stands es knot e below behind n depth parent stands) counted.1 in
       let outer = findings_spotted behind (end_of n below) depth parent (behind_stands es knot e below behind n depth parent stands) counted.2 in
-      both (IsSpotted es) (cond e.deleted []
+      all_both (IsSpotted es) (cond e.deleted []
       (finding_as keeps.Fitted dim knot n e (tree_hull dim knot e (hull_of dim below)) ++ findings_in keeps.Fitted dim (n + 1) below))
       (findings_in keeps.Fitted dim (end_of n below) behind)
       (cond_both e.deleted [] (finding_as keeps.Fitted dim knot n e (tree_hull dim knot e (hull_of dim below)) ++ findings_in keeps.Fitted dim (n + 1) below)
       (AllByRecursion (IsSpotted es))
-      (λ _. tt) (λ _. both (IsSpotted es) (finding_as keeps.Fitted dim knot n e (tree_hull dim knot e (hull_of dim below)))
+      (λ _. tt) (λ _. all_both (IsSpotted es) (finding_as keeps.Fitted dim knot n e (tree_hull dim knot e (hull_of dim below)))
       (findings_in keeps.Fitted dim (n + 1) below) head inner))
       outer
 

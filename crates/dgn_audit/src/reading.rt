@@ -1,15 +1,14 @@
 // The hulls of the elements of a part, found from the last element back to the first. Both lists grow towards the front of the
 // drawing, so what is least stands last.
 
-ghost use Rattle.std.specs.Prelude.{◌≡◌, ◌<◌, ◌≤◌, ◌∷◌, ◌++◌, length, map, reverse, slice_get, vec_len, vec_capacity, Option, Some, OnOk, IfOk, IfSome};
+ghost use Rattle.std.specs.Prelude.{◌≡◌, ◌<◌, ◌≤◌, ◌∷◌, ◌++◌, length, map, reverse, vec_len, vec_capacity, Option, Some, OnOk, IfOk, IfSome};
 ghost use Rattle.dgn_drawing.specs.Rows.{row_of};
-ghost use Rattle.dgn_drawing.specs.Numbering.{mark_of};
 ghost use Rattle.dgn_drawing.specs.WellFormed.{IsDimension};
 ghost use Rattle.elem_index.specs.Design.{elements, IsWhole};
 ghost use Rattle.dgn_audit.specs.Hulls.{hull_join};
 ghost use Rattle.dgn_audit.specs.Reading.{is_kept_read, finding_read};
 ghost use Rattle.dgn_audit.specs.Findings.{findings_of};
-ghost use Rattle.dgn_audit.specs.OpenBoxes.{pass_of, box_for, without, with_hull, with_hulls, begins_below, past, read_marked};
+ghost use Rattle.dgn_audit.specs.OpenBoxes.{box_for, without, with_hull, with_hulls, begins_below, past};
 ghost use Rattle.dgn_audit.specs.Seats.{bounds_of};
 
 use crate::finding::Finding;
@@ -141,37 +140,6 @@ fn tell(
     Ok(())
 }
 
-// Reads element `n` before what was read behind it, where there is room for the boxes that are open then.
-fn read(
-    d: &Design,
-    t: &Nest,
-    n: u32,
-    keep: Keep,
-    boxes: &mut Vec<OpenBox>,
-    noted: &mut Vec<Finding>,
-) -> Result<(), AllocError>
-    requires whole { IsWhole d.now }
-    requires nesting { t.now.rows ≡ map row_of (elements d.now) }
-    requires known { n < length (elements d.now) }
-    requires room { length (read_marked keep d.now.dim n (mark_of row_of (elements d.now) n) (slice_get (elements d.now) n)
-        (pass_of boxes.old.items noted.old.items)).open_boxes ≤ vec_capacity boxes.old }
-    ensures pass { OnOk result (pass_of boxes.new.items noted.new.items
-        ≡ read_marked keep d.now.dim n (mark_of row_of (elements d.now) n) (slice_get (elements d.now) n) (pass_of boxes.old.items noted.old.items)) }
-    ensures capacity { vec_capacity boxes.new ≡ vec_capacity boxes.old }
-{
-    let seat = seat_of(d, t, n);
-    let members = take_box(boxes, n);
-    if seat.deleted {
-        cut_below(noted, seat.end);
-        return Ok(());
-    }
-    let Some(hull) = hull_of(d.dim, seat.knot, seat.kind, seat.bytes, members) else {
-        return Ok(());
-    };
-    add_hull(boxes, seat.parent, hull);
-    tell(d.dim, keep, n, seat, hull, noted)
-}
-
 // The numbers of the first element of the part of element `n` and behind its last one, or of the whole drawing where none is
 // named.
 fn bounds(d: &Design, t: &Nest, part: Option<u32>) -> (u32, u32)
@@ -208,7 +176,16 @@ pub(crate) fn read_part(
     let mut boxes = Vec::with_capacity(alloc, MOST_OPEN)?;
     let mut noted = Vec::new(alloc);
     for n in (first..end).rev() {
-        read(d, t, n, keep, &mut boxes, &mut noted)?;
+        let seat = seat_of(d, t, n);
+        let members = take_box(&mut boxes, n);
+        if seat.deleted {
+            cut_below(&mut noted, seat.end);
+            continue;
+        }
+        if let Some(hull) = hull_of(d.dim, seat.knot, seat.kind, seat.bytes, members) {
+            add_hull(&mut boxes, seat.parent, hull);
+            tell(d.dim, keep, n, seat, hull, &mut noted)?;
+        }
     }
     Ok(noted)
 }

@@ -116,7 +116,6 @@ module _ {A : Type 0} (row : A → Row) where
   later_tree : (knot : Knot) (h : A) (below behind : Forest A) (n k : ℕ) → end_of n below ≤ k
       → tree_at (k - n) (Tree knot h below behind) ≡ tree_at (k - end_of n below) behind
   later_tree knot h below behind n k late =
-      let i : ℕ = k - n - 1 in
       let on : k - n ≡ suc (k - n - 1) = omega (arith, late) in
       let outside : count_in below ≤ k - n - 1 = omega (arith, late) in
       let left : k - n - 1 - count_in below ≡ k - end_of n below = omega (arith, late) in

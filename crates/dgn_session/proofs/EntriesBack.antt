@@ -120,7 +120,6 @@ stands dim tail b (e ∷ entries) kept =
 offsets_stay : (dim : ℕ) (opened b : List ℕ) → rows_of dim opened ≡ take (length (rows_of dim opened)) (rows_of dim b) → (n : ℕ)
     → n < length (elements_of dim opened) → offset_of (elements_of dim b) n ≡ offset_of (elements_of dim opened) n
 offsets_stay dim opened b front n within =
-    let m : ℕ = length (rows_of dim opened) in
     let few : n ≤ length (rows_of dim opened) = omega (arith, length-map (elements_of dim opened) row_of) in
     let rows : map row_of (take n (elements_of dim b)) ≡ map row_of (take n (elements_of dim opened)) =
     sym (take-map row_of n (elements_of dim b)) ∙ sym (take-take n (length (rows_of dim opened)) (rows_of dim b) few) ∙ ap (take n) (sym front)

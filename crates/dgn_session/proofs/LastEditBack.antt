@@ -64,7 +64,6 @@ some_elements (e ∷ es) first = omega arith
 cut_there : (cs es : List Element) (places : List ℕ) (len count : ℕ) → map row_of cs ≡ take (length (map row_of cs)) (map row_of es)
     → places ≡ offsets_of es → len ≡ length (spelling cs) → IsCutAt places len count → count ≡ length cs
 cut_there cs es places len count front are long cut =
-    let n : ℕ = length cs in
     let rows : length (map row_of cs) ≡ length cs = length-map cs row_of in
     let first : map row_of (take (length cs) es) ≡ map row_of cs =
     sym (take-map row_of (length cs) es) ∙ ap (λ (k : ℕ). take k (map row_of es)) (sym rows) ∙ sym front in

@@ -64,7 +64,6 @@ module _ (above : Element → Element) (other : Forest Element → Forest Elemen
       → Turns p (spelling (h ∷ (flat below ++ flat behind))) (header_puts (above_side b n first p h below behind) ++ ps)
       (spelling (flat (exchange_side above other b n knot h below behind)))
   side_turned true n first p q knot h below behind heads part inner outer =
-      let vs : List Live = above_from n (first + 1) (p + size_of h) below in
       let deep = inner refl heads.1 part in
       let one = turns_then p (p + size_of h) (spell h) (spelling (flat below)) (spell (above h)) (spelling (flat (exchange above other n below)))
       (puts p h) (header_puts (above_from n (first + 1) (p + size_of h) below) ++ ps) refl heads.0 deep in

@@ -100,7 +100,6 @@ module _ (dim : ℕ) (b : List ℕ) (mask : Mask) (number depth end : ℕ) (foun
 
   group_number : numbers_of (with_group dim number depth end (element_at dim b) found) ≡ with_group_number number end (element_at dim b) (numbers_of found)
   group_number =
-      let its = its_item dim number depth (element_at dim b) in
       numbers_cond (element_at dim b).deleted (past end found) (cond (begins_below end found) (its_item dim number depth (element_at dim b) ++ found) found)
       ∙ ap (λ (ns : List ℕ). cond (element_at dim b).deleted ns
       (numbers_of (cond (begins_below end found) (its_item dim number depth (element_at dim b) ++ found) found))) (past_numbers end found)

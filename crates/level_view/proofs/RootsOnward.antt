@@ -78,7 +78,6 @@ module _ (es : List Element) where
           | inr outer ↦
               let rest = goes_on behind (end_of n below) root (behind_stands es knot e below behind n 0 None stands) outer
               (omega (arith, length-append (flat below) (flat behind))) is_root in
-              let rs : List ℕ = roots (end_of n below) behind in
               let ordered = rest.ordered in
               let within = rest.within in
               record {

@@ -1,10 +1,13 @@
-use Rattle.std.proofs.Common.{◌≡◌, ℕ, ◌-◌, length, refl, sym, ap, ◌∙◌, arith, List, []}
+use Rattle.std.proofs.Common.{◌≡◌, ℕ, ◌-◌, ◌++◌, List, [], Some, length, reverse, refl, sym, ap, ◌∙◌, arith}
 use Rattle.elem_index.specs.Design.{elements}
+use Rattle.elem_index.proofs.Places.{axes_of}
+use Rattle.dgn_audit.specs.declared.finding.Finding.{Finding}
 use Rattle.dgn_audit.specs.declared.open_box.OpenBox.{OpenBox}
-use Rattle.dgn_audit.specs.OpenBoxes.{Pass, pass_of}
-use Rattle.dgn_audit.proofs.ReadBack.{read_back}
+use Rattle.dgn_audit.specs.Reading.{finding_read}
+use Rattle.dgn_audit.specs.OpenBoxes.{without, with_hulls}
+use Rattle.dgn_audit.proofs.ReadBack.{Pass, pass_of, read_back}
 use Rattle.dgn_audit.proofs.OpenBoxCount.{few_open}
-use Rattle.dgn_audit.proofs.ElementSeats.{back_step}
+use Rattle.dgn_audit.proofs.ElementSeats.{seat_long, seat_holds, hull_long, dead_read, bare_read, hull_is_read, hull_from, back_step}
 use Rattle.dgn_audit.proofs.TreePlaces.{has_bounds}
 use Rattle.dgn_audit.proofs.reading.read_part.Goals as goal
 
@@ -20,32 +23,90 @@ loop-n-init c =
           ∙ ap (read_back c.args.keep c.args.d.now.dim (elements c.args.d.now) c.bounds-first.result.1) (sym none);
     }
 
-pub read-requires-clause-known : goal.read-requires-clause-known
-read-requires-clause-known c =
+pub seat_of-seat-requires-clause-known : goal.seat_of-seat-requires-clause-known
+seat_of-seat-requires-clause-known c =
     let bounds = has_bounds c.args.keep c.args.d.now.dim (elements c.args.d.now) c.args.part c.requires.known c.bounds-first.result c.bounds-first.ensures in
     omega (arith, bounds.within, c.loop-n.auto.n, c.loop-n-test.true)
 
-pub read-requires-clause-room : goal.read-requires-clause-room
-read-requires-clause-room c =
-    let bounds = has_bounds c.args.keep c.args.d.now.dim (elements c.args.d.now) c.args.part c.requires.known c.bounds-first.result c.bounds-first.ensures in
-    let read = back_step c.args.keep c.args.d.now.dim (elements c.args.d.now) (c.loop-n.n - 1) c.loop-n.n c.bounds-first.result.1
+pub hull_of-requires-clause-long : goal.hull_of-requires-clause-long
+hull_of-requires-clause-long c = seat_long c.args.d.now c.requires.whole (c.loop-n.n - 1) c.seat_of-seat.result c.seat_of-seat.ensures
+
+pub hull_of-requires-clause-holds : goal.hull_of-requires-clause-holds
+hull_of-requires-clause-holds c = seat_holds c.args.d.now c.requires.whole (c.loop-n.n - 1) c.seat_of-seat.result c.seat_of-seat.ensures
+
+pub add_hull-requires : goal.add_hull-requires
+add_hull-requires c =
+    let d = c.args.d.now in
+    let s = c.seat_of-seat.result in
+    let os = reverse c.loop-n.boxes.items in
+    let bounds = has_bounds c.args.keep d.dim (elements d) c.args.part c.requires.known c.bounds-first.result c.bounds-first.ensures in
+    let read = back_step c.args.keep d.dim (elements d) (c.loop-n.n - 1) c.loop-n.n c.bounds-first.result.1
     (pass_of c.loop-n.boxes.items c.loop-n.noted.items) _
-    (omega (arith, c.loop-n-test.true)) c.loop-n.auto.n c.loop-n.invariant.pass refl in
+    (omega (arith, c.loop-n-test.true)) c.loop-n.auto.n c.loop-n.invariant.pass
+    (hull_is_read d c.requires.whole (c.loop-n.n - 1) s c.seat_of-seat.ensures c.args.keep os (reverse c.loop-n.noted.items) c.if-seat.false
+    c.in-Some.hull (with_hulls s.parent (Some c.in-Some.hull) (without (c.loop-n.n - 1) os))
+    (finding_read c.args.keep d.dim s.knot (c.loop-n.n - 1) s.kind s.bytes.now c.in-Some.hull ++ reverse c.loop-n.noted.items)
+    (hull_from d.dim s (c.loop-n.n - 1) _ _ os c.in-Some.ensures c.take_box-members.ensures.found) refl refl) in
     omega (
       arith,
       c.loop-n.invariant.room,
+      c.take_box-members.ensures.capacity,
       ap (λ (p : Pass). length p.open_boxes) read,
-      few_open c.args.d.now c.requires.whole c.args.keep (c.loop-n.n - 1) (c.bounds-first.result.1 - (c.loop-n.n - 1))
+      ap (λ (left : List OpenBox). length (with_hulls s.parent (Some c.in-Some.hull) left)) c.take_box-members.ensures.left,
+      few_open d c.requires.whole c.args.keep (c.loop-n.n - 1) (c.bounds-first.result.1 - (c.loop-n.n - 1))
           (omega (arith, c.loop-n-test.true, c.loop-n.auto.n, bounds.within)),
     )
 
-pub loop-n-preserved : goal.loop-n-preserved
-loop-n-preserved c = record {
-  room = c.in_ok-read.ensures.capacity ∙ c.loop-n.invariant.room;
+pub tell-requires-clause-dimension : goal.tell-requires-clause-dimension
+tell-requires-clause-dimension c = axes_of c.args.d.now c.requires.whole
+
+pub tell-requires-clause-long : goal.tell-requires-clause-long
+tell-requires-clause-long c =
+    hull_long c.args.d.now c.requires.whole (c.loop-n.n - 1) c.seat_of-seat.result c.seat_of-seat.ensures c.in-Some.hull c.take_box-members.result
+    c.in-Some.ensures
+
+pub loop-n-preserved-then-seat : goal.loop-n-preserved-then-seat
+loop-n-preserved-then-seat c = record {
+  room = c.take_box-members.ensures.capacity ∙ c.loop-n.invariant.room;
   after = omega (arith, c.loop-n-test.true);
   pass = back_step c.args.keep c.args.d.now.dim (elements c.args.d.now) (c.loop-n.n - 1) c.loop-n.n c.bounds-first.result.1
-      (pass_of c.loop-n.boxes.items c.loop-n.noted.items) (pass_of c.read.new.boxes.items c.read.new.noted.items)
-      (omega (arith, c.loop-n-test.true)) c.loop-n.auto.n c.loop-n.invariant.pass c.in_ok-read.ensures.pass;
+      (pass_of c.loop-n.boxes.items c.loop-n.noted.items) _
+      (omega (arith, c.loop-n-test.true)) c.loop-n.auto.n c.loop-n.invariant.pass
+      (ap (λ (os : List OpenBox). record { open_boxes = os; noted = reverse c.cut_below.new.noted.items }) c.take_box-members.ensures.left
+      ∙ ap (λ (fs : List Finding). record { open_boxes = without (c.loop-n.n - 1) (reverse c.loop-n.boxes.items); noted = fs }) c.cut_below.ensures
+      ∙ dead_read c.args.d.now c.requires.whole (c.loop-n.n - 1) c.seat_of-seat.result c.seat_of-seat.ensures c.args.keep
+      (reverse c.loop-n.boxes.items) (reverse c.loop-n.noted.items) c.if-seat.true);
+}
+
+pub loop-n-preserved-in-Continue-branch-2 : goal.loop-n-preserved-in-Continue-branch-2
+loop-n-preserved-in-Continue-branch-2 c = record {
+  room = c.add_hull.ensures.capacity ∙ c.take_box-members.ensures.capacity ∙ c.loop-n.invariant.room;
+  after = omega (arith, c.loop-n-test.true);
+  pass = back_step c.args.keep c.args.d.now.dim (elements c.args.d.now) (c.loop-n.n - 1) c.loop-n.n c.bounds-first.result.1
+      (pass_of c.loop-n.boxes.items c.loop-n.noted.items) (pass_of c.add_hull.new.boxes.items c.tell.new.noted.items)
+      (omega (arith, c.loop-n-test.true)) c.loop-n.auto.n c.loop-n.invariant.pass
+      (hull_is_read c.args.d.now c.requires.whole (c.loop-n.n - 1) c.seat_of-seat.result c.seat_of-seat.ensures c.args.keep
+      (reverse c.loop-n.boxes.items) (reverse c.loop-n.noted.items) c.if-seat.false
+      c.in-Some.hull (reverse c.add_hull.new.boxes.items) (reverse c.tell.new.noted.items)
+      (hull_from c.args.d.now.dim c.seat_of-seat.result (c.loop-n.n - 1) _ _ (reverse c.loop-n.boxes.items) c.in-Some.ensures
+      c.take_box-members.ensures.found)
+      (c.add_hull.ensures.held
+      ∙ ap (λ (os : List OpenBox). with_hulls c.seat_of-seat.result.parent (Some c.in-Some.hull) os) c.take_box-members.ensures.left)
+      c.in_ok-tell.ensures);
+}
+
+pub loop-n-preserved : goal.loop-n-preserved
+loop-n-preserved c = record {
+  room = c.take_box-members.ensures.capacity ∙ c.loop-n.invariant.room;
+  after = omega (arith, c.loop-n-test.true);
+  pass = back_step c.args.keep c.args.d.now.dim (elements c.args.d.now) (c.loop-n.n - 1) c.loop-n.n c.bounds-first.result.1
+      (pass_of c.loop-n.boxes.items c.loop-n.noted.items) _
+      (omega (arith, c.loop-n-test.true)) c.loop-n.auto.n c.loop-n.invariant.pass
+      (ap (λ (os : List OpenBox). record { open_boxes = os; noted = reverse c.loop-n.noted.items }) c.take_box-members.ensures.left
+      ∙ bare_read c.args.d.now c.requires.whole (c.loop-n.n - 1) c.seat_of-seat.result c.seat_of-seat.ensures c.args.keep
+      (reverse c.loop-n.boxes.items) (reverse c.loop-n.noted.items) c.if-seat.false
+      (hull_from c.args.d.now.dim c.seat_of-seat.result (c.loop-n.n - 1) _ _ (reverse c.loop-n.boxes.items) c.in_default.ensures
+      c.take_box-members.ensures.found));
 }
 
 pub returns : goal.returns

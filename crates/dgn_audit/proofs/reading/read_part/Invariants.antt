@@ -1,7 +1,6 @@
 use Rattle.std.proofs.Common.{◌≡◌, ◌-◌, ◌≤◌, vec_capacity}
 use Rattle.elem_index.specs.Design.{elements}
-use Rattle.dgn_audit.specs.OpenBoxes.{pass_of}
-use Rattle.dgn_audit.proofs.ReadBack.{read_back}
+use Rattle.dgn_audit.proofs.ReadBack.{pass_of, read_back}
 use Rattle.dgn_audit.proofs.reading.read_part.Given as goal
 
 abbrev pub invariant-loop-n : goal.invariant-loop-n

@@ -6,7 +6,6 @@ use Rattle.level_view.proofs.alone.shown_alone.Goals.{then-head-via-then-head, t
 
 pub returns-then-head : goal.returns-then-head
 returns-then-head c =
-    let h = c.head-head.result in
     elim c.then-head.branch [
       | then-head-via-then-head w ↦
           deleted_hides c.args.dim c.args.place.bytes.now c.head-head.result c.head-head.ensures c.args.mask c.args.place.number c.args.place.depth

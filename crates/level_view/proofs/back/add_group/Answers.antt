@@ -14,7 +14,6 @@ returns-then-head c =
 
 pub returns : goal.returns
 returns c =
-    let found = reverse c.args.items.now.items in
     let tested = c.begins_below.ensures ∙ ap (λ (l : List Item). begins_below c.args.place.end (reverse l)) c.deref.ensures.value in
     let put = ap (λ (l : List Item). l ++ reverse c.args.items.now.items) (ap option_to_list c.in_ok-item.ensures) in
     ok_same c.put_first.result _ _ _ c.put_first.ensures
