@@ -1,5 +1,6 @@
 -- The rows of some elements, one behind the other, and where they may end.
-use Rattle.std.proofs.Common.{◌≡◌, ℕ, ◌+◌, ◌<◌, ◌≤◌, ◌⊎◌, List, [], ◌∷◌, ◌++◌, length, take, drop, map, sym, ap, ◌∙◌, subst, arith, append_assoc, inl, inr, true}
+use Rattle.std.proofs.Common.{◌≡◌, ℕ, ◌+◌, ◌<◌, ◌≤◌, ◌⊎◌, List, [], ◌∷◌, ◌++◌, length}
+use Rattle.std.proofs.Common.{take, drop, map, sym, ap, ◌∙◌, subst, arith, append_assoc, inl, inr, true}
 use Rattle.std.specs.Prelude.{slice_get, not, Some, option_map}
 use Rattle.std.proofs.lemmas.List.{length_push, drop_all}
 use Rattle.dgn_drawing.specs.declared.row.Row.{Row}

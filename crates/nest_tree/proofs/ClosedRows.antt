@@ -117,7 +117,8 @@ nest_closed_in (suc n) scope (h ∷ r) new short is =
     ∙ ap (λ (f : Forest Row). Tree (shape itself scope h r).knot h (nest itself (shape itself scope h r).inside (take k r)) f) rest
     ∙ ap (λ (f : Forest Row). joined f (nest itself scope new)) (sym (nest_cons itself scope h r))
 
-forest_closed : (rows new : List Row) → 0 < length rows → IsClosed itself rows → forest itself (rows ++ new) ≡ joined (forest itself rows) (nest itself Whole new)
+forest_closed : (rows new : List Row) → 0 < length rows → IsClosed itself rows
+    → forest itself (rows ++ new) ≡ joined (forest itself rows) (nest itself Whole new)
 forest_closed [] new some is = absurd (omega arith)
 forest_closed (e ∷ es) new some is =
     ap (λ (f : Forest Row). Tree Leaf e NoTree f)

@@ -131,7 +131,8 @@ module _ (rows new all : List Row) (ends : List ℕ) (links : List Link) (broken
       let kept_link : Some plain_link ≡ option_map link_of (slice_get (marks_in all) (length rows + k)) =
       sym (slice_get-get_or (links ++ replicate (length new) plain_link) (length rows + k) plain_link many ∙ ap (λ (l : Link). Some l) link)
       ∙ ap (λ (l : List Link). slice_get l (length rows + k)) links_are ∙ slice_get-map link_of (marks_in all) (length rows + k) in
-      sym (broken_is all (length rows + k) plain_link (get_or all (length rows + k) no_row) kept_link (sym (slice_get-get_or all (length rows + k) no_row within)))
+      sym (broken_is all (length rows + k) plain_link (get_or all (length rows + k) no_row) kept_link
+      (sym (slice_get-get_or all (length rows + k) no_row within)))
       ∙ plain_unbroken (length rows + k) (get_or all (length rows + k) no_row) row
 
   broken_yet : (k : ℕ) → k ≤ length new → broken ≡ passing (is_broken itself all) 0 (length rows + k)

@@ -88,7 +88,8 @@ all_near (suc m) (h ∷ r) n d p short each words =
     all_weaker (λ x. x.depth ≤ d + 32778) (λ x. x.depth ≤ d + 32779) (marks (nest itself Parts (take k r)) (n + 1) (d + 1) (Some n)) (λ x low. omega arith)
     (parts_near r n d k))
     (λ _ _. let k = front_count has_bit r in
-    all_weaker (λ x. x.depth ≤ d + 1 + 32778) (λ x. x.depth ≤ d + 32779) (marks (nest itself Members (take k r)) (n + 1) (d + 1) (Some n)) (λ x low. omega arith)
+    all_weaker (λ x. x.depth ≤ d + 1 + 32778) (λ x. x.depth ≤ d + 32779) (marks (nest itself Members (take k r)) (n + 1) (d + 1) (Some n))
+    (λ x low. omega arith)
     (members_near (length (take k r)) (take k r) (n + 1) (d + 1) (Some n) (omega arith) (all_take IsRow k r each.1) (all_take IsWordTotal k r words.1))))
     (λ k. let c = (shape itself Whole h r).count in
     all_near m (drop c r) k d p (short_rest c m r (omega arith)) (all_drop IsRow c r each.1) (all_drop IsWordTotal c r words.1))

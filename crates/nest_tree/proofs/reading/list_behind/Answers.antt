@@ -7,10 +7,14 @@ returns-then-shape-eq0-clause-going c =
     going_past c.args._seen.now.list c.args.at c.args.around c.requires.going c.requires.inside c.args.shape c.requires.shape c.if-shape-eq0.true
 
 pub overflow_add-result-2 : goal.overflow_add-result-2
-overflow_add-result-2 c = omega (arith, end_fits c.args._seen.now.list c.args.at c.args.around c.requires.going c.requires.inside c.args.shape c.requires.shape c.requires.few)
+overflow_add-result-2 c =
+    omega
+    (arith, end_fits c.args._seen.now.list c.args.at c.args.around c.requires.going c.requires.inside c.args.shape c.requires.shape c.requires.few)
 
 pub overflow_cast-result-2 : goal.overflow_cast-result-2
-overflow_cast-result-2 c = omega (arith, end_fits c.args._seen.now.list c.args.at c.args.around c.requires.going c.requires.inside c.args.shape c.requires.shape c.requires.few)
+overflow_cast-result-2 c =
+    omega
+    (arith, end_fits c.args._seen.now.list c.args.at c.args.around c.requires.going c.requires.inside c.args.shape c.requires.shape c.requires.few)
 
 pub overflow_add-result-3 : goal.overflow_add-result-3
 overflow_add-result-3 c =

@@ -8,10 +8,14 @@ use Rattle.nest_tree.proofs.OpenLists.{length-links, one_more}
 use Rattle.nest_tree.proofs.reading.put_element.Goals as goal
 
 pub overflow_add-end-2 : goal.overflow_add-end-2
-overflow_add-end-2 c = omega (arith, end_fits c.args.seen.now.list c.args.at c.args.around c.requires.going c.requires.inside c.args.shape c.requires.shape c.requires.few)
+overflow_add-end-2 c =
+    omega
+    (arith, end_fits c.args.seen.now.list c.args.at c.args.around c.requires.going c.requires.inside c.args.shape c.requires.shape c.requires.few)
 
 pub overflow_cast-end-2 : goal.overflow_cast-end-2
-overflow_cast-end-2 c = omega (arith, end_fits c.args.seen.now.list c.args.at c.args.around c.requires.going c.requires.inside c.args.shape c.requires.shape c.requires.few)
+overflow_cast-end-2 c =
+    omega
+    (arith, end_fits c.args.seen.now.list c.args.at c.args.around c.requires.going c.requires.inside c.args.shape c.requires.shape c.requires.few)
 
 pub push_reserved-requires : goal.push_reserved-requires
 push_reserved-requires c =
@@ -51,7 +55,7 @@ returns-clause-read c =
       places = subst (λ (l : List ℕ). ArePlaces c.args.seen.now.list (c.args.at + 1) l c.push.new.self.items) (sym c.push_reserved.ensures.items)
           (subst (λ (l : List Link). ArePlaces c.args.seen.now.list (c.args.at + 1)
           (c.args.ends.now.items ++ (c.args.at + 1 + c.args.shape.count) ∷ []) l) (sym links)
-          (one_more c.args.seen.now.list c.args.at c.args.around c.requires.going c.requires.inside c.args.shape c.requires.shape c.args.ends.now.items c.args.links.now.items
-          c.requires.read.places));
+          (one_more c.args.seen.now.list c.args.at c.args.around c.requires.going c.requires.inside c.args.shape c.requires.shape
+          c.args.ends.now.items c.args.links.now.items c.requires.read.places));
       are_broken = c.add_if_broken.ensures.list;
     }
