@@ -1,6 +1,5 @@
 -- The steps of commands with second files, one after the other.
-use Rattle.std.proofs.Common.{◌≡◌, ◌<◌, ◌+◌, List, [], ◌∷◌, ℕ, drop, length, sym, ap, ◌∙◌}
-use Rattle.std.specs.List.{get_or}
+use Rattle.std.proofs.Common.{◌≡◌, ◌<◌, ◌+◌, List, [], ◌∷◌, ℕ, drop, length, get_or, sym, ap, ◌∙◌}
 use Rattle.std.proofs.lemmas.List.{drop_more}
 use Rattle.dgn_import.specs.Seconds.{SecondValue}
 use Rattle.edit_script.specs.declared.command.Command.{Command}

@@ -24,4 +24,4 @@ returns-in-Ok g c =
     c.deref.ensures.value c.run_script.ensures)
 
 pub returns-in-Err : goal.returns-in-Err
-returns-in-Err g c = c.in-Err.ensures.ended.early (λ _ read. told read.0 read.1 c.args.output.now)
+returns-in-Err g c = c.in-Err.ensures.ended.early (λ _ read. edited read.0 read.1 c.args.output.now)
