@@ -19,12 +19,13 @@ examples: build ## runs every example of the documents on the program
 	tools/run_examples
 
 install: build  ## installs the program, the companion dgnkit, man pages and documents below PREFIX (/usr/local)
-	install -d "$(BIN)" "$(MAN)" "$(DOC)/examples"
+	install -d "$(BIN)" "$(MAN)" "$(DOC)/docs" "$(DOC)/examples"
 	install -m 755 $(PROGRAM) "$(BIN)/dgnedit"
 	tools/make_dgnkit "$(BIN)/dgnkit"
 	install -m 644 docs/man/*.1 "$(MAN)"
-	install -m 644 README.md CHANGELOG.md LICENSE docs/*.md docs/*.svg docs/*.png "$(DOC)"
-	install -m 644 examples/*.dgn examples/*.txt "$(DOC)/examples"
+	install -m 644 README.md CHANGELOG.md LICENSE "$(DOC)"
+	install -m 644 docs/*.md docs/*.svg docs/*.png "$(DOC)/docs"
+	cp examples/* "$(DOC)/examples"
 
 uninstall:      ## removes what install has installed
 	rm -f "$(BIN)/dgnedit" "$(BIN)/dgnkit" "$(MAN)/dgnedit.1" "$(MAN)/dgnkit.1"
