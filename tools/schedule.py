@@ -19,6 +19,22 @@ class Schedule:
         self.work[name] = 0
         self.ends = self._ends()
 
+    def order(self) -> List[str]:
+        """The crates, each behind those below it, the longest chain above first."""
+        chains = self._chains()
+        return sorted(self.below, key=lambda name: -chains[name])
+
+    def is_ready(self, name: str, done: Set[str]) -> bool:
+        return all(it in done for it in self.below[name])
+
+    def is_urgent(self, name: str) -> bool:
+        """Whether the crate is on the longest of all chains: what ends late there ends all late."""
+        chains = self._chains()
+        before: Dict[str, int] = {}
+        for it in self.order():
+            before[it] = max([before[low] + self.work[low] for low in self.below[it]], default=0)
+        return before[name] + chains[name] == max(before[it] + chains[it] for it in self.below)
+
     def length(self) -> int:
         """When the last crate ends."""
         return max(self.ends.values())

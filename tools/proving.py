@@ -1,0 +1,145 @@
+"""Proves crates side by side, each by an `rt ci` of its own: what stands below it was proved before and is kept."""
+
+import os
+import queue
+import shutil
+import signal
+import subprocess
+import threading
+from typing import Callable, Dict, Iterator, List, Optional, Set, Tuple
+
+from schedule import Schedule
+
+PROOF_MEMORY = 3_000_000_000    # bytes that one rt takes at the most, with two processes
+
+Said = Tuple['Run', Optional[str]]
+
+
+class Run:
+    """An rt ci on a tree, whose lines come into a queue, and none behind the last one."""
+
+    def __init__(self, name: str, tree: str, temporary: str, said: 'queue.Queue[Said]', is_urgent: bool) -> None:
+        self.name, self.tree, self.kept, self.failed = name, tree, set(), False  # type: str, str, Set[str], bool
+        words = ['rt', 'ci']
+        if not is_urgent and shutil.which('nice') is not None:
+            words = ['nice', '-n', '10'] + words
+        self.process = subprocess.Popen(words, cwd=tree, env={**os.environ, 'TMPDIR': temporary},
+                                        stdin=subprocess.DEVNULL, stdout=subprocess.PIPE, stderr=subprocess.STDOUT,
+                                        text=True, errors='replace', start_new_session=True)
+        threading.Thread(target=self._read, args=(said,), daemon=True).start()
+
+    def _read(self, said: 'queue.Queue[Said]') -> None:
+        assert self.process.stdout is not None
+        for line in self.process.stdout:
+            said.put((self, line))
+        said.put((self, None))
+
+    def hear(self, line: str) -> None:
+        """Notes what a line says of a crate."""
+        words = line.split()
+        if words[:1] == ['rt:'] and words[2:4] == ['is', 'kept:']:
+            self.kept.add(words[1])
+        self.failed = self.failed or ' NOT PROVED' in line
+
+    def is_proved(self) -> bool:
+        return self.process.wait() == 0 and not self.failed
+
+    def end(self) -> None:
+        """Ends rt and all that it has started: rt leads a group, and a guard of its own ends what isn't in that."""
+        try:
+            os.killpg(self.process.pid, signal.SIGKILL)
+        except ProcessLookupError:
+            pass
+        self.process.wait()
+
+
+def lines_of(said: 'queue.Queue[Said]', seconds: float) -> Iterator[Optional[Said]]:
+    """The lines that come, and none for each time span in which none does."""
+    while True:
+        try:
+            yield said.get(timeout=seconds)
+        except queue.Empty:
+            yield None
+
+
+def is_proving(run: Run) -> bool:
+    """Whether the prover is at work in a run: a process 'rattle' of its session."""
+    for name in os.listdir('/proc'):
+        try:
+            with open('/proc/%s/stat' % name, encoding='ascii', errors='replace') as file:
+                command, _, rest = file.read().partition('(')[2].rpartition(')')
+        except OSError:
+            continue
+        if command == 'rattle' and rest.split()[3:4] == [str(run.process.pid)]:
+            return True
+    return False
+
+
+def take_kept(tree: str, temporary: str, log: Callable[[str], None]) -> Tuple[Set[str], bool]:
+    """The crates of a tree that were proved before, and whether all of it was: rt is ended where it begins to prove."""
+    said: 'queue.Queue[Said]' = queue.Queue()
+    run = Run('', tree, temporary, said, True)
+    try:
+        for heard in lines_of(said, 0.5):
+            if heard is None:
+                if is_proving(run):
+                    return run.kept, False
+                continue
+            if heard[1] is None:
+                break
+            log(heard[1])
+            run.hear(heard[1])
+        return run.kept, run.is_proved()
+    finally:
+        run.end()
+
+
+def width() -> int:
+    """How many crates are proved at a time, each with two processes: one more than half the processors, with memory."""
+    most = (os.cpu_count() or 1) // 2 + 1
+    with open('/proc/meminfo', encoding='ascii') as lines:
+        free = next((int(line.split()[1]) * 1024 for line in lines if line.startswith('MemAvailable:')), PROOF_MEMORY)
+    return max(1, min(most, free // PROOF_MEMORY))
+
+
+class Provers:
+    """Proves what isn't proved yet, the longest chain first, and hands the crates of that chain a processor first."""
+
+    def __init__(self, schedule: Schedule, make_tree: Callable[[str], str], temporary: str) -> None:
+        self.schedule, self.make_tree, self.temporary = schedule, make_tree, temporary
+        self.running: Dict[str, Run] = {}
+        self.said: 'queue.Queue[Said]' = queue.Queue()
+
+    def prove(self, done: Set[str], log: Callable[[str], None], add: Callable[[str], None],
+              tick: Callable[[], None]) -> List[str]:
+        """Proves all crates but those that are done, tells each, and gives those that aren't proved."""
+        left, at_once = [name for name in self.schedule.order() if name not in done], width()
+        try:
+            while left or self.running:
+                for name in [it for it in left if self.schedule.is_ready(it, done)][:at_once - len(self.running)]:
+                    left.remove(name)
+                    self.running[name] = Run(name, self.make_tree(name), self.temporary, self.said,
+                                             self.schedule.is_urgent(name))
+                run = self._wait(log, tick)
+                del self.running[run.name]
+                if not run.is_proved():
+                    return [run.name]
+                done.add(run.name)
+                add(run.name)
+            return []
+        finally:
+            for run in self.running.values():
+                run.end()
+
+    def _wait(self, log: Callable[[str], None], tick: Callable[[], None]) -> Run:
+        """The next run that ends."""
+        for heard in lines_of(self.said, 1):
+            if heard is None:
+                tick()
+                continue
+            run, line = heard
+            if line is None:
+                return run
+            log(line)
+            run.hear(line)
+        raise AssertionError
