@@ -148,7 +148,8 @@ where_held : (words : List (List ℕ)) (input script output : List ℕ) (status 
     → request_of words ≡ Some (Edit input script output) → HasWritten status
     → Leaves (outcome words c.files) status c now → FilesInBytes (request_of words) c.files → EditsFile input script output c.files now
 where_held words input script output status c now asked written leaves known =
-    let same : outcome words c.files ≡ run_outcome input script c.files (λ d gs. edited d gs output) = ap (λ (r : Option Request). outcome_of r c.files) asked in
+    let same : outcome words c.files ≡ run_outcome input script c.files (λ d gs. edited d gs output) =
+    ap (λ (r : Option Request). outcome_of r c.files) asked in
     edits_file input script output c.files leaves.content now leaves.told_is
     (subst (λ (r : Option Request). FilesInBytes r c.files) asked known)
     (leaves.files_are ∙ ap (λ (o : Outcome). files_after o.file c.files) same)
