@@ -44,7 +44,8 @@ finding_each P keep dim n (Tree knot e below behind) each =
     (cond e.deleted [] (finding_as keep dim knot n e (tree_hull dim knot e (hull_of dim below)) ++ findings_in keep dim (n + 1) below)) =
     cond_both e.deleted [] (finding_as keep dim knot n e (tree_hull dim knot e (hull_of dim below)) ++ findings_in keep dim (n + 1) below)
     (λ (l : List Finding). AllByRecursion (λ (x : Finding). P x.number) l)
-    (λ _. tt) (λ _. all_both (λ (x : Finding). P x.number) (finding_as keep dim knot n e (tree_hull dim knot e (hull_of dim below))) (findings_in keep dim (n + 1) below) head inner) in
+    (λ _. tt) (λ _. all_both (λ (x : Finding). P x.number)
+    (finding_as keep dim knot n e (tree_hull dim knot e (hull_of dim below))) (findings_in keep dim (n + 1) below) head inner) in
     all_both (λ (x : Finding). P x.number)
     (cond e.deleted [] (finding_as keep dim knot n e (tree_hull dim knot e (hull_of dim below)) ++ findings_in keep dim (n + 1) below))
     (findings_in keep dim (end_of n below) behind) tree outer
