@@ -21,7 +21,7 @@ use listing_texts::numbered_line;
 use patch_file::{MOST_PATCH, PatchEntry, PatchFault, read_patch};
 use std::alloc::Global;
 
-// Reads and opens IN, and goes on with it.
+/// Reads and opens IN, and goes on with it.
 pub fn apply<D: Desk>(alloc: Global, desk: &mut D, input: &str, patch: &str, output: &str) -> End
     ensures { DeskEnds D.Desk (HasBoth input.now patch.now)
         (InputInBytes input.now (IsInBytes patch.now MOST_PATCH))

@@ -14,7 +14,7 @@ use dgn_drawing::MOST_DESIGN;
 use elem_index::count_elements;
 use std::alloc::Global;
 
-// Reads IN, and says how many elements it has, or what keeps it from being a design file.
+/// Reads IN, and says how many elements it has, or what keeps it from being a design file.
 pub fn check<D: Desk>(alloc: Global, desk: &mut D, input: &str) -> End
     ensures { DeskEnds D.Desk (Has input.now) (IsInBytes input.now MOST_DESIGN)
         (λ files. input_outcome (bytes_of files input.now) checked) desk.old desk.new result }

@@ -8,7 +8,7 @@ use crate::status::Status;
 use dgn_desk::Stop;
 use std::alloc::AllocError;
 
-// How a part of a run that reads ended the run: by an ending that was said, or by one of the three stops.
+/// How a part of a run that reads ended the run: by an ending that was said, or by one of the three stops.
 #[derive(Clone, Copy, Drop)]
 pub enum End {
     // It was said how.
@@ -20,7 +20,7 @@ pub enum End {
 }
 
 impl End {
-    // That of a part that reads nothing.
+    /// That of a part that reads nothing.
     pub fn of(came: Result<Ending, Stop>) -> End
         ensures { result ≡ end_of came }
     {
@@ -30,7 +30,7 @@ impl End {
         }
     }
 
-    // The status that tells it.
+    /// The status that tells it.
     pub fn status(self) -> Status
         ensures { result ≡ status_of self }
     {

@@ -4,7 +4,7 @@ ghost use Rattle.dgn_files.specs.Ends.{status_said};
 
 use crate::status::Status;
 
-// An ending that a run comes to which the words of a form began: all that it has to say is said.
+/// An ending that a run comes to which the words of a form began: all that it has to say is said.
 #[derive(Clone, Copy, Drop)]
 pub enum Ending {
     // All was done that was asked for.
@@ -24,7 +24,7 @@ pub enum Ending {
 }
 
 impl Ending {
-    // That of a run of which so many commands were refused.
+    /// That of a run of which so many commands were refused.
     pub fn of_refused(refused: u64) -> Ending
         ensures { status_said result ≡ status_with refused }
     {
@@ -35,7 +35,7 @@ impl Ending {
         }
     }
 
-    // The status that says it.
+    /// The status that says it.
     pub fn status(self) -> Status
         ensures { result ≡ status_said self }
     {

@@ -1,4 +1,4 @@
-// Why the entries of a patch file weren't all put on a body.
+/// Why the entries of a patch file weren't all put on a body.
 #[derive(Drop)]
 pub enum PutEnd {
     // The entry with this number, from 1, doesn't stand.

@@ -23,7 +23,7 @@ use elem_index::{Design, OpenFault, read_design};
 use listing_texts::numbered_line;
 use std::alloc::{AllocError, Global};
 
-// Reads the named file whole, of at most so many bytes, or ends the run, with this line where it has more.
+/// Reads the named file whole, of at most so many bytes, or ends the run, with this line where it has more.
 pub fn read_file<D: Desk>(
     alloc: Global,
     desk: &mut D,
@@ -54,7 +54,7 @@ fn are_bytes(bytes: &[u8])
     ensures { IsBytes bytes.now }
 {}
 
-// Reads IN whole, or ends the run.
+/// Reads IN whole, or ends the run.
 pub fn read_input<D: Desk>(alloc: Global, desk: &mut D, input: &str) -> Result<Vec<u8>, End>
     ensures within { IfOk result (λ bytes. vec_len bytes ≤ MOST_DESIGN) }
     ensures read { IfOk result
@@ -65,7 +65,7 @@ pub fn read_input<D: Desk>(alloc: Global, desk: &mut D, input: &str) -> Result<V
     read_file(alloc, desk, input, MOST_DESIGN, b"too long design\n")
 }
 
-// Reads and opens IN, or ends the run.
+/// Reads and opens IN, or ends the run.
 pub fn open_design<D: Desk>(alloc: Global, desk: &mut D, input: &str) -> Result<Design, End>
     ensures whole { IfOk result IsWhole }
     ensures opened { IfOk result (λ d. DeskReads D.Desk (OpensAs input.now) desk.old desk.new (opened_of d)) }
@@ -79,7 +79,7 @@ pub fn open_design<D: Desk>(alloc: Global, desk: &mut D, input: &str) -> Result<
     }
 }
 
-// Ends the run with what is wrong with IN. Want of memory has no line, and so no ending.
+/// Ends the run with what is wrong with IN. Want of memory has no line, and so no ending.
 pub fn end_bad_design<D: Desk>(
     alloc: Global,
     desk: &mut D,
@@ -110,7 +110,7 @@ fn bad_line(alloc: Global, fault: OpenFault) -> Result<Vec<u8>, AllocError>
     }
 }
 
-// Reads SCRIPT, and its commands, or ends the run.
+/// Reads SCRIPT, and its commands, or ends the run.
 pub fn read_commands<D: Desk>(
     alloc: Global,
     desk: &mut D,

@@ -9,7 +9,7 @@ use dgn_desk::{Desk, Stop, say_all};
 use listing_texts::numbered_line;
 use std::alloc::Global;
 
-// Ends the run with a line.
+/// Ends the run with a line.
 pub fn end_with<D: Desk>(desk: &mut D, line: &[u8], ending: Ending) -> Result<Ending, Stop>
     ensures { DeskComes D.Desk (λ _. ended (status_said ending) line.now) desk.old desk.new result }
 {
@@ -17,7 +17,7 @@ pub fn end_with<D: Desk>(desk: &mut D, line: &[u8], ending: Ending) -> Result<En
     Ok(ending)
 }
 
-// Ends the run with a line of these words and a number.
+/// Ends the run with a line of these words and a number.
 pub fn end_numbered<D: Desk>(
     alloc: Global,
     desk: &mut D,

@@ -19,7 +19,7 @@ use edit_script::Command;
 use patch_bytes::ByteList;
 use std::alloc::Global;
 
-// Reads the second files of the imports in their order, and opens each, or ends the run. The next one stands last.
+/// Reads the second files of the imports in their order, and opens each, or ends the run. The next one stands last.
 pub fn read_seconds<D: Desk>(
     alloc: Global,
     desk: &mut D,

@@ -16,8 +16,8 @@ use dgn_drawing::MOST_DESIGN;
 // How many bytes a block has.
 const BLOCK: usize = 512;
 
-// How many zero bytes stand behind the tail, where the elements of the file that was read had `before` bytes and have
-// `now`: where that file is of whole blocks and has a tail, the fewest that make the one that is written so.
+/// How many zero bytes stand behind the tail, where the elements of the file that was read had `before` bytes and have
+/// `now`: where that file is of whole blocks and has a tail, the fewest that make the one that is written so.
 pub fn filling_len(before: usize, tail: &[u8], now: usize) -> usize
     requires before { before ≤ MOST_DESIGN }
     requires tail { length tail.now ≤ MOST_DESIGN }
@@ -32,8 +32,8 @@ pub fn filling_len(before: usize, tail: &[u8], now: usize) -> usize
     }
 }
 
-// Writes the file of these elements and this tail, and what fills its last block, where the elements of the file that was
-// read had `before` bytes.
+/// Writes the file of these elements and this tail, and what fills its last block, where the elements of the file that was
+/// read had `before` bytes.
 pub fn write_filled<D: Desk>(
     desk: &mut D,
     output: &str,
@@ -51,7 +51,7 @@ pub fn write_filled<D: Desk>(
     write_file(desk, output, body, tail, &zeros[..count])
 }
 
-// Writes a file of these bytes, the body, the tail and what fills it, and then ends the run with a text.
+/// Writes a file of these bytes, the body, the tail and what fills it, and then ends the run with a text.
 pub fn file_and_say<D: Desk>(
     desk: &mut D,
     name: &str,
@@ -69,7 +69,7 @@ pub fn file_and_say<D: Desk>(
     end_with(desk, text, ending)
 }
 
-// Writes the file of these elements and this tail, as `write_filled` does, and then says that all is done by this text.
+/// Writes the file of these elements and this tail, as `write_filled` does, and then says that all is done by this text.
 pub fn file_filled<D: Desk>(
     desk: &mut D,
     output: &str,
