@@ -17,7 +17,7 @@ use Rattle.dgn_drawing.specs.Nesting.{is_counted, BeginsFree}
 use Rattle.dgn_drawing.proofs.Rows.{row_at-spell}
 use Rattle.elem_index.specs.declared.design.Design.{Design}
 use Rattle.elem_index.specs.Offsets.{offset_of}
-use Rattle.elem_index.specs.Design.{elements, kind_byte, kind_bytes, IsWhole}
+use Rattle.elem_index.specs.Design.{elements, bare_row, kind_byte, kind_bytes, IsWhole}
 use Rattle.elem_index.proofs.KindBytes.{length-kind_bytes}
 use Rattle.elem_index.proofs.Places.{length-kept, get_or-kept, opening_of, axes_of, stands_at, Stands, each_at, take_one_more, is_false}
 
@@ -40,18 +40,20 @@ no_total Class.Run b is = refl
 no_total Class.Floating b is = refl
 no_total Class.Boxed b is = refl
 
--- a row with these parts is that row
-abbrev row_with : ℕ → ℕ → Bool → ℕ → Row
-row_with size kind cbit total = record { size = size; kind = kind; cbit = cbit; total = total }
+-- a row with another total
+abbrev pub with_total : Row → ℕ → Row
+with_total row total = record { size = row.size; kind = row.kind; cbit = row.cbit; total = total }
 
-same_row : (row : Row) (size kind : ℕ) (cbit : Bool) (total : ℕ) → row.size ≡ size → row.kind ≡ kind → row.cbit ≡ cbit → row.total ≡ total
-    → row ≡ row_with size kind cbit total
-same_row row size kind cbit total one two three four = let e : row_with row.size row.kind row.cbit row.total ≡ row_with size kind cbit total = cc in e
+same_but_total : (row : Row) (size kind : ℕ) (cbit : Bool) → row.size ≡ size → row.kind ≡ kind → row.cbit ≡ cbit
+    → with_total row 0 ≡ record { size = size; kind = kind; cbit = cbit; total = 0 }
+same_but_total row size kind cbit one two three =
+    let none : Row = record { size = size; kind = kind; cbit = cbit; total = 0 } in
+    let e : with_total row 0 ≡ none = cc in e
 
--- an element whose row is given
-of_some : {row : Row} (r : Option Element) → option_map row_of r ≡ Some row → (e : Element) × (r ≡ Some e) × (row ≡ row_of e)
-of_some None is = absurd (let f = is in cc)
-of_some (Some e) is = (e, refl, cc)
+-- what is said of an element that is there
+of_said : {R : Type 0} (said : Element → R) (row : R) (r : Option Element) → option_map said r ≡ Some row → (e : Element) × (r ≡ Some e) × (row ≡ said e)
+of_said said row None is = absurd (let f = is in cc)
+of_said said row (Some e) is = (e, refl, cc)
 
 -- the row of element n of a whole design
 module _ (d : Design) (whole : IsWhole d) (n : ℕ) (known : n < length (elements d)) where
@@ -91,34 +93,50 @@ module _ (d : Design) (whole : IsWhole d) (n : ℕ) (known : n < length (element
     cbit_is : row.cbit ≡ leb 128 byte
     cbit_is = sym (byte_cbit row.kind row.cbit small) ∙ ap (leb 128) (sym byte_is)
 
-    -- a type that counts no members has no total
-    pub uncounted : is_counted (class_of (byte % 128)) ≡ false → row.total ≡ 0
-    uncounted not =
-        let kind : kind_of (spell here.0) ≡ byte % 128 = ap (λ (r : Row). r.kind) read ∙ kind_is in
-        sym (ap (λ (r : Row). r.total) read) ∙ no_total (class_of (kind_of (spell here.0))) (spell here.0) (ap (λ (k : ℕ). is_counted (class_of k)) kind ∙ not)
+    -- its row, but for the total
+    pub bare_row_is : (begin end : ℕ) → begin ≡ offset_of (elements d) n → end ≡ offset_of (elements d) (n + 1)
+        → option_map bare_row (slice_get (elements d) n) ≡ Some (record { size = end - begin; kind = byte % 128; cbit = leb 128 byte; total = 0 })
+    bare_row_is begin end begins ends =
+        let size : row.size ≡ end - begin = omega (arith, here.1.next, begins, ends) in
+        ap (option_map bare_row) here.1.found ∙ ap Some (same_but_total row (end - begin) (byte % 128) (leb 128 byte) size kind_is cbit_is)
 
-    -- and that of any other is said
-    pub counted : (total : ℕ) → option_map (λ (e : Element). (row_of e).total) (slice_get (elements d) n) ≡ Some total → row.total ≡ total
-    counted total said = let e : Some row.total ≡ Some total = sym (ap (option_map (λ (x : Element). (row_of x).total)) here.1.found) ∙ said in cc
+-- the row of element n by what it is but for the total
+module _ (d : Design) (whole : IsWhole d) (n : ℕ) (row : Row) (is : option_map bare_row (slice_get (elements d) n) ≡ Some row) where
+  there : (e : Element) × (slice_get (elements d) n ≡ Some e) × (row ≡ bare_row e)
+  there = of_said bare_row row (slice_get (elements d) n) is
 
-    pub row_is : (begin end total : ℕ) → begin ≡ offset_of (elements d) n → end ≡ offset_of (elements d) (n + 1) → row.total ≡ total
-        → option_map row_of (slice_get (elements d) n) ≡ Some (record { size = end - begin; kind = byte % 128; cbit = leb 128 byte; total = total })
-    row_is begin end total begins ends last =
-        found ∙ ap Some (same_row row (end - begin) (byte % 128) (leb 128 byte) total (omega (arith, here.1.next, begins, ends)) kind_is cbit_is last)
+  spelled : row_at (spell there.0) ≡ row_of there.0
+  spelled = row_at-spell d.dim there.0 (axes_of d whole) (each_at (IsWellFormed d.dim) (elements d) n there.0 (opening_of d whole).each there.1)
 
--- the row that is there is one more of them
-module _ (es : List Element) (n : ℕ) (row : Row) (is : option_map row_of (slice_get es n) ≡ Some row) where
-  this : (e : Element) × (slice_get es n ≡ Some e) × (row ≡ row_of e)
-  this = of_some (slice_get es n) is
+  -- a type that counts no members has none
+  pub uncounted : is_counted (class_of row.kind) ≡ false → option_map row_of (slice_get (elements d) n) ≡ Some row
+  uncounted not =
+      let kind : kind_of (spell there.0) ≡ row.kind = ap (λ (r : Row). r.kind) spelled ∙ sym (ap (λ (r : Row). r.kind) there.2) in
+      let none : (row_of there.0).total ≡ 0 = sym (ap (λ (r : Row). r.total) spelled)
+      ∙ no_total (class_of (kind_of (spell there.0))) (spell there.0) (ap (λ (k : ℕ). is_counted (class_of k)) kind ∙ not) in
+      ap (option_map row_of) there.1 ∙ ap (λ (total : ℕ). Some (with_total (row_of there.0) total)) none ∙ ap Some (sym there.2)
 
-  pub rows_more : map row_of (take (n + 1) es) ≡ map row_of (take n es) ++ row ∷ []
-  rows_more = ap (map row_of) (take_one_more es n this.0 this.1) ∙ map-append row_of (take n es) (this.0 ∷ [])
-      ∙ ap (λ (r : Row). map row_of (take n es) ++ r ∷ []) (sym this.2)
+  -- and that of any other is read
+  pub counted : (total : ℕ) → option_map (λ (e : Element). (row_of e).total) (slice_get (elements d) n) ≡ Some total
+      → option_map row_of (slice_get (elements d) n) ≡ Some (with_total row total)
+  counted total said =
+      let read : Some (row_of there.0).total ≡ Some total = sym (ap (option_map (λ (x : Element). (row_of x).total)) there.1) ∙ said in
+      let same : (row_of there.0).total ≡ total = cc in
+      ap (option_map row_of) there.1 ∙ ap (λ (t : ℕ). Some (with_total (row_of there.0) t)) same ∙ ap (λ (r : Row). Some (with_total r total)) (sym there.2)
 
-  -- and where it has no bit C, the elements from there on begin without it
-  pub free_here : not row.cbit ≡ true → BeginsFree row_of (drop n es)
-  free_here free =
-      let within = slice_get_within es n this.0 this.1 in
-      let from : drop n es ≡ this.0 ∷ drop (n + 1) es
-      = drop_more es n this.0 within ∙ ap (λ (e : Element). e ∷ drop (n + 1) es) (get_or_from_slice_get es n this.0 this.0 this.1) in
-      subst (BeginsFree row_of) (sym from) (subst (λ (r : Row). IsFalse r.cbit) this.2 (is_false row.cbit free))
+-- what is said there is one more of them
+module _ (said : Element → Row) (es : List Element) (n : ℕ) (row : Row) (is : option_map said (slice_get es n) ≡ Some row) where
+  pub said_more : map said (take (n + 1) es) ≡ map said (take n es) ++ row ∷ []
+  said_more =
+      let this = of_said said row (slice_get es n) is in
+      ap (map said) (take_one_more es n this.0 this.1) ∙ map-append said (take n es) (this.0 ∷ [])
+      ∙ ap (λ (r : Row). map said (take n es) ++ r ∷ []) (sym this.2)
+
+-- where the row that is there has no bit C, the elements from there on begin without it
+pub free_here : (es : List Element) (n : ℕ) (row : Row) → option_map row_of (slice_get es n) ≡ Some row → not row.cbit ≡ true → BeginsFree row_of (drop n es)
+free_here es n row is free =
+    let this = of_said row_of row (slice_get es n) is in
+    let within = slice_get_within es n this.0 this.1 in
+    let from : drop n es ≡ this.0 ∷ drop (n + 1) es
+    = drop_more es n this.0 within ∙ ap (λ (e : Element). e ∷ drop (n + 1) es) (get_or_from_slice_get es n this.0 this.0 this.1) in
+    subst (BeginsFree row_of) (sym from) (subst (λ (r : Row). IsFalse r.cbit) this.2 (is_false row.cbit free))

@@ -4,5 +4,7 @@ pub mod FileWalk
 pub mod Places
 pub mod KeptRows
 pub mod RowBlocks
+pub mod RowTotals
+pub mod CountedRows
 pub mod DesignGrowth
 pub mod WrittenDesigns

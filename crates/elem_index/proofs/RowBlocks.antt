@@ -7,20 +7,20 @@ use Rattle.dgn_drawing.specs.declared.row.Row.{Row}
 use Rattle.dgn_drawing.specs.Element.{Element}
 use Rattle.dgn_drawing.specs.Rows.{row_of}
 use Rattle.dgn_drawing.specs.Nesting.{BeginsFree, IsClosed, itself}
-use Rattle.elem_index.specs.Design.{AreRows, IsBlock}
-use Rattle.elem_index.proofs.KeptRows.{rows_more, free_here}
+use Rattle.elem_index.specs.Design.{AreSaid, AreRows, IsBlock}
+use Rattle.elem_index.proofs.KeptRows.{said_more, free_here}
 
 -- one more row
-pub row_behind : (es : List Element) (n m : ℕ) (rows new : List Row) (row : Row) → AreRows es n m rows → m < length es
-    → option_map row_of (slice_get es m) ≡ Some row → new ≡ rows ++ row ∷ [] → AreRows es n (m + 1) new
-row_behind es n m rows new row so_far inside here is =
-    let before = map row_of (take n es) in
+pub row_behind : (said : Element → Row) (es : List Element) (n m : ℕ) (rows new : List Row) (row : Row) → AreSaid said es n m rows → m < length es
+    → option_map said (slice_get es m) ≡ Some row → new ≡ rows ++ row ∷ [] → AreSaid said es n (m + 1) new
+row_behind said es n m rows new row so_far inside here is =
+    let before = map said (take n es) in
     let count = so_far.count in
     record {
       within = omega arith;
       count = omega (arith, ap (length {A = Row}) is, length_push rows row);
       are = ap (λ (l : List Row). before ++ l) is ∙ sym (append_assoc before rows (row ∷ [])) ∙ ap (λ (l : List Row). l ++ row ∷ []) so_far.are
-          ∙ sym (rows_more es m row here);
+          ∙ sym (said_more said es m row here);
     }
 
 module _ (es : List Element) (n m : ℕ) (rows : List Row) (so_far : AreRows es n m rows) (some : 0 < length rows) where

@@ -40,11 +40,23 @@ kind_bytes es = map kind_byte (map row_of es)
 abbrev pub elements : Design → List Element
 elements d = elements_of d.dim d.body.items
 
--- the rows so far of those from number n on, up to number m
-pub record AreRows (es : List Element) (n m : ℕ) (rows : List Row) : Type 0 where
+-- what is said so far of each of those from number n on, up to number m
+pub record AreSaid (said : Element → Row) (es : List Element) (n m : ℕ) (rows : List Row) : Type 0 where
   pub within : m ≤ length es
   pub count : n + length rows ≡ m
-  pub are : map row_of (take n es) ++ rows ≡ map row_of (take m es)
+  pub are : map said (take n es) ++ rows ≡ map said (take m es)
+
+-- their rows
+abbrev pub AreRows : List Element → ℕ → ℕ → List Row → Type 0
+AreRows = AreSaid row_of
+
+-- the row of an element but for its total: what is kept of it says so much
+abbrev pub bare_row : Element → Row
+bare_row e = record { size = (row_of e).size; kind = (row_of e).kind; cbit = (row_of e).cbit; total = 0 }
+
+-- their rows but for the totals
+abbrev pub AreBareRows : List Element → ℕ → ℕ → List Row → Type 0
+AreBareRows = AreSaid bare_row
 
 -- body and tail are those of a file of at most MOST_DESIGN bytes that opens, in the design's dimension
 pub record IsOpen (d : Design) : Type 0 where

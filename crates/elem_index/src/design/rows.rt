@@ -1,14 +1,15 @@
 // The rows of the elements, by what is kept of each. The bytes of an element are read only where its type counts its
 // members.
 
-ghost use Rattle.std.specs.Prelude.{◌≡◌, ◌<◌, ◌≤◌, false, length, IfOk, OnOk, map, slice_get, option_map, Some};
+ghost use Rattle.std.specs.Prelude.{◌≡◌, ◌<◌, ◌≤◌, ◌+◌, false, length, IfOk, OnOk, map, slice_get, option_map, Some};
 ghost use Rattle.dgn_drawing.specs.Nesting.{is_open, itself};
 ghost use Rattle.dgn_drawing.specs.Rows.{row_of};
-ghost use Rattle.elem_index.specs.Design.{elements, AreRows, IsWhole, IsBlock};
+ghost use Rattle.elem_index.specs.Counted.{AreCounted};
+ghost use Rattle.elem_index.specs.Design.{elements, bare_row, AreRows, AreBareRows, IsWhole, IsBlock};
 
 use super::Design;
 use dgn_drawing::{Row, is_counted, is_header, row_of};
-use std::alloc::AllocError;
+use std::alloc::{AllocError, Global};
 
 // How many rows a block has at the least, if there are so many.
 const ROW_BLOCK: usize = 4096;
@@ -22,6 +23,20 @@ fn is_open(rows: &[Row]) -> bool
         open = is_header(row.kind) || row.cbit && open;
     }
     open
+}
+
+// Which of the rows count their members.
+fn counted_rows(alloc: Global, rows: &[Row]) -> Result<Vec<u32>, AllocError>
+    requires { length rows.now < 4294967296 }
+    ensures { IfOk result (λ counted. AreCounted rows.now 0 (length rows.now) counted.items) }
+{
+    let mut counted = Vec::with_capacity(alloc, rows.len())?;
+    for (i, row) in rows.iter().enumerate() {
+        if is_counted(row.kind) {
+            counted.push_reserved(i as u32);
+        }
+    }
+    Ok(counted)
 }
 
 impl Design {
@@ -38,8 +53,10 @@ impl Design {
         rows.reserve(ROW_BLOCK)?;
         let end = self.count().min(n + ROW_BLOCK as u32);
         for at in n..end {
-            rows.push_reserved(self.row(at));
+            rows.push_reserved(self.bare_row(at));
         }
+        let counted = counted_rows(*self.kept.allocator(), rows)?;
+        self.put_totals(n, &counted, rows);
         if end < self.count() && self.row(end).cbit && is_open(rows) {
             return self.add_marked(n, end, rows);
         }
@@ -77,20 +94,46 @@ impl Design {
         Ok(rows)
     }
 
+    // Puts the totals into the rows of those from number `n` on, of which these count their members. Nothing else is read
+    // with them, so that a processor waits for the bytes of many at once.
+    fn put_totals(&self, n: u32, counted: &[u32], rows: &mut [Row])
+        requires whole { IsWhole self.now }
+        requires bare { AreBareRows (elements self.now) n (n + length rows.old) rows.old }
+        requires counted { AreCounted rows.old 0 (length rows.old) counted.now }
+        ensures rows { AreRows (elements self.now) n (n + length rows.old) rows.new }
+        ensures count { length rows.new ≡ length rows.old }
+    {
+        'counted: for i in counted {
+            rows[*i as usize].total = self.total(n + *i);
+        }
+    }
+
     // The row of element `n`, where there is one.
-    #[inline(always)]
     fn row(&self, n: u32) -> Row
         requires whole { IsWhole self.now }
         requires known { n < length (elements self.now) }
         ensures { option_map row_of (slice_get (elements self.now) n) ≡ Some result }
     {
+        let mut row = self.bare_row(n);
+        if is_counted(row.kind) {
+            row.total = self.total(n);
+        }
+        row
+    }
+
+    // The row of element `n`, where there is one, but for its total.
+    #[inline(always)]
+    fn bare_row(&self, n: u32) -> Row
+        requires whole { IsWhole self.now }
+        requires known { n < length (elements self.now) }
+        ensures { option_map bare_row (slice_get (elements self.now) n) ≡ Some result }
+    {
         let byte = self.kinds[n as usize];
-        let kind = byte % 128;
         Row {
             size: (self.end_of(n) - self.kept[n as usize] as usize) as u32,
-            kind,
+            kind: byte % 128,
             cbit: 128 <= byte,
-            total: if is_counted(kind) { self.total(n) } else { 0 },
+            total: 0,
         }
     }
 

@@ -1,4 +1,5 @@
 use Rattle.std.proofs.Common.{arith}
+use Rattle.dgn_drawing.specs.Rows.{row_of}
 use Rattle.elem_index.specs.Design.{elements}
 use Rattle.elem_index.proofs.RowBlocks.{row_behind, ends_free, ends_last}
 use Rattle.elem_index.proofs.design.Design.add_marked.Goals as goal
@@ -13,7 +14,7 @@ returns-then-not-row c =
 
 pub loop-next-preserved : goal.loop-next-preserved
 loop-next-preserved c =
-    let more = row_behind (elements c.args.self.now) c.args._n c.loop-next.next c.loop-next.rows.items c.push.new.self.items c.row-row.result
+    let more = row_behind row_of (elements c.args.self.now) c.args._n c.loop-next.next c.loop-next.rows.items c.push.new.self.items c.row-row.result
     c.loop-next.invariant.rows (omega (arith, c.loop-next-test.true, c.count-next-end.ensures)) c.row-row.ensures c.in_ok-push.ensures.items in
     record {
       rows = more;
