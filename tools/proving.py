@@ -95,15 +95,17 @@ def take_kept(tree: str, temporary: str, log: Callable[[str], None]) -> Tuple[Se
 
 
 def width() -> int:
-    """How many crates are proved at a time, each with two processes: one more than half the processors, with memory."""
-    most = (os.cpu_count() or 1) // 2 + 1
+    """How many crates are proved at a time, each with two processes: as many as there are processors, with memory.
+
+    Half of what a small crate takes is reading the kit and the crates below it, in one process."""
+    most = os.cpu_count() or 1
     with open('/proc/meminfo', encoding='ascii') as lines:
         free = next((int(line.split()[1]) * 1024 for line in lines if line.startswith('MemAvailable:')), PROOF_MEMORY)
     return max(1, min(most, free // PROOF_MEMORY))
 
 
 class Provers:
-    """Proves what isn't proved yet, the longest chain first, and hands the crates of that chain a processor first."""
+    """Proves what isn't proved yet, the longest chain first, and hands the crates near that chain a processor first."""
 
     def __init__(self, schedule: Schedule, make_tree: Callable[[str], str], temporary: str) -> None:
         self.schedule, self.make_tree, self.temporary = schedule, make_tree, temporary

@@ -2,7 +2,8 @@
 
 from typing import Dict, List, Set
 
-OVERHEAD = 80    # what each crate takes beside its own lines, in lines: reading the kit and the crates below
+OVERHEAD = 230    # what each crate takes beside its own lines, in lines: reading the kit and the crates below
+NEAR = 0.1       # how much shorter than the longest chain, as a part of it, one is that counts as long too
 
 
 class Schedule:
@@ -28,12 +29,13 @@ class Schedule:
         return all(it in done for it in self.below[name])
 
     def is_urgent(self, name: str) -> bool:
-        """Whether the crate is on the longest of all chains: what ends late there ends all late."""
+        """Whether the crate is on a chain that is nearly the longest of all: what ends late there may end all late."""
         chains = self._chains()
         before: Dict[str, int] = {}
         for it in self.order():
             before[it] = max([before[low] + self.work[low] for low in self.below[it]], default=0)
-        return before[name] + chains[name] == max(before[it] + chains[it] for it in self.below)
+        longest = max(before[it] + chains[it] for it in self.below)
+        return before[name] + chains[name] >= (1 - NEAR) * longest
 
     def length(self) -> int:
         """When the last crate ends."""
