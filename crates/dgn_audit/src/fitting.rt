@@ -25,12 +25,12 @@ use crate::reading::read_part;
 use dgn_drawing::MOST_DESIGN;
 use dgn_layout::Spot;
 use dgn_words::put_range_long;
-use edit_ops::spots_in;
 use elem_head::{head, properties};
 use elem_index::Design;
 use nest_tree::types::Nest;
 use patch_bytes::{Patch, PatchList};
 use range_code::Box3;
+use spot_numbers::spots_in;
 use std::alloc::{AllocError, Global};
 
 // The bit of an element's properties that locks it.

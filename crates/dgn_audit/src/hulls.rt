@@ -12,9 +12,9 @@ use crate::stored::stored_range;
 use dgn_layout::types::Class;
 use dgn_layout::{SHARED_CELL, class, is_silent};
 use dgn_words::long;
-use edit_ops::spots_in;
 use nest_tree::Knot;
 use range_code::{Box3, join};
+use spot_numbers::spots_in;
 
 // A point of which some numbers have been read; the others are 0.
 #[derive(Clone, Copy)]

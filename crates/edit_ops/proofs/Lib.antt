@@ -1,5 +1,5 @@
 pub mod DesignElements
-pub mod SpotSteps
+pub mod SpotPuts
 pub mod PartPlace
 pub mod EachLive
 pub mod RowsKept

@@ -14,13 +14,13 @@ use crate::cause::Cause;
 use crate::causes::{other_axes, silent, too_long};
 use crate::fencing::same_shift;
 use crate::finding::find;
-use crate::sums::stays_on_plane;
 use dgn_drawing::{Edit, MOST_DESIGN, New, Shift};
 use dgn_layout::types::Class;
 use dgn_layout::{END_MARK, class, is_silent};
 use elem_head::properties;
 use elem_index::Design;
 use new_elements::size_made;
+use spot_numbers::stays_on_plane;
 
 // The bit of an element's properties, 0x0100, that says that it is locked.
 const LOCKED: u32 = 8;

@@ -22,7 +22,6 @@ mod lone_copy;
 mod numbers;
 mod patches;
 mod planning;
-mod sums;
 pub mod types;
 
 pub use cause::Cause;
@@ -31,4 +30,3 @@ pub use edit_fault::EditFault;
 pub use fencing::plan_all;
 pub use importing::copy_tree;
 pub use planning::plan;
-pub use sums::spots_in;

@@ -26,10 +26,10 @@ use crate::cause::Cause;
 use crate::copying::free_first;
 use crate::edit_fault::EditFault;
 use crate::finding::Found;
-use crate::sums::{put_number, spots_in, sum};
 use dgn_drawing::Shift;
 use dgn_layout::{Spot, class};
 use elem_index::Design;
+use spot_numbers::{put_number, spots_in, sum};
 
 // Appends the bytes of a copy of the part of element n, which is found and is all of its part and live, or says what
 // stands against it. Then, and where there is no memory, `out` is as before.

@@ -17,7 +17,6 @@ ghost use Rattle.edit_ops.specs.Trees.{found_at, above_tree, live_tree};
 ghost use Rattle.edit_ops.specs.Written.{found, live_puts, above_puts, part_puts, wider_put, wider_puts, sum_put, new_look, IsReady, MayWiden};
 
 use crate::finding::{Found, find};
-use crate::sums::{bytes_at, spots_in, sum, value};
 use dgn_drawing::{Edit, MOST_DESIGN, Shift, SymbChange};
 use dgn_layout::Spot;
 use dgn_words::range_long;
@@ -25,13 +24,11 @@ use elem_head::symb;
 use elem_index::Design;
 use patch_bytes::{Patch, PatchList};
 use range_code::Box3;
+use spot_numbers::{bytes_at, moved_number, spots_in, sum, value, wider};
 use std::alloc::AllocError;
 
 // The bit of an element's second byte that marks it deleted.
 const DELETED: u8 = 0x80;
-
-// The byte where the high corner of a range begins.
-const HIGH: u32 = 16;
 
 // Appends what an edit of the part of element n puts into the headers above it and into its live elements, of which
 // `above` and `live` have the numbers.
@@ -133,23 +130,6 @@ fn moved_corner(dim: u8, b: &[u8], at: u32, by: &Shift) -> [i32; 3]
     }
 }
 
-// The range number at byte `at`, moved along an axis, along which it stays on the design plane.
-fn moved_number(b: &[u8], at: u32, axis: u8, by: &Shift) -> i32
-    requires long { at + 4 ≤ length b.now }
-    requires plane { IsTrue (is_on_plane (range_long_at b.now at +ℤ on_axis by.now.by axis)) }
-    ensures { result ≡ range_long_at b.now at +ℤ on_axis by.now.by axis }
-{
-    let spot = Spot {
-        at,
-        axis,
-        offset: true,
-    };
-    match sum(b, spot, by) {
-        Some(number) => number,
-        None => unreachable!(),
-    }
-}
-
 // Appends the range numbers of header m, where there is one, made to hold a range too.
 fn push_wider(patches: &mut PatchList, d: &Design, m: u32, r: Box3) -> Result<(), AllocError>
     requires whole { IsWhole d.now }
@@ -193,25 +173,6 @@ fn wider_patch(found: Found, spot: Spot, r: Box3) -> Patch
         len: 4,
         bytes: bytes_at(spot, number),
     }
-}
-
-// A number of a range made to hold a range too: the lesser of the two in the low corner, which stands before byte 16,
-// and else the greater.
-fn wider(spot: Spot, number: i32, r: Box3) -> i32
-    ensures { result ≡ wider r spot number }
-{
-    if spot.at < HIGH {
-        number.min(along(r.lo, spot.axis))
-    } else {
-        number.max(along(r.hi, spot.axis))
-    }
-}
-
-// The number of a corner along an axis.
-fn along(corner: [i32; 3], axis: u8) -> i32
-    ensures { result ≡ on_axis corner axis }
-{
-    corner.get(usize::from(axis)).copied().unwrap_or(0)
 }
 
 // Appends what an edit puts into live elements, or into the copies of them, of which `live` has the numbers.

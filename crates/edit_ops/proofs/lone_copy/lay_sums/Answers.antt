@@ -8,7 +8,7 @@ use Rattle.dgn_layout.specs.SpotsLeft.{spots_left}
 use Rattle.dgn_drawing.specs.SpotNumbers.{sum_at, number_bytes}
 use Rattle.patch_bytes.specs.Puts.{Put, write}
 use Rattle.edit_ops.specs.Written.{sum_put}
-use Rattle.edit_ops.proofs.SpotSteps.{LieIn, lie_in}
+use Rattle.spot_numbers.proofs.SpotSteps.{LieIn, lie_in}
 use Rattle.edit_ops.proofs.ElementMoves.{stays_next}
 use Rattle.edit_ops.proofs.TextTurns.{lay_behind}
 use Rattle.edit_ops.proofs.lone_copy.lay_sums.Goals as goal

@@ -6,7 +6,7 @@ use Rattle.dgn_layout.specs.SpotsLeft.{spots_left}
 use Rattle.dgn_drawing.specs.SpotNumbers.{sum_at}
 use Rattle.patch_bytes.specs.Puts.{write}
 use Rattle.edit_ops.specs.Written.{sum_put}
-use Rattle.edit_ops.proofs.SpotSteps.{LieIn}
+use Rattle.spot_numbers.proofs.SpotSteps.{LieIn}
 use Rattle.edit_ops.proofs.lone_copy.lay_sums.Given as goal
 
 -- what is left lies in the bytes, stays exactly where all do, and laid there gives what all of it gives

@@ -5,7 +5,7 @@ use Rattle.dgn_layout.specs.declared.types.spots.Spots.{Spots}
 use Rattle.dgn_layout.specs.Spots.{spots_of}
 use Rattle.dgn_layout.specs.SpotsLeft.{spots_left}
 use Rattle.edit_ops.specs.Written.{wider_put}
-use Rattle.edit_ops.proofs.SpotSteps.{LieIn, lie_in}
+use Rattle.spot_numbers.proofs.SpotSteps.{LieIn, lie_in}
 use Rattle.edit_ops.proofs.WiderRanges.{of_ranges, ranges_are}
 use Rattle.edit_ops.proofs.patches.push_range.Goals as goal
 

@@ -8,7 +8,8 @@ use Rattle.dgn_layout.specs.SpotsLeft.{spots_left}
 use Rattle.dgn_drawing.specs.SpotNumbers.{sum_at}
 use Rattle.patch_bytes.specs.Puts.{Put}
 use Rattle.edit_ops.specs.Written.{sum_put}
-use Rattle.edit_ops.proofs.SpotSteps.{LieIn, lie_in, all_next, all_put}
+use Rattle.spot_numbers.proofs.SpotSteps.{LieIn, lie_in, all_next}
+use Rattle.edit_ops.proofs.SpotPuts.{all_put}
 use Rattle.edit_ops.proofs.patches.push_sums.Goals as goal
 
 pub spots-init : goal.spots-init

@@ -5,7 +5,7 @@ use Rattle.dgn_layout.specs.Spots.{spots_of}
 use Rattle.dgn_layout.specs.SpotsLeft.{spots_left}
 use Rattle.dgn_drawing.specs.SpotNumbers.{sum_at}
 use Rattle.edit_ops.specs.Written.{sum_put}
-use Rattle.edit_ops.proofs.SpotSteps.{LieIn}
+use Rattle.spot_numbers.proofs.SpotSteps.{LieIn}
 use Rattle.edit_ops.proofs.patches.push_sums.Given as goal
 
 -- what is found and what is left are all sums

@@ -1,5 +1,5 @@
 -- The spots of an element lie in its bytes, and what is added at each is a displacement.
-use Rattle.std.proofs.Common.{◌≡◌, ℕ, zero, suc, ◌+◌, ◌≤◌, List, [], ◌∷◌, ◌++◌, length, map, Bool, true, ap, ◌∙◌, arith, append_assoc}
+use Rattle.std.proofs.Common.{◌≡◌, ℕ, zero, suc, ◌+◌, ◌≤◌, List, [], ◌∷◌, length, Bool, true, arith}
 use Rattle.std.specs.Prelude.{slice_index_or, ℤ, pos}
 use Rattle.std.specs.List.{AllByRecursion, list_all}
 use Rattle.std.proofs.lemmas.Bool.{and_parts}
@@ -10,8 +10,6 @@ use Rattle.dgn_layout.specs.Spots.{spots_of, HoldsPoints, Rise}
 use Rattle.dgn_layout.proofs.SpotsRise.{spots_rise}
 use Rattle.dgn_drawing.specs.WellFormed.{IsDimension}
 use Rattle.dgn_drawing.specs.Values.{Displacement, IsShift}
-use Rattle.patch_bytes.specs.Puts.{Put}
-use Rattle.edit_ops.specs.Written.{sum_put}
 
 -- a spot lies in so many bytes
 abbrev pub LieIn : ℕ → List Spot → Type 0
@@ -38,7 +36,3 @@ displacement_along by axis shift = each_or IsDisplacement by.by axis (pos 0) shi
 -- spots that are passed
 pub all_next : (test : Spot → Bool) (s : Spot) (ss : List Spot) → list_all test (s ∷ ss) ≡ true → (test s ≡ true) × (list_all test ss ≡ true)
 all_next test s ss all = and_parts (test s) (list_all test ss) all
-
-pub all_put : (by : Displacement) (place : ℕ) (b : List ℕ) (done : List Put) (s : Spot) (ss : List Spot) (q : Put) → q ≡ sum_put by place b s
-    → (done ++ q ∷ []) ++ map (sum_put by place b) ss ≡ done ++ map (sum_put by place b) (s ∷ ss)
-all_put by place b done s ss q is = append_assoc done (q ∷ []) (map (sum_put by place b) ss) ∙ ap (λ (x : Put). done ++ x ∷ map (sum_put by place b) ss) is

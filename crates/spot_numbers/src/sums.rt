@@ -1,5 +1,6 @@
-ghost use Rattle.std.specs.Prelude.{◌≡◌, ◌+◌, ◌<◌, ◌≤◌, length, IsTrue, IfSome, IfNone, IsFalse, OnSome};
+ghost use Rattle.std.specs.Prelude.{◌≡◌, ◌+◌, ◌<◌, ◌≤◌, ◌+ℤ◌, length, IsTrue, IfSome, IfNone, IsFalse, OnSome};
 ghost use Rattle.std.specs.List.{list_all};
+ghost use Rattle.dgn_words.specs.Numbers.{range_long_at};
 ghost use Rattle.range_code.specs.Plane.{is_on_plane, IsDisplacement};
 ghost use Rattle.range_code.specs.Ranges.{on_axis};
 ghost use Rattle.dgn_layout.specs.Spots.{HoldsPoints, spots_of};
@@ -29,8 +30,8 @@ pub fn spots_in(dim: u8, kind: u8, b: &[u8]) -> Spots<'_>
     }
 }
 
-// Whether each coordinate of the element with the bytes b stays on the design plane where this displacement
-// is added to it.
+/// Whether each coordinate of the element with the bytes `b` stays on the design plane where this displacement
+/// is added to it.
 pub fn stays_on_plane(dim: u8, kind: u8, b: &[u8], by: &Shift) -> bool
     requires dimension { IsDimension dim }
     requires kind { kind < 128 }
@@ -45,8 +46,8 @@ pub fn stays_on_plane(dim: u8, kind: u8, b: &[u8], by: &Shift) -> bool
     true
 }
 
-// The number at a spot with the displacement along its axis added. None exactly where that is off the design
-// plane.
+/// The number at a spot with the displacement along its axis added. None exactly where that is off the design
+/// plane.
 pub fn sum(b: &[u8], spot: Spot, by: &Shift) -> Option<i32>
     requires { spot.at + 4 ≤ length b.now }
     ensures on { OnSome result (IsTrue (is_on_plane (sum_at by.now b.now spot))) }
@@ -64,7 +65,7 @@ fn step(by: &Shift, axis: u8) -> i64
     by.by.get(usize::from(axis)).copied().unwrap_or(0)
 }
 
-// The number at a spot.
+/// The number at a spot of the element with the bytes `b`, in units of resolution.
 pub fn value(b: &[u8], spot: Spot) -> i32
     requires { spot.at + 4 ≤ length b.now }
     ensures { result ≡ value_at b.now spot }
@@ -77,7 +78,7 @@ pub fn value(b: &[u8], spot: Spot) -> i32
     }
 }
 
-// The bytes of a number at a spot.
+/// The bytes of a number at a spot: those of a range number, or of a coordinate.
 pub fn bytes_at(spot: Spot, number: i32) -> [u8; 4]
     ensures { result ≡ number_bytes spot number }
 {
@@ -90,7 +91,7 @@ pub fn bytes_at(spot: Spot, number: i32) -> [u8; 4]
     bytes
 }
 
-// Writes a number at a spot, and leaves every other byte. The four bytes are one move.
+/// Writes a number at a spot, and leaves every other byte. The four bytes are one move.
 pub fn put_number(b: &mut [u8], spot: Spot, number: i32)
     requires { spot.at + 4 ≤ length b.old }
     ensures { b.new ≡ lay b.old (record { at = spot.at; bytes = number_bytes spot number }) }
@@ -100,5 +101,22 @@ pub fn put_number(b: &mut [u8], spot: Spot, number: i32)
         put_range_long(b, at, number);
     } else {
         put_long(b, at, number);
+    }
+}
+
+/// The range number at byte `at`, moved along an axis, along which it stays on the design plane.
+pub fn moved_number(b: &[u8], at: u32, axis: u8, by: &Shift) -> i32
+    requires long { at + 4 ≤ length b.now }
+    requires plane { IsTrue (is_on_plane (range_long_at b.now at +ℤ on_axis by.now.by axis)) }
+    ensures { result ≡ range_long_at b.now at +ℤ on_axis by.now.by axis }
+{
+    let spot = Spot {
+        at,
+        axis,
+        offset: true,
+    };
+    match sum(b, spot, by) {
+        Some(number) => number,
+        None => unreachable!(),
     }
 }

@@ -1,15 +1,15 @@
 use Rattle.std.proofs.Common.{◌≡◌, ◌∙◌, arith}
 use Rattle.dgn_words.specs.Numbers.{put}
 use Rattle.dgn_drawing.specs.SpotNumbers.{number_bytes}
-use Rattle.edit_ops.proofs.LivePuts.{put_written}
-use Rattle.edit_ops.proofs.sums.put_number.Goals as goal
+use Rattle.spot_numbers.proofs.WrittenNumbers.{put_laid}
+use Rattle.spot_numbers.proofs.sums.put_number.Goals as goal
 
 pub returns-then-spot : goal.returns-then-spot
 returns-then-spot c =
     let over : c.put_range_long.new.b ≡ put c.args.b.now c.args.spot.at (number_bytes c.args.spot c.args.number) = search arith in
-    over ∙ put_written c.args.b.now (number_bytes c.args.spot c.args.number) c.args.spot.at
+    over ∙ put_laid c.args.b.now (number_bytes c.args.spot c.args.number) c.args.spot.at
 
 pub returns-else-spot : goal.returns-else-spot
 returns-else-spot c =
     let over : c.put_long.new.b ≡ put c.args.b.now c.args.spot.at (number_bytes c.args.spot c.args.number) = search arith in
-    over ∙ put_written c.args.b.now (number_bytes c.args.spot c.args.number) c.args.spot.at
+    over ∙ put_laid c.args.b.now (number_bytes c.args.spot c.args.number) c.args.spot.at

@@ -6,8 +6,8 @@ use Rattle.dgn_layout.specs.declared.types.spots.Spots.{Spots}
 use Rattle.dgn_layout.specs.Spots.{spots_of}
 use Rattle.dgn_layout.specs.SpotsLeft.{spots_left}
 use Rattle.dgn_drawing.specs.SpotNumbers.{sum_at}
-use Rattle.edit_ops.proofs.SpotSteps.{LieIn, lie_in}
-use Rattle.edit_ops.proofs.sums.stays_on_plane.Goals as goal
+use Rattle.spot_numbers.proofs.SpotSteps.{LieIn, lie_in}
+use Rattle.spot_numbers.proofs.sums.stays_on_plane.Goals as goal
 
 pub spots-init : goal.spots-init
 spots-init c =

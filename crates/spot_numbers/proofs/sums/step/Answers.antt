@@ -2,8 +2,8 @@ use Rattle.std.proofs.Common.{◌≡◌, rules, w64, sym, subst}
 use Rattle.std.proofs.Math.Facts.{to_z-of_z}
 use Rattle.range_code.specs.Plane.{IsDisplacement}
 use Rattle.range_code.specs.Ranges.{on_axis}
-use Rattle.edit_ops.proofs.SpotSteps.{displacement_along}
-use Rattle.edit_ops.proofs.sums.step.Goals as goal
+use Rattle.spot_numbers.proofs.SpotSteps.{displacement_along}
+use Rattle.spot_numbers.proofs.sums.step.Goals as goal
 
 pub returns-clause-small : goal.returns-clause-small
 returns-clause-small c =

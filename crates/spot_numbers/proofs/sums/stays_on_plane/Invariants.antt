@@ -4,8 +4,8 @@ use Rattle.range_code.specs.Plane.{is_on_plane}
 use Rattle.dgn_layout.specs.Spots.{spots_of}
 use Rattle.dgn_layout.specs.SpotsLeft.{spots_left}
 use Rattle.dgn_drawing.specs.SpotNumbers.{sum_at}
-use Rattle.edit_ops.proofs.SpotSteps.{LieIn}
-use Rattle.edit_ops.proofs.sums.stays_on_plane.Given as goal
+use Rattle.spot_numbers.proofs.SpotSteps.{LieIn}
+use Rattle.spot_numbers.proofs.sums.stays_on_plane.Given as goal
 
 -- what is left stays exactly where all do
 abbrev pub invariant-spots : goal.invariant-spots

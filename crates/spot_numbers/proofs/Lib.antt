@@ -1,0 +1,2 @@
+pub mod SpotSteps
+pub mod WrittenNumbers
