@@ -127,15 +127,16 @@ row_small : {axes : ℕ} → IsDimension axes → (n : ℕ) → n ≤ 101 → 38
 row_small axes n few = in_both (λ (d : ℕ). 38 + 4 * d * n ≤ 2000) (omega arith) (omega arith) axes
 
 -- the run of a text
-run_good : {axes : ℕ} (font just : ℕ) (wide high : ℤ) → IsDimension axes → font < 256 → just < 256 → IsRun (text_run axes) (run_made axes font just wide high)
-run_good font just wide high axes one two =
-    let numbers : (turn : List ℕ) → IsBytes turn → IsBytes (font ∷ just ∷ (long_bytes wide ++ (long_bytes high ++ turn))) =
+run_good : {axes : ℕ} (font just : ℕ) (text_length text_height : ℤ) → IsDimension axes → font < 256 → just < 256
+    → IsRun (text_run axes) (run_made axes font just text_length text_height)
+run_good font just text_length text_height axes one two =
+    let numbers : (turn : List ℕ) → IsBytes turn → IsBytes (font ∷ just ∷ (long_bytes text_length ++ (long_bytes text_height ++ turn))) =
     λ turn good.
-    let rest : List ℕ = long_bytes wide ++ (long_bytes high ++ turn) in
+    let rest : List ℕ = long_bytes text_length ++ (long_bytes text_height ++ turn) in
     All-cons (λ x. x < 256) font (just ∷ rest) one (All-cons (λ x. x < 256) just rest two
-    (All-append (λ x. x < 256) (long_bytes wide) (long_bytes high ++ turn) (long_bytes_good wide)
-    (All-append (λ x. x < 256) (long_bytes high) turn (long_bytes_good high) good))) in
-    in_both (λ (d : ℕ). IsRun (text_run d) (run_made d font just wide high))
+    (All-append (λ x. x < 256) (long_bytes text_length) (long_bytes text_height ++ turn) (long_bytes_good text_length)
+    (All-append (λ x. x < 256) (long_bytes text_height) turn (long_bytes_good text_height) good))) in
+    in_both (λ (d : ℕ). IsRun (text_run d) (run_made d font just text_length text_height))
     (record { long = refl; bytes = numbers (turn_bytes 2) (long_bytes_good (pos 0)) })
     (record { long = refl; bytes = numbers (turn_bytes 3) (longs_bytes_good (pos 2147483647 ∷ pos 0 ∷ pos 0 ∷ pos 0 ∷ [])) })
     axes
@@ -233,11 +234,12 @@ module _ (axes : ℕ) (dimension : IsDimension axes) where
       }
 
   -- a text
-  text_made : (font just : ℕ) (wide high : ℤ) (origin : List ℤ) (chars : List ℕ) → IsNewText axes font just wide high origin chars
-      → IsShapeMade axes (shapes.Text font just wide high origin chars)
+  text_made : (font just : ℕ) (text_length text_height : ℤ) (origin : List ℤ) (chars : List ℕ)
+      → IsNewText axes font just text_length text_height origin chars
+      → IsShapeMade axes (shapes.Text font just text_length text_height origin chars)
   unfolding parts_bytes form_of
-  text_made font just wide high origin chars good =
-      let run = run_good font just wide high dimension good.font_byte good.just_byte in
+  text_made font just text_length text_height origin chars good =
+      let run = run_good font just text_length text_height dimension good.font_byte good.just_byte in
       let point = point_front dimension origin good.point in
       let place = chars_place dimension in
       let small = chars_place_small dimension in
@@ -245,9 +247,10 @@ module _ (axes : ℕ) (dimension : IsDimension axes) where
       let padding = length-padding (length chars) in
       let before = run.long in
       let numbers : length (point_bytes (take axes origin)) ≡ 4 * axes = length-point_bytes (take axes origin) ∙ ap (λ (n : ℕ). 4 * n) point.long in
-      let all : length (run_made axes font just wide high ++ (point_bytes (take axes origin) ++ (length chars ∷ 0 ∷ chars)))
+      let all : length (run_made axes font just text_length text_height ++ (point_bytes (take axes origin) ++ (length chars ∷ 0 ∷ chars)))
       ≡ text_run axes + (4 * axes + (2 + length chars)) =
-      length-append (run_made axes font just wide high) _ ∙ omega (arith, length-append (point_bytes (take axes origin)) (length chars ∷ 0 ∷ chars)) in
+      length-append (run_made axes font just text_length text_height) _
+      ∙ omega (arith, length-append (point_bytes (take axes origin)) (length chars ∷ 0 ∷ chars)) in
       record {
         kind = omega arith;
         form = refl;
@@ -265,7 +268,7 @@ module _ (axes : ℕ) (dimension : IsDimension axes) where
   each_made (shapes.Line points) good = line_made points good
   each_made (shapes.Chain points) good = chain_made points good
   each_made (shapes.Shape points) good = shape_made points good
-  each_made (shapes.Text font just wide high origin chars) good = text_made font just wide high origin chars good
+  each_made (shapes.Text font just text_length text_height origin chars) good = text_made font just text_length text_height origin chars good
 
 -- two bytes of which the first isn't FF are no mark of the end
 first_differs : (x y : ℕ) → x < 255 → (x == 255 && y == 255) ≡ false
