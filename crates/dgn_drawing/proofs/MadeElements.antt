@@ -13,8 +13,9 @@ use Rattle.range_code.specs.Ranges.{on_axis, least_corner, greatest_corner}
 use Rattle.dgn_layout.specs.Ends.{chars_start}
 use Rattle.dgn_drawing.specs.declared.new_shape.NewShape.{NewShape}
 use Rattle.dgn_drawing.specs.declared.new_shape.NewShape.TheVariants as shapes
+use Rattle.dgn_drawing.specs.declared.form.Form.{Form}
 use Rattle.dgn_drawing.specs.Forms.{form_of}
-use Rattle.dgn_drawing.specs.Element.{form_of_parts}
+use Rattle.dgn_drawing.specs.Element.{Parts, Points, form_of_parts}
 use Rattle.dgn_drawing.specs.Spelling.{first_byte, second_byte, point_bytes, display_bytes, parts_bytes, body_bytes, spell, size_of}
 use Rattle.dgn_drawing.specs.WellFormed.{IsDimension, IsBytes, IsRun, IsCoordinate, IsPoint, IsDisplay, HasParts, IsWellFormed, text_run}
 use Rattle.dgn_drawing.specs.NewElements.{NewElement, IsPointFor, ArePoints, IsNewText, IsShapeFor, IsNew, kind_made, points_given, lowest_from}
@@ -110,32 +111,37 @@ points_front : {axes : ℕ} → IsDimension axes → (ps : List (List ℤ)) → 
 points_front dimension [] each = tt
 points_front dimension (p ∷ ps) each = (point_front dimension p each.0, points_front dimension ps each.1)
 
--- what is known of an element that is made of a shape
-pub record IsShapeMade (axes : ℕ) (shape : NewShape) : Type 0 where
-  pub kind : kind_made shape < 128
-  pub form : form_of (kind_made shape) ≡ form_of_parts (parts_made axes shape)
-  pub parts : HasParts axes (parts_made axes shape)
-  pub rest : IsBytes (rest_made shape)
-  pub long : 36 + (length (parts_bytes (parts_made axes shape)) + length (rest_made shape)) ≡ size_made axes shape
-  pub even : size_made axes shape % 2 ≡ 0
-  pub small : size_made axes shape ≤ 2000
-  pub low : IsPoint 3 (lowest (points_given shape))
-  pub high : IsPoint 3 (highest (points_given shape))
+-- what is known of an element that is made of its type, its parts, what makes its size even, its size and its points
+pub record IsMade (axes kind : ℕ) (parts : Parts) (rest : List ℕ) (size : ℕ) (points : List (List ℤ)) : Type 0 where
+  pub kind_small : kind < 128
+  pub form : form_of kind ≡ form_of_parts parts
+  pub parts_good : HasParts axes parts
+  pub rest_good : IsBytes rest
+  pub long : 36 + (length (parts_bytes parts) + length rest) ≡ size
+  pub even : size % 2 ≡ 0
+  pub small : size ≤ 2000
+  pub low : IsPoint 3 (lowest points)
+  pub high : IsPoint 3 (highest points)
+
+-- and of one that is made of a shape
+abbrev pub IsShapeMade : ℕ → NewShape → Type 0
+IsShapeMade axes shape = IsMade axes (kind_made shape) (parts_made axes shape) (rest_made shape) (size_made axes shape) (points_given shape)
 
 -- a row of at most 101 points has at most 1250 bytes
 row_small : {axes : ℕ} → IsDimension axes → (n : ℕ) → n ≤ 101 → 38 + 4 * axes * n ≤ 2000
 row_small axes n few = in_both (λ (d : ℕ). 38 + 4 * d * n ≤ 2000) (omega arith) (omega arith) axes
 
 -- the run of a text
-run_good : {axes : ℕ} (font just : ℕ) (wide high : ℤ) → IsDimension axes → font < 256 → just < 256 → IsRun (text_run axes) (run_made axes font just wide high)
-run_good font just wide high axes one two =
-    let numbers : (turn : List ℕ) → IsBytes turn → IsBytes (font ∷ just ∷ (long_bytes wide ++ (long_bytes high ++ turn))) =
+run_good : {axes : ℕ} (font just : ℕ) (text_length text_height : ℤ) → IsDimension axes → font < 256 → just < 256
+    → IsRun (text_run axes) (run_made axes font just text_length text_height)
+run_good font just text_length text_height axes one two =
+    let numbers : (turn : List ℕ) → IsBytes turn → IsBytes (font ∷ just ∷ (long_bytes text_length ++ (long_bytes text_height ++ turn))) =
     λ turn good.
-    let rest : List ℕ = long_bytes wide ++ (long_bytes high ++ turn) in
+    let rest : List ℕ = long_bytes text_length ++ (long_bytes text_height ++ turn) in
     All-cons (λ x. x < 256) font (just ∷ rest) one (All-cons (λ x. x < 256) just rest two
-    (All-append (λ x. x < 256) (long_bytes wide) (long_bytes high ++ turn) (long_bytes_good wide)
-    (All-append (λ x. x < 256) (long_bytes high) turn (long_bytes_good high) good))) in
-    in_both (λ (d : ℕ). IsRun (text_run d) (run_made d font just wide high))
+    (All-append (λ x. x < 256) (long_bytes text_length) (long_bytes text_height ++ turn) (long_bytes_good text_length)
+    (All-append (λ x. x < 256) (long_bytes text_height) turn (long_bytes_good text_height) good))) in
+    in_both (λ (d : ℕ). IsRun (text_run d) (run_made d font just text_length text_height))
     (record { long = refl; bytes = numbers (turn_bytes 2) (long_bytes_good (pos 0)) })
     (record { long = refl; bytes = numbers (turn_bytes 3) (longs_bytes_good (pos 2147483647 ∷ pos 0 ∷ pos 0 ∷ pos 0 ∷ [])) })
     axes
@@ -177,10 +183,10 @@ module _ (axes : ℕ) (dimension : IsDimension axes) where
       let long : length (flat_map point_bytes (map (take axes) points)) ≡ 4 * axes * 2 =
       length-points_bytes axes (map (take axes) points) front ∙ ap (λ (n : ℕ). 4 * axes * n) two in
       record {
-        kind = omega arith;
+        kind_small = omega arith;
         form = refl;
-        parts = (two, front);
-        rest = All-nil (λ x. x < 256);
+        parts_good = (two, front);
+        rest_good = All-nil (λ x. x < 256);
         long = omega arith;
         even = omega arith;
         small = in_both (λ (d : ℕ). 36 + 8 * d ≤ 2000) (omega arith) (omega arith) dimension;
@@ -194,37 +200,19 @@ module _ (axes : ℕ) (dimension : IsDimension axes) where
   row_long points each =
       length-points_bytes axes (map (take axes) points) (points_front dimension points each) ∙ ap (λ (n : ℕ). 4 * axes * n) (length-map points (take axes))
 
-  -- a chain
-  chain_made : (points : List (List ℤ)) → ArePoints axes 2 101 points → IsShapeMade axes (shapes.Chain points)
-  unfolding parts_bytes form_of
-  chain_made points good =
+  -- a row of points, of a chain's type or a shape's
+  row_made : {least : ℕ} (kind : ℕ) (points : List (List ℤ)) → kind < 128 → form_of kind ≡ Form.Points → 2 ≤ least → ArePoints axes least 101 points
+      → IsMade axes kind (Points (map (take axes) points)) [] (38 + 4 * axes * length points) points
+  unfolding parts_bytes
+  row_made kind points small form two good =
       let enough = good.enough in
       let few = good.few in
       let long = row_long points good.each in
       record {
-        kind = omega arith;
-        form = refl;
-        parts = (rw (length-map points (take axes)) (omega arith), points_front dimension points good.each);
-        rest = All-nil (λ x. x < 256);
-        long = omega arith;
-        even = omega arith;
-        small = row_small dimension (length points) few;
-        low = lowest_good axes points (omega arith) good.each;
-        high = highest_good axes points (omega arith) good.each;
-      }
-
-  -- a shape
-  shape_made : (points : List (List ℤ)) → ArePoints axes 3 101 points → IsShapeMade axes (shapes.Shape points)
-  unfolding parts_bytes form_of
-  shape_made points good =
-      let enough = good.enough in
-      let few = good.few in
-      let long = row_long points good.each in
-      record {
-        kind = omega arith;
-        form = refl;
-        parts = (rw (length-map points (take axes)) (omega arith), points_front dimension points good.each);
-        rest = All-nil (λ x. x < 256);
+        kind_small = small;
+        form = form;
+        parts_good = (rw (length-map points (take axes)) (omega arith), points_front dimension points good.each);
+        rest_good = All-nil (λ x. x < 256);
         long = omega arith;
         even = omega arith;
         small = row_small dimension (length points) few;
@@ -233,11 +221,12 @@ module _ (axes : ℕ) (dimension : IsDimension axes) where
       }
 
   -- a text
-  text_made : (font just : ℕ) (wide high : ℤ) (origin : List ℤ) (chars : List ℕ) → IsNewText axes font just wide high origin chars
-      → IsShapeMade axes (shapes.Text font just wide high origin chars)
+  text_made : (font just : ℕ) (text_length text_height : ℤ) (origin : List ℤ) (chars : List ℕ)
+      → IsNewText axes font just text_length text_height origin chars
+      → IsShapeMade axes (shapes.Text font just text_length text_height origin chars)
   unfolding parts_bytes form_of
-  text_made font just wide high origin chars good =
-      let run = run_good font just wide high dimension good.font_byte good.just_byte in
+  text_made font just text_length text_height origin chars good =
+      let run = run_good font just text_length text_height dimension good.font_byte good.just_byte in
       let point = point_front dimension origin good.point in
       let place = chars_place dimension in
       let small = chars_place_small dimension in
@@ -245,14 +234,15 @@ module _ (axes : ℕ) (dimension : IsDimension axes) where
       let padding = length-padding (length chars) in
       let before = run.long in
       let numbers : length (point_bytes (take axes origin)) ≡ 4 * axes = length-point_bytes (take axes origin) ∙ ap (λ (n : ℕ). 4 * n) point.long in
-      let all : length (run_made axes font just wide high ++ (point_bytes (take axes origin) ++ (length chars ∷ 0 ∷ chars)))
+      let all : length (run_made axes font just text_length text_height ++ (point_bytes (take axes origin) ++ (length chars ∷ 0 ∷ chars)))
       ≡ text_run axes + (4 * axes + (2 + length chars)) =
-      length-append (run_made axes font just wide high) _ ∙ omega (arith, length-append (point_bytes (take axes origin)) (length chars ∷ 0 ∷ chars)) in
+      length-append (run_made axes font just text_length text_height) _
+      ∙ omega (arith, length-append (point_bytes (take axes origin)) (length chars ∷ 0 ∷ chars)) in
       record {
-        kind = omega arith;
+        kind_small = omega arith;
         form = refl;
-        parts = record { before = run; point = point; byte = omega arith; few = few; bytes = good.bytes };
-        rest = padding_good (length chars % 2 == 0);
+        parts_good = record { before = run; point = point; byte = omega arith; few = few; bytes = good.bytes };
+        rest_good = padding_good (length chars % 2 == 0);
         long = omega arith;
         even = omega arith;
         small = omega arith;
@@ -262,10 +252,11 @@ module _ (axes : ℕ) (dimension : IsDimension axes) where
 
   -- each of the four
   pub each_made : (shape : NewShape) → IsShapeFor axes shape → IsShapeMade axes shape
+  unfolding form_of
   each_made (shapes.Line points) good = line_made points good
-  each_made (shapes.Chain points) good = chain_made points good
-  each_made (shapes.Shape points) good = shape_made points good
-  each_made (shapes.Text font just wide high origin chars) good = text_made font just wide high origin chars good
+  each_made (shapes.Chain points) good = row_made 4 points (omega arith) refl (omega arith) good
+  each_made (shapes.Shape points) good = row_made 6 points (omega arith) refl (omega arith) good
+  each_made (shapes.Text font just text_length text_height origin chars) good = text_made font just text_length text_height origin chars good
 
 -- two bytes of which the first isn't FF are no mark of the end
 first_differs : (x y : ℕ) → x < 255 → (x == 255 && y == 255) ≡ false
@@ -308,9 +299,9 @@ made_well_formed new good =
     let small = shape.small in
     record {
       level = level;
-      kind = shape.kind;
+      kind = shape.kind_small;
       form = shape.form;
-      parts = (display_good new good, shape.parts, shape.rest);
+      parts = (display_good new good, shape.parts_good, shape.rest_good);
       even = rw size shape.even;
       small = rw size (omega arith);
       no_mark = first_differs (first_byte (made new)) (second_byte (made new)) (omega arith);

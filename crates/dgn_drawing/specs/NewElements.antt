@@ -31,13 +31,13 @@ pub record ArePoints (axes least most : ℕ) (points : List (List ℤ)) : Type 0
   pub each : AllByRecursion (IsPointFor axes) points
 
 -- the fields of a text hold their values
-pub record IsNewText (axes font just : ℕ) (wide high : ℤ) (origin : List ℤ) (chars : List ℕ) : Type 0 where
+pub record IsNewText (axes font just : ℕ) (text_length text_height : ℤ) (origin : List ℤ) (chars : List ℕ) : Type 0 where
   pub font_byte : font < 256
   pub just_byte : just < 256
-  pub wide_long : IsCoordinate wide
-  pub wide_up : pos 0 ≤ℤ wide
-  pub high_long : IsCoordinate high
-  pub high_up : pos 0 ≤ℤ high
+  pub length_long : IsCoordinate text_length
+  pub length_up : pos 0 ≤ℤ text_length
+  pub height_long : IsCoordinate text_height
+  pub height_up : pos 0 ≤ℤ text_height
   pub point : IsPointFor axes origin
   pub some : 1 ≤ length chars
   pub few : length chars ≤ 255
@@ -48,7 +48,7 @@ abbrev pub IsShapeFor : ℕ → NewShape → Type 0
 IsShapeFor axes (shapes.Line points) = ArePoints axes 2 2 points
 IsShapeFor axes (shapes.Chain points) = ArePoints axes 2 101 points
 IsShapeFor axes (shapes.Shape points) = ArePoints axes 3 101 points
-IsShapeFor axes (shapes.Text font just wide high origin chars) = IsNewText axes font just wide high origin chars
+IsShapeFor axes (shapes.Text font just text_length text_height origin chars) = IsNewText axes font just text_length text_height origin chars
 
 -- what its type keeps of an element that is to be appended
 pub record IsNew (new : NewElement) : Type 0 where
@@ -64,14 +64,14 @@ abbrev pub kind_made : NewShape → ℕ
 kind_made (shapes.Line points) = 3
 kind_made (shapes.Chain points) = 4
 kind_made (shapes.Shape points) = 6
-kind_made (shapes.Text font just wide high origin chars) = 17
+kind_made (shapes.Text font just text_length text_height origin chars) = 17
 
 -- its points: those that are given, or the origin
 abbrev pub points_given : NewShape → List (List ℤ)
 points_given (shapes.Line points) = points
 points_given (shapes.Chain points) = points
 points_given (shapes.Shape points) = points
-points_given (shapes.Text font just wide high origin chars) = origin ∷ []
+points_given (shapes.Text font just text_length text_height origin chars) = origin ∷ []
 
 -- the least and the greatest coordinates of a first point and others
 abbrev pub lowest_from : List ℤ → List (List ℤ) → List ℤ
@@ -100,7 +100,7 @@ abbrev pub size_made : ℕ → NewShape → ℕ
 size_made axes (shapes.Line points) = 36 + 8 * axes
 size_made axes (shapes.Chain points) = 38 + 4 * axes * length points
 size_made axes (shapes.Shape points) = 38 + 4 * axes * length points
-size_made axes (shapes.Text font just wide high origin chars) = even_up (chars_start axes + length chars)
+size_made axes (shapes.Text font just text_length text_height origin chars) = even_up (chars_start axes + length chars)
 
 -- how a text is turned: the rotation 0, or in three axes the quaternion of no turn
 abbrev pub turn_bytes : ℕ → List ℕ
@@ -110,18 +110,18 @@ turn_bytes axes =
 
 -- what stands between a text's display part and its origin: font, justification, both multipliers and the turn
 abbrev pub run_made : ℕ → ℕ → ℕ → ℤ → ℤ → List ℕ
-run_made axes font just wide high = font ∷ just ∷ (long_bytes wide ++ (long_bytes high ++ turn_bytes axes))
+run_made axes font just text_length text_height = font ∷ just ∷ (long_bytes text_length ++ (long_bytes text_height ++ turn_bytes axes))
 
 -- its parts
 abbrev pub parts_made : ℕ → NewShape → Parts
 parts_made axes (shapes.Line points) = Line (map (take axes) points)
 parts_made axes (shapes.Chain points) = Points (map (take axes) points)
 parts_made axes (shapes.Shape points) = Points (map (take axes) points)
-parts_made axes (shapes.Text font just wide high origin chars) = Text (run_made axes font just wide high) (take axes origin) 0 chars
+parts_made axes (shapes.Text font just text_length text_height origin chars) = Text (run_made axes font just text_length text_height) (take axes origin) 0 chars
 
 -- the byte that makes a text's size even
 abbrev pub rest_made : NewShape → List ℕ
-rest_made (shapes.Text font just wide high origin chars) = if length chars % 2 == 0 then [] else 0 ∷ []
+rest_made (shapes.Text font just text_length text_height origin chars) = if length chars % 2 == 0 then [] else 0 ∷ []
 rest_made other = []
 
 -- its display part. The attribute index is that of attribute data behind the element's end

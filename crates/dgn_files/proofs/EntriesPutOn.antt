@@ -15,6 +15,7 @@ use Rattle.patch_file.specs.Exchanges.{Exchange}
 use Rattle.patch_file.specs.Spelling.{Packed}
 use Rattle.patch_file.specs.PatchView.{packed_of}
 use Rattle.patch_file.specs.Standing.{HoldsOld, Stands, new_of, put_on}
+use Rattle.dgn_drawing.specs.declared.limits.TheConstants.{MOST_DESIGN}
 use Rattle.dgn_files.specs.Applied.{holds_old, does_stand, Patched, Made, Differs, Overruns, put_from, Puts}
 use Rattle.dgn_files.specs.declared.put_end.PutEnd.{PutEnd}
 use Rattle.dgn_files.specs.declared.put_end.PutEnd.TheVariants as ends
@@ -37,19 +38,19 @@ differs tail k b e es not_so =
     rw test refl
 
 -- one that stands, and with which the drawing gets too long
-pub overruns : (tail k : ℕ) (b : List ℕ) (e : Packed) (es : List Packed) → Stands b e → 67108864 < length (put_on b e) + tail
+pub overruns : (tail k : ℕ) (b : List ℕ) (e : Packed) (es : List Packed) → Stands b e → MOST_DESIGN < length (put_on b e) + tail
     → put_from tail k b (e ∷ es) ≡ Overruns
 overruns tail k b e es so long =
     let test : does_stand b e ≡ true = (stands_decided b e).1 so in
-    let too : nat_lt 67108864 (length (put_on b e) + tail) ≡ true = grind (arith, nat_tests) in
+    let too : nat_lt MOST_DESIGN (length (put_on b e) + tail) ≡ true = grind (arith, nat_tests) in
     rw (test, too) refl
 
 -- one that stands, and keeps the limit
-pub goes_on : (tail k : ℕ) (b : List ℕ) (e : Packed) (es : List Packed) → Stands b e → length (put_on b e) + tail ≤ 67108864
+pub goes_on : (tail k : ℕ) (b : List ℕ) (e : Packed) (es : List Packed) → Stands b e → length (put_on b e) + tail ≤ MOST_DESIGN
     → put_from tail k b (e ∷ es) ≡ put_from tail (k + 1) (put_on b e) es
 goes_on tail k b e es so few =
     let test : does_stand b e ≡ true = (stands_decided b e).1 so in
-    let fits : nat_lt 67108864 (length (put_on b e) + tail) ≡ false = grind (arith, nat_tests) in
+    let fits : nat_lt MOST_DESIGN (length (put_on b e) + tail) ≡ false = grind (arith, nat_tests) in
     rw (test, fits) refl
 
 -- what one entry makes, others behind it go on with
@@ -62,7 +63,7 @@ stepped false y k b b' rest e = absurd (cc)
 pub goes_behind : (tail k : ℕ) (b b' : List ℕ) (e : Packed) (es : List Packed) → put_from tail k b (e ∷ []) ≡ Made b'
     → put_from tail k b (e ∷ es) ≡ put_from tail (k + 1) b' es
 goes_behind tail k b b' e es one =
-    stepped (does_stand b e) (nat_lt 67108864 (length (put_on b e) + tail)) k (put_on b e) b' (λ (x : List ℕ). put_from tail (k + 1) x es) one
+    stepped (does_stand b e) (nat_lt MOST_DESIGN (length (put_on b e) + tail)) k (put_on b e) b' (λ (x : List ℕ). put_from tail (k + 1) x es) one
 
 -- where one entry ends it, none behind it is put on
 ended : (x y : Bool) (k : ℕ) (b now : List ℕ) (rest : Patched) (end : PutEnd) → Puts (Err end) (cond (not x) (Differs k) (cond y Overruns (Made b))) now
@@ -76,7 +77,7 @@ ended false y k b now rest end puts = puts
 pub ends_there : (tail k : ℕ) (b now : List ℕ) (e : Packed) (es : List Packed) (end : PutEnd) → Puts (Err end) (put_from tail k b (e ∷ [])) now
     → Puts (Err end) (put_from tail k b (e ∷ es)) now
 ends_there tail k b now e es end puts =
-    ended (does_stand b e) (nat_lt 67108864 (length (put_on b e) + tail)) k (put_on b e) now (put_from tail (k + 1) (put_on b e) es) end puts
+    ended (does_stand b e) (nat_lt MOST_DESIGN (length (put_on b e) + tail)) k (put_on b e) now (put_from tail (k + 1) (put_on b e) es) end puts
 
 -- how long a body is with an entry on it
 pub length-put_on : (b : List ℕ) (e : PatchEntry) → Stands b (packed_of e) → length (put_on b (packed_of e)) ≡ length b + length e.append

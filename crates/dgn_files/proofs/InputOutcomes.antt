@@ -7,12 +7,14 @@ use Rattle.std.proofs.lemmas.Bool.Decides.{nat_tests}
 use Rattle.dgn_desk.specs.Content.{Files, bytes_of}
 use Rattle.dgn_drawing.specs.Opening.{Fault, NotDesign, Cut, Short, Attr}
 use Rattle.dgn_drawing.specs.WellFormed.{IsBytes}
+use Rattle.dgn_drawing.specs.declared.limits.TheConstants.{MOST_DESIGN}
 use Rattle.elem_index.specs.declared.open_fault.OpenFault.{OpenFault}
 use Rattle.elem_index.specs.Opened.{Opened, opening}
 use Rattle.elem_index.specs.Answers.{HasCount, TellsFault}
 use Rattle.edit_script.specs.Script.{commands_of}
 use Rattle.edit_script.specs.declared.command.Command.{Command}
 use Rattle.edit_script.specs.declared.fault.ScriptFault.{ScriptFault}
+use Rattle.edit_script.specs.declared.limits.TheConstants.{MOST_SCRIPT}
 use Rattle.listing_texts.specs.NumberedLines.{numbered}
 use Rattle.dgn_files.specs.Ended.{Outcome, ended}
 use Rattle.dgn_files.specs.Ends.{Has}
@@ -51,21 +53,21 @@ long_bytes name limit files long = λ few. absurd (omega (arith, long, few))
 -- IN.
 
 -- IN has no more bytes than it may
-pub input_opens : (input : List ℕ) (go_on : Opened → Outcome) (found : Result Opened Fault) → length input ≤ 67108864 → opening input ≡ found
+pub input_opens : (input : List ℕ) (go_on : Opened → Outcome) (found : Result Opened Fault) → length input ≤ MOST_DESIGN → opening input ≡ found
     → input_outcome input go_on ≡ opened_outcome found go_on
 input_opens input go_on found h e =
-    let test : nat_lt 67108864 (length input) ≡ false = grind (arith, nat_tests) in
+    let test : nat_lt MOST_DESIGN (length input) ≡ false = grind (arith, nat_tests) in
     rw (test, e) refl
 
 -- what was read of IN opens so
-pub opens_so : (name bytes : List ℕ) (d : Opened) (files : Files) → opening bytes ≡ Ok d → IsWholeFile name 67108864 files bytes → OpensAs name files d
-opens_so name bytes d files opens is = (subst (λ (b : List ℕ). length b ≤ 67108864) is.1 is.0, ap opening (sym is.1) ∙ opens, subst IsBytes is.1 is.2)
+pub opens_so : (name bytes : List ℕ) (d : Opened) (files : Files) → opening bytes ≡ Ok d → IsWholeFile name MOST_DESIGN files bytes → OpensAs name files d
+opens_so name bytes d files opens is = (subst (λ (b : List ℕ). length b ≤ MOST_DESIGN) is.1 is.0, ap opening (sym is.1) ∙ opens, subst IsBytes is.1 is.2)
 
 -- and it is these bytes that open
-pub input_file : (name bytes : List ℕ) (files : Files) (go_on : Opened → Outcome) → IsWholeFile name 67108864 files bytes
+pub input_file : (name bytes : List ℕ) (files : Files) (go_on : Opened → Outcome) → IsWholeFile name MOST_DESIGN files bytes
     → input_outcome (bytes_of files name) go_on ≡ opened_outcome (opening bytes) go_on
 input_file name bytes files go_on is =
-    input_opens (bytes_of files name) go_on (opening bytes) (subst (λ (b : List ℕ). length b ≤ 67108864) is.1 is.0) (ap opening (sym is.1))
+    input_opens (bytes_of files name) go_on (opening bytes) (subst (λ (b : List ℕ). length b ≤ MOST_DESIGN) is.1 is.0) (ap opening (sym is.1))
 
 -- a fault that is told ends a run with its line
 pub fault_outcome : (found : Result Opened Fault) (fault : OpenFault) (line : List ℕ) (go_on : Opened → Outcome) → TellsFault found fault
@@ -92,10 +94,10 @@ counts bytes count has =
     ∙ ap (λ (n : ℕ). ended statuses.Done (numbered (codes "elements ") n)) (sym has.counted)
 
 -- where IN is too long, no other file is read
-pub input_long : (input : List ℕ) (behind : Files → Type 0) (files : Files) → IsLonger input 67108864 files → InputInBytes input behind files
+pub input_long : (input : List ℕ) (behind : Files → Type 0) (files : Files) → IsLonger input MOST_DESIGN files → InputInBytes input behind files
 input_long input behind files long =
-    let test : nat_le (length (bytes_of files input)) 67108864 ≡ false = grind (arith, nat_tests) in (
-      long_bytes input 67108864 files long,
+    let test : nat_le (length (bytes_of files input)) MOST_DESIGN ≡ false = grind (arith, nat_tests) in (
+      long_bytes input MOST_DESIGN files long,
       λ comes. absurd (let x : false ≡ true = subst (λ (b : Bool). IsTrue (b && is_ok (opening (bytes_of files input)))) test comes in cc),
     )
 
@@ -105,15 +107,15 @@ never_both true both = let x : false ≡ true = both in cc
 never_both false both = let x : false ≡ true = both in cc
 
 input_faulty : (input bytes : List ℕ) (fault : Fault) (behind : Files → Type 0) (files : Files) → opening bytes ≡ Err fault
-    → IsWholeFile input 67108864 files bytes → InputInBytes input behind files
+    → IsWholeFile input MOST_DESIGN files bytes → InputInBytes input behind files
 input_faulty input bytes fault behind files opens is =
     let same : opening (bytes_of files input) ≡ Err fault = ap opening (sym is.1) ∙ opens in (
-      file_bytes input 67108864 bytes files is,
-      λ comes. absurd (never_both _ (subst (λ (r : Result Opened Fault). IsTrue (nat_le (length (bytes_of files input)) 67108864 && is_ok r)) same comes)),
+      file_bytes input MOST_DESIGN bytes files is,
+      λ comes. absurd (never_both _ (subst (λ (r : Result Opened Fault). IsTrue (nat_le (length (bytes_of files input)) MOST_DESIGN && is_ok r)) same comes)),
     )
 
 pub input_told : (input bytes : List ℕ) (fault : OpenFault) (behind : Files → Type 0) (files : Files) → TellsFault (opening bytes) fault
-    → IsWholeFile input 67108864 files bytes → ¬ (fault ≡ OpenFault.Memory) → InputInBytes input behind files
+    → IsWholeFile input MOST_DESIGN files bytes → ¬ (fault ≡ OpenFault.Memory) → InputInBytes input behind files
 input_told input bytes OpenFault.NotDesign behind files tells is said = input_faulty input bytes NotDesign behind files tells is
 input_told input bytes (OpenFault.Cut at) behind files tells is said = input_faulty input bytes (Cut at) behind files tells is
 input_told input bytes (OpenFault.Short at) behind files tells is said = input_faulty input bytes (Short at) behind files tells is
@@ -123,39 +125,39 @@ input_told input bytes OpenFault.Memory behind files tells is said = absurd (sai
 -- SCRIPT.
 
 -- SCRIPT has no more bytes than it may
-pub script_reads : (script : List ℕ) (go_on : List Command → Outcome) (found : Result (List Command) ScriptFault) → length script ≤ 1048576
+pub script_reads : (script : List ℕ) (go_on : List Command → Outcome) (found : Result (List Command) ScriptFault) → length script ≤ MOST_SCRIPT
     → commands_of script ≡ found → scripted script go_on ≡ script_outcome found go_on
 script_reads script go_on found h e =
-    let test : nat_lt 1048576 (length script) ≡ false = grind (arith, nat_tests) in
+    let test : nat_lt MOST_SCRIPT (length script) ≡ false = grind (arith, nat_tests) in
     rw (test, e) refl
 
 -- and it is these bytes that read
 pub script_file : (name bytes : List ℕ) (found : Result (List Command) ScriptFault) (files : Files) (go_on : List Command → Outcome)
-    → commands_of bytes ≡ found → IsWholeFile name 1048576 files bytes → scripted (bytes_of files name) go_on ≡ script_outcome found go_on
+    → commands_of bytes ≡ found → IsWholeFile name MOST_SCRIPT files bytes → scripted (bytes_of files name) go_on ≡ script_outcome found go_on
 script_file name bytes found files go_on reads is =
-    script_reads (bytes_of files name) go_on found (subst (λ (b : List ℕ). length b ≤ 1048576) is.1 is.0) (ap commands_of (sym is.1) ∙ reads)
+    script_reads (bytes_of files name) go_on found (subst (λ (b : List ℕ). length b ≤ MOST_SCRIPT) is.1 is.0) (ap commands_of (sym is.1) ∙ reads)
 
 -- what was read of SCRIPT reads so
-pub reads_so : (name bytes : List ℕ) (cs : List Command) (files : Files) → commands_of bytes ≡ Ok cs → IsWholeFile name 1048576 files bytes
+pub reads_so : (name bytes : List ℕ) (cs : List Command) (files : Files) → commands_of bytes ≡ Ok cs → IsWholeFile name MOST_SCRIPT files bytes
     → ReadsAs name files cs
-reads_so name bytes cs files reads is = (subst (λ (b : List ℕ). length b ≤ 1048576) is.1 is.0, ap commands_of (sym is.1) ∙ reads, subst IsBytes is.1 is.2)
+reads_so name bytes cs files reads is = (subst (λ (b : List ℕ). length b ≤ MOST_SCRIPT) is.1 is.0, ap commands_of (sym is.1) ∙ reads, subst IsBytes is.1 is.2)
 
 -- where it is too long, no other file is read
-pub script_long : (script : List ℕ) (files : Files) → IsLonger script 1048576 files → ScriptInBytes script files
-script_long script files long = (long_bytes script 1048576 files long, λ few. absurd (omega (arith, long, few)))
+pub script_long : (script : List ℕ) (files : Files) → IsLonger script MOST_SCRIPT files → ScriptInBytes script files
+script_long script files long = (long_bytes script MOST_SCRIPT files long, λ few. absurd (omega (arith, long, few)))
 
 -- nor where a line of it is bad
-pub script_faulty : (script bytes : List ℕ) (fault : ScriptFault) (files : Files) → commands_of bytes ≡ Err fault → IsWholeFile script 1048576 files bytes
+pub script_faulty : (script bytes : List ℕ) (fault : ScriptFault) (files : Files) → commands_of bytes ≡ Err fault → IsWholeFile script MOST_SCRIPT files bytes
     → ScriptInBytes script files
 script_faulty script bytes fault files reads is = (
-  file_bytes script 1048576 bytes files is,
+  file_bytes script MOST_SCRIPT bytes files is,
   λ few. subst (λ (r : Result (List Command) ScriptFault). SecondsInBytes r files) (sym (ap commands_of (sym is.1) ∙ reads)) tt,
 )
 
 -- an IN within its limit that opens comes to SCRIPT
-pub comes : (input : List ℕ) (d : Opened) → length input ≤ 67108864 → opening input ≡ Ok d → IsTrue (comes_to_script input)
+pub comes : (input : List ℕ) (d : Opened) → length input ≤ MOST_DESIGN → opening input ≡ Ok d → IsTrue (comes_to_script input)
 comes input d within opens =
-    let test : nat_le (length input) 67108864 ≡ true = grind (arith, nat_tests) in
+    let test : nat_le (length input) MOST_DESIGN ≡ true = grind (arith, nat_tests) in
     rw (test, opens) refl
 
 -- after such an IN was read, SCRIPT, or PATCH, is there

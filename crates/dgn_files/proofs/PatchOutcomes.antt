@@ -11,6 +11,7 @@ use Rattle.patch_file.specs.declared.patch_entry.PatchEntry.{PatchEntry}
 use Rattle.patch_file.specs.PatchView.{packed_of, all_packed}
 use Rattle.patch_file.specs.Spelling.{Packed, AreEntries}
 use Rattle.patch_file.specs.Reading.{patch_of, IsBadAt}
+use Rattle.patch_file.specs.declared.limits.TheConstants.{MOST_PATCH}
 use Rattle.dgn_files.specs.Applied.{Patched, Made, put_from, patched_outcome, entries_outcome, reading_outcome, body_patched, patched}
 use Rattle.dgn_files.specs.Ended.{ended, filed_then_said}
 use Rattle.dgn_files.specs.Filling.{file_made}
@@ -22,23 +23,23 @@ use Rattle.dgn_files.proofs.InputOutcomes.{input_opens}
 use Rattle.dgn_import.proofs.SpelledBodies.{spelled_with}
 
 -- what was read of PATCH goes on so
-pub reads : (b tail patch output : List ℕ) (found : Result (List Packed) ℕ) → length patch ≤ 134217728 → patch_of patch ≡ found
+pub reads : (b tail patch output : List ℕ) (found : Result (List Packed) ℕ) → length patch ≤ MOST_PATCH → patch_of patch ≡ found
     → body_patched b tail patch output ≡ reading_outcome b tail (length patch) found output
 reads b tail patch output found h e =
-    let test : nat_lt 134217728 (length patch) ≡ false = grind (arith, nat_tests) in
+    let test : nat_lt MOST_PATCH (length patch) ≡ false = grind (arith, nat_tests) in
     rw (test, e) refl
 
 -- the outcome by what was read of PATCH
 reads_patch : (b tail name text output : List ℕ) (found : Result (List Packed) ℕ) (files : Files) → patch_of text ≡ found
-    → IsWholeFile name 134217728 files text → body_patched b tail (bytes_of files name) output ≡ reading_outcome b tail (length text) found output
+    → IsWholeFile name MOST_PATCH files text → body_patched b tail (bytes_of files name) output ≡ reading_outcome b tail (length text) found output
 reads_patch b tail name text output found files e is =
     ap (λ (x : List ℕ). body_patched b tail x output) (sym is.1) ∙ reads b tail text output found is.0 e
 
-pub reads_entries : (b tail name text output : List ℕ) (es : List Packed) (files : Files) → patch_of text ≡ Ok es → IsWholeFile name 134217728 files text
+pub reads_entries : (b tail name text output : List ℕ) (es : List Packed) (files : Files) → patch_of text ≡ Ok es → IsWholeFile name MOST_PATCH files text
     → body_patched b tail (bytes_of files name) output ≡ entries_outcome b tail es output
 reads_entries b tail name text output es files e is = reads_patch b tail name text output (Ok es) files e is
 
-pub reads_bad : (b tail name text output : List ℕ) (offset : ℕ) (files : Files) → IsBadAt text offset → IsWholeFile name 134217728 files text
+pub reads_bad : (b tail name text output : List ℕ) (offset : ℕ) (files : Files) → IsBadAt text offset → IsWholeFile name MOST_PATCH files text
     → body_patched b tail (bytes_of files name) output ≡ ended statuses.BadPatch (numbered (codes "bad patch at ") offset)
 reads_bad b tail name text output offset files bad is =
     let place = bad.place in

@@ -8,6 +8,7 @@ use Rattle.std.proofs.lemmas.Bool.Decides.{nat_tests}
 use Rattle.std.proofs.lemmas.List.{append-nil, map-append, reverse-append, reverse-reverse}
 use Rattle.dgn_desk.specs.Content.{Files, bytes_of}
 use Rattle.dgn_drawing.specs.WellFormed.{IsBytes}
+use Rattle.dgn_drawing.specs.declared.limits.TheConstants.{MOST_DESIGN}
 use Rattle.dgn_import.specs.declared.second.Second.{Second}
 use Rattle.dgn_import.specs.Seconds.{SecondValue, second_of, value_of, IsSound}
 use Rattle.edit_script.specs.declared.command.Command.{Command}
@@ -46,7 +47,7 @@ named_more : (names more : List (List ℕ)) (files : Files) → map second_of (f
 named_more names more files =
     ap (map second_of) (map-append (bytes_of files) names more) ∙ map-append second_of (files_named names files) (files_named more files)
 
-pub short : (f : List ℕ) → is_within f ≡ true → length f ≤ 67108864
+pub short : (f : List ℕ) → is_within f ≡ true → length f ≤ MOST_DESIGN
 short f test = grind (arith, nat_tests)
 
 there_more : (names more : List (List ℕ)) (files : Files) → list_all is_within (files_named names files) ≡ true → AreThere (names ++ more) files
@@ -122,16 +123,16 @@ cut_bytes all left c files seconds so cut = so.3 (bytes_cut (names_of c) (names_
 
 -- One file.
 
-short_so : (f : List ℕ) → length f ≤ 67108864 → list_all is_within (f ∷ []) ≡ true
+short_so : (f : List ℕ) → length f ≤ MOST_DESIGN → list_all is_within (f ∷ []) ≡ true
 short_so f few =
     let test : is_within f ≡ true = grind (arith, nat_tests) in
     ap (λ (b : Bool). b && true) test
 
 -- it was read and opened
-pub one_opened : (name bytes : List ℕ) (v : SecondValue) (files : Files) → v ≡ second_of bytes → IsWholeFile name 67108864 files bytes
+pub one_opened : (name bytes : List ℕ) (v : SecondValue) (files : Files) → v ≡ second_of bytes → IsWholeFile name MOST_DESIGN files bytes
     → ComeTo (name ∷ []) files (v ∷ [])
 one_opened name bytes v files is read =
-    let few : length (bytes_of files name) ≤ 67108864 = subst (λ (b : List ℕ). length b ≤ 67108864) read.1 read.0 in
+    let few : length (bytes_of files name) ≤ MOST_DESIGN = subst (λ (b : List ℕ). length b ≤ MOST_DESIGN) read.1 read.0 in
     (short_so (bytes_of files name) few, ap (λ (w : SecondValue). w ∷ []) (is ∙ ap second_of read.1), λ _. (subst IsBytes read.1 read.2, tt))
 
 -- one that is too long ends the run
@@ -140,18 +141,18 @@ long_within few true o e so = cond-false few o e (so refl)
 long_within few false o e so = refl
 
 pub one_ends : (name : List ℕ) (files : Files) (go_on : Files → List SecondValue → Outcome)
-    → seconds_in (name ∷ []) go_on files ≡ whole_file name 67108864 (codes "too long import\n") (λ fs _. seconds_in (name ∷ []) go_on fs) files
+    → seconds_in (name ∷ []) go_on files ≡ whole_file name MOST_DESIGN (codes "too long import\n") (λ fs _. seconds_in (name ∷ []) go_on fs) files
 one_ends name files go_on =
-    long_within (list_all is_within (bytes_of files name ∷ [])) (nat_lt 67108864 (length (bytes_of files name)))
+    long_within (list_all is_within (bytes_of files name ∷ [])) (nat_lt MOST_DESIGN (length (bytes_of files name)))
     (go_on files (second_of (bytes_of files name) ∷ [])) (ended statuses.TooLong (codes "too long import\n"))
     (λ long. long_so (bytes_of files name) long)
   where
-    long_so : (f : List ℕ) → nat_lt 67108864 (length f) ≡ true → list_all is_within (f ∷ []) ≡ false
+    long_so : (f : List ℕ) → nat_lt MOST_DESIGN (length f) ≡ true → list_all is_within (f ∷ []) ≡ false
     long_so f long =
         let test : is_within f ≡ false = grind (arith, nat_tests) in
         ap (λ (b : Bool). b && true) test
 
-pub one_cut : (name : List ℕ) (files : Files) → IsLonger name 67108864 files → AreCutOff (name ∷ []) files
+pub one_cut : (name : List ℕ) (files : Files) → IsLonger name MOST_DESIGN files → AreCutOff (name ∷ []) files
 one_cut name files long = λ few. absurd (omega (arith, long, few))
 
 -- it was added behind the others

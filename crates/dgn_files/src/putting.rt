@@ -27,7 +27,11 @@ fn put_entry(body: &mut Vec<u8>, tail: usize, entry: &PatchEntry, number: u32) -
 }
 
 /// Puts the entries on a body in order, as far as each stands on what those before it made, and that keeps the limit.
-pub fn put_entries(body: &mut Vec<u8>, tail: usize, entries: &[PatchEntry]) -> Result<(), PutEnd>
+pub(crate) fn put_entries(
+    body: &mut Vec<u8>,
+    tail: usize,
+    entries: &[PatchEntry],
+) -> Result<(), PutEnd>
     requires many { length entries.now < 2 ^ 32 }
     requires few { length body.old.items + tail ≤ MOST_DESIGN }
     ensures put { Puts result (put_from tail 1 body.old.items (all_packed entries.now)) body.new.items }

@@ -24,7 +24,7 @@ use listing_texts::numbered_line;
 use std::alloc::{AllocError, Global};
 
 /// Reads the named file whole, of at most so many bytes, or ends the run, with this line where it has more.
-pub fn read_file<D: Desk>(
+pub(crate) fn read_file<D: Desk>(
     alloc: Global,
     desk: &mut D,
     name: &str,
@@ -55,7 +55,7 @@ fn are_bytes(bytes: &[u8])
 {}
 
 /// Reads IN whole, or ends the run.
-pub fn read_input<D: Desk>(alloc: Global, desk: &mut D, input: &str) -> Result<Vec<u8>, End>
+pub(crate) fn read_input<D: Desk>(alloc: Global, desk: &mut D, input: &str) -> Result<Vec<u8>, End>
     ensures within { IfOk result (λ bytes. vec_len bytes ≤ MOST_DESIGN) }
     ensures read { IfOk result
         (λ bytes. DeskReads D.Desk (IsWholeFile input.now MOST_DESIGN) desk.old desk.new bytes.items) }
@@ -80,7 +80,7 @@ pub fn open_design<D: Desk>(alloc: Global, desk: &mut D, input: &str) -> Result<
 }
 
 /// Ends the run with what is wrong with IN. Want of memory has no line, and so no ending.
-pub fn end_bad_design<D: Desk>(
+pub(crate) fn end_bad_design<D: Desk>(
     alloc: Global,
     desk: &mut D,
     fault: OpenFault,

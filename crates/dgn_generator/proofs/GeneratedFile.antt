@@ -83,10 +83,10 @@ module _ (i x y : ℕ) (right : x < 2 ^ 20) (up : y < 2 ^ 20) where
         record {
           font_byte = omega arith;
           just_byte = omega arith;
-          wide_long = refl;
-          wide_up = omega (arith, ints);
-          high_long = refl;
-          high_up = omega (arith, ints);
+          length_long = refl;
+          length_up = omega (arith, ints);
+          height_long = refl;
+          height_up = omega (arith, ints);
           point = a;
           some = omega arith;
           few = omega arith;

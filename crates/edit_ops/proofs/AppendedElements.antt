@@ -146,19 +146,19 @@ plain_made : (s : NewShape) → is_counted (class_of (kind_made s)) ≡ false
 plain_made (shapes.Line points) = refl
 plain_made (shapes.Chain points) = refl
 plain_made (shapes.Shape points) = refl
-plain_made (shapes.Text font just wide high origin chars) = refl
+plain_made (shapes.Text font just text_length text_height origin chars) = refl
 
 straight_made : (s : NewShape) → is_among (kind_made s) (24 ∷ 27 ∷ []) ≡ false
 straight_made (shapes.Line points) = refl
 straight_made (shapes.Chain points) = refl
 straight_made (shapes.Shape points) = refl
-straight_made (shapes.Text font just wide high origin chars) = refl
+straight_made (shapes.Text font just text_length text_height origin chars) = refl
 
 own_made : (s : NewShape) → (kind_made s == 34) ≡ false
 own_made (shapes.Line points) = refl
 own_made (shapes.Chain points) = refl
 own_made (shapes.Shape points) = refl
-own_made (shapes.Text font just wide high origin chars) = refl
+own_made (shapes.Text font just text_length text_height origin chars) = refl
 
 -- an appended element that isn't refused is for the file's axes, and leaves a file that isn't too long
 append_causes : (dim : ℕ) (es : List Element) (rest : ℕ) (new : NewElement) → cause_of dim es rest (edit.Append new) ≡ None

@@ -39,23 +39,25 @@ text_joined : (old run point chars padding : List ℕ) (n : ℕ) → ((old ++ ru
     ++ ((run ++ (point ++ (n ∷ 0 ∷ chars))) ++ padding)
 text_joined old run point chars padding n = simp append_assoc
 
-pub text_pushed : (axes : ℕ) (shape : NewShape) (font just : ℕ) (len height length_seen height_seen : ℤ) (origin : List ℤ) (chars seen : List ℕ)
-    (old one two all : List ℕ)
-    → shape ≡ shapes.Text font just len height origin chars → length_seen ≡ len → height_seen ≡ height → seen ≡ chars
+pub text_pushed : (axes : ℕ) (shape : NewShape) (font just : ℕ) (text_length text_height length_seen height_seen : ℤ) (origin : List ℤ)
+    (chars seen old one two all : List ℕ)
+    → shape ≡ shapes.Text font just text_length text_height origin chars → length_seen ≡ text_length → height_seen ≡ text_height → seen ≡ chars
     → one ≡ old ++ run_made axes font just length_seen height_seen → two ≡ one ++ point_bytes (take axes origin)
     → all ≡ two ++ (length seen ∷ 0 ∷ (seen ++ (cond (length seen % 2 == 0) [] (0 ∷ [])))) → all ≡ old
     ++ (parts_bytes (parts_made axes shape) ++ rest_made shape)
 unfolding parts_bytes
-text_pushed axes shape font just len height length_seen height_seen origin chars seen old one two all is same_length same_height same first second third =
-    let run : one ≡ old ++ run_made axes font just len height =
-    first ∙ ap (λ (v : ℤ). old ++ run_made axes font just v height_seen) same_length ∙ ap (λ (v : ℤ). old ++ run_made axes font just len v) same_height in
-    let point : two ≡ (old ++ run_made axes font just len height) ++ point_bytes (take axes origin) =
+text_pushed axes shape font just text_length text_height length_seen height_seen origin chars seen old one two all
+    is same_length same_height same first second third =
+    let run : one ≡ old ++ run_made axes font just text_length text_height =
+    first ∙ ap (λ (v : ℤ). old ++ run_made axes font just v height_seen) same_length
+    ∙ ap (λ (v : ℤ). old ++ run_made axes font just text_length v) same_height in
+    let point : two ≡ (old ++ run_made axes font just text_length text_height) ++ point_bytes (take axes origin) =
     second ∙ ap (λ (z : List ℕ). z ++ point_bytes (take axes origin)) run in
     let padding : List ℕ = cond (length chars % 2 == 0) [] (0 ∷ []) in
-    let joined : all ≡ old ++ ((run_made axes font just len height ++ (point_bytes (take axes origin) ++ (length chars ∷ 0 ∷ chars))) ++ padding) =
+    let joined : all ≡ old ++ ((run_made axes font just text_length text_height ++ (point_bytes (take axes origin) ++ (length chars ∷ 0 ∷ chars))) ++ padding) =
     third ∙ ap (λ (x : List ℕ). two ++ (length x ∷ 0 ∷ (x ++ (cond (length x % 2 == 0) [] (0 ∷ []))))) same
     ∙ ap (λ (z : List ℕ). z ++ (length chars ∷ 0 ∷ (chars ++ padding))) point
-    ∙ text_joined old (run_made axes font just len height) (point_bytes (take axes origin)) chars padding (length chars) in
+    ∙ text_joined old (run_made axes font just text_length text_height) (point_bytes (take axes origin)) chars padding (length chars) in
     subst (λ (s : NewShape). all ≡ old ++ (parts_bytes (parts_made axes s) ++ rest_made s)) (sym is) joined
 
 -- three pieces are the spelling

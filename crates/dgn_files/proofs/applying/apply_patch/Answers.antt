@@ -5,6 +5,7 @@ use Rattle.patch_file.specs.declared.patch_entry.PatchEntry.{PatchEntry}
 use Rattle.patch_file.specs.Answers.{Tells}
 use Rattle.patch_file.specs.PatchView.{all_packed}
 use Rattle.patch_file.specs.Reading.{patch_of, IsBadAt}
+use Rattle.patch_file.specs.declared.limits.TheConstants.{MOST_PATCH}
 use Rattle.dgn_files.specs.Applied.{body_patched, entries_outcome, reading_outcome}
 use Rattle.dgn_files.specs.Ended.{ended}
 use Rattle.dgn_files.specs.Ends.{Has}
@@ -25,11 +26,11 @@ apply_entries-requires-clause-many g c =
 pub returns-in-Err : goal.returns-in-Err
 returns-in-Err g c =
     let patch = c.args.patch.now in
-    same_end (Has patch) (Has patch) (IsInBytes patch 134217728) (IsLonger patch 134217728)
+    same_end (Has patch) (Has patch) (IsInBytes patch MOST_PATCH) (IsLonger patch MOST_PATCH)
     (λ files. body_patched c.args.body.items c.args.tail.now (bytes_of files patch) c.args.output.now)
-    (whole_file patch 134217728 (codes "too long patch\n")
+    (whole_file patch MOST_PATCH (codes "too long patch\n")
     (λ _ p. reading_outcome c.args.body.items c.args.tail.now (length {A = ℕ} p) (patch_of p) c.args.output.now)) _ _ _
-    (λ files. refl) (λ files there. there) (λ files long. long_bytes patch 134217728 files long)
+    (λ files. refl) (λ files there. there) (λ files long. long_bytes patch MOST_PATCH files long)
     (c.in-Err.ensures.ended.early (λ _ p. reading_outcome c.args.body.items c.args.tail.now (length {A = ℕ} p) (patch_of p) c.args.output.now))
 
 pub returns-in-Ok-read_patch : goal.returns-in-Ok-read_patch
@@ -42,10 +43,10 @@ returns-in-Ok-read_patch g c =
     let found : patch_of c.in-Ok.bytes.items ≡ Ok es =
     ap patch_of (sym c.deref.ensures.value) ∙ c.in-Ok-read_patch.ensures.exactly
     ∙ ap (λ (l : List PatchEntry). Ok (all_packed l)) (sym c.deref-in-Ok-read_patch.ensures.value) in
-    then_comes c.in-Ok.ensures.read (Has patch) (IsInBytes patch 134217728) (λ files. body_patched b tail (bytes_of files patch) output)
+    then_comes c.in-Ok.ensures.read (Has patch) (IsInBytes patch MOST_PATCH) (λ files. body_patched b tail (bytes_of files patch) output)
     (entries_outcome b tail es output) c.apply_entries.result c.of.result
     (λ files is. reads_entries b tail patch c.in-Ok.bytes.items output es files found is)
-    (λ files is. file_bytes patch 134217728 c.in-Ok.bytes.items files is) c.of.ensures c.apply_entries.ensures
+    (λ files is. file_bytes patch MOST_PATCH c.in-Ok.bytes.items files is) c.of.ensures c.apply_entries.ensures
 
 pub returns-in-Err-At : goal.returns-in-Err-At
 returns-in-Err-At g c =
@@ -56,11 +57,11 @@ returns-in-Err-At g c =
     let told : IsBadAt c.deref.result.now c.in-Err-At.offset =
     subst (λ fault. Tells c.deref.result.now (Err fault)) c.in-Err-At.field-0-is c.in-Err-At.ensures.exactly in
     let bad : IsBadAt c.in-Ok.bytes.items c.in-Err-At.offset = subst (λ (x : List ℕ). IsBadAt x c.in-Err-At.offset) c.deref.ensures.value told in
-    then_comes c.in-Ok.ensures.read (Has patch) (IsInBytes patch 134217728) (λ files. body_patched b tail (bytes_of files patch) output)
+    then_comes c.in-Ok.ensures.read (Has patch) (IsInBytes patch MOST_PATCH) (λ files. body_patched b tail (bytes_of files patch) output)
     (ended statuses.BadPatch (numbered (codes "bad patch at ") c.in-Err-At.offset)) c.end_numbered.result c.of-in-Err-At.result
     (λ files is. reads_bad b tail patch c.in-Ok.bytes.items output c.in-Err-At.offset files bad is)
-    (λ files is. file_bytes patch 134217728 c.in-Ok.bytes.items files is) c.of-in-Err-At.ensures c.end_numbered.ensures
+    (λ files is. file_bytes patch MOST_PATCH c.in-Ok.bytes.items files is) c.of-in-Err-At.ensures c.end_numbered.ensures
 
 pub returns : goal.returns
-returns g c = wants_behind c.in-Ok.ensures.read (Has c.args.patch.now) (IsInBytes c.args.patch.now 134217728)
+returns g c = wants_behind c.in-Ok.ensures.read (Has c.args.patch.now) (IsInBytes c.args.patch.now MOST_PATCH)
     (λ files. body_patched c.args.body.items c.args.tail.now (bytes_of files c.args.patch.now) c.args.output.now)

@@ -1,6 +1,7 @@
 use Rattle.std.proofs.Common.{◌≤◌, ◌+◌, List, [], ℕ, length, ap, refl, sym, ◌∙◌, subst, arith}
 use Rattle.patch_file.specs.PatchView.{packed_of}
 use Rattle.patch_file.specs.Standing.{Stands, put_on}
+use Rattle.dgn_drawing.specs.declared.limits.TheConstants.{MOST_DESIGN}
 use Rattle.dgn_files.specs.Applied.{Made}
 use Rattle.dgn_files.proofs.EntriesPutOn.{differs, overruns, goes_on, length-put_on}
 use Rattle.dgn_files.proofs.putting.put_entry.Goals as goal
@@ -30,7 +31,7 @@ pub returns-in-Ok-clause-put : goal.returns-in-Ok-clause-put
 returns-in-Ok-clause-put c =
     let e = packed_of c.args.entry.now in
     let so : Stands c.args.body.now.items e = subst (λ (b : List ℕ). Stands b e) c.deref.ensures.value (c.if-not-stands.ensures.0 refl) in
-    let few : length (put_on c.args.body.now.items e) + c.args.tail ≤ 67108864 =
+    let few : length (put_on c.args.body.now.items e) + c.args.tail ≤ MOST_DESIGN =
     omega (
       arith,
       length-put_on c.args.body.now.items c.args.entry.now so,

@@ -1,6 +1,7 @@
 use Rattle.std.proofs.Common.{refl}
 use Rattle.std.specs.Prelude.{codes}
 use Rattle.std.proofs.lemmas.Result.{err_from_is_err_and}
+use Rattle.dgn_drawing.specs.declared.limits.TheConstants.{MOST_DESIGN}
 use Rattle.elem_index.specs.Answers.{opened_of}
 use Rattle.elem_index.specs.Opened.{opening}
 use Rattle.dgn_files.specs.Ends.{Has}
@@ -16,8 +17,8 @@ returns-in_err-bytes-clause-ended g c =
     let p = err_from_is_err_and c.from_residual.result c.from_residual.ensures.1 in
     let input = c.args.input.now in
     rw (p.1, p.2) (record {
-      early = λ go_on. same_end (Has input) (Has input) (InputInBytes input (λ _. ⊥)) (IsLonger input 67108864) (opening_in input go_on)
-          (whole_file input 67108864 (codes "too long design\n") (λ files b. opened_outcome (opening b) (go_on files))) _ _ _
+      early = λ go_on. same_end (Has input) (Has input) (InputInBytes input (λ _. ⊥)) (IsLonger input MOST_DESIGN) (opening_in input go_on)
+          (whole_file input MOST_DESIGN (codes "too long design\n") (λ files b. opened_outcome (opening b) (go_on files))) _ _ _
           (λ files. refl) (λ files there. there) (λ files long. input_long input (λ _. ⊥) files long)
           (c.in_err-bytes.ensures.ended.early (λ files b. opened_outcome (opening b) (go_on files)));
     })

@@ -3,6 +3,7 @@ use Rattle.std.specs.Prelude.{codes}
 use Rattle.std.proofs.lemmas.Result.{err_from_is_err_and}
 use Rattle.edit_script.specs.Script.{commands_of, Tells}
 use Rattle.edit_script.specs.declared.fault.ScriptFault.TheVariants as faults
+use Rattle.edit_script.specs.declared.limits.TheConstants.{MOST_SCRIPT}
 use Rattle.dgn_files.specs.Ends.{Has}
 use Rattle.dgn_files.specs.InBytes.{IsLonger, ScriptInBytes}
 use Rattle.dgn_files.specs.Ended.{ended}
@@ -19,8 +20,8 @@ returns-in_err-text-clause-ended g c =
     let p = err_from_is_err_and c.from_residual.result c.from_residual.ensures.1 in
     let script = c.args.script.now in
     rw (p.1, p.2) (record {
-      early = λ go_on. same_end (Has script) (Has script) (ScriptInBytes script) (IsLonger script 1048576) (script_in script go_on)
-          (whole_file script 1048576 (codes "too long script\n") (λ files b. script_outcome (commands_of b) (go_on files))) _ _ _
+      early = λ go_on. same_end (Has script) (Has script) (ScriptInBytes script) (IsLonger script MOST_SCRIPT) (script_in script go_on)
+          (whole_file script MOST_SCRIPT (codes "too long script\n") (λ files b. script_outcome (commands_of b) (go_on files))) _ _ _
           (λ files. refl) (λ files there. there) (λ files long. script_long script files long)
           (c.in_err-text.ensures.ended.early (λ files b. script_outcome (commands_of b) (go_on files)));
     })
@@ -54,7 +55,7 @@ returns-clause-ended g c =
 
 pub read_script-requires : goal.read_script-requires
 read_script-requires g c =
-    subst (λ (b : List ℕ). length b ≤ 1048576) (sym c.deref.ensures.value) (items_within c.in_ok-text.text 1048576 c.in_ok-text.ensures.within)
+    subst (λ (b : List ℕ). length b ≤ MOST_SCRIPT) (sym c.deref.ensures.value) (items_within c.in_ok-text.text MOST_SCRIPT c.in_ok-text.ensures.within)
 
 pub returns-in-Ok-clause-ended : goal.returns-in-Ok-clause-ended
 returns-in-Ok-clause-ended g c = tt

@@ -1,6 +1,7 @@
 use Rattle.std.proofs.Common.{◌∷◌, []}
 use Rattle.std.specs.Prelude.{codes}
 use Rattle.std.proofs.lemmas.Result.{err_from_is_err_and}
+use Rattle.dgn_drawing.specs.declared.limits.TheConstants.{MOST_DESIGN}
 use Rattle.dgn_import.specs.Seconds.{value_of}
 use Rattle.dgn_files.specs.Ends.{Has}
 use Rattle.dgn_files.specs.InBytes.{IsLonger, AreCutOff}
@@ -15,8 +16,8 @@ returns-in_err-bytes-clause-ended g c =
     let p = err_from_is_err_and c.from_residual.result c.from_residual.ensures.1 in
     let name = c.args.name.now in
     rw (p.1, p.2) (record {
-      early = λ go_on. same_end (AreThere (name ∷ [])) (Has name) (AreCutOff (name ∷ [])) (IsLonger name 67108864) (seconds_in (name ∷ []) go_on)
-          (whole_file name 67108864 (codes "too long import\n") (λ fs _. seconds_in (name ∷ []) go_on fs)) _ _ _
+      early = λ go_on. same_end (AreThere (name ∷ [])) (Has name) (AreCutOff (name ∷ [])) (IsLonger name MOST_DESIGN) (seconds_in (name ∷ []) go_on)
+          (whole_file name MOST_DESIGN (codes "too long import\n") (λ fs _. seconds_in (name ∷ []) go_on fs)) _ _ _
           (λ files. one_ends name files go_on) (λ files there. there.0) (λ files long. one_cut name files long)
           (c.in_err-bytes.ensures.ended.early (λ fs _. seconds_in (name ∷ []) go_on fs));
     })
