@@ -5,6 +5,7 @@ use Rattle.std.specs.Prelude.{nat_lt}
 use Rattle.std.proofs.lemmas.Bool.Decides.{nat_tests}
 use Rattle.patch_file.specs.Spelling.{Packed}
 use Rattle.patch_file.specs.Standing.{Stands, put_on, AllStand, put_all}
+use Rattle.dgn_drawing.specs.declared.limits.TheConstants.{MOST_DESIGN}
 use Rattle.dgn_files.specs.Applied.{does_stand, Made, Differs, Overruns, put_from, AllFit}
 use Rattle.dgn_laws.specs.PatchLaws.{DiffersAt}
 use Rattle.dgn_files.proofs.EntriesPutOn.{stands_decided, differs, goes_on}
@@ -40,7 +41,7 @@ record DiffersFrom (tail k : ℕ) (b : List ℕ) (es : List Packed) (j : ℕ) : 
   fit : AllFit tail b before
   differs : ¬ Stands (put_all b before) entry
 
-one_more : (tail k : ℕ) (b : List ℕ) (e : Packed) (es : List Packed) (j : ℕ) → Stands b e → length (put_on b e) + tail ≤ 67108864
+one_more : (tail k : ℕ) (b : List ℕ) (e : Packed) (es : List Packed) (j : ℕ) → Stands b e → length (put_on b e) + tail ≤ MOST_DESIGN
     → DiffersFrom tail (k + 1) (put_on b e) es j → DiffersFrom tail k b (e ∷ es) j
 one_more tail k b e es j so few at =
     let n = at.number in
@@ -57,10 +58,10 @@ one_more tail k b e es j so few at =
 
 found_from : (tail k : ℕ) (b : List ℕ) (es : List Packed) (j : ℕ) → put_from tail k b es ≡ Differs j → DiffersFrom tail k b es j
 found_from tail k b [] j is = absurd (cc)
-found_from tail k b (e ∷ es) j is = by (found_from tail (k + 1) (put_on b e) es j) (does_stand b e) (nat_lt 67108864 (length (put_on b e) + tail)) refl refl
+found_from tail k b (e ∷ es) j is = by (found_from tail (k + 1) (put_on b e) es j) (does_stand b e) (nat_lt MOST_DESIGN (length (put_on b e) + tail)) refl refl
   where
     by : (put_from tail (k + 1) (put_on b e) es ≡ Differs j → DiffersFrom tail (k + 1) (put_on b e) es j) → (x y : Bool) → does_stand b e ≡ x
-        → nat_lt 67108864 (length (put_on b e) + tail) ≡ y → DiffersFrom tail k b (e ∷ es) j
+        → nat_lt MOST_DESIGN (length (put_on b e) + tail) ≡ y → DiffersFrom tail k b (e ∷ es) j
     by rest false y s l =
         let now : put_from tail k b (e ∷ es) ≡ Differs k = rw s refl in
         let same : Differs k ≡ Differs j = sym now ∙ is in
@@ -81,7 +82,7 @@ found_from tail k b (e ∷ es) j is = by (found_from tail (k + 1) (put_on b e) e
         absurd (cc)
     by rest true false s l =
         let so : Stands b e = (stands_decided b e).0 s in
-        let few : length (put_on b e) + tail ≤ 67108864 = grind (arith, nat_tests) in
+        let few : length (put_on b e) + tail ≤ MOST_DESIGN = grind (arith, nat_tests) in
         one_more tail k b e es j so few (rest (sym (goes_on tail k b e es so few) ∙ is))
 
 pub one_differs : (tail : ℕ) (b : List ℕ) (es : List Packed) (k : ℕ) → put_from tail 1 b es ≡ Differs k → DiffersAt tail b es k

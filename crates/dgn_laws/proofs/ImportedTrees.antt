@@ -14,6 +14,7 @@ use Rattle.dgn_drawing.specs.WellFormed.{IsBytes, IsDimension}
 use Rattle.dgn_drawing.specs.Opening.{Fault, Opens, elements_of}
 use Rattle.dgn_drawing.proofs.FirstElements.{dimension_is}
 use Rattle.dgn_drawing.proofs.Fronts.{elements-spelling}
+use Rattle.dgn_drawing.specs.declared.limits.TheConstants.{MOST_DESIGN}
 use Rattle.elem_index.specs.Opened.{Opened, opening}
 use Rattle.elem_index.proofs.OpeningAnswers.{opens-opening, opening-opens}
 use Rattle.edit_ops.specs.Causes.{too_long}
@@ -50,7 +51,7 @@ none_refuses (Some c) trees count b k is = absurd (let x = is in cc)
 -- a drawing from which trees are gathered, whose bytes fit
 module _ (s : State) (some : 0 < length s.top) (g : List ℕ) (by : Option Displacement) (known : IfSome by IsShift) (o : Opened)
     (opens : Opens g o.dim o.elements o.tail)
-    (b : List ℕ) (count : ℕ) (is : gathered_in s.dim o.dim o.elements by ≡ Trees b count) (few : length (spelling s.top) + s.rest + length b ≤ 67108864)
+    (b : List ℕ) (count : ℕ) (is : gathered_in s.dim o.dim o.elements by ≡ Trees b count) (few : length (spelling s.top) + s.rest + length b ≤ MOST_DESIGN)
     (fit : fits s.dim o.dim by ≡ true) where
   same : o.dim ≡ s.dim
   same = same_dim s.dim o.dim by fit
@@ -77,7 +78,7 @@ module _ (s : State) (some : 0 < length s.top) (g : List ℕ) (by : Option Displ
       axes = axes_fit s.dim o.dim by fit;
       no_cause = none_refuses (cause_of_roots o.dim o.elements by (taken o.elements)) (trees_taken o by) (length (taken o.elements)) b count
           (sym (fitting s.dim o.dim o.elements by fit) ∙ is);
-      fits = subst (λ (x : List ℕ). length (spelling s.top) + s.rest + length x ≤ 67108864) apart.text few;
+      fits = subst (λ (x : List ℕ). length (spelling s.top) + s.rest + length x ≤ MOST_DESIGN) apart.text few;
     };
     trees = ap (λ (es : List Element). forest row_of (s.top ++ es)) are ∙ apart.apart s.top some;
     bytes = flat_map-append spell s.top (elements_of s.dim b) ∙ ap (λ (es : List Element). spelling s.top ++ spelling es) are;
@@ -148,7 +149,7 @@ left_same s (Declines line) refused = refl
 left_same s (Appends b count) refused = absurd (let x = refused in cc)
 
 -- a file within its limit isn't too long
-short_enough : (n : ℕ) → n ≤ 67108864 → too_long n ≡ None
+short_enough : (n : ℕ) → n ≤ MOST_DESIGN → too_long n ≡ None
 short_enough n few = grind (arith, nat_tests)
 
 -- trees that can stand behind a state do

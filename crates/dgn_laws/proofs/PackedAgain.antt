@@ -15,6 +15,7 @@ use Rattle.patch_file.proofs.Puts.{taken_gives_the_same, all_taken_give_the_same
 use Rattle.dgn_drawing.specs.Element.{Element}
 use Rattle.dgn_drawing.specs.Spelling.{spelling}
 use Rattle.dgn_drawing.specs.Opening.{Opens}
+use Rattle.dgn_drawing.specs.declared.limits.TheConstants.{MOST_DESIGN}
 use Rattle.dgn_session.specs.State.{State}
 use Rattle.dgn_session.proofs.Leading.{leads_back}
 use Rattle.dgn_session.proofs.Rising.{rise_long, filled_rise, olds_filled}
@@ -89,7 +90,7 @@ module _ (dim rest : ℕ) (t : List ℕ) (m : Made) (link : IsLink dim rest t m)
   }
 
   -- what is taken has a spelling
-  is_entry : length (spelling m.made) ≤ 67108864 → IsEntry (packed_made dim m)
+  is_entry : length (spelling m.made) ≤ MOST_DESIGN → IsEntry (packed_made dim m)
   is_entry few_bytes =
       let long = link.long in
       record {
@@ -100,7 +101,7 @@ module _ (dim rest : ℕ) (t : List ℕ) (m : Made) (link : IsLink dim rest t m)
       }
 
 -- one more behind others
-fit_more : (rest : ℕ) (b : List ℕ) (es : List Packed) (e : Packed) → AllFit rest b es → length (put_on (put_all b es) e) + rest ≤ 67108864
+fit_more : (rest : ℕ) (b : List ℕ) (es : List Packed) (e : Packed) → AllFit rest b es → length (put_on (put_all b es) e) + rest ≤ MOST_DESIGN
     → AllFit rest b (es ++ e ∷ [])
 fit_more rest b [] e fit last = (last, tt)
 fit_more rest b (x ∷ es) e fit last = (fit.0, fit_more rest (put_on b x) es e fit.1 last)
@@ -163,15 +164,16 @@ module _ (dim rest : ℕ) (t : List ℕ) (base : List Element) where
       ap (λ (b : List ℕ). put_on b (packed_made dim m)) under
       ∙ (taken_gives_the_same (spelling m.made) (entry_made dim m) (entry_may dim rest t m linked.0)).1
 
-  fit_all : (left : List Made) → AreLinked dim rest t base left → length (spelling base) + rest ≤ 67108864 → AllFit rest (spelling base) (packed_all dim left)
+  fit_all : (left : List Made) → AreLinked dim rest t base left → length (spelling base) + rest ≤ MOST_DESIGN
+      → AllFit rest (spelling base) (packed_all dim left)
   fit_all [] linked few_bytes = tt
   fit_all (m ∷ left) linked few_bytes =
       let made = linked_fits dim rest t base (m ∷ left) linked few_bytes in
       subst (AllFit rest (spelling base)) (sym (packed_newest dim m left))
       (fit_more rest (spelling base) (packed_all dim left) (packed_made dim m) (fit_all left linked.2 few_bytes)
-      (subst (λ (b : List ℕ). length b + rest ≤ 67108864) (sym (newest_puts m left linked)) made))
+      (subst (λ (b : List ℕ). length b + rest ≤ MOST_DESIGN) (sym (newest_puts m left linked)) made))
 
-  entries_all : (left : List Made) → AreLinked dim rest t base left → length (spelling base) + rest ≤ 67108864 → AllByRecursion IsEntry (packed_all dim left)
+  entries_all : (left : List Made) → AreLinked dim rest t base left → length (spelling base) + rest ≤ MOST_DESIGN → AllByRecursion IsEntry (packed_all dim left)
   entries_all [] linked few_bytes = tt
   entries_all (m ∷ left) linked few_bytes =
       let made = linked_fits dim rest t base (m ∷ left) linked few_bytes in
@@ -180,13 +182,13 @@ module _ (dim rest : ℕ) (t : List ℕ) (base : List Element) where
 
 -- the same of steps
 packs_again : (t : List ℕ) (cs : List Given) (s : State) → s.earlier ≡ [] → s.rest ≡ length t → All IsStep cs → Opens (spelling s.top ++ t) s.dim s.top t
-    → length (spelling s.top) + length t ≤ 67108864 → PacksAgain s t cs
+    → length (spelling s.top) + length t ≤ MOST_DESIGN → PacksAgain s t cs
 packs_again t cs s none tail fits opens few_bytes =
     let left : List Made = with_steps cs s [] in
     let start : IsStacked s.top s [] = ap (λ (earlier : List (List Element)). s.top ∷ earlier) none in
     let linked = steps_link t s.top cs s [] fits start opens in
     let top : (after_all cs s).top ≡ top_of s.top left = stack_top s.top (after_all cs s) left (steps_stack s.top cs s [] start) in
-    let within : length (spelling s.top) + s.rest ≤ 67108864 = subst (λ (n : ℕ). length (spelling s.top) + n ≤ 67108864) (sym tail) few_bytes in
+    let within : length (spelling s.top) + s.rest ≤ MOST_DESIGN = subst (λ (n : ℕ). length (spelling s.top) + n ≤ MOST_DESIGN) (sym tail) few_bytes in
     let stands = stand_all s.dim s.rest t s.top left linked in
     record {
       stand = stands.0;

@@ -15,6 +15,7 @@ use Rattle.dgn_tool.specs.Laws.{steps_of}
 use Rattle.dgn_laws.specs.PatchLaws.{Applies, WritesTheSame}
 use Rattle.dgn_files.specs.declared.status.Status.TheVariants as statuses
 use Rattle.std.specs.Prelude.{codes}
+use Rattle.patch_file.specs.declared.limits.TheConstants.{MOST_PATCH}
 use Rattle.dgn_laws.proofs.PatchesApplied.{applies_all}
 use Rattle.dgn_laws.proofs.PackedAgain.{applied_gives_the_same}
 
@@ -22,7 +23,7 @@ pub writes_the_same : WritesTheSame
 writes_the_same words files d cs seconds output a fits bytes =
     let es : List Packed = packed_after (steps_of cs seconds) (begun d) in
     let again = applied_gives_the_same (bytes_of files a.input) d cs seconds (opens-opening (bytes_of files a.input) d a.bytes a.opens) a.few fits bytes in
-    let short = subst (λ (f : List ℕ). length f ≤ 134217728) a.packed a.short in
+    let short = subst (λ (f : List ℕ). length f ≤ MOST_PATCH) a.packed a.short in
     let reads : patch_of (bytes_of files a.patch) ≡ Ok es = ap patch_of a.packed ∙ patch_again es (again.entries short) in
     let so : Applies words files d es output = record {
       input = a.input;

@@ -9,6 +9,7 @@ use Rattle.std.proofs.lemmas.List.Elements.{All-nil, All-cons}
 use Rattle.dgn_desk.specs.Content.{Files, Content, bytes_of}
 use Rattle.dgn_drawing.specs.Opening.{Fault, Opens}
 use Rattle.dgn_drawing.specs.WellFormed.{IsBytes}
+use Rattle.dgn_drawing.specs.declared.limits.TheConstants.{MOST_DESIGN}
 use Rattle.dgn_import.specs.Seconds.{second_of}
 use Rattle.edit_script.specs.Script.{commands_of}
 use Rattle.edit_script.specs.declared.command.Command.{Command}
@@ -16,6 +17,7 @@ use Rattle.edit_script.specs.declared.fault.ScriptFault.{ScriptFault}
 use Rattle.edit_script.specs.declared.fault.ScriptFault.TheVariants as faults
 use Rattle.elem_index.specs.Opened.{Opened, opening}
 use Rattle.elem_index.proofs.OpeningAnswers.{opens-opening}
+use Rattle.edit_script.specs.declared.limits.TheConstants.{MOST_SCRIPT}
 use Rattle.dgn_answers.specs.Given.{Given, given_all}
 use Rattle.dgn_files.specs.Ended.{Outcome, ended}
 use Rattle.dgn_files.specs.InBytes.{AreInBytes, SecondsInBytes, ScriptInBytes, AllInBytes}
@@ -127,7 +129,7 @@ module _ (input script output : List ℕ) (files : Files) (content : Content) (n
     after_input d opens written =
         let text : List ℕ = bytes_of files script in
         let behind : List Command → Outcome = λ cs. stepped cs files (go_on d) in
-        let few = is_short 1048576 (length text) (codes "too long script\n") (script_outcome (commands_of text) behind) written in
+        let few = is_short MOST_SCRIPT (length text) (codes "too long script\n") (script_outcome (commands_of text) behind) written in
         let found = has_commands (commands_of text) behind (subst HasSuch (script_reads text behind (commands_of text) few refl) written) in
         let known : ScriptInBytes script files = bytes.1 (comes (bytes_of files input) d opens.0 opens.1) in
         after_script d found.0 opens (few, found.1, known.0 few)
@@ -139,7 +141,7 @@ module _ (input script output : List ℕ) (files : Files) (content : Content) (n
     edits_file written =
         let file : List ℕ = bytes_of files input in
         let behind : Opened → Outcome = λ d. scripted (bytes_of files script) (λ cs. stepped cs files (go_on d)) in
-        let few = is_short 67108864 (length file) (codes "too long design\n") (opened_outcome (opening file) behind) written in
+        let few = is_short MOST_DESIGN (length file) (codes "too long design\n") (opened_outcome (opening file) behind) written in
         let found = has_drawing (opening file) behind (subst HasSuch (input_opens file behind (opening file) few refl) written) in
         after_input found.0 (few, found.1, bytes.0 few) (subst HasSuch (input_opens file behind (Ok found.0) few found.1) written)
 

@@ -2,6 +2,7 @@
 use Rattle.std.proofs.Common.{◌≡◌, ◌≤◌, ◌++◌, List, ℕ, length, vec_len, Vec, Global, Result, Ok, Err, sym, ap, ◌∙◌, subst}
 use Rattle.std.specs.Prelude.{IfOk}
 use Rattle.dgn_drawing.specs.Opening.{Opens}
+use Rattle.dgn_drawing.specs.declared.limits.TheConstants.{MOST_DESIGN}
 use Rattle.elem_index.specs.Answers.{opened_of}
 use Rattle.elem_index.proofs.OpeningAnswers.{opens_as_once}
 use Rattle.elem_index.specs.declared.design.Design.{Design}
@@ -13,8 +14,8 @@ use Rattle.dgn_generator.specs.Generator.{generated}
 use Rattle.dgn_generator.proofs.GeneratedFile.{generated_opens}
 
 -- it isn't too long
-pub few_made : (seed count : ℕ) (bytes : Vec ℕ Global) → count ≤ 200000 → bytes.items ≡ generated seed count → vec_len bytes ≤ 67108864
-few_made seed count bytes few are = subst (λ (n : ℕ). n ≤ 67108864) (sym (bytes.ok.0 ∙ ap (length {A = ℕ}) are)) (generated_opens seed count few).few
+pub few_made : (seed count : ℕ) (bytes : Vec ℕ Global) → count ≤ 200000 → bytes.items ≡ generated seed count → vec_len bytes ≤ MOST_DESIGN
+few_made seed count bytes few are = subst (λ (n : ℕ). n ≤ MOST_DESIGN) (sym (bytes.ok.0 ∙ ap (length {A = ℕ}) are)) (generated_opens seed count few).few
 
 -- the design that its bytes open as is the drawing, since they open in one way
 pub begins : (seed count : ℕ) (bytes : List ℕ) (design : Design) → count ≤ 200000 → bytes ≡ generated seed count → IsWhole design → design.body.items

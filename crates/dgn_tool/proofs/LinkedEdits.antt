@@ -17,6 +17,7 @@ use Rattle.dgn_drawing.specs.declared.fence_edit.FenceEdit.{FenceEdit}
 use Rattle.dgn_drawing.specs.declared.mode.Mode.{Mode}
 use Rattle.dgn_drawing.specs.declared.mask.Mask.{Mask}
 use Rattle.dgn_drawing.specs.Shown.{tree_shown}
+use Rattle.dgn_drawing.specs.declared.limits.TheConstants.{MOST_DESIGN}
 use Rattle.dgn_fence.specs.Taken.{takes}
 use Rattle.dgn_fence.specs.Selected.{selected}
 use Rattle.dgn_session.specs.State.{State, applied, pushed, pushed_if, with_stack, fence_applied, dropped, with_fence, with_mask, undo_refused}
@@ -49,7 +50,7 @@ pub record IsLink (dim rest : ℕ) (t : List ℕ) (m : Made) : Type 0 where
   pub rise : Rise 0 (fields_made dim m.on m.making) (length (spelling m.on))
   pub written : spelling m.made ≡ write (spelling m.on) (filled (spelling m.made) (fields_made dim m.on m.making))
       ++ drop (length (spelling m.on)) (spelling m.made)
-  pub fits : length (spelling m.on) + rest ≤ 67108864 → length (spelling m.made) + rest ≤ 67108864
+  pub fits : length (spelling m.on) + rest ≤ MOST_DESIGN → length (spelling m.made) + rest ≤ MOST_DESIGN
 
 -- nothing stands behind what is as long
 as_long : (written on made : List ℕ) → length made ≡ length on → written ≡ written ++ drop (length on) made
@@ -130,7 +131,7 @@ module _ (dim rest : ℕ) (t : List ℕ) (base : List Element) where
       ((λ n. takes mode corners (tree_shown dim mask on n)), refl) refl top linked
 
   -- an import puts trees behind
-  import_links : (on : List Element) (left : List Made) (b : List ℕ) → AreTrees dim b → length (spelling on) + rest + length b ≤ 67108864
+  import_links : (on : List Element) (left : List Made) (b : List ℕ) → AreTrees dim b → length (spelling on) + rest + length b ≤ MOST_DESIGN
       → on ≡ top_of base left → AreLinked dim rest t base left
       → AreLinked dim rest t base (record { on = on; making = Imported (elements_of dim b); made = on ++ elements_of dim b } ∷ left)
   import_links on left b trees few top linked =
@@ -301,7 +302,7 @@ linked_same dim rest t base (m ∷ left) p linked below all =
 
 -- and they keep the limit of a design file where the lowest do
 pub linked_fits : (dim rest : ℕ) (t : List ℕ) (base : List Element) (left : List Made) → AreLinked dim rest t base left
-    → length (spelling base) + rest ≤ 67108864 → length (spelling (top_of base left)) + rest ≤ 67108864
+    → length (spelling base) + rest ≤ MOST_DESIGN → length (spelling (top_of base left)) + rest ≤ MOST_DESIGN
 linked_fits dim rest t base [] linked few = few
 linked_fits dim rest t base (m ∷ left) linked few =
-    linked.0.fits (subst (λ (es : List Element). length (spelling es) + rest ≤ 67108864) (sym linked.1) (linked_fits dim rest t base left linked.2 few))
+    linked.0.fits (subst (λ (es : List Element). length (spelling es) + rest ≤ MOST_DESIGN) (sym linked.1) (linked_fits dim rest t base left linked.2 few))

@@ -14,6 +14,7 @@ use Rattle.dgn_drawing.specs.Values.{Displacement, IsShift}
 use Rattle.dgn_drawing.specs.WellFormed.{IsBytes}
 use Rattle.dgn_drawing.specs.Opening.{Fault, Opens, elements_of}
 use Rattle.dgn_drawing.proofs.Fronts.{opens_of, elements-spelling}
+use Rattle.dgn_drawing.specs.declared.limits.TheConstants.{MOST_DESIGN}
 use Rattle.elem_index.specs.Opened.{Opened, opening}
 use Rattle.elem_index.proofs.OpeningAnswers.{opens-opening}
 use Rattle.edit_ops.specs.Causes.{too_long}
@@ -97,11 +98,11 @@ unless_so None b count b' count' is = (refl, let x = is in cc)
 unless_so (Some cause) b count b' count' is = absurd (let x = is in cc)
 
 -- what isn't too long keeps the limit
-pub not_long : (n : ℕ) → too_long n ≡ None → n ≤ 67108864
-not_long n is = by (nat_lt 67108864 n) refl
+pub not_long : (n : ℕ) → too_long n ≡ None → n ≤ MOST_DESIGN
+not_long n is = by (nat_lt MOST_DESIGN n) refl
   where
-    by : (over : _) → nat_lt 67108864 n ≡ over → n ≤ 67108864
-    by true test = absurd (let x : too_long n ≡ None = is in let y : nat_lt 67108864 n ≡ true = test in grind (arith, nat_tests))
+    by : (over : _) → nat_lt MOST_DESIGN n ≡ over → n ≤ MOST_DESIGN
+    by true test = absurd (let x : too_long n ≡ None = is in let y : nat_lt MOST_DESIGN n ≡ true = test in grind (arith, nat_tests))
     by false test = grind (arith, nat_tests)
 
 gathered_trees : (dim : ℕ) (v : SecondValue) (by : Option Displacement) (b : List ℕ) (count : ℕ) → gathered dim v by ≡ Trees b count → IfSome by IsShift
@@ -114,18 +115,18 @@ gathered_trees dim (Faulty fault) by b count is known opens = absurd (let x = is
 
 appended_so : (s : State) (v : SecondValue) (by : Option Displacement) (found : Gathering) (b : List ℕ) (count : ℕ) → gathered s.dim v by ≡ found
     → importing s found ≡ Appends b count → IsStep (Import v by)
-    → AreTrees s.dim b × (length (spelling s.top) + s.rest + length b ≤ 67108864)
+    → AreTrees s.dim b × (length (spelling s.top) + s.rest + length b ≤ MOST_DESIGN)
 appended_so s v by (Trees b' count') b count found is fits =
     let so = unless_so (too_long (length (spelling s.top) + s.rest + length b')) b' count' b count is in
     let trees : AreTrees s.dim b' = gathered_trees s.dim v by b' count' found fits.0 fits.1 in
-    let few : length (spelling s.top) + s.rest + length b' ≤ 67108864 = not_long (length (spelling s.top) + s.rest + length b') so.0 in
-    subst (λ (x : List ℕ). AreTrees s.dim x × (length (spelling s.top) + s.rest + length x ≤ 67108864)) so.1 (trees, few)
+    let few : length (spelling s.top) + s.rest + length b' ≤ MOST_DESIGN = not_long (length (spelling s.top) + s.rest + length b') so.0 in
+    subst (λ (x : List ℕ). AreTrees s.dim x × (length (spelling s.top) + s.rest + length x ≤ MOST_DESIGN)) so.1 (trees, few)
 appended_so s v by (Bad fault) b count found is fits = absurd (let x = is in cc)
 appended_so s v by Dimension b count found is fits = absurd (let x = is in cc)
 appended_so s v by (Refused cause) b count found is fits = absurd (let x = is in cc)
 
 pub appended : (s : State) (v : SecondValue) (by : Option Displacement) (b : List ℕ) (count : ℕ) → importing_of s v by ≡ Appends b count → IsStep (Import v by)
-    → AreTrees s.dim b × (length (spelling s.top) + s.rest + length b ≤ 67108864)
+    → AreTrees s.dim b × (length (spelling s.top) + s.rest + length b ≤ MOST_DESIGN)
 appended s v by b count is fits = appended_so s v by (gathered s.dim v by) b count refl is fits
 
 -- trees behind elements that open

@@ -9,6 +9,7 @@ use Rattle.patch_file.specs.Spelling.{Packed, patch_spelling}
 use Rattle.patch_file.specs.Standing.{taken_of, all_taken}
 use Rattle.patch_file.specs.declared.patch_entry.PatchEntry.{PatchEntry}
 use Rattle.patch_file.specs.PatchView.{packed_of, all_packed}
+use Rattle.patch_file.specs.declared.limits.TheConstants.{MOST_PATCH}
 use Rattle.dgn_drawing.specs.Element.{Element}
 use Rattle.dgn_drawing.specs.Spelling.{spelling}
 use Rattle.dgn_drawing.specs.Opening.{elements_of}
@@ -107,23 +108,23 @@ filed_so entries refused patch file text status spelled said is =
 
 -- the outcome of a patch file that isn't too long, and of one that is
 pub packed_short : (cs : List Given) (s : State) (es : List Packed) (refused : ℕ) (patch : List ℕ) → es ≡ packed_after cs s → refused ≡ refused_count cs s
-    → length (patch_spelling es) ≤ 134217728 → filed_patch es refused patch ≡ packed_from s cs patch
+    → length (patch_spelling es) ≤ MOST_PATCH → filed_patch es refused patch ≡ packed_from s cs patch
 packed_short cs s es refused patch same count short =
-    let within : length (patch_spelling (packed_after cs s)) ≤ 134217728 = subst (λ (ps : List Packed). length (patch_spelling ps) ≤ 134217728) same short in
-    let test : nat_lt 134217728 (length (patch_spelling (packed_after cs s))) ≡ false = grind (arith, nat_tests) in
+    let within : length (patch_spelling (packed_after cs s)) ≤ MOST_PATCH = subst (λ (ps : List Packed). length (patch_spelling ps) ≤ MOST_PATCH) same short in
+    let test : nat_lt MOST_PATCH (length (patch_spelling (packed_after cs s))) ≡ false = grind (arith, nat_tests) in
     ap (λ (ps : List Packed). filed_patch ps refused patch) same ∙ ap (λ (n : ℕ). filed_patch (packed_after cs s) n patch) count
     ∙ sym (ap (λ (b : Bool). cond b (ended statuses.TooLong (codes "too long patch\n")) (filed_patch (packed_after cs s) (refused_count cs s) patch)) test)
 
-pub packed_long : (cs : List Given) (s : State) (es : List Packed) (patch : List ℕ) → es ≡ packed_after cs s → 134217728 < length (patch_spelling es)
+pub packed_long : (cs : List Given) (s : State) (es : List Packed) (patch : List ℕ) → es ≡ packed_after cs s → MOST_PATCH < length (patch_spelling es)
     → ended statuses.TooLong (codes "too long patch\n") ≡ packed_from s cs patch
 packed_long cs s es patch same long =
-    let over : 134217728 < length (patch_spelling (packed_after cs s)) = subst (λ (ps : List Packed). 134217728 < length (patch_spelling ps)) same long in
-    let test : nat_lt 134217728 (length (patch_spelling (packed_after cs s))) ≡ true = grind (arith, nat_tests) in
+    let over : MOST_PATCH < length (patch_spelling (packed_after cs s)) = subst (λ (ps : List Packed). MOST_PATCH < length (patch_spelling ps)) same long in
+    let test : nat_lt MOST_PATCH (length (patch_spelling (packed_after cs s))) ≡ true = grind (arith, nat_tests) in
     sym (ap (λ (b : Bool). cond b (ended statuses.TooLong (codes "too long patch\n")) (filed_patch (packed_after cs s) (refused_count cs s) patch)) test)
 
 -- what the greatest number of 64 bits caps
-pub within_cap : (n x : ℕ) → n ≡ min x 18446744073709551615 → n ≤ 134217728 → x ≤ 134217728
+pub within_cap : (n x : ℕ) → n ≡ min x 18446744073709551615 → n ≤ MOST_PATCH → x ≤ MOST_PATCH
 within_cap n x is le = omega arith
 
-pub beyond_cap : (n x : ℕ) → n ≡ min x 18446744073709551615 → 134217728 < n → 134217728 < x
+pub beyond_cap : (n x : ℕ) → n ≡ min x 18446744073709551615 → MOST_PATCH < n → MOST_PATCH < x
 beyond_cap n x is lt = omega arith

@@ -13,7 +13,7 @@ use dgn_files::write_filled;
 use dgn_session::Session;
 
 // Writes the drawing of a session, whose elements had `before` bytes when it was opened, and what fills its last block.
-pub fn write_drawing<D: Desk>(
+pub(crate) fn write_drawing<D: Desk>(
     desk: &mut D,
     output: &str,
     before: usize,

@@ -5,6 +5,7 @@ use Rattle.elem_index.specs.Answers.{opened_of}
 use Rattle.patch_file.specs.Spelling.{patch_spelling}
 use Rattle.patch_file.specs.PatchView.{all_packed}
 use Rattle.patch_file.specs.declared.patch_entry.PatchEntry.{PatchEntry}
+use Rattle.patch_file.specs.declared.limits.TheConstants.{MOST_PATCH}
 use Rattle.dgn_answers.specs.Given.{given_all}
 use Rattle.dgn_import.specs.Seconds.{waiting}
 use Rattle.dgn_answers.specs.Commands.{begun}
@@ -34,5 +35,5 @@ returns g c =
     named_so (packed (opened_of c.args.design) (given_all c.args.commands.now (waiting c.args.seconds.now.items)) c.args.patch.now) _ c.file_entries.result _ _
     (sym (packed_short (given_all c.args.commands.now (waiting c.args.seconds.now.items)) (begun (opened_of c.args.design))
     (all_packed c.deref-2.result.now) c.in_ok-did.did.refused c.args.patch.now entries c.in_ok-did.ensures.refused
-    (subst (λ (b : List PatchEntry). length (patch_spelling (all_packed b)) ≤ 134217728) (c.deref.ensures.value ∙ sym c.deref-2.ensures.value) short)))
+    (subst (λ (b : List PatchEntry). length (patch_spelling (all_packed b)) ≤ MOST_PATCH) (c.deref.ensures.value ∙ sym c.deref-2.ensures.value) short)))
     c.file_entries.ensures
