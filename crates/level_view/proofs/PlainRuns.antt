@@ -1,7 +1,7 @@
 -- The rows of roots with nothing below them, one behind the other, by what a design keeps of them.
 use Rattle.std.proofs.Common.{◌≡◌, ℕ, zero, suc, ◌+◌, ◌%◌, ◌<◌, ◌≤◌, false, List, ◌∷◌, ◌++◌, length, take, drop, map, get_or, refl, sym, ap, ◌∙◌, subst}
 use Rattle.std.proofs.Common.{arith, inl, inr}
-use Rattle.std.specs.Prelude.{leb, Some, vec_len}
+use Rattle.std.specs.Prelude.{leb, Some, vec_len, option_map}
 use Rattle.std.specs.List.{AllByRecursion}
 use Rattle.std.proofs.lemmas.List.{drop_more, drop_all, get_or-drop, drop-take, take-append-drop, take-take, map-append}
 use Rattle.std.proofs.lemmas.Bool.{cases_lt}
@@ -15,10 +15,10 @@ use Rattle.dgn_drawing.specs.Rows.{row_of}
 use Rattle.dgn_drawing.specs.Nesting.{is_counted, BeginsFree}
 use Rattle.elem_index.specs.declared.design.Design.{Design}
 use Rattle.elem_index.specs.Offsets.{offset_of, offsets_of}
-use Rattle.elem_index.specs.Design.{elements, kind_bytes, IsWhole}
+use Rattle.elem_index.specs.Design.{elements, bare_row, kind_bytes, IsWhole}
 use Rattle.elem_index.proofs.Places.{body_is, stands_at, offset_past, length-offsets, get_or-offsets}
 use Rattle.elem_index.proofs.KindBytes.{length-kind_bytes}
-use Rattle.elem_index.proofs.KeptRows.{here, found, uncounted, row_is}
+use Rattle.elem_index.proofs.KeptRows.{here, found, uncounted, bare_row_is}
 use Rattle.dgn_drawing.specs.Nesting.{is_header}
 use Rattle.nest_tree.specs.Plain.{IsPlainKind, next_place, kept_row, kept_rows}
 use Rattle.dgn_drawing.specs.declared.limits.TheConstants.{MOST_DESIGN}
@@ -59,18 +59,20 @@ module _ (d : Design) (whole : IsWhole d) where
       let small : get_or (kind_bytes (elements d)) n 0 % 128 ≡ get_or (kind_bytes (elements d)) n 0 = omega (arith, plain.free) in
       let leaf : is_counted (class_of (get_or (kind_bytes (elements d)) n 0 % 128)) ≡ false =
       uncounted_leaf (class_of (get_or (kind_bytes (elements d)) n 0 % 128)) (ap (λ (k : ℕ). is_header (class_of k)) small ∙ plain.leaf) in
-      let none = uncounted d whole n known (get_or (kind_bytes (elements d)) n 0) kept leaf in
-      let is = row_is d whole n known (get_or (kind_bytes (elements d)) n 0) kept (get_or (offsets_of (elements d)) n 0) (offset_of (elements d) (n + 1)) 0
-      (get_or-offsets (elements d) n known) refl none in
+      let row : Row = kept_row (get_or (offsets_of (elements d)) n 0) (offset_of (elements d) (n + 1)) (get_or (kind_bytes (elements d)) n 0) in
+      let bare = bare_row_is d whole n known (get_or (kind_bytes (elements d)) n 0) kept (get_or (offsets_of (elements d)) n 0)
+      (offset_of (elements d) (n + 1)) (get_or-offsets (elements d) n known) refl in
+      let is = uncounted d whole n row bare leaf in
       some_same (kept_row (get_or (offsets_of (elements d)) n 0) (offset_of (elements d) (n + 1)) (get_or (kind_bytes (elements d)) n 0))
       (row_of (here d whole n known).0) (sym is ∙ found d whole n known)
 
   row_cbit : (n : ℕ) (known : n < length (elements d)) → (row_of (here d whole n known).0).cbit ≡ leb 128 (get_or (kind_bytes (elements d)) n 0)
   row_cbit n known =
       let kept : get_or (kind_bytes (elements d)) n 0 ≡ get_or d.kinds.items n 0 = ap (λ (l : List ℕ). get_or l n 0) (sym whole.kinds) in
-      let is = row_is d whole n known (get_or (kind_bytes (elements d)) n 0) kept (offset_of (elements d) n) (offset_of (elements d) (n + 1))
-      (row_of (here d whole n known).0).total refl refl refl in
-      ap (λ (r : Row). r.cbit) (some_same (row_of (here d whole n known).0) _ (sym (found d whole n known) ∙ is))
+      let bare = bare_row_is d whole n known (get_or (kind_bytes (elements d)) n 0) kept (offset_of (elements d) n) (offset_of (elements d) (n + 1))
+      refl refl in
+      ap (λ (r : Row). r.cbit) (some_same (bare_row (here d whole n known).0) _
+      (sym (ap (option_map bare_row) (here d whole n known).1.found) ∙ bare))
 
   -- where the one behind it begins
   next_is : (n c : ℕ) → n + suc c ≤ length (elements d)
