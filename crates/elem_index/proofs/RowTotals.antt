@@ -1,7 +1,8 @@
 -- Totals are put into rows that say all but them.
 use Rattle.std.proofs.Common.{◌≡◌, ℕ, ◌+◌, ◌<◌, ◌≤◌, List, [], ◌∷◌, ◌++◌, length, take, drop, map, get_or, refl, sym, ap, ◌∙◌, subst, arith}
 use Rattle.std.specs.Prelude.{slice_get, Some, option_map}
-use Rattle.std.proofs.lemmas.List.{get_or-append-add, get_or-map, get_or-take, get_or-drop, length-map, length-take-le, drop-drop, append-nil, take_all, take_at}
+use Rattle.std.proofs.lemmas.List.{get_or-append-add, get_or-map, get_or-take, get_or-drop, length-map, length-take-le, drop-drop, append-nil}
+use Rattle.std.proofs.lemmas.List.{take_all, take_at}
 use Rattle.std.proofs.lemmas.Option.{get_or_from_slice_get}
 use Rattle.dgn_drawing.specs.declared.row.Row.{Row}
 use Rattle.dgn_drawing.specs.Element.{Element}
@@ -77,7 +78,8 @@ module _ (es : List Element) (n i : ℕ) (bare : List Row) (are : AreBareRows es
         → drop (i + 1) new ≡ drop (i + 1) rows → ArePut es n (i + 1) bare new
     put_one new row is first rest =
         let next : n + i + 1 ≡ n + (i + 1) = omega arith in
+        let more = row_behind row_of es n (n + i) (take i rows) (take (i + 1) new) row put.front known is first in
         record {
-          front = subst (λ (m : ℕ). AreRows es n m (take (i + 1) new)) next (row_behind row_of es n (n + i) (take i rows) (take (i + 1) new) row put.front known is first);
+          front = subst (λ (m : ℕ). AreRows es n m (take (i + 1) new)) next more;
           behind = rest ∙ sym (drop-drop 1 i rows) ∙ ap (drop 1) put.behind ∙ drop-drop 1 i bare;
         }
