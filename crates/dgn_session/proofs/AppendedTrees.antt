@@ -2,10 +2,9 @@
 use Rattle.std.proofs.Common.{◌≡◌, ℕ, ◌+◌, ◌≤◌, List, [], ◌∷◌, ◌++◌, length, drop, map, reverse, Option, None, refl, sym, ap, ◌∙◌, subst, arith, length-append}
 use Rattle.std.proofs.lemmas.Grind.{flat_map-append}
 use Rattle.std.proofs.lemmas.List.{take_at, drop_at}
-use Rattle.patch_bytes.specs.Puts.{Put, write}
+use Rattle.patch_bytes.specs.Puts.{Put}
 use Rattle.plane_geom.specs.declared.pt.Pt.{Pt}
 use Rattle.undo_log.specs.LogState.{LogState}
-use Rattle.undo_log.specs.Entries.{entry_of}
 use Rattle.dgn_drawing.specs.Element.{Element}
 use Rattle.dgn_drawing.specs.declared.mask.Mask.{Mask}
 use Rattle.dgn_drawing.specs.Spelling.{spell, spelling}
@@ -15,19 +14,26 @@ use Rattle.dgn_drawing.specs.Opening.{elements_of}
 use Rattle.dgn_drawing.proofs.Fronts.{body_spelled, elements-spelling}
 use Rattle.elem_index.specs.declared.design.Design.{Design}
 use Rattle.elem_index.specs.Design.{elements}
+use Rattle.edit_ops.specs.Applying.{Done}
 use Rattle.edit_ops.specs.Causes.{too_long}
 use Rattle.edit_ops.proofs.AppendedElements.{appended_opens, short_left}
 use Rattle.dgn_import.specs.Gathering.{AreTrees}
-use Rattle.dgn_session.specs.State.{state_of, value_with}
+use Rattle.dgn_session.specs.State.{SessionValue, state_of, value_with}
 use Rattle.dgn_session.specs.Imported.{imported, import_entry}
 use Rattle.dgn_session.specs.Kept.{OpensAt, AreKept, value_of}
 use Rattle.dgn_session.specs.Carried.{IsSoundPlan, plan_of}
 use Rattle.dgn_session.proofs.EditedBody.{Become}
-use Rattle.dgn_session.proofs.PlanCarriedOut.{sound, done_state, value_after, made_here}
+use Rattle.dgn_session.proofs.PlannedBody.{IsPlanned, plan_sound}
+use Rattle.dgn_session.proofs.PlanCarriedOut.{IsCarried, HasMade, made_here, has_made}
 use Rattle.dgn_session.proofs.LastEditBack.{opens_kept}
 use Rattle.dgn_drawing.specs.declared.limits.TheConstants.{MOST_DESIGN}
 
-module _ (d : Design) (l : LogState) (mask : Mask) (fence : Option (List Pt)) (kept : AreKept d.dim d.tail.items d.body.items (reverse l.entries))
+-- a session before and after an import of these bytes
+pub record IsImported (b : List ℕ) (old new : SessionValue) : Type 0 where
+  pub done : state_of new ≡ imported (elements_of old.dim b) (state_of old)
+  pub value : new ≡ value_with (old.body ++ b) (old.entries ++ import_entry (state_of old).top ∷ []) old
+
+module _ (d : Design) (l : LogState) (kept : AreKept d.dim d.tail.items d.body.items (reverse l.entries))
     (b : List ℕ) (trees : AreTrees d.dim b) (short : too_long (length d.body.items + length d.tail.items + length b) ≡ None) where
   opens : OpensAt d.dim d.tail.items d.body.items
   opens = opens_kept d.dim d.tail.items d.body.items (reverse l.entries) kept
@@ -70,32 +76,42 @@ module _ (d : Design) (l : LogState) (mask : Mask) (fence : Option (List Pt)) (k
     rise = omega arith;
   }
 
-  append : b ≡ drop (length (spelling (elements d))) (spelling made)
-  append = trees.text ∙ sym behind
+  planned : (ps : List Put) → ps ≡ [] → IsPlanned d.dim d.tail.items d.body.items [] made (plan_of ps b)
+  planned ps none = record { opens = opens; becomes = becomes; patches = none; append = trees.text ∙ sym behind }
 
-  -- it may be carried out
-  pub trees_sound : (ps : List Put) → ps ≡ [] → IsSoundPlan d.dim d.tail.items d.body.items (plan_of ps b)
-  trees_sound ps none = sound d l mask fence kept [] made becomes (plan_of ps b) none append
+  trees_planned : (ps : List Put) → ps ≡ [] → IsSoundPlan d.dim d.tail.items d.body.items (plan_of ps b)
+  trees_planned ps none = plan_sound d.dim d.tail.items d.body.items [] made (plan_of ps b) (planned ps none)
 
   -- the elements of the bytes
   elements_are : elements_of d.dim b ≡ trees.elements
   elements_are = ap (elements_of d.dim) trees.text ∙ elements-spelling d.dim trees.axes trees.elements trees.each
 
-  module _ (ps : List Put) (none : ps ≡ []) (g : Design) (m : LogState) (axes : g.dim ≡ d.dim) (text : g.body.items ≡ write d.body.items ps ++ b)
-      (tail : g.tail.items ≡ d.tail.items)
-      (entries : m.entries ≡ l.entries ++ entry_of d.body.items ps ∷ []) where
-    -- it stands for the state with them behind the top
-    pub imported_state : state_of (value_of g m mask fence) ≡ imported (elements_of d.dim b) (state_of (value_of d l mask fence))
-    imported_state =
-        done_state d l mask fence kept [] made becomes (plan_of ps b) none append g m axes text tail entries
-        ∙ ap (λ (new : List Element). imported new (state_of (value_of d l mask fence))) (sym elements_are)
+  trees_carried : (ps : List Put) → ps ≡ [] → (mask : Mask) (fence : Option (List Pt)) (g : Design) (m : LogState) → IsCarried d l (plan_of ps b) g m
+      → IsImported b (value_of d l mask fence) (value_of g m mask fence)
+  trees_carried ps none mask fence g m carried =
+      let has : HasMade (Done made) [] (value_of d l mask fence) (value_of g m mask fence) =
+      has_made d l mask fence [] made (plan_of ps b) (planned ps none) g m carried (Done made) refl in
+      let all : spelling (elements g) ≡ d.body.items ++ b =
+      ap spelling (made_here d l mask fence [] made (plan_of ps b) (planned ps none) g m carried) ∙ whole
+      ∙ ap (λ (x : List ℕ). x ++ spelling trees.elements) body ∙ ap (λ (x : List ℕ). d.body.items ++ x) (sym trees.text) in
+      record {
+        done = has.done ∙ ap (λ (new : List Element). imported new (state_of (value_of d l mask fence))) (sym elements_are);
+        value = has.value ∙ ap (λ (x : List ℕ). value_with x (l.entries ++ import_entry (elements d) ∷ []) (value_of d l mask fence)) all;
+      }
 
-    -- and has one entry more, without patches
-    pub imported_value : value_of g m mask fence ≡ value_with (d.body.items ++ b) (l.entries ++ import_entry (elements d) ∷ []) (value_of d l mask fence)
-    imported_value =
-        let here : elements_of g.dim g.body.items ≡ made =
-        made_here d l mask fence kept [] made becomes (plan_of ps b) none append g m axes text tail entries in
-        let all : spelling (elements_of g.dim g.body.items) ≡ d.body.items ++ b =
-        ap spelling here ∙ whole ∙ ap (λ (x : List ℕ). x ++ spelling trees.elements) body ∙ ap (λ (x : List ℕ). d.body.items ++ x) (sym trees.text) in
-        value_after d l mask fence kept [] made becomes (plan_of ps b) none append g m axes text tail entries
-        ∙ ap (λ (x : List ℕ). value_with x (l.entries ++ import_entry (elements d) ∷ []) (value_of d l mask fence)) all
+-- trees of the dimension that a session's value has
+module _ (d : Design) (l : LogState) (kept : AreKept d.dim d.tail.items d.body.items (reverse l.entries)) (mask : Mask) (fence : Option (List Pt))
+    (old : SessionValue) (view : value_of d l mask fence ≡ old) (b : List ℕ) (trees : AreTrees old.dim b)
+    (short : too_long (length d.body.items + length d.tail.items + length b) ≡ None) (ps : List Put) (none : ps ≡ []) where
+  trees_here : AreTrees d.dim b
+  trees_here = subst (λ (v : SessionValue). AreTrees v.dim b) (sym view) trees
+
+  -- may be appended
+  pub trees_sound : IsSoundPlan d.dim d.tail.items d.body.items (plan_of ps b)
+  trees_sound = trees_planned d l kept b trees_here short ps none
+
+  -- and where they are, the session has them
+  pub trees_made : (g : Design) (m : LogState) → IsCarried d l (plan_of ps b) g m → IsImported b old (value_of g m mask fence)
+  trees_made g m carried =
+      subst (λ (v : SessionValue). IsImported b v (value_of g m mask fence)) view
+      (trees_carried d l kept b trees_here short ps none mask fence g m carried)

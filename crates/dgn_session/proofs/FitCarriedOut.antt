@@ -20,10 +20,13 @@ use Rattle.dgn_audit.specs.Fitting.{apply_fit, fit_fields}
 use Rattle.dgn_audit.specs.Planned.{IsFitPlan}
 use Rattle.dgn_audit.proofs.FitKeepsRows.{fitted_opens, fits_change}
 use Rattle.dgn_audit.proofs.FindingsEnd.{ends_findings}
-use Rattle.dgn_session.specs.State.{pushed, undone, undo_refused}
-use Rattle.dgn_session.specs.Kept.{OpensAt, AreKept}
+use Rattle.dgn_session.specs.State.{SessionValue, state_of, pushed, undone, undo_refused}
+use Rattle.dgn_session.specs.Kept.{OpensAt, AreKept, value_of}
+use Rattle.dgn_session.specs.Carried.{IsSoundPlan, plan_of}
 use Rattle.dgn_session.specs.Fits.{fit_applied, IsFit, FitsAreUndone, OpenedStayFitted}
 use Rattle.dgn_session.proofs.EditedBody.{Become}
+use Rattle.dgn_session.proofs.PlannedBody.{IsPlanned, plan_sound}
+use Rattle.dgn_session.proofs.PlanCarriedOut.{IsCarried, HasMade, has_made}
 use Rattle.dgn_session.proofs.LastEditBack.{opens_kept}
 use Rattle.dgn_session.proofs.EntriesBack.{pushed_stays}
 use Rattle.dgn_drawing.specs.declared.limits.TheConstants.{MOST_DESIGN}
@@ -46,32 +49,49 @@ fit_becomes f dim es tail n made opens few done =
       rise = changed.rise;
     }
 
-module _ (d : Design) (l : LogState) (mask : Mask) (fence : Option (List Pt)) (kept : AreKept d.dim d.tail.items d.body.items (reverse l.entries)) where
+-- a session before and after a fit that is done
+pub record IsFitted (n : ℕ) (old new : SessionValue) : Type 0 where
+  pub has : HasMade (fit_applied n (state_of old)) (fit_fields old.dim (state_of old).top n) old new
+  pub fitted : IsFit old.dim (state_of old).top n (state_of new).top
+
+module _ (d : Design) (l : LogState) (kept : AreKept d.dim d.tail.items d.body.items (reverse l.entries)) (n : ℕ) (patches : List Put)
+    (plan : IsFitPlan d.dim (elements d) n patches) (append : List ℕ) (nothing : append ≡ []) where
   opens : OpensAt d.dim d.tail.items d.body.items
   opens = opens_kept d.dim d.tail.items d.body.items (reverse l.entries) kept
 
-  module _ (n : ℕ) (patches : List Put) (plan : IsFitPlan d.dim (elements d) n patches) where
-    pub fit_here : Become d.dim d.tail.items (elements d) (fit_fields d.dim (elements d) n) plan.made
-    fit_here =
-        let body : spelling (elements d) ≡ d.body.items = body_spelled d.body.items d.tail.items d.dim (elements d) opens.opens in
-        fit_becomes (d.body.items ++ d.tail.items) d.dim (elements d) d.tail.items n plan.made opens.opens
-        (omega (arith, opens.few, ap (length {A = ℕ}) body)) plan.done
+  planned : IsPlanned d.dim d.tail.items d.body.items (fit_fields d.dim (elements d) n) plan.made (plan_of patches append)
+  planned =
+      let body : spelling (elements d) ≡ d.body.items = body_spelled d.body.items d.tail.items d.dim (elements d) opens.opens in
+      let none : drop (length (spelling (elements d))) (spelling plan.made) ≡ [] = drop_all (length (spelling (elements d))) (spelling plan.made)
+      (omega (arith, (fits_change (d.body.items ++ d.tail.items) d.dim (elements d) d.tail.items n plan.made opens.opens plan.done).long)) in
+      record {
+        opens = opens;
+        becomes = fit_becomes (d.body.items ++ d.tail.items) d.dim (elements d) d.tail.items n plan.made opens.opens
+            (omega (arith, opens.few, ap (length {A = ℕ}) body)) plan.done;
+        patches = plan.are;
+        append = nothing ∙ sym none;
+      }
 
-    pub none_behind : [] ≡ drop (length (spelling (elements d))) (spelling plan.made)
-    none_behind = sym (drop_all (length (spelling (elements d))) (spelling plan.made)
-        (omega (arith, (fits_change (d.body.items ++ d.tail.items) d.dim (elements d) d.tail.items n plan.made opens.opens plan.done).long)))
+  -- it may be carried out
+  pub fit_sound : IsSoundPlan d.dim d.tail.items d.body.items (plan_of patches append)
+  fit_sound = plan_sound d.dim d.tail.items d.body.items (fit_fields d.dim (elements d) n) plan.made (plan_of patches append) planned
 
-    -- it is done
-    pub fit_done : apply_fit d.dim (elements d) n ≡ Done plan.made
-    fit_done = plan.done
+  -- it ends the findings of its tree
+  ends : (made : List Element) → apply_fit d.dim (elements d) n ≡ Done made → IsFit d.dim (elements d) n made
+  ends made done = record {
+    ended = λ root end at spanned. ends_findings (d.body.items ++ d.tail.items) d.dim (elements d)
+        d.tail.items n made root end opens.opens done at spanned;
+    stays = (fits_change (d.body.items ++ d.tail.items) d.dim (elements d) d.tail.items n made opens.opens done).stays;
+  }
 
-    -- and ends the findings of its tree
-    pub fit_is : IsFit d.dim (elements d) n plan.made
-    fit_is = record {
-      ended = λ root end at spanned. ends_findings (d.body.items ++ d.tail.items) d.dim (elements d)
-          d.tail.items n plan.made root end opens.opens plan.done at spanned;
-      stays = (fits_change (d.body.items ++ d.tail.items) d.dim (elements d) d.tail.items n plan.made opens.opens plan.done).stays;
-    }
+  -- and where it is carried out, the session is fitted
+  pub fit_made : (mask : Mask) (fence : Option (List Pt)) (old : SessionValue) → value_of d l mask fence ≡ old
+      → (g : Design) (m : LogState) → IsCarried d l (plan_of patches append) g m → IsFitted n old (value_of g m mask fence)
+  fit_made mask fence old view g m carried =
+      let has : HasMade (apply_fit d.dim (elements d) n) (fit_fields d.dim (elements d) n) (value_of d l mask fence) (value_of g m mask fence) =
+      has_made d l mask fence (fit_fields d.dim (elements d) n) plan.made (plan_of patches append) planned g m carried
+      (apply_fit d.dim (elements d) n) plan.done in
+      subst (λ (v : SessionValue). IsFitted n v (value_of g m mask fence)) view (record { has = has; fitted = ends (elements g) has.accepted })
 
 pub fits_are_undone : FitsAreUndone
 fits_are_undone s n made done = (ap (λ (a : Applied). undone (pushed a s)) done, ap (λ (a : Applied). undo_refused (pushed a s)) done)

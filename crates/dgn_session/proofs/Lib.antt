@@ -8,7 +8,8 @@ pub mod EditKeepsSession
 pub mod LastEditBack
 pub mod Steps
 pub mod PlanCarriedOut
-pub mod FenceEditSteps
+pub mod EditCarriedOut
+pub mod FenceEditCarriedOut
 pub mod EntriesBack
 pub mod LoneElements
 pub mod AppendedTrees

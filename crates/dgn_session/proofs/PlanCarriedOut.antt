@@ -1,34 +1,22 @@
--- What a session comes to when the plan of an edit is carried out on it.
-use Rattle.std.proofs.Common.{◌≡◌, ℕ, ◌+◌, List, [], ◌∷◌, ◌++◌, length, drop, reverse, Option, refl, sym, ap, ◌∙◌, subst, arith}
+-- What a session comes to when a plan is carried out on it, and when an undo is.
+use Rattle.std.proofs.Common.{◌≡◌, ℕ, List, [], ◌∷◌, ◌++◌, Option, refl, sym, ap, ◌∙◌}
 use Rattle.patch_bytes.specs.Puts.{write}
 use Rattle.plane_geom.specs.declared.pt.Pt.{Pt}
 use Rattle.undo_log.specs.declared.entry.Entry.{Entry}
 use Rattle.undo_log.specs.LogState.{LogState}
 use Rattle.undo_log.specs.Entries.{entry_of, IsUndone}
 use Rattle.dgn_drawing.specs.Element.{Element}
-use Rattle.dgn_drawing.specs.declared.edit.Edit.{Edit}
-use Rattle.dgn_drawing.specs.declared.fence_edit.FenceEdit.{FenceEdit}
 use Rattle.dgn_drawing.specs.declared.mask.Mask.{Mask}
 use Rattle.dgn_drawing.specs.Spelling.{spelling}
 use Rattle.dgn_drawing.specs.Opening.{elements_of}
-use Rattle.dgn_drawing.proofs.Fronts.{body_spelled}
 use Rattle.elem_index.specs.declared.design.Design.{Design}
 use Rattle.elem_index.specs.Design.{elements}
 use Rattle.edit_ops.specs.declared.types.plan.Plan.{Plan}
-use Rattle.edit_ops.specs.Applying.{Done, apply, IsEdit}
-use Rattle.edit_ops.specs.Fields.{Field, edited_fields, filled}
-use Rattle.edit_ops.specs.Fenced.{fenced_fields, AreRoots, IsFenceEdit}
-use Rattle.edit_ops.specs.Planned.{IsPlan, IsFencePlan}
-use Rattle.edit_ops.specs.Laws.{ChangesItsFields}
-use Rattle.edit_ops.specs.FenceLaws.{ChangesFencedFields}
-use Rattle.edit_ops.proofs.EditLaws.{changes_fields}
-use Rattle.edit_ops.proofs.FenceLaws.{fenced_changes}
+use Rattle.edit_ops.specs.Applying.{Applied, Done}
+use Rattle.edit_ops.specs.Fields.{Field}
 use Rattle.dgn_session.specs.State.{SessionValue, state_of, pushed, undone, entry_with, value_with}
-use Rattle.dgn_session.specs.Kept.{OpensAt, AreKept, value_of}
-use Rattle.dgn_session.specs.Carried.{IsSoundPlan}
-use Rattle.dgn_session.proofs.EditedBody.{Become, edit_becomes, fence_becomes}
-use Rattle.dgn_session.proofs.PlannedBody.{text_is, made_are, plan_sound, entry_leads, entry_is}
-use Rattle.dgn_session.proofs.LastEditBack.{opens_kept}
+use Rattle.dgn_session.specs.Kept.{value_of}
+use Rattle.dgn_session.proofs.PlannedBody.{IsPlanned, text_is, made_are, entry_leads, entry_is}
 use Rattle.dgn_session.proofs.Steps.{pushed_state, undone_state}
 
 -- a session's value, by its dimension, body, tail and entries
@@ -48,72 +36,50 @@ undone_value d g l m mask fence axes tail is =
     ap state_of (value_same (value_of d l mask fence) g.dim g.body.items g.body.items g.tail.items m.entries m.entries axes refl tail refl)
     ∙ undone_state (value_of d l mask fence) g.body.items m.entries is
 
-module _ (d : Design) (l : LogState) (mask : Mask) (fence : Option (List Pt)) (kept : AreKept d.dim d.tail.items d.body.items (reverse l.entries)) where
-  opens : OpensAt d.dim d.tail.items d.body.items
-  opens = opens_kept d.dim d.tail.items d.body.items (reverse l.entries) kept
+-- a plan is carried out on a design and its log
+pub record IsCarried (d : Design) (l : LogState) (p : Plan) (g : Design) (m : LogState) : Type 0 where
+  pub dim : g.dim ≡ d.dim
+  pub tail : g.tail.items ≡ d.tail.items
+  pub body : g.body.items ≡ write d.body.items p.patches ++ p.append
+  pub entries : m.entries ≡ l.entries ++ entry_of d.body.items p.patches ∷ []
 
-  -- its elements become others by an edit that is planned
-  module _ (e : Edit) (p : Plan) (fits : IsEdit e) (plan : IsPlan d.dim (elements d) (length d.tail.items + 0) e p) where
-    pub edit_done : apply d.dim (elements d) (length d.tail.items) e ≡ Done plan.made
-    edit_done =
-        let all : length d.tail.items + 0 ≡ length d.tail.items = omega arith in
-        subst (λ (n : ℕ). apply d.dim (elements d) n e ≡ Done plan.made) all plan.done
+-- a session after what came to this, which wrote these fields: it is done, the state has one list more, the log one
+-- entry more
+pub record HasMade (a : Applied) (fields : List Field) (old new : SessionValue) : Type 0 where
+  pub accepted : a ≡ Done (state_of new).top
+  pub done : state_of new ≡ pushed a (state_of old)
+  pub value : new ≡ value_with (spelling (state_of new).top) (old.entries ++ entry_with (state_of old).top fields ∷ []) old
 
-    pub edit_made : Become d.dim d.tail.items (elements d) (edited_fields d.dim (elements d) e) plan.made
-    edit_made =
-        let body : spelling (elements d) ≡ d.body.items = body_spelled d.body.items d.tail.items d.dim (elements d) opens.opens in
-        edit_becomes (d.body.items ++ d.tail.items) d.dim (elements d) d.tail.items e plan.made fits opens.opens
-        (omega (arith, opens.few, ap (length {A = ℕ}) body)) edit_done
+-- the elements become others by these fields, which is planned and carried out
+module _ (d : Design) (l : LogState) (mask : Mask) (fence : Option (List Pt)) (fields : List Field) (made : List Element) (p : Plan)
+    (planned : IsPlanned d.dim d.tail.items d.body.items fields made p) (g : Design) (m : LogState) (carried : IsCarried d l p g m) where
+  pub made_here : elements_of g.dim g.body.items ≡ made
+  made_here =
+      ap (λ (n : ℕ). elements_of n g.body.items) carried.dim ∙ ap (elements_of d.dim) carried.body
+      ∙ made_are d.dim d.tail.items d.body.items fields made p planned
 
-    -- which has changed its fields alone
-    pub edit_changes : ChangesItsFields d.dim (elements d) e plan.made
-    edit_changes = changes_fields (d.body.items ++ d.tail.items) d.dim (elements d) d.tail.items (length d.tail.items) e plan.made fits opens.opens edit_done
+  value_is : (body : List ℕ) (entries : List Entry) → g.body.items ≡ body → m.entries ≡ entries
+      → value_of g m mask fence ≡ value_with body entries (value_of d l mask fence)
+  value_is body entries text es =
+      value_same (value_of d l mask fence) g.dim g.body.items body g.tail.items m.entries entries carried.dim text carried.tail es
 
-  -- and by one of some roots
-  module _ (ns : List ℕ) (roots : AreRoots (elements d) ns) (e : FenceEdit) (p : Plan) (fits : IsFenceEdit e)
-      (plan : IsFencePlan d.dim (elements d) (length d.tail.items) e ns p) where
-    pub fence_made : Become d.dim d.tail.items (elements d) (fenced_fields d.dim (elements d) e ns) plan.made
-    fence_made =
-        let body : spelling (elements d) ≡ d.body.items = body_spelled d.body.items d.tail.items d.dim (elements d) opens.opens in
-        fence_becomes (d.body.items ++ d.tail.items) d.dim (elements d) d.tail.items e ns plan.made fits roots opens.opens
-        (omega (arith, opens.few, ap (length {A = ℕ}) body)) plan.done
+  -- what is made is pushed
+  done_state : state_of (value_of g m mask fence) ≡ pushed (Done made) (state_of (value_of d l mask fence))
+  done_state =
+      ap state_of (value_is (write d.body.items p.patches ++ p.append) (l.entries ++ entry_of d.body.items p.patches ∷ []) carried.body carried.entries)
+      ∙ pushed_state (value_of d l mask fence) (write d.body.items p.patches ++ p.append) (entry_of d.body.items p.patches) made
+      (entry_leads d.dim d.tail.items d.body.items fields made p planned) (made_are d.dim d.tail.items d.body.items fields made p planned)
 
-    pub fence_changes : ChangesFencedFields d.dim (elements d) e ns plan.made
-    fence_changes = fenced_changes (d.body.items ++ d.tail.items) d.dim (elements d) d.tail.items (length d.tail.items)
-        e ns plan.made fits roots opens.opens plan.done
+  value_after : value_of g m mask fence
+      ≡ value_with (spelling (elements_of g.dim g.body.items)) (l.entries ++ entry_with (elements d) fields ∷ []) (value_of d l mask fence)
+  value_after =
+      value_is (spelling (elements_of g.dim g.body.items)) (l.entries ++ entry_with (elements d) fields ∷ [])
+      (carried.body ∙ text_is d.dim d.tail.items d.body.items fields made p planned ∙ ap spelling (sym made_here))
+      (carried.entries ∙ ap (λ (x : Entry). l.entries ++ x ∷ []) (entry_is d.dim d.tail.items d.body.items fields made p planned))
 
-  -- its elements become others, and that is planned
-  module _ (fields : List Field) (made : List Element) (becomes : Become d.dim d.tail.items (elements d) fields made)
-      (p : Plan) (patches : p.patches ≡ filled (spelling made) fields) (append : p.append ≡ drop (length (spelling (elements d))) (spelling made)) where
-    -- the plan may be carried out
-    pub sound : IsSoundPlan d.dim d.tail.items d.body.items p
-    sound = plan_sound d.dim d.tail.items d.body.items opens fields made becomes p patches append
-
-    -- the session on which it is carried out
-    module _ (g : Design) (m : LogState) (axes : g.dim ≡ d.dim) (text : g.body.items ≡ write d.body.items p.patches ++ p.append)
-        (tail : g.tail.items ≡ d.tail.items)
-        (entries : m.entries ≡ l.entries ++ entry_of d.body.items p.patches ∷ []) where
-      pub made_here : elements_of g.dim g.body.items ≡ made
-      made_here =
-          ap (λ (n : ℕ). elements_of n g.body.items) axes ∙ ap (elements_of d.dim) text
-          ∙ made_are d.dim d.tail.items d.body.items opens fields made becomes p patches append
-
-      value_is : (body : List ℕ) (entries' : List Entry) → g.body.items ≡ body → m.entries ≡ entries'
-          → value_of g m mask fence ≡ value_with body entries' (value_of d l mask fence)
-      value_is body entries' text' es = value_same (value_of d l mask fence) g.dim g.body.items body g.tail.items m.entries entries' axes text' tail es
-
-      -- stands for the state with what is made pushed
-      pub done_state : state_of (value_of g m mask fence) ≡ pushed (Done made) (state_of (value_of d l mask fence))
-      done_state =
-          ap state_of (value_is (write d.body.items p.patches ++ p.append) (l.entries ++ entry_of d.body.items p.patches ∷ []) text entries)
-          ∙ pushed_state (value_of d l mask fence) (write d.body.items p.patches ++ p.append) (entry_of d.body.items p.patches) made
-          (entry_leads d.dim d.tail.items d.body.items opens fields made becomes p patches append)
-          (made_are d.dim d.tail.items d.body.items opens fields made becomes p patches append)
-
-      -- and has one entry more
-      pub value_after : value_of g m mask fence
-          ≡ value_with (spelling (elements_of g.dim g.body.items)) (l.entries ++ entry_with (elements d) fields ∷ []) (value_of d l mask fence)
-      value_after =
-          value_is (spelling (elements_of g.dim g.body.items)) (l.entries ++ entry_with (elements d) fields ∷ [])
-          (text ∙ text_is d.dim d.tail.items d.body.items opens fields made becomes p patches append ∙ ap spelling (sym made_here))
-          (entries ∙ ap (λ (x : Entry). l.entries ++ x ∷ []) (entry_is d.dim d.tail.items d.body.items opens fields made becomes p patches append))
+  pub has_made : (a : Applied) → a ≡ Done made → HasMade a fields (value_of d l mask fence) (value_of g m mask fence)
+  has_made a done = record {
+    accepted = done ∙ ap Done (sym made_here);
+    done = done_state ∙ sym (ap (λ (x : Applied). pushed x (state_of (value_of d l mask fence))) done);
+    value = value_after;
+  }

@@ -54,51 +54,55 @@ free_rows (e ∷ es) free = free
 abbrev entry_as : List Put → ℕ → Entry
 entry_as ps n = record { patches = ps; len = n }
 
--- the plan for a body that opens with the tail, of which the elements become others
-module _ (dim : ℕ) (tail b : List ℕ) (opens_at : OpensAt dim tail b) (fields : List Field) (made : List Element)
-    (becomes : Become dim tail (elements_of dim b) fields made)
-    (p : Plan) (patches : p.patches ≡ filled (spelling made) fields) (append : p.append ≡ drop (length (spelling (elements_of dim b))) (spelling made)) where
+-- a body opens with the tail, its elements become others by these fields, and the plan says so
+pub record IsPlanned (dim : ℕ) (tail b : List ℕ) (fields : List Field) (made : List Element) (p : Plan) : Type 0 where
+  pub opens : OpensAt dim tail b
+  pub becomes : Become dim tail (elements_of dim b) fields made
+  pub patches : p.patches ≡ filled (spelling made) fields
+  pub append : p.append ≡ drop (length (spelling (elements_of dim b))) (spelling made)
+
+module _ (dim : ℕ) (tail b : List ℕ) (fields : List Field) (made : List Element) (p : Plan) (is : IsPlanned dim tail b fields made p) where
   pub body_is : spelling (elements_of dim b) ≡ b
-  body_is = body_spelled b tail dim (elements_of dim b) opens_at.opens
+  body_is = body_spelled b tail dim (elements_of dim b) is.opens.opens
 
   pub made_axes : IsDimension dim
-  made_axes = subst IsDimension (sym opens_at.opens.axes) (dimension_is (b ++ tail))
+  made_axes = subst IsDimension (sym is.opens.opens.axes) (dimension_is (b ++ tail))
 
   -- what is carried out spells what is made
   pub text_is : write b p.patches ++ p.append ≡ spelling made
   text_is =
       ap (λ (x : List ℕ). write x p.patches ++ p.append) (sym body_is)
-      ∙ ap (λ (ps : List Put). write (spelling (elements_of dim b)) ps ++ p.append) patches
-      ∙ ap (λ (x : List ℕ). write (spelling (elements_of dim b)) (filled (spelling made) fields) ++ x) append
-      ∙ sym becomes.written
+      ∙ ap (λ (ps : List Put). write (spelling (elements_of dim b)) ps ++ p.append) is.patches
+      ∙ ap (λ (x : List ℕ). write (spelling (elements_of dim b)) (filled (spelling made) fields) ++ x) is.append
+      ∙ sym is.becomes.written
 
   pub made_are : elements_of dim (write b p.patches ++ p.append) ≡ made
-  made_are = ap (elements_of dim) text_is ∙ opens_elements (spelling made) tail dim made becomes.opens
+  made_are = ap (elements_of dim) text_is ∙ opens_elements (spelling made) tail dim made is.becomes.opens
 
   pub opens_after : OpensAt dim tail (write b p.patches ++ p.append)
   opens_after =
       record {
-        few = omega (arith, becomes.few, ap (length {A = ℕ}) text_is);
-        opens = subst (λ (x : List ℕ). Opens (x ++ tail) dim (elements_of dim x) tail) (sym text_is) (opens_of (spelling made) tail dim made becomes.opens);
+        few = omega (arith, is.becomes.few, ap (length {A = ℕ}) text_is);
+        opens = subst (λ (x : List ℕ). Opens (x ++ tail) dim (elements_of dim x) tail) (sym text_is) (opens_of (spelling made) tail dim made is.becomes.opens);
       }
 
   -- what it appends spells the elements behind the others
   pub append_is : p.append ≡ spelling (drop (length (elements_of dim b)) made)
   append_is =
       let n : ℕ = length (elements_of dim b) in
-      let front : length (spelling (take n made)) ≡ length (spelling (elements_of dim b)) = front_long made (elements_of dim b) n becomes.rows in
-      append ∙ ap (drop (length (spelling (elements_of dim b)))) (parted made n)
+      let front : length (spelling (take n made)) ≡ length (spelling (elements_of dim b)) = front_long made (elements_of dim b) n is.becomes.rows in
+      is.append ∙ ap (drop (length (spelling (elements_of dim b)))) (parted made n)
       ∙ drop_at (spelling (take n made)) (spelling (drop n made)) (length (spelling (elements_of dim b))) front
 
   pub append_spells : Spells dim (drop (length (elements_of dim b)) made) p.append
-  append_spells = record { axes = made_axes; each = each_behind dim (length (elements_of dim b)) made becomes.opens.each; text = append_is }
+  append_spells = record { axes = made_axes; each = each_behind dim (length (elements_of dim b)) made is.becomes.opens.each; text = append_is }
 
   -- the patches rise
   patches_rise : Span 0 p.patches (length b)
   patches_rise =
-      subst (λ (ps : List Put). Span 0 ps (length b)) (sym patches)
+      subst (λ (ps : List Put). Span 0 ps (length b)) (sym is.patches)
       (subst (λ (k : ℕ). Span 0 (filled (spelling made) fields) k) (ap (length {A = ℕ}) body_is)
-      (filled_rise (spelling made) (length (spelling (elements_of dim b))) fields 0 becomes.long becomes.rise))
+      (filled_rise (spelling made) (length (spelling (elements_of dim b))) fields 0 is.becomes.long is.becomes.rise))
 
   -- so its entry leads back
   pub entry_leads : back (write b p.patches ++ p.append) (entry_of b p.patches) ≡ b
@@ -114,8 +118,8 @@ module _ (dim : ℕ) (tail b : List ℕ) (opens_at : OpensAt dim tail b) (fields
         behind =
             ap (map row_of) (made_are ∙ sym (take-append-drop n made))
             ∙ map-append row_of (take n made) (drop n made)
-            ∙ ap (λ (l : List Row). l ++ map row_of (drop n made)) becomes.rows;
-        free = free_rows (drop n made) becomes.appended;
+            ∙ ap (λ (l : List Row). l ++ map row_of (drop n made)) is.becomes.rows;
+        free = free_rows (drop n made) is.becomes.appended;
       }
 
   -- and it may be carried out
@@ -132,6 +136,6 @@ module _ (dim : ℕ) (tail b : List ℕ) (opens_at : OpensAt dim tail b) (fields
   entry_is =
       let text : entry_of b p.patches ≡ entry_of (spelling (elements_of dim b)) p.patches = ap (λ (x : List ℕ). entry_of x p.patches) (sym body_is) in
       let held : map (old_of (spelling (elements_of dim b))) p.patches ≡ filled (spelling (elements_of dim b)) fields =
-      ap (map (old_of (spelling (elements_of dim b)))) patches
-      ∙ olds_filled (spelling (elements_of dim b)) (spelling made) (length (spelling (elements_of dim b))) fields 0 becomes.long becomes.rise in
+      ap (map (old_of (spelling (elements_of dim b)))) is.patches
+      ∙ olds_filled (spelling (elements_of dim b)) (spelling made) (length (spelling (elements_of dim b))) fields 0 is.becomes.long is.becomes.rise in
       text ∙ ap (λ (ps : List Put). entry_as ps (length (spelling (elements_of dim b)))) held

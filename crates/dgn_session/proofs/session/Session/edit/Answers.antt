@@ -1,16 +1,13 @@
-use Rattle.std.proofs.Common.{◌≡◌, ℕ, ◌+◌, ◌++◌, ◌∷◌, [], length, Result, Ok, Err, sym, ap, ◌∙◌, subst, arith}
+use Rattle.std.proofs.Common.{◌≡◌, ℕ, ◌+◌, length, Result, Ok, Err, sym, subst, arith}
 use Rattle.std.specs.Result.{IfErr, IsErrAnd}
-use Rattle.dgn_drawing.specs.Spelling.{spelling}
-use Rattle.dgn_drawing.specs.Opening.{elements_of}
 use Rattle.elem_index.specs.Design.{elements}
-use Rattle.edit_ops.specs.Applying.{Applied, Done, apply}
+use Rattle.edit_ops.specs.Applying.{apply}
 use Rattle.edit_ops.specs.Planned.{IsRefused}
-use Rattle.edit_ops.specs.Fields.{edited_fields}
-use Rattle.edit_ops.specs.Laws.{ChangesItsFields}
-use Rattle.dgn_session.specs.State.{SessionValue, state_of, applied, pushed, edited, entry, value_with}
+use Rattle.dgn_session.specs.State.{SessionValue, state_of, applied}
 use Rattle.dgn_session.specs.Kept.{value_of}
-use Rattle.dgn_session.proofs.PlanCarriedOut.{edit_done, edit_made, edit_changes, sound, made_here, done_state, value_after}
+use Rattle.dgn_session.proofs.EditCarriedOut.{IsEdited, edit_sound, edit_made}
 use Rattle.dgn_session.proofs.session.Session.edit.Goals as goal
+use Rattle.dgn_session.proofs.session.Session.edit.Goals.{In_ok-carry}
 
 -- an error that is handed on stands as it came
 handed_on : {T E : Type 0} (r : Result T E) (e : E) (P : E → Type 0) → IsErrAnd r (λ x. x ≡ e) → P e → IfErr r P
@@ -19,6 +16,14 @@ handed_on (Err x) e P is stands = subst P (sym is) stands
 
 none_more : (n : ℕ) → n + 0 ≡ n
 none_more n = omega arith
+
+-- what the session comes to
+edited : (c : goal.In_ok-carry) → IsEdited c.args.e.now c.args.self.now
+    (value_of c.carry.new.design c.carry.new.log c.self.inside.mask c.self.inside.fence)
+edited c =
+    edit_made c.self.inside.design c.self.inside.log c.self.invariant.back c.args.e.now c.in_ok-plan.plan c.in_ok-plan.ensures.kept
+    c.in_ok-plan.ensures.planned c.self.inside.mask c.self.inside.fence c.args.self.now c.self.view_is c.carry.new.design c.carry.new.log
+    (record { dim = c.carry.ensures.dim; tail = c.carry.ensures.tail; body = c.in_ok-carry.ensures.body; entries = c.in_ok-carry.ensures.entries })
 
 pub returns-in_err-plan-clause-refused : goal.returns-in_err-plan-clause-refused
 returns-in_err-plan-clause-refused c =
@@ -31,60 +36,17 @@ returns-in_err-plan-clause-refused c =
 
 pub carry-requires-clause-sound : goal.carry-requires-clause-sound
 carry-requires-clause-sound c =
-    sound c.self.inside.design c.self.inside.log c.self.inside.mask c.self.inside.fence c.self.invariant.back
-    (edited_fields c.self.inside.design.dim (elements c.self.inside.design) c.args.e.now) c.in_ok-plan.ensures.planned.made
-    (edit_made c.self.inside.design c.self.inside.log c.self.inside.mask c.self.inside.fence c.self.invariant.back c.args.e.now c.in_ok-plan.plan
-    c.in_ok-plan.ensures.kept c.in_ok-plan.ensures.planned) c.in_ok-plan.plan c.in_ok-plan.ensures.planned.patches c.in_ok-plan.ensures.planned.append
+    edit_sound c.self.inside.design c.self.inside.log c.self.invariant.back c.args.e.now c.in_ok-plan.plan c.in_ok-plan.ensures.kept
+    c.in_ok-plan.ensures.planned
 
 pub returns-clause-done : goal.returns-clause-done
-returns-clause-done c =
-    subst (λ (v : SessionValue). state_of (value_of c.carry.new.design c.carry.new.log c.self.inside.mask c.self.inside.fence)
-    ≡ edited c.args.e.now (state_of v)) c.self.view_is
-    (done_state c.self.inside.design c.self.inside.log c.self.inside.mask c.self.inside.fence c.self.invariant.back
-    (edited_fields c.self.inside.design.dim (elements c.self.inside.design) c.args.e.now) c.in_ok-plan.ensures.planned.made
-    (edit_made c.self.inside.design c.self.inside.log c.self.inside.mask c.self.inside.fence c.self.invariant.back c.args.e.now c.in_ok-plan.plan
-    c.in_ok-plan.ensures.kept c.in_ok-plan.ensures.planned)
-    c.in_ok-plan.plan c.in_ok-plan.ensures.planned.patches c.in_ok-plan.ensures.planned.append c.carry.new.design c.carry.new.log c.carry.ensures.dim
-    c.in_ok-carry.ensures.body c.carry.ensures.tail c.in_ok-carry.ensures.entries
-    ∙ sym (ap (λ (a : Applied). pushed a (state_of (value_of c.self.inside.design c.self.inside.log c.self.inside.mask c.self.inside.fence)))
-    (edit_done c.self.inside.design c.self.inside.log c.self.inside.mask c.self.inside.fence c.self.invariant.back c.args.e.now c.in_ok-plan.plan
-    c.in_ok-plan.ensures.kept c.in_ok-plan.ensures.planned)))
+returns-clause-done c = (edited (goal.at.returns-clause-done c).In_ok-carry).has.done
 
 pub returns-clause-accepted : goal.returns-clause-accepted
-returns-clause-accepted c =
-    subst (λ (v : SessionValue). applied c.args.e.now (state_of v) ≡ Done (elements_of c.carry.new.design.dim c.carry.new.design.body.items)) c.self.view_is
-    (edit_done c.self.inside.design c.self.inside.log c.self.inside.mask c.self.inside.fence c.self.invariant.back c.args.e.now c.in_ok-plan.plan
-    c.in_ok-plan.ensures.kept c.in_ok-plan.ensures.planned
-    ∙ ap Done (sym (made_here c.self.inside.design c.self.inside.log c.self.inside.mask c.self.inside.fence c.self.invariant.back
-    (edited_fields c.self.inside.design.dim (elements c.self.inside.design) c.args.e.now) c.in_ok-plan.ensures.planned.made
-    (edit_made c.self.inside.design c.self.inside.log c.self.inside.mask c.self.inside.fence c.self.invariant.back c.args.e.now c.in_ok-plan.plan
-    c.in_ok-plan.ensures.kept c.in_ok-plan.ensures.planned)
-    c.in_ok-plan.plan c.in_ok-plan.ensures.planned.patches c.in_ok-plan.ensures.planned.append c.carry.new.design c.carry.new.log c.carry.ensures.dim
-    c.in_ok-carry.ensures.body c.carry.ensures.tail c.in_ok-carry.ensures.entries)))
+returns-clause-accepted c = (edited (goal.at.returns-clause-accepted c).In_ok-carry).has.accepted
 
 pub returns-clause-value : goal.returns-clause-value
-returns-clause-value c =
-    subst (λ (v : SessionValue). value_of c.carry.new.design c.carry.new.log c.self.inside.mask c.self.inside.fence
-    ≡ value_with (spelling (elements_of c.carry.new.design.dim c.carry.new.design.body.items))
-    (v.entries ++ entry v.dim (elements_of v.dim v.body) c.args.e.now ∷ []) v) c.self.view_is
-    (value_after c.self.inside.design c.self.inside.log c.self.inside.mask c.self.inside.fence c.self.invariant.back
-    (edited_fields c.self.inside.design.dim (elements c.self.inside.design) c.args.e.now) c.in_ok-plan.ensures.planned.made
-    (edit_made c.self.inside.design c.self.inside.log c.self.inside.mask c.self.inside.fence c.self.invariant.back c.args.e.now c.in_ok-plan.plan
-    c.in_ok-plan.ensures.kept c.in_ok-plan.ensures.planned)
-    c.in_ok-plan.plan c.in_ok-plan.ensures.planned.patches c.in_ok-plan.ensures.planned.append c.carry.new.design c.carry.new.log c.carry.ensures.dim
-    c.in_ok-carry.ensures.body c.carry.ensures.tail c.in_ok-carry.ensures.entries)
+returns-clause-value c = (edited (goal.at.returns-clause-value c).In_ok-carry).has.value
 
 pub returns-clause-changed : goal.returns-clause-changed
-returns-clause-changed c =
-    let d = c.self.inside.design in
-    let here = made_here d c.self.inside.log c.self.inside.mask c.self.inside.fence c.self.invariant.back (edited_fields d.dim (elements d) c.args.e.now)
-    c.in_ok-plan.ensures.planned.made
-    (edit_made d c.self.inside.log c.self.inside.mask c.self.inside.fence c.self.invariant.back c.args.e.now c.in_ok-plan.plan c.in_ok-plan.ensures.kept
-    c.in_ok-plan.ensures.planned)
-    c.in_ok-plan.plan c.in_ok-plan.ensures.planned.patches c.in_ok-plan.ensures.planned.append c.carry.new.design c.carry.new.log c.carry.ensures.dim
-    c.in_ok-carry.ensures.body c.carry.ensures.tail c.in_ok-carry.ensures.entries in
-    subst (λ (v : SessionValue). ChangesItsFields v.dim (elements_of v.dim v.body) c.args.e.now
-    (elements_of c.carry.new.design.dim c.carry.new.design.body.items)) c.self.view_is
-    (subst (ChangesItsFields d.dim (elements d) c.args.e.now) (sym here)
-    (edit_changes d c.self.inside.log c.self.inside.mask c.self.inside.fence c.self.invariant.back c.args.e.now c.in_ok-plan.plan c.in_ok-plan.ensures.kept
-    c.in_ok-plan.ensures.planned))
+returns-clause-changed c = (edited (goal.at.returns-clause-changed c).In_ok-carry).changed
