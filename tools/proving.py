@@ -18,11 +18,11 @@ Said = Tuple['Run', Optional[str]]
 class Run:
     """An rt ci on a tree, whose lines come into a queue, and none behind the last one."""
 
-    def __init__(self, name: str, tree: str, temporary: str, said: 'queue.Queue[Said]', is_urgent: bool) -> None:
+    def __init__(self, name: str, tree: str, temporary: str, said: 'queue.Queue[Said]', niceness: int) -> None:
         self.name, self.tree, self.kept, self.failed = name, tree, set(), False  # type: str, str, Set[str], bool
         words = ['rt', 'ci']
-        if not is_urgent and shutil.which('nice') is not None:
-            words = ['nice', '-n', '10'] + words
+        if niceness and shutil.which('nice') is not None:
+            words = ['nice', '-n', str(niceness)] + words
         self.process = subprocess.Popen(words, cwd=tree, env={**os.environ, 'TMPDIR': temporary},
                                         stdin=subprocess.DEVNULL, stdout=subprocess.PIPE, stderr=subprocess.STDOUT,
                                         text=True, errors='replace', start_new_session=True)
@@ -78,7 +78,7 @@ def is_proving(run: Run) -> bool:
 def take_kept(tree: str, temporary: str, log: Callable[[str], None]) -> Tuple[Set[str], bool]:
     """The crates of a tree that were proved before, and whether all of it was: rt is ended where it begins to prove."""
     said: 'queue.Queue[Said]' = queue.Queue()
-    run = Run('', tree, temporary, said, True)
+    run = Run('', tree, temporary, said, 0)
     try:
         for heard in lines_of(said, 0.5):
             if heard is None:
@@ -95,17 +95,15 @@ def take_kept(tree: str, temporary: str, log: Callable[[str], None]) -> Tuple[Se
 
 
 def width() -> int:
-    """How many crates are proved at a time, each with two processes: as many as there are processors, with memory.
-
-    Half of what a small crate takes is reading the kit and the crates below it, in one process."""
-    most = os.cpu_count() or 1
+    """How many crates are proved at a time, each with two processes: one more than half the processors, with memory."""
+    most = (os.cpu_count() or 1) // 2 + 1
     with open('/proc/meminfo', encoding='ascii') as lines:
         free = next((int(line.split()[1]) * 1024 for line in lines if line.startswith('MemAvailable:')), PROOF_MEMORY)
     return max(1, min(most, free // PROOF_MEMORY))
 
 
 class Provers:
-    """Proves what isn't proved yet, the longest chain first, and hands the crates near that chain a processor first."""
+    """Proves what isn't proved yet, the longest chain first, and hands the crates of that chain a processor first."""
 
     def __init__(self, schedule: Schedule, make_tree: Callable[[str], str], temporary: str) -> None:
         self.schedule, self.make_tree, self.temporary = schedule, make_tree, temporary
@@ -121,7 +119,7 @@ class Provers:
                 for name in [it for it in left if self.schedule.is_ready(it, done)][:at_once - len(self.running)]:
                     left.remove(name)
                     self.running[name] = Run(name, self.make_tree(name), self.temporary, self.said,
-                                             self.schedule.is_urgent(name))
+                                             self.schedule.niceness(name))
                 run = self._wait(log, tick)
                 del self.running[run.name]
                 if not run.is_proved():

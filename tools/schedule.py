@@ -3,7 +3,7 @@
 from typing import Dict, List, Set
 
 OVERHEAD = 230    # what each crate takes beside its own lines, in lines: reading the kit and the crates below
-NEAR = 0.1       # how much shorter than the longest chain, as a part of it, one is that counts as long too
+NEAR = 0.1        # how much shorter than the longest chain, as a part of it, a chain is that is nearly as long
 
 
 class Schedule:
@@ -28,14 +28,16 @@ class Schedule:
     def is_ready(self, name: str, done: Set[str]) -> bool:
         return all(it in done for it in self.below[name])
 
-    def is_urgent(self, name: str) -> bool:
-        """Whether the crate is on a chain that is nearly the longest of all: what ends late there may end all late."""
+    def niceness(self, name: str) -> int:
+        """How far the crate stands back for others: not at all on the longest chain of all, since what ends late there
+        ends all late; a little on a chain that is nearly as long; and else more."""
         chains = self._chains()
         before: Dict[str, int] = {}
         for it in self.order():
             before[it] = max([before[low] + self.work[low] for low in self.below[it]], default=0)
         longest = max(before[it] + chains[it] for it in self.below)
-        return before[name] + chains[name] >= (1 - NEAR) * longest
+        slack = longest - before[name] - chains[name]
+        return 0 if slack == 0 else 5 if slack < NEAR * longest else 10
 
     def length(self) -> int:
         """When the last crate ends."""
