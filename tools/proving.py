@@ -6,6 +6,7 @@ import shutil
 import signal
 import subprocess
 import threading
+import time
 from typing import Callable, Dict, Iterator, List, Optional, Set, Tuple
 
 from schedule import Schedule
@@ -26,6 +27,7 @@ class Run:
         self.process = subprocess.Popen(words, cwd=tree, env={**os.environ, 'TMPDIR': temporary},
                                         stdin=subprocess.DEVNULL, stdout=subprocess.PIPE, stderr=subprocess.STDOUT,
                                         text=True, errors='replace', start_new_session=True)
+        stand_back(self.process.pid, niceness)
         threading.Thread(target=self._read, args=(said,), daemon=True).start()
 
     def _read(self, said: 'queue.Queue[Said]') -> None:
@@ -51,6 +53,20 @@ class Run:
         except ProcessLookupError:
             pass
         self.process.wait()
+
+
+def stand_back(leader: int, niceness: int) -> None:
+    """Sets how far a session stands back for others, where Linux shares the processors out among sessions: then the
+    niceness of its processes counts within it alone. Who isn't root may set it ten times in a second."""
+    for _ in range(3):
+        try:
+            with open('/proc/%d/autogroup' % leader, 'w', encoding='ascii') as group:
+                group.write(str(niceness))
+            return
+        except BlockingIOError:
+            time.sleep(0.15)
+        except OSError:
+            return
 
 
 def lines_of(said: 'queue.Queue[Said]', seconds: float) -> Iterator[Optional[Said]]:
@@ -94,16 +110,17 @@ def take_kept(tree: str, temporary: str, log: Callable[[str], None]) -> Tuple[Se
         run.end()
 
 
-def width() -> int:
-    """How many crates are proved at a time, each with two processes: one more than half the processors, with memory."""
-    most = (os.cpu_count() or 1) // 2 + 1
+def width(more: int = 0) -> int:
+    """How many crates are proved at a time, each with two processes: one more than half the processors, and so many more,
+    where there is memory for them."""
+    most = (os.cpu_count() or 1) // 2 + 1 + more
     with open('/proc/meminfo', encoding='ascii') as lines:
         free = next((int(line.split()[1]) * 1024 for line in lines if line.startswith('MemAvailable:')), PROOF_MEMORY)
     return max(1, min(most, free // PROOF_MEMORY))
 
 
 class Provers:
-    """Proves what isn't proved yet, the longest chain first, and hands the crates of that chain a processor first."""
+    """Proves what isn't proved yet, the longest chain first. Its crates have a place more, and get a processor first."""
 
     def __init__(self, schedule: Schedule, make_tree: Callable[[str], str], temporary: str) -> None:
         self.schedule, self.make_tree, self.temporary = schedule, make_tree, temporary
@@ -113,13 +130,15 @@ class Provers:
     def prove(self, done: Set[str], log: Callable[[str], None], add: Callable[[str], None],
               tick: Callable[[], None]) -> List[str]:
         """Proves all crates but those that are done, tells each, and gives those that aren't proved."""
-        left, at_once = [name for name in self.schedule.order() if name not in done], width()
+        left = [name for name in self.schedule.order() if name not in done]
+        places, urgent_places = width(), width(1)
         try:
             while left or self.running:
-                for name in [it for it in left if self.schedule.is_ready(it, done)][:at_once - len(self.running)]:
-                    left.remove(name)
-                    self.running[name] = Run(name, self.make_tree(name), self.temporary, self.said,
-                                             self.schedule.niceness(name))
+                for name in [it for it in left if self.schedule.is_ready(it, done)]:
+                    niceness = self.schedule.niceness(name)
+                    if len(self.running) < (places if niceness else urgent_places):
+                        left.remove(name)
+                        self.running[name] = Run(name, self.make_tree(name), self.temporary, self.said, niceness)
                 run = self._wait(log, tick)
                 del self.running[run.name]
                 if not run.is_proved():
