@@ -111,8 +111,8 @@ def take_kept(tree: str, temporary: str, log: Callable[[str], None]) -> Tuple[Se
 
 
 def width(more: int = 0) -> int:
-    """How many crates are proved at a time, each with two processes: one more than half the processors, and so many more,
-    where there is memory for them."""
+    """How many crates are proved at a time, each with two processes: one more than half the processors, and so many
+    more, where there is memory for them."""
     most = (os.cpu_count() or 1) // 2 + 1 + more
     with open('/proc/meminfo', encoding='ascii') as lines:
         free = next((int(line.split()[1]) * 1024 for line in lines if line.startswith('MemAvailable:')), PROOF_MEMORY)
@@ -120,7 +120,7 @@ def width(more: int = 0) -> int:
 
 
 class Provers:
-    """Proves what isn't proved yet, the longest chain first. Its crates have a place more, and get a processor first."""
+    """Proves what isn't proved yet, the longest chain first: its crates have one place more, and a processor first."""
 
     def __init__(self, schedule: Schedule, make_tree: Callable[[str], str], temporary: str) -> None:
         self.schedule, self.make_tree, self.temporary = schedule, make_tree, temporary
