@@ -20,7 +20,8 @@ class Run:
     """An rt ci on a tree, whose lines come into a queue, and none behind the last one."""
 
     def __init__(self, name: str, tree: str, temporary: str, said: 'queue.Queue[Said]', niceness: int) -> None:
-        self.name, self.tree, self.kept, self.failed = name, tree, set(), False  # type: str, str, Set[str], bool
+        self.name, self.tree, self.niceness, self.failed = name, tree, niceness, False
+        self.kept: Set[str] = set()
         words = ['rt', 'ci']
         if niceness and shutil.which('nice') is not None:
             words = ['nice', '-n', str(niceness)] + words
@@ -110,33 +111,41 @@ def take_kept(tree: str, temporary: str, log: Callable[[str], None]) -> Tuple[Se
         run.end()
 
 
-def width(more: int = 0) -> int:
-    """How many crates are proved at a time, each with two processes: one more than half the processors, and so many
-    more, where there is memory for them."""
-    most = (os.cpu_count() or 1) // 2 + 1 + more
+def width() -> int:
+    """How many crates are proved at a time, each with two processes: one more than half the processors."""
+    return (os.cpu_count() or 1) // 2 + 1
+
+
+def room() -> int:
+    """For how many crates there is memory."""
     with open('/proc/meminfo', encoding='ascii') as lines:
         free = next((int(line.split()[1]) * 1024 for line in lines if line.startswith('MemAvailable:')), PROOF_MEMORY)
-    return max(1, min(most, free // PROOF_MEMORY))
+    return max(1, free // PROOF_MEMORY)
 
 
 class Provers:
-    """Proves what isn't proved yet, the longest chain first: its crates have one place more, and a processor first."""
+    """Proves what isn't proved yet, the longest chain first. A crate waits for a place only behind those that don't stand
+    back further than it does: the others leave it the processors."""
 
     def __init__(self, schedule: Schedule, make_tree: Callable[[str], str], temporary: str) -> None:
         self.schedule, self.make_tree, self.temporary = schedule, make_tree, temporary
+        self.places, self.room = width(), room()
         self.running: Dict[str, Run] = {}
         self.said: 'queue.Queue[Said]' = queue.Queue()
+
+    def has_place(self, niceness: int) -> bool:
+        ahead = [run for run in self.running.values() if run.niceness <= niceness]
+        return len(ahead) < self.places and len(self.running) < self.room
 
     def prove(self, done: Set[str], log: Callable[[str], None], add: Callable[[str], None],
               tick: Callable[[], None]) -> List[str]:
         """Proves all crates but those that are done, tells each, and gives those that aren't proved."""
         left = [name for name in self.schedule.order() if name not in done]
-        places, urgent_places = width(), width(1)
         try:
             while left or self.running:
                 for name in [it for it in left if self.schedule.is_ready(it, done)]:
                     niceness = self.schedule.niceness(name)
-                    if len(self.running) < (places if niceness else urgent_places):
+                    if self.has_place(niceness):
                         left.remove(name)
                         self.running[name] = Run(name, self.make_tree(name), self.temporary, self.said, niceness)
                 run = self._wait(log, tick)

@@ -2,7 +2,8 @@
 
 from typing import Dict, List, Set
 
-OVERHEAD = 230    # what each crate takes beside its own lines, in lines: reading the kit and the crates below
+OVERHEAD = 290    # what each crate takes beside its own lines, in lines: reading the kit
+BELOW = 12        # how many lines of the crates below take as long to read as one of its own to prove
 NEAR = 0.1        # how much shorter than the longest chain, as a part of it, a chain is that is nearly as long
 
 
@@ -11,7 +12,7 @@ class Schedule:
 
     def __init__(self, below: Dict[str, List[str]], lines: Dict[str, int], lanes: int) -> None:
         self.below = {name: [it for it in names if it in below] for name, names in below.items()}
-        self.work = {name: lines[name] + OVERHEAD for name in below}
+        self.work = {name: lines[name] + OVERHEAD + self._lines_below(name, lines) // BELOW for name in below}
         self.lanes, self.count = lanes, len(below)
         self.ends = self._ends()
 
@@ -46,6 +47,17 @@ class Schedule:
     def reached(self, done: Set[str]) -> int:
         """When the last of these crates ends."""
         return max((self.ends[name] for name in done), default=0)
+
+    def _lines_below(self, name: str, lines: Dict[str, int]) -> int:
+        """The lines of all crates that a crate stands on."""
+        found: Set[str] = set()
+        left = list(self.below[name])
+        while left:
+            one = left.pop()
+            if one not in found:
+                found.add(one)
+                left += self.below[one]
+        return sum(lines[one] for one in found)
 
     def _chains(self) -> Dict[str, int]:
         """The work of each crate and of the longest chain of crates above it."""

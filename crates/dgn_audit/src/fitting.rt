@@ -5,7 +5,7 @@ ghost use Rattle.dgn_layout.specs.Classes.{class_of};
 ghost use Rattle.dgn_layout.specs.Spots.{has_spots, HoldsPoints};
 ghost use Rattle.range_code.specs.Ranges.{on_axis};
 ghost use Rattle.elem_head.specs.Head.{properties_of};
-ghost use Rattle.edit_ops.specs.Causes.{says_locked, broken, deleted};
+ghost use Rattle.edit_trees.specs.Causes.{says_locked, broken, deleted};
 ghost use Rattle.dgn_drawing.specs.Rows.{row_of};
 ghost use Rattle.dgn_drawing.specs.Nesting.{itself};
 ghost use Rattle.dgn_drawing.specs.Numbering.{first_broken_of};

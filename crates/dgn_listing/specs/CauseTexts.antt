@@ -1,7 +1,7 @@
 -- What an edit says that is refused: one line with the cause.
 use Rattle.std.specs.Prelude.{ℕ, List, ◌++◌, codes, decimal}
-use Rattle.edit_ops.specs.declared.cause.Cause.{Cause}
-use Rattle.edit_ops.specs.declared.cause.Cause.TheVariants as causes
+use Rattle.edit_trees.specs.declared.cause.Cause.{Cause}
+use Rattle.edit_trees.specs.declared.cause.Cause.TheVariants as causes
 use Rattle.listing_texts.specs.Lines.{line_feed}
 
 -- words, the number of an element and the end of the line

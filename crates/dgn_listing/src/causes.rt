@@ -4,7 +4,7 @@ ghost use Rattle.std.specs.Prelude.{◌≡◌, ◌++◌, OnOk, OnErr};
 ghost use Rattle.listing_texts.specs.Lines.{AppendsFrontOf};
 ghost use Rattle.dgn_listing.specs.CauseTexts.{refused_text, cause_text};
 
-use edit_ops::Cause;
+use edit_trees::Cause;
 use listing_texts::pieces::{put, put_number};
 use std::alloc::{AllocError, Global};
 

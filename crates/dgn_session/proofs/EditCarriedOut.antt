@@ -9,8 +9,8 @@ use Rattle.dgn_drawing.proofs.Fronts.{body_spelled}
 use Rattle.elem_index.specs.declared.design.Design.{Design}
 use Rattle.elem_index.specs.Design.{elements}
 use Rattle.edit_ops.specs.declared.types.plan.Plan.{Plan}
-use Rattle.edit_ops.specs.Applying.{Done, apply, IsEdit}
-use Rattle.edit_ops.specs.Fields.{edited_fields}
+use Rattle.edit_trees.specs.Applying.{Done, apply, IsEdit}
+use Rattle.edit_trees.specs.Fields.{edited_fields}
 use Rattle.edit_ops.specs.Planned.{IsPlan}
 use Rattle.edit_ops.specs.Laws.{ChangesItsFields}
 use Rattle.edit_ops.proofs.EditLaws.{changes_fields}

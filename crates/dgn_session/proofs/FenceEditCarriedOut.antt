@@ -14,7 +14,7 @@ use Rattle.dgn_fence.specs.Taken.{takes}
 use Rattle.elem_index.specs.declared.design.Design.{Design}
 use Rattle.elem_index.specs.Design.{elements}
 use Rattle.edit_ops.specs.declared.types.plan.Plan.{Plan}
-use Rattle.edit_ops.specs.Applying.{Done}
+use Rattle.edit_trees.specs.Applying.{Done}
 use Rattle.edit_ops.specs.Fenced.{apply_all, fenced_fields, AreRoots, IsFenceEdit}
 use Rattle.edit_ops.specs.Planned.{IsFencePlan}
 use Rattle.edit_ops.specs.FenceLaws.{ChangesFencedFields}

@@ -14,8 +14,8 @@ use Rattle.dgn_drawing.specs.Opening.{Opens}
 use Rattle.dgn_drawing.proofs.Fronts.{body_spelled}
 use Rattle.elem_index.specs.declared.design.Design.{Design}
 use Rattle.elem_index.specs.Design.{elements}
-use Rattle.edit_ops.specs.Applying.{Applied, Done}
-use Rattle.edit_ops.specs.Fields.{filled}
+use Rattle.edit_trees.specs.Applying.{Applied, Done}
+use Rattle.edit_trees.specs.Fields.{filled}
 use Rattle.dgn_audit.specs.Fitting.{apply_fit, fit_fields}
 use Rattle.dgn_audit.specs.Planned.{IsFitPlan}
 use Rattle.dgn_audit.proofs.FitKeepsRows.{fitted_opens, fits_change}

@@ -22,7 +22,7 @@ use Rattle.elem_index.specs.Offsets.{offset_of, offsets_of}
 use Rattle.elem_index.specs.Design.{kept_of, kinds_of, kind_bytes, elements, IsWhole, IsBehind, SameText}
 use Rattle.elem_index.proofs.KindBytes.{kind_bytes-front}
 use Rattle.elem_index.proofs.Places.{length-offsets, get_or-offsets}
-use Rattle.edit_ops.proofs.DesignElements.{four_bytes}
+use Rattle.edit_trees.proofs.DesignElements.{four_bytes}
 use Rattle.nest_tree.specs.Nested.{Nested}
 use Rattle.dgn_session.specs.Kept.{rows_of, OpensAt, Leads, AreKept, IsKept}
 use Rattle.dgn_session.specs.Carried.{HasLast, IsCutAt}

@@ -18,7 +18,7 @@ use Rattle.dgn_drawing.specs.Opening.{Opens, elements_of}
 use Rattle.dgn_drawing.proofs.FirstElements.{dimension_is}
 use Rattle.dgn_drawing.proofs.Fronts.{opens_elements, opens_of, body_spelled}
 use Rattle.edit_ops.specs.declared.types.plan.Plan.{Plan}
-use Rattle.edit_ops.specs.Fields.{Field, filled}
+use Rattle.edit_trees.specs.Fields.{Field, filled}
 use Rattle.dgn_session.specs.State.{entry_with}
 use Rattle.dgn_session.specs.Kept.{OpensAt}
 use Rattle.dgn_session.specs.Carried.{Spells, IsChange, IsSoundPlan}

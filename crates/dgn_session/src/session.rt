@@ -4,7 +4,7 @@ ghost use Rattle.dgn_drawing.specs.Rows.{row_of};
 ghost use Rattle.dgn_drawing.specs.Spelling.{spelling};
 ghost use Rattle.dgn_drawing.specs.Shown.{shown};
 ghost use Rattle.elem_index.specs.Design.{elements, IsWhole};
-ghost use Rattle.edit_ops.specs.Applying.{Done, IsEdit};
+ghost use Rattle.edit_trees.specs.Applying.{Done, IsEdit};
 ghost use Rattle.edit_ops.specs.Fenced.{IsFenceEdit};
 ghost use Rattle.edit_ops.specs.FenceLaws.{ChangesFencedFields};
 ghost use Rattle.edit_ops.specs.Laws.{ChangesItsFields};

@@ -7,8 +7,8 @@ use Rattle.dgn_drawing.specs.Values.{IsShift}
 use Rattle.dgn_drawing.specs.WellFormed.{IsBytes}
 use Rattle.dgn_import.specs.Seconds.{second_of}
 use Rattle.dgn_session.specs.State.{State}
-use Rattle.edit_ops.specs.Applying.{IsEdit}
-use Rattle.edit_ops.specs.Fields.{IsIn}
+use Rattle.edit_trees.specs.Applying.{IsEdit}
+use Rattle.edit_trees.specs.Fields.{IsIn}
 use Rattle.edit_ops.specs.Fenced.{IsFenceEdit}
 use Rattle.edit_script.specs.declared.command.Command.{Command}
 use Rattle.edit_script.specs.declared.command.Command.TheVariants as command

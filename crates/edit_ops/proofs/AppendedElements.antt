@@ -1,13 +1,12 @@
 -- What an edit leaves that only appends: the elements as they were, and others behind them. And what an appended
 -- element leaves.
-use Rattle.std.proofs.Common.{◌≡◌, ℕ, ◌+◌, ◌/◌, ◌%◌, ◌<◌, ◌≤◌, ◌==◌, List, [], ◌∷◌, ◌++◌, length, map, drop, get_or, true, false, cond, refl, sym, ap, ◌∙◌}
+use Rattle.std.proofs.Common.{◌≡◌, ℕ, ◌+◌, ◌<◌, ◌≤◌, ◌==◌, List, [], ◌∷◌, ◌++◌, length, map, drop, get_or, false, refl, sym, ap, ◌∙◌}
 use Rattle.std.proofs.Common.{subst, append_assoc, length-append, arith}
 use Rattle.std.specs.Prelude.{nat_lt, None}
 use Rattle.std.specs.List.{AllByRecursion}
 use Rattle.std.proofs.lemmas.Grind.{flat_map-append}
 use Rattle.std.proofs.lemmas.List.{append-nil, get_or_append_left, take_at, drop_at}
-use Rattle.std.proofs.lemmas.Bool.{and_parts, eqb-true, ltb-false}
-use Rattle.elem_head.specs.Head.{size_of as size_said}
+use Rattle.std.proofs.lemmas.Bool.{eqb-true, ltb-false}
 use Rattle.patch_bytes.specs.Puts.{write}
 use Rattle.dgn_layout.specs.Classes.{class_of, is_among}
 use Rattle.dgn_drawing.specs.declared.edit.Edit.{Edit}
@@ -15,49 +14,28 @@ use Rattle.dgn_drawing.specs.declared.edit.Edit.TheVariants as edit
 use Rattle.dgn_drawing.specs.declared.new_shape.NewShape.{NewShape}
 use Rattle.dgn_drawing.specs.declared.new_shape.NewShape.TheVariants as shapes
 use Rattle.dgn_drawing.specs.Element.{Element}
-use Rattle.dgn_drawing.specs.Spelling.{spell, spelling, size_of}
+use Rattle.dgn_drawing.specs.Spelling.{spell, spelling}
 use Rattle.dgn_drawing.specs.WellFormed.{IsDimension, IsWellFormed}
 use Rattle.dgn_drawing.specs.Rows.{row_of}
 use Rattle.dgn_drawing.specs.Nesting.{Leaf, NoTree, Tree, is_counted, flat, forest, BeginsFree}
 use Rattle.dgn_drawing.specs.NewElements.{NewElement, IsNew, kind_made, made}
-use Rattle.dgn_drawing.specs.Opening.{dimension, is_tcb, IsTcb, BeginsWithTcb, Opens}
+use Rattle.dgn_drawing.specs.Opening.{dimension, BeginsWithTcb, Opens}
 use Rattle.dgn_drawing.proofs.FirstElements.{dimension_is}
-use Rattle.dgn_drawing.proofs.RecordsRead.{size_said-spell}
 use Rattle.dgn_drawing.proofs.MadeElements.{made_good}
 use Rattle.nest_tree.proofs.NestingSteps.{flat-forest}
-use Rattle.edit_ops.specs.declared.cause.Cause.TheVariants as causes
+use Rattle.edit_trees.specs.declared.cause.Cause.TheVariants as causes
 use Rattle.edit_ops.specs.declared.types.plan.Plan.{Plan}
-use Rattle.edit_ops.specs.Causes.{other_axes, too_long, bytes_appended, cause_of}
-use Rattle.edit_ops.specs.Applying.{Done, apply, changed_forest}
-use Rattle.edit_ops.specs.Fields.{Field, edited_fields, filled}
+use Rattle.edit_trees.specs.Causes.{other_axes, too_long, bytes_appended, cause_of}
+use Rattle.edit_trees.specs.Applying.{Done, apply, changed_forest}
+use Rattle.edit_trees.specs.Fields.{Field, edited_fields, filled}
 use Rattle.edit_ops.specs.Planned.{IsPlan}
 use Rattle.edit_ops.specs.Laws.{ChangesItsFields}
-use Rattle.edit_ops.proofs.PartPlace.{flat-joined}
-use Rattle.edit_ops.proofs.EachLive.{each_both}
-use Rattle.edit_ops.proofs.AcceptedEdit.{none_both, met, unmet, done_is, done_without_cause}
-use Rattle.edit_ops.proofs.PartNestsAlone.{leaf_appended}
+use Rattle.edit_trees.proofs.PartPlace.{flat-joined}
+use Rattle.edit_trees.proofs.EachLive.{each_both}
+use Rattle.edit_trees.proofs.FirstElement.{tcb_long, same_dimension, some_element}
+use Rattle.edit_trees.proofs.AcceptedEdit.{none_both, met, unmet, done_is, done_without_cause}
+use Rattle.edit_parts.proofs.PartNestsAlone.{leaf_appended}
 use Rattle.dgn_drawing.specs.declared.limits.TheConstants.{MOST_DESIGN}
-
--- bytes 2 and 3 of a TCB
-tcb_words : (b : List ℕ) → is_tcb b ≡ true → (get_or b 2 0 ≡ 254) × (get_or b 3 0 ≡ 2)
-tcb_words b begins =
-    let whole = and_parts _ _ begins in
-    let front = and_parts _ _ whole.0 in
-    (eqb-true (get_or b 2 0) 254 front.1, eqb-true (get_or b 3 0) 2 whole.1)
-
--- so a TCB has 1536 bytes
-pub tcb_long : (dim : ℕ) (e : Element) → IsDimension dim → IsWellFormed dim e → IsTcb e → size_of e ≡ 1536
-tcb_long dim e axes good tcb =
-    let said : size_said (spell e) ≡ size_of e = ap size_said (sym (append-nil (spell e))) ∙ size_said-spell dim e axes good [] in
-    let words = tcb_words (spell e) tcb.begins in
-    omega (arith, said, words.0, words.1)
-
--- and the dimension stands in it
-pub same_dimension : (a b c : List ℕ) → 1214 < length a → dimension (a ++ b) ≡ dimension (a ++ c)
-same_dimension a b c long =
-    let one = get_or_append_left a b 0 1214 long in
-    let two = get_or_append_left a c 0 1214 long in
-    ap (λ (x : ℕ). cond (x / 64 % 2 == 1) 3 2) (one ∙ sym two)
 
 -- elements that begin with the TCB do so with others behind them
 tcb_before : (es more : List Element) → BeginsWithTcb es → BeginsWithTcb (es ++ more)
@@ -86,11 +64,6 @@ appended_opens f dim es more t opens good =
       tail = opens.tail;
       axes = opens.axes ∙ ap dimension opens.whole ∙ sym (dimension_before dim es more t axes opens.each opens.first);
     }
-
--- a file that opens has an element
-pub some_element : (es : List Element) → BeginsWithTcb es → 0 < length es
-some_element [] first = absurd first
-some_element (e ∷ es) first = omega arith
 
 -- a file that isn't too long with so many more bytes
 pub short_left : (body rest more : ℕ) → too_long (body + rest + more) ≡ None → body + (rest + more) ≤ MOST_DESIGN

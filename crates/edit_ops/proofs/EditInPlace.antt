@@ -1,13 +1,12 @@
 -- What an edit in its place that is done leaves: it opens as a drawing of the same dimension, is as long, and
 -- differs in the edited fields alone.
-use Rattle.std.proofs.Common.{◌≡◌, ℕ, zero, suc, ◌+◌, ◌-◌, ◌<◌, ◌≤◌, List, [], ◌∷◌, ◌++◌, length, map, drop, get_or, false, refl, sym, ap, ◌∙◌, subst}
-use Rattle.std.proofs.Common.{append_assoc, arith}
-use Rattle.std.specs.Prelude.{nat_lt, Some, None, slice_get}
+use Rattle.std.proofs.Common.{◌≡◌, ℕ, ◌+◌, ◌≤◌, List, [], ◌++◌, length, map, drop, get_or, refl, sym, ap, ◌∙◌, subst}
+use Rattle.std.proofs.Common.{arith}
+use Rattle.std.specs.Prelude.{Some, None, slice_get}
 use Rattle.std.specs.List.{AllByRecursion}
 use Rattle.std.proofs.lemmas.List.{append-nil, drop_all, take_all, length-map}
 use Rattle.std.proofs.lemmas.List.Elements.{recursion_from_All}
-use Rattle.std.proofs.lemmas.Bool.{cond-false, le-ltb}
-use Rattle.patch_bytes.specs.Puts.{Put, write, Holds, AreWithin}
+use Rattle.patch_bytes.specs.Puts.{Put, write, AreWithin}
 use Rattle.patch_bytes.proofs.PutsLaid.{write_other}
 use Rattle.patch_bytes.proofs.RisingPuts.{span_within}
 use Rattle.dgn_drawing.specs.declared.edit.Edit.{Edit}
@@ -15,71 +14,29 @@ use Rattle.dgn_drawing.specs.declared.edit.Edit.TheVariants as edit
 use Rattle.dgn_drawing.specs.declared.row.Row.{Row}
 use Rattle.dgn_drawing.specs.Values.{Displacement}
 use Rattle.dgn_drawing.specs.Element.{Element}
-use Rattle.dgn_drawing.specs.Spelling.{spell, spelling}
-use Rattle.dgn_drawing.specs.WellFormed.{IsDimension, IsWellFormed}
+use Rattle.dgn_drawing.specs.Spelling.{spelling}
+use Rattle.dgn_drawing.specs.WellFormed.{IsWellFormed}
 use Rattle.dgn_drawing.specs.Rows.{row_of}
-use Rattle.dgn_drawing.specs.Nesting.{Leaf, Whole, Forest, NoTree, Tree, flat, nest, forest, BeginsFree}
-use Rattle.dgn_drawing.specs.Opening.{dimension, IsTcb, BeginsWithTcb, Opens}
-use Rattle.edit_ops.specs.Trees.{live_map, live_tree, above_tree, exchange}
-use Rattle.edit_ops.specs.Causes.{target_of, cause_of, bytes_appended}
-use Rattle.edit_ops.specs.Applying.{Done, apply, change_of, above_change, altered, changed_forest, IsEdit, ChangesInPlace}
-use Rattle.edit_ops.specs.Fields.{IsIn, part_fields, edited_fields, filled}
-use Rattle.edit_ops.specs.Written.{part_puts}
+use Rattle.dgn_drawing.specs.Nesting.{flat, BeginsFree}
+use Rattle.dgn_drawing.specs.Opening.{dimension, Opens}
+use Rattle.edit_trees.specs.Trees.{live_map, live_tree, above_tree}
+use Rattle.edit_trees.specs.Causes.{target_of, cause_of, bytes_appended}
+use Rattle.edit_trees.specs.Applying.{Done, apply, change_of, above_change, altered, changed_forest, IsEdit, ChangesInPlace}
+use Rattle.edit_trees.specs.Fields.{IsIn, part_fields, edited_fields, filled}
+use Rattle.edit_trees.specs.Written.{part_puts}
 use Rattle.edit_ops.specs.declared.types.plan.Plan.{Plan}
 use Rattle.edit_ops.specs.Planned.{IsPlan}
 use Rattle.edit_ops.specs.Laws.{ChangesItsFields}
-use Rattle.edit_ops.proofs.RowsKept.{rows_kept, nested_as, each_kept}
-use Rattle.edit_ops.proofs.TextTurns.{whole_turned, whole_span}
-use Rattle.edit_ops.proofs.LivePuts.{field_of, IsPut}
-use Rattle.edit_ops.proofs.HeaderPuts.{IsAbovePut}
+use Rattle.edit_trees.proofs.RowsKept.{rows_kept, nested_as, each_kept}
+use Rattle.edit_trees.proofs.TextTurns.{whole_turned, whole_span}
+use Rattle.edit_trees.proofs.LivePuts.{field_of, IsPut}
+use Rattle.edit_trees.proofs.HeaderPuts.{IsAbovePut}
 use Rattle.elem_index.proofs.Places.{opened_axes}
-use Rattle.edit_ops.proofs.EditedBytes.{IsWritten, written, all_so}
-use Rattle.edit_ops.proofs.AcceptedEdit.{IsAccepted, accepted, done_is, done_without_cause}
-use Rattle.edit_ops.proofs.AppendedElements.{tcb_long, same_dimension}
+use Rattle.edit_trees.proofs.EditedBytes.{IsWritten, written, all_so}
+use Rattle.edit_trees.proofs.AcceptedEdit.{IsAccepted, accepted, done_is, done_without_cause}
+use Rattle.edit_trees.proofs.FirstElement.{begins_same}
+use Rattle.edit_trees.proofs.PutFields.{held_by_none}
 use Rattle.dgn_drawing.specs.declared.limits.TheConstants.{MOST_DESIGN}
-
--- a list of elements that begins with this one
-pub record BeginsWith (x : Element) (made : List Element) : Type 0 where
-  pub behind : List Element
-  pub is : made ≡ x ∷ behind
-
--- what begins with the TCB of a drawing has its dimension
-pub begins_as : (dim : ℕ) (x : Element) (xs made : List Element) (t : List ℕ) → IsDimension dim → IsWellFormed dim x → IsTcb x → BeginsWith x made
-    → BeginsWithTcb made × (dimension (spelling made ++ t) ≡ dimension (spelling (x ∷ xs) ++ t))
-begins_as dim x xs made t axes good first begins =
-    let long : 1214 < length (spell x) = omega (arith, tcb_long dim x axes good first) in (
-      subst BeginsWithTcb (sym begins.is) first,
-      ap (λ (es : List Element). dimension (spelling es ++ t)) begins.is
-          ∙ ap dimension (append_assoc (spell x) (spelling begins.behind) t)
-          ∙ same_dimension (spell x) (spelling begins.behind ++ t) (spelling xs ++ t) long
-          ∙ ap dimension (sym (append_assoc (spell x) (spelling xs) t)),
-    )
-
--- a change of a later element and of the headers above it leaves the first element
-pub first_stays : (x : Element) (xs : List Element) (n : ℕ) (above : Element → Element) (other : Forest Element → Forest Element) → 0 < n
-    → BeginsWith x (flat (exchange above other n (forest row_of (x ∷ xs))))
-first_stays x xs zero above other later = absurd (omega arith)
-first_stays x xs (suc n) above other later =
-    let past : nat_lt n 0 ≡ false = le-ltb n 0 (omega arith) in
-    record {
-      behind = flat (exchange above other (n - 0) (nest row_of Whole xs));
-      is = ap flat (cond-false (nat_lt n 0) (Tree Leaf (above x) (exchange above other n NoTree) (nest row_of Whole xs))
-          (Tree Leaf x NoTree (exchange above other (n - 0) (nest row_of Whole xs))) past);
-    }
-
--- so the list begins with the TCB, and its dimension stays
-begins_same : (dim : ℕ) (es : List Element) (n : ℕ) (above : Element → Element) (other : Forest Element → Forest Element) (t : List ℕ) → IsDimension dim
-    → AllByRecursion (IsWellFormed dim) es → BeginsWithTcb es → 0 < n
-    → BeginsWithTcb (flat (exchange above other n (forest row_of es)))
-    × (dimension (spelling (flat (exchange above other n (forest row_of es))) ++ t) ≡ dimension (spelling es ++ t))
-begins_same dim [] n above other t axes each first later = absurd first
-begins_same dim (x ∷ xs) n above other t axes each first later =
-    begins_as dim x xs (flat (exchange above other n (forest row_of (x ∷ xs)))) t axes each.0 first (first_stays x xs n above other later)
-
--- a byte in no field is held by no put
-pub held_by_none : (k : ℕ) (ps : List Put) → AllByRecursion (λ f. ¬ IsIn f k) (map field_of ps) → AllByRecursion (λ p. Holds p k → ⊥) ps
-held_by_none k [] none = tt
-held_by_none k (p ∷ ps) none = ((λ held. none.0 (record { from = held.from; below = held.below })), held_by_none k ps none.1)
 
 -- a list that is as long as another has nothing behind it
 none_appended : (new old : List Element) → length new ≡ length old → BeginsFree row_of (drop (length old) new)

@@ -6,7 +6,7 @@ use Rattle.dgn_drawing.specs.Values.{Displacement, LookChange}
 use Rattle.dgn_drawing.specs.Element.{Element}
 use Rattle.edit_ops.specs.Laws.{EditedDrawingsOpen, EditedDrawingsFit, EditsChangeTheirFields}
 use Rattle.edit_ops.proofs.AppendedElements.{append_opens, append_fits, append_changes}
-use Rattle.edit_ops.proofs.CopiedPart.{copy_opens, copy_fits, copy_changes}
+use Rattle.edit_ops.proofs.CopyEdits.{copy_opens, copy_fits, copy_changes}
 use Rattle.edit_ops.proofs.EditInPlace.{IsInPlace, in_place, opens_in_place, fits_in_place, changes_in_place}
 
 -- a move, a change of the look and a deletion change the part in its place

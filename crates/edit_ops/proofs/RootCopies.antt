@@ -10,29 +10,19 @@ use Rattle.dgn_drawing.specs.Spelling.{spelling}
 use Rattle.dgn_drawing.specs.WellFormed.{IsDimension, IsWellFormed}
 use Rattle.dgn_drawing.specs.Rows.{row_of}
 use Rattle.dgn_drawing.specs.Changes.{shift}
-use Rattle.dgn_drawing.specs.Nesting.{Whole, Forest, NoTree, Tree, flat, nest, forest, joined, BeginsFree}
+use Rattle.dgn_drawing.specs.Nesting.{Whole, Forest, flat, nest, forest, joined, BeginsFree}
 use Rattle.dgn_drawing.specs.Opening.{BeginsWithTcb}
 use Rattle.nest_tree.proofs.NestingSteps.{nest_nil}
 use Rattle.nest_tree.proofs.TreesApart.{nest_apart, forest_apart}
-use Rattle.edit_ops.specs.Trees.{tree_at, live_map}
-use Rattle.edit_ops.specs.Applying.{copied}
+use Rattle.edit_trees.specs.Trees.{tree_at, live_map}
+use Rattle.edit_trees.specs.Applying.{copied}
 use Rattle.edit_ops.specs.Fenced.{edits_at, copies, all_appended}
-use Rattle.edit_ops.proofs.PartPlace.{flat-joined}
-use Rattle.edit_ops.proofs.EachLive.{each_both}
-use Rattle.edit_ops.proofs.RootsChanged.{first_spelled}
-use Rattle.edit_ops.proofs.AcceptedEdit.{IsAccepted}
-use Rattle.edit_ops.proofs.AppendedElements.{some_element}
-use Rattle.edit_ops.proofs.CopiedPart.{freed_first, copied_good, copied_long, copied_nests}
-
--- where trees are the same behind the same trees, they are the same
-pub joined_left : {A : Type 0} (f a b : Forest A) → joined f a ≡ joined f b → a ≡ b
-joined_left NoTree a b is = is
-joined_left (Tree knot h below behind) a b is = joined_left behind a b (let e = is in cc)
-
--- what begins without bit C, and behind it too
-pub free_both : (xs ys : List Element) → BeginsFree row_of xs → BeginsFree row_of ys → BeginsFree row_of (xs ++ ys)
-free_both [] ys first last = last
-free_both (x ∷ xs) ys first last = first
+use Rattle.edit_trees.proofs.PartPlace.{flat-joined}
+use Rattle.edit_trees.proofs.EachLive.{each_both}
+use Rattle.edit_trees.proofs.AcceptedEdit.{IsAccepted}
+use Rattle.edit_trees.proofs.FirstElement.{some_element}
+use Rattle.edit_parts.proofs.TreesBehind.{first_spelled, joined_left, free_both}
+use Rattle.edit_parts.proofs.CopiedPart.{freed_first, copied_good, copied_long, copied_nests}
 
 module _ (dim : ℕ) (es : List Element) (by : Displacement) where
   -- the copy of the tree of root n, and those of some roots

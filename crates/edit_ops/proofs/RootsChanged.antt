@@ -18,15 +18,16 @@ use Rattle.dgn_drawing.specs.Numbering.{end_of}
 use Rattle.dgn_drawing.specs.Shown.{roots}
 use Rattle.nest_tree.proofs.NestingSteps.{flat-forest}
 use Rattle.elem_index.specs.Offsets.{offset_of}
-use Rattle.edit_ops.specs.Trees.{count_in, tree_at, live_map, Live, live_from, live_tree, above_from, above_tree}
-use Rattle.edit_ops.specs.Applying.{change_of, IsEdit}
+use Rattle.edit_trees.specs.Trees.{count_in, tree_at, live_map, Live, live_from, live_tree, above_from, above_tree}
+use Rattle.edit_trees.specs.Applying.{change_of, IsEdit}
 use Rattle.edit_ops.specs.Fenced.{chosen_map}
-use Rattle.edit_ops.specs.Written.{puts_at, live_puts, IsReady}
-use Rattle.edit_ops.proofs.PartPlace.{flat-joined}
-use Rattle.edit_ops.proofs.EachLive.{each_both, each_first, each_last}
-use Rattle.edit_ops.proofs.RowsKept.{map-joined, live_looks, live_map_each}
-use Rattle.edit_ops.proofs.TextTurns.{Turns, turns_none, turns_then}
-use Rattle.edit_ops.proofs.LivePuts.{turns_as, forest_turned}
+use Rattle.edit_trees.specs.Written.{puts_at, live_puts, IsReady}
+use Rattle.edit_trees.proofs.PartPlace.{flat-joined}
+use Rattle.edit_trees.proofs.EachLive.{each_both, each_first, each_last}
+use Rattle.edit_trees.proofs.RowsKept.{map-joined, live_looks, live_map_each}
+use Rattle.edit_trees.proofs.TextTurns.{Turns, turns_none, turns_then}
+use Rattle.edit_trees.proofs.LivePuts.{turns_as, forest_turned}
+use Rattle.edit_parts.proofs.TreesBehind.{first_spelled}
 
 -- the live elements of the chosen trees, of trees whose first element has number n and begins at byte p
 abbrev pub chosen_live : (ℕ → Bool) → ℕ → ℕ → Forest Element → List Live
@@ -34,10 +35,6 @@ chosen_live chosen n p NoTree = []
 chosen_live chosen n p (Tree knot h below behind) =
     cond (chosen n) (live_from n p (Tree knot h below NoTree)) []
     ++ chosen_live chosen (end_of n below) (p + (size_of h + length (spelling (flat below)))) behind
-
--- a tree and those behind it have the bytes of both
-pub first_spelled : (f g : Forest Element) → spelling (flat (joined f g)) ≡ spelling (flat f) ++ spelling (flat g)
-first_spelled f g = ap spelling (flat-joined f g) ∙ flat_map-append spell (flat f) (flat g)
 
 module _ (change : Element → Element) where
   -- one tree, changed where it is chosen

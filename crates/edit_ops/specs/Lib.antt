@@ -1,13 +1,6 @@
-pub mod Trees
-pub mod Causes
-pub mod Applying
-pub mod Fields
-pub mod Written
+pub mod Edits
 pub mod Fenced
-pub mod Found
-pub mod Asking
 pub mod Planned
-pub mod Copying
 pub mod Laws
 pub mod FenceLaws
 pub mod WalkLaws

@@ -3,8 +3,8 @@ ghost use Rattle.dgn_drawing.specs.Rows.{row_of};
 ghost use Rattle.dgn_drawing.specs.Nesting.{itself};
 ghost use Rattle.dgn_drawing.specs.Numbering.{parent_of};
 ghost use Rattle.elem_index.specs.Design.{elements};
-ghost use Rattle.edit_ops.specs.Trees.{above_tree};
-ghost use Rattle.edit_ops.specs.Written.{found};
+ghost use Rattle.edit_trees.specs.Trees.{above_tree};
+ghost use Rattle.edit_trees.specs.Written.{found};
 
 use elem_index::Design;
 use nest_tree::types::Nest;

@@ -1,15 +1,16 @@
 ghost use Rattle.std.specs.Prelude.{◌≡◌, ◌+◌, ◌<◌, ◌≤◌, [], length, map, IfOk, IfErr, IsErrOf};
 ghost use Rattle.dgn_drawing.specs.Rows.{row_of};
 ghost use Rattle.elem_index.specs.Design.{elements, IsWhole};
-ghost use Rattle.edit_ops.specs.Applying.{apply};
+ghost use Rattle.edit_trees.specs.Applying.{apply};
 ghost use Rattle.edit_ops.specs.Fenced.{edit_at, apply_all, AreRoots, IsFenceEdit};
 ghost use Rattle.edit_ops.specs.Planned.{IsPlanBehind, IsFencePlan, IsRefused};
 
-use crate::edit_fault::EditFault;
 use crate::numbers::{Numbers, no_numbers};
 use crate::planning::plan_behind;
 use crate::types::Plan;
 use dgn_drawing::{Edit, FenceEdit, MOST_DESIGN, Shift, SymbChange};
+use edit_parts::same_shift;
+use edit_trees::EditFault;
 use elem_index::Design;
 use nest_tree::types::Nest;
 use patch_bytes::{ByteList, PatchList};
@@ -118,16 +119,6 @@ fn root_edit(edit: &FenceEdit, n: u32) -> Edit
             change: same_look(change),
         },
         FenceEdit::Delete => Edit::Delete { n },
-    }
-}
-
-// A second value of a displacement.
-pub(crate) fn same_shift(by: &Shift) -> Shift
-    ensures { result ≡ by.now }
-{
-    Shift {
-        axes: by.axes,
-        by: by.by,
     }
 }
 

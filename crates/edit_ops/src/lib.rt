@@ -6,27 +6,15 @@
 #![tactic(auto)]
 
 mod above;
-mod asked;
-mod asking;
-mod cause;
-mod causes;
-mod copying;
-mod edit_fault;
+mod edit_causes;
 mod fencing;
-mod finding;
-mod importing;
 pub mod laws;
-mod live;
-mod lone;
-mod lone_copy;
 mod numbers;
 mod patches;
 mod planning;
 pub mod types;
 
-pub use cause::Cause;
-pub use copying::part_bytes;
-pub use edit_fault::EditFault;
+pub use edit_parts::{copy_tree, part_bytes};
+pub use edit_trees::{Cause, EditFault};
 pub use fencing::plan_all;
-pub use importing::copy_tree;
 pub use planning::plan;

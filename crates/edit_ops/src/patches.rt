@@ -13,22 +13,19 @@ ghost use Rattle.elem_index.specs.Design.{elements, IsWhole};
 ghost use Rattle.patch_bytes.specs.PatchView.{put_of};
 ghost use Rattle.range_code.specs.Plane.{is_on_plane};
 ghost use Rattle.dgn_drawing.specs.SpotNumbers.{sum_at, wider};
-ghost use Rattle.edit_ops.specs.Trees.{found_at, above_tree, live_tree};
-ghost use Rattle.edit_ops.specs.Written.{found, live_puts, above_puts, part_puts, wider_put, wider_puts, sum_put, new_look, IsReady, MayWiden};
+ghost use Rattle.edit_trees.specs.Trees.{found_at, above_tree, live_tree};
+ghost use Rattle.edit_trees.specs.Written.{found, live_puts, above_puts, part_puts, wider_put, wider_puts, sum_put, new_look, IsReady, MayWiden};
 
-use crate::finding::{Found, find};
-use dgn_drawing::{Edit, MOST_DESIGN, Shift, SymbChange};
+use dgn_drawing::{Edit, MOST_DESIGN, Shift};
 use dgn_layout::Spot;
 use dgn_words::range_long;
-use elem_head::symb;
+use edit_parts::push_live;
+use edit_trees::{Found, find};
 use elem_index::Design;
 use patch_bytes::{Patch, PatchList};
 use range_code::Box3;
-use spot_numbers::{bytes_at, moved_number, spots_in, sum, value, wider};
+use spot_numbers::{bytes_at, moved_number, spots_in, value, wider};
 use std::alloc::AllocError;
-
-// The bit of an element's second byte that marks it deleted.
-const DELETED: u8 = 0x80;
 
 // Appends what an edit of the part of element n puts into the headers above it and into its live elements, of which
 // `above` and `live` have the numbers.
@@ -172,111 +169,5 @@ fn wider_patch(found: Found, spot: Spot, r: Box3) -> Patch
         at: found.place as u32 + spot.at,
         len: 4,
         bytes: bytes_at(spot, number),
-    }
-}
-
-// Appends what an edit puts into live elements, or into the copies of them, of which `live` has the numbers.
-pub fn push_live(
-    patches: &mut PatchList,
-    d: &Design,
-    live: &[u32],
-    edit: &Edit,
-) -> Result<(), AllocError>
-    requires whole { IsWhole d.now }
-    requires ready { AllByRecursion (λ v. IsReady d.now.dim edit.now v.element) (found (elements d.now) live.now) }
-    ensures { OnOk result (patches.new ≡ patches.old
-        ++ live_puts d.now.dim edit.now (found (elements d.now) live.now)) }
-{
-    'live: for m in live {
-        push_patches(patches, d, *m, edit)?;
-    }
-    Ok(())
-}
-
-// Appends what an edit puts into element m, where there is one.
-fn push_patches(patches: &mut PatchList, d: &Design, m: u32, edit: &Edit) -> Result<(), AllocError>
-    requires whole { IsWhole d.now }
-    requires ready { AllByRecursion (λ v. IsReady d.now.dim edit.now v.element)
-        (option_to_list (found_at (elements d.now) m)) }
-    ensures { OnOk result (patches.new ≡ patches.old
-        ++ live_puts d.now.dim edit.now (option_to_list (found_at (elements d.now) m))) }
-{
-    let Some(found) = find(d, m) else {
-        return Ok(());
-    };
-    match edit {
-        Edit::Move { by, .. } => push_sums(patches, d.dim, found, by),
-        Edit::Copy { by, .. } => push_sums(patches, d.dim, found, by),
-        Edit::Sym { change, .. } => patches.push(look_patch(found, change)),
-        Edit::Delete { .. } => patches.push(mark_patch(found)),
-        Edit::Append(_) => Ok(()),
-    }
-}
-
-// Appends the sums at all spots of an element, each of which is on the design plane.
-fn push_sums(patches: &mut PatchList, dim: u8, found: Found, by: &Shift) -> Result<(), AllocError>
-    requires dimension { IsDimension dim }
-    requires kind { found.kind < 128 }
-    requires holds { HoldsPoints dim found.kind found.bytes.now (length found.bytes.now) }
-    requires few { found.place + length found.bytes.now ≤ MOST_DESIGN }
-    requires plane { IsTrue (list_all (λ s. is_on_plane (sum_at by.now found.bytes.now s))
-        (spots_of dim found.kind found.bytes.now)) }
-    ensures { OnOk result (patches.new ≡ patches.old
-        ++ map (sum_put by.now found.entry.place found.entry.bytes.now) (spots_of dim found.entry.kind found.entry.bytes.now)) }
-{
-    'spots: for spot in spots_in(dim, found.kind, found.bytes) {
-        patches.push(sum_patch(found, spot, by))?;
-    }
-    Ok(())
-}
-
-// The sum at a spot, which is on the design plane.
-fn sum_patch(found: Found, spot: Spot, by: &Shift) -> Patch
-    requires within { spot.at + 4 ≤ length found.bytes.now }
-    requires few { found.place + length found.bytes.now ≤ MOST_DESIGN }
-    requires plane { IsTrue (is_on_plane (sum_at by.now found.bytes.now spot)) }
-    ensures { put_of result ≡ sum_put by.now found.entry.place found.entry.bytes.now spot }
-{
-    match sum(found.bytes, spot, by) {
-        Some(number) => Patch {
-            at: found.place as u32 + spot.at,
-            len: 4,
-            bytes: bytes_at(spot, number),
-        },
-        None => unreachable!(),
-    }
-}
-
-// The two bytes of an element's look with what is given of another.
-fn look_patch(found: Found, change: &SymbChange) -> Patch
-    requires long { 36 ≤ length found.bytes.now }
-    requires few { found.place + length found.bytes.now ≤ MOST_DESIGN }
-    ensures { put_of result ≡ record {
-      at = found.entry.place + 34;
-      bytes = new_look change.now (symbology_of found.entry.bytes.now);
-    } }
-{
-    let look = symb(found.bytes);
-    let style = change.style.unwrap_or(look.style);
-    let weight = change.weight.unwrap_or(look.weight);
-    let color = change.color.unwrap_or(look.color);
-    Patch {
-        at: found.place as u32 + 34,
-        len: 2,
-        bytes: [style + 8 * weight, color, 0, 0],
-    }
-}
-
-// The type and the deleted bit of an element, with the bit set.
-fn mark_patch(found: Found) -> Patch
-    requires kind { found.kind < 128 }
-    requires long { 4 ≤ length found.bytes.now }
-    requires few { found.place + length found.bytes.now ≤ MOST_DESIGN }
-    ensures { put_of result ≡ record { at = found.entry.place + 1; bytes = (found.entry.kind + 128) ∷ [] } }
-{
-    Patch {
-        at: found.place as u32 + 1,
-        len: 1,
-        bytes: [found.kind + DELETED, 0, 0, 0],
     }
 }

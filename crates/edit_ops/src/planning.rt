@@ -5,26 +5,24 @@ ghost use Rattle.dgn_drawing.specs.Spelling.{spelling};
 ghost use Rattle.dgn_drawing.specs.Rows.{row_of};
 ghost use Rattle.dgn_drawing.specs.Nesting.{flat};
 ghost use Rattle.elem_index.specs.Design.{elements, IsWhole};
-ghost use Rattle.edit_ops.specs.Trees.{above_tree, live_tree};
-ghost use Rattle.edit_ops.specs.Applying.{apply, ChangesInPlace, IsEdit};
-ghost use Rattle.edit_ops.specs.Causes.{target_of, part_cause, causes_of, first_of};
-ghost use Rattle.edit_ops.specs.Copying.{tree_copy};
+ghost use Rattle.edit_trees.specs.Trees.{above_tree, live_tree};
+ghost use Rattle.edit_trees.specs.Applying.{apply, ChangesInPlace, IsEdit};
+ghost use Rattle.edit_trees.specs.Causes.{target_of, part_cause, causes_of, first_of};
+ghost use Rattle.edit_parts.specs.Copying.{tree_copy};
 ghost use Rattle.edit_ops.specs.Planned.{IsPlan, IsPlanBehind, IsRefused, IsStopped};
-ghost use Rattle.edit_ops.specs.Written.{found, part_puts};
+ghost use Rattle.edit_trees.specs.Written.{found, part_puts};
 
 use crate::above::put_numbers_above;
-use crate::asking::{append_cause, edit_cause, growth_cause, move_cause};
-use crate::cause::Cause;
-use crate::causes::{other_axes, part_cause, unknown};
-use crate::copying::part_len;
-use crate::edit_fault::EditFault;
-use crate::importing::copy_tree;
-use crate::live::put_live_numbers;
-use crate::lone::is_lone_root;
+use crate::edit_causes::{append_cause, edit_cause, growth_cause};
 use crate::numbers::{Numbers, no_numbers};
 use crate::patches::push_part;
 use crate::types::Plan;
 use dgn_drawing::{Edit, MOST_DESIGN, Shift};
+use edit_parts::{
+    copy_tree, is_lone_root, move_cause, other_axes, part_cause, part_len, put_live_numbers,
+    unknown,
+};
+use edit_trees::{Cause, EditFault};
 use elem_index::Design;
 use nest_tree::types::Nest;
 use new_elements::spelled;

@@ -6,8 +6,8 @@ use Rattle.dgn_drawing.specs.Nesting.{itself}
 use Rattle.dgn_drawing.specs.Numbering.{headers_of}
 use Rattle.nest_tree.proofs.HeaderChains.{climbs, ends_climb, headers_by_rows}
 use Rattle.elem_index.specs.Design.{elements}
-use Rattle.edit_ops.specs.Written.{found}
-use Rattle.edit_ops.proofs.HeadersFound.{found_above}
+use Rattle.edit_trees.specs.Written.{found}
+use Rattle.edit_trees.proofs.HeadersFound.{found_above}
 use Rattle.edit_ops.proofs.above.put_numbers_above.Goals as goal
 
 -- one header more is found

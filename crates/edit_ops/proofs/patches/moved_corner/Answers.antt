@@ -1,6 +1,6 @@
 use Rattle.std.proofs.Common.{◌+◌, SFits, w32, to_z-of_z}
 use Rattle.dgn_words.specs.Numbers.{range_long_at}
-use Rattle.edit_ops.proofs.WiderRanges.{stays_on, corner_two, corner_three}
+use Rattle.edit_trees.proofs.WiderRanges.{stays_on, corner_two, corner_three}
 use Rattle.edit_ops.proofs.patches.moved_corner.Goals as goal
 
 pub moved_number-y-requires-clause-plane : goal.moved_number-y-requires-clause-plane

@@ -6,8 +6,8 @@ use Rattle.elem_index.specs.Design.{elements}
 use Rattle.patch_bytes.specs.Puts.{Put}
 use Rattle.dgn_drawing.specs.declared.edit.Edit.{Edit}
 use Rattle.dgn_drawing.specs.Element.{Element}
-use Rattle.edit_ops.specs.Written.{found, above_puts, IsReady}
-use Rattle.edit_ops.proofs.WiderRanges.{above_none, above_still, holds_of, long_spots, corners_stay, above_moved, all_wider}
+use Rattle.edit_trees.specs.Written.{found, above_puts, IsReady}
+use Rattle.edit_trees.proofs.WiderRanges.{above_none, above_still, holds_of, long_spots, corners_stay, above_moved, all_wider}
 use Rattle.edit_ops.proofs.patches.push_above.Goals as goal
 
 pub returns-in_default : goal.returns-in_default

@@ -3,10 +3,10 @@ use Rattle.dgn_layout.specs.Classes.{class_of}
 use Rattle.dgn_layout.specs.Spots.{has_spots}
 use Rattle.elem_index.specs.Design.{elements}
 use Rattle.patch_bytes.specs.Puts.{Put}
-use Rattle.edit_ops.specs.Trees.{Live}
-use Rattle.edit_ops.specs.Written.{found}
-use Rattle.edit_ops.proofs.ListedLive.{each_next}
-use Rattle.edit_ops.proofs.WiderRanges.{all_wider, wider_next}
+use Rattle.edit_trees.specs.Trees.{Live}
+use Rattle.edit_trees.specs.Written.{found}
+use Rattle.edit_trees.proofs.ListedLive.{each_next}
+use Rattle.edit_trees.proofs.WiderRanges.{all_wider, wider_next}
 use Rattle.edit_ops.proofs.patches.push_all_wider.Goals as goal
 
 pub push_wider-requires-clause-spotted : goal.push_wider-requires-clause-spotted

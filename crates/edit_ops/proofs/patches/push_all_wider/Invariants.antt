@@ -3,8 +3,8 @@ use Rattle.std.specs.List.{AllByRecursion}
 use Rattle.dgn_layout.specs.Classes.{class_of}
 use Rattle.dgn_layout.specs.Spots.{has_spots}
 use Rattle.elem_index.specs.Design.{elements}
-use Rattle.edit_ops.specs.Written.{found}
-use Rattle.edit_ops.proofs.WiderRanges.{all_wider}
+use Rattle.edit_trees.specs.Written.{found}
+use Rattle.edit_trees.proofs.WiderRanges.{all_wider}
 use Rattle.edit_ops.proofs.patches.push_all_wider.Given as goal
 
 -- what is put so far and what is put into those that are left are all

@@ -4,9 +4,9 @@ use Rattle.dgn_layout.specs.declared.spot.Spot.{Spot}
 use Rattle.dgn_layout.specs.declared.types.spots.Spots.{Spots}
 use Rattle.dgn_layout.specs.Spots.{spots_of}
 use Rattle.dgn_layout.specs.SpotsLeft.{spots_left}
-use Rattle.edit_ops.specs.Written.{wider_put}
+use Rattle.edit_trees.specs.Written.{wider_put}
 use Rattle.spot_numbers.proofs.SpotSteps.{LieIn, lie_in}
-use Rattle.edit_ops.proofs.WiderRanges.{of_ranges, ranges_are}
+use Rattle.edit_trees.proofs.WiderRanges.{of_ranges, ranges_are}
 use Rattle.edit_ops.proofs.patches.push_range.Goals as goal
 
 pub spots-init : goal.spots-init

@@ -1,9 +1,9 @@
 use Rattle.std.proofs.Common.{◌≡◌, ◌++◌, length, map}
 use Rattle.dgn_layout.specs.Spots.{spots_of}
 use Rattle.dgn_layout.specs.SpotsLeft.{spots_left}
-use Rattle.edit_ops.specs.Written.{wider_put}
+use Rattle.edit_trees.specs.Written.{wider_put}
 use Rattle.spot_numbers.proofs.SpotSteps.{LieIn}
-use Rattle.edit_ops.proofs.WiderRanges.{of_ranges}
+use Rattle.edit_trees.proofs.WiderRanges.{of_ranges}
 use Rattle.edit_ops.proofs.patches.push_range.Given as goal
 
 -- what is put so far and what is put at the range spots that are left are all

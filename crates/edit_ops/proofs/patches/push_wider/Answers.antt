@@ -4,10 +4,10 @@ use Rattle.dgn_layout.specs.Classes.{class_of}
 use Rattle.dgn_layout.specs.Spots.{has_spots}
 use Rattle.elem_index.specs.Design.{elements}
 use Rattle.patch_bytes.specs.Puts.{Put}
-use Rattle.edit_ops.specs.Trees.{Live}
+use Rattle.edit_trees.specs.Trees.{Live}
 use Rattle.elem_index.proofs.Places.{axes_of}
-use Rattle.edit_ops.proofs.ElementAnswers.{holds_found}
-use Rattle.edit_ops.proofs.WiderRanges.{one_of, wider_found}
+use Rattle.edit_parts.proofs.ElementAnswers.{holds_found}
+use Rattle.edit_trees.proofs.WiderRanges.{one_of, wider_found}
 use Rattle.edit_ops.proofs.patches.push_wider.Goals as goal
 
 pub push_range-requires : goal.push_range-requires

@@ -3,7 +3,7 @@ use Rattle.dgn_drawing.specs.declared.edit.Edit.{Edit}
 use Rattle.dgn_drawing.specs.Spelling.{spell}
 use Rattle.dgn_drawing.specs.NewElements.{made}
 use Rattle.elem_index.specs.Design.{elements}
-use Rattle.edit_ops.specs.Causes.{causes_of, first_of}
+use Rattle.edit_trees.specs.Causes.{causes_of, first_of}
 use Rattle.edit_ops.proofs.PlanBehind.{appends_behind}
 use Rattle.edit_ops.proofs.CauseOrder.{made_plan}
 use Rattle.edit_ops.proofs.planning.plan_append.Goals as goal

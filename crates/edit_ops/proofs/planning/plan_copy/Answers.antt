@@ -3,14 +3,14 @@ use Rattle.std.specs.Prelude.{IfOk}
 use Rattle.std.specs.Option.{option_or}
 use Rattle.dgn_drawing.specs.Values.{Displacement}
 use Rattle.elem_index.specs.Design.{elements}
-use Rattle.edit_ops.specs.declared.asked.Test.TheVariants as tests
-use Rattle.edit_ops.specs.declared.cause.Cause.{Cause}
-use Rattle.edit_ops.specs.Trees.{Live, live_tree}
-use Rattle.edit_ops.specs.Causes.{other_axes, first_cause, part_cause}
-use Rattle.edit_ops.specs.Copying.{copy_cause}
-use Rattle.edit_ops.specs.Written.{found}
+use Rattle.edit_trees.specs.declared.asked.Test.TheVariants as tests
+use Rattle.edit_trees.specs.declared.cause.Cause.{Cause}
+use Rattle.edit_trees.specs.Trees.{Live, live_tree}
+use Rattle.edit_trees.specs.Causes.{other_axes, first_cause, part_cause}
+use Rattle.edit_parts.specs.Copying.{copy_cause}
+use Rattle.edit_trees.specs.Written.{found}
 use Rattle.edit_ops.proofs.CopyLength.{long_copy, short_copy}
-use Rattle.edit_ops.proofs.ElementMoves.{ok_so}
+use Rattle.edit_parts.proofs.ElementMoves.{ok_so}
 use Rattle.edit_ops.proofs.planning.plan_copy.Goals as goal
 
 pub returns-in-Some-growth_cause-clause-refused : goal.returns-in-Some-growth_cause-clause-refused

@@ -1,9 +1,9 @@
 use Rattle.std.proofs.Common.{◌≡◌, None, Option, sym, ap, ◌∙◌}
 use Rattle.std.specs.Option.{option_or}
 use Rattle.elem_index.specs.Design.{elements}
-use Rattle.edit_ops.specs.declared.cause.Cause.{Cause}
-use Rattle.edit_ops.specs.Causes.{cause_of, causes_of, first_of}
-use Rattle.edit_ops.proofs.AcceptedEdit.{accepted, may_widen, some_ready}
+use Rattle.edit_trees.specs.declared.cause.Cause.{Cause}
+use Rattle.edit_trees.specs.Causes.{cause_of, causes_of, first_of}
+use Rattle.edit_trees.proofs.AcceptedEdit.{accepted, may_widen, some_ready}
 use Rattle.edit_ops.proofs.CauseOrder.{later_first}
 use Rattle.edit_ops.proofs.planning.plan_found.Goals as goal
 

@@ -6,15 +6,15 @@ use Rattle.dgn_drawing.specs.Spelling.{spelling}
 use Rattle.dgn_drawing.specs.Nesting.{flat}
 use Rattle.elem_index.specs.Design.{elements}
 use Rattle.edit_ops.specs.declared.types.plan.Plan.{Plan}
-use Rattle.edit_ops.specs.Applying.{copied}
-use Rattle.edit_ops.specs.Causes.{part_cause, causes_of, first_of}
-use Rattle.edit_ops.specs.Copying.{tree_copy}
+use Rattle.edit_trees.specs.Applying.{copied}
+use Rattle.edit_trees.specs.Causes.{part_cause, causes_of, first_of}
+use Rattle.edit_parts.specs.Copying.{tree_copy}
 use Rattle.edit_ops.specs.Planned.{IsPlanBehind}
-use Rattle.edit_ops.specs.Written.{part_puts}
+use Rattle.edit_trees.specs.Written.{part_puts}
 use Rattle.edit_ops.proofs.PlanBehind.{appends_behind, writes_behind}
 use Rattle.edit_ops.proofs.CauseOrder.{known_is, unknown_refused, later_first, stopped_refused, copied_plan, changed_plan, causes_in_place, is_in_place}
 use Rattle.edit_ops.proofs.CauseOrder.{copy_named}
-use Rattle.edit_ops.proofs.ElementMoves.{both_ok}
+use Rattle.edit_parts.proofs.ElementMoves.{both_ok}
 use Rattle.edit_ops.proofs.planning.plan_part.Goals as goal
 
 pub returns-in-Some : goal.returns-in-Some

@@ -1,0 +1,64 @@
+ghost use Rattle.std.specs.Prelude.{◌≡◌, ◌+◌, ◌≤◌, ◌++◌, length};
+ghost use Rattle.dgn_drawing.specs.declared.edit.Edit.{Edit};
+ghost use Rattle.elem_index.specs.Design.{elements, IsWhole};
+ghost use Rattle.edit_trees.specs.Applying.{ChangesInPlace};
+ghost use Rattle.edit_trees.specs.Causes.{first_cause, too_long, first_of, causes_of, target_of};
+ghost use Rattle.edit_trees.specs.Trees.{above_of, live_of};
+ghost use Rattle.edit_trees.specs.Written.{found};
+
+use dgn_drawing::{Edit, MOST_DESIGN, New};
+use edit_parts::{first_cause, move_cause, other_axes, silent, too_long};
+use edit_trees::{Cause, Test};
+use elem_index::Design;
+use new_elements::size_made;
+
+// What is against an edit of a part where it stands, which nothing keeps from any edit: `above` has the numbers of the
+// headers above the part, and `live` those of its live elements.
+pub fn edit_cause(d: &Design, edit: &Edit, above: &[u32], live: &[u32]) -> Option<Cause>
+    requires whole { IsWhole d.now }
+    requires in_place { ChangesInPlace edit.now }
+    requires above { found (elements d.now) above.now ≡ above_of (elements d.now) (target_of edit.now) }
+    requires live { found (elements d.now) live.now ≡ live_of (elements d.now) (target_of edit.now) }
+    ensures { result ≡ first_of (causes_of d.now.dim (elements d.now) 0 edit.now) }
+{
+    match edit {
+        Edit::Move { by, .. } => locked(d, above, live)
+            .or(other_axes(d.dim, by.axes))
+            .or(first_cause(d, above, &Test::Widens))
+            .or(move_cause(d, live, by)),
+        Edit::Sym { .. } => locked(d, above, live).or(first_cause(d, live, &Test::Looks)),
+        Edit::Delete { n } => locked(d, above, live)
+            .or(silent(d, *n))
+            .or(first_cause(d, live, &Test::Marks)),
+        Edit::Copy { .. } | Edit::Append(_) => unreachable!(),
+    }
+}
+
+// What is against an element that is appended. `pending` is how many bytes are to be appended already.
+pub fn append_cause(d: &Design, new: &New, pending: usize) -> Option<Cause>
+    requires whole { IsWhole d.now }
+    requires room { length d.now.body.items + (length d.now.tail.items + pending) ≤ MOST_DESIGN }
+    ensures { result ≡ first_of
+        (causes_of d.now.dim (elements d.now) (length d.now.tail.items + pending) (Edit.Append new.now)) }
+{
+    other_axes(d.dim, new.axes).or(growth_cause(d, size_made(new), pending))
+}
+
+// The file would be too long with so many bytes more.
+pub fn growth_cause(d: &Design, appended: usize, pending: usize) -> Option<Cause>
+    requires few { appended ≤ MOST_DESIGN }
+    requires room { length d.now.body.items + (length d.now.tail.items + pending) ≤ MOST_DESIGN }
+    ensures { result ≡ too_long
+        (length d.now.body.items + (length d.now.tail.items + pending) + appended) }
+{
+    too_long(d.body.len() + (d.tail.len() + pending) + appended)
+}
+
+// A header above a part, or a live element of it, is locked.
+fn locked(d: &Design, above: &[u32], live: &[u32]) -> Option<Cause>
+    requires { IsWhole d.now }
+    ensures { result ≡ first_cause d.now.dim Test.Unlocked
+        (found (elements d.now) above.now ++ found (elements d.now) live.now) }
+{
+    first_cause(d, above, &Test::Unlocked).or(first_cause(d, live, &Test::Unlocked))
+}

@@ -1,0 +1,11 @@
+pub mod SpotPuts
+pub mod LiveWalk
+pub mod PartSpan
+pub mod PartNestsAlone
+pub mod LoweredPuts
+pub mod CopiedPart
+pub mod CopyRefusals
+pub mod ElementAnswers
+pub mod ElementMoves
+pub mod LoneCopy
+pub mod TreesBehind

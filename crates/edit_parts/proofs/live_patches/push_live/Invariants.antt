@@ -1,0 +1,13 @@
+use Rattle.std.proofs.Common.{◌≡◌, ◌++◌, drop}
+use Rattle.std.specs.List.{AllByRecursion}
+use Rattle.elem_index.specs.Design.{elements}
+use Rattle.edit_trees.specs.Written.{found, live_puts, IsReady}
+use Rattle.edit_parts.proofs.live_patches.push_live.Given as goal
+
+-- what is put so far and what is put into those that are left are all
+abbrev pub invariant-live : goal.invariant-live
+invariant-live l = record {
+  ready : AllByRecursion (λ v. IsReady l.d.dim l.edit v.element) (found (elements l.d) (drop l.m-index l.live));
+  all : l.patches ++ live_puts l.d.dim l.edit (found (elements l.d) (drop l.m-index l.live)) ≡ l.fn.patches
+      ++ live_puts l.d.dim l.edit (found (elements l.d) l.live);
+}

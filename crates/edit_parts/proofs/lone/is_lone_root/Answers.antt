@@ -1,0 +1,20 @@
+use Rattle.std.proofs.Common.{sym, ◌∙◌}
+use Rattle.elem_index.specs.Design.{elements}
+use Rattle.edit_trees.proofs.RootRows.{none_above, root_free}
+use Rattle.edit_parts.proofs.lone.is_lone_root.Goals as goal
+
+-- a live element that is all of its part stands by itself, where it is a root and no number of its tree is broken
+pub returns-in-Some : goal.returns-in-Some
+returns-in-Some c = λ _.
+    let d = c.args.d.now in
+    let rows = c.args.t.now.rows in
+    let one = c.in-Some.ensures.found in
+    let root = c.is_sound_root.ensures.root c.if-is_sound_root.true in
+    let sound = c.is_sound_root.ensures.sound c.if-is_sound_root.true in
+    record {
+      above = none_above (elements d) rows c.args.n c.requires.nesting root;
+      live = c.in-Some.ensures.live;
+      free =
+          root_free (elements d) rows c.args.n c.requires.nesting root d.dim one.element c.requires.known sound one.there
+          (sym one.deleted ∙ c.in-Some.ensures.alive);
+    }
