@@ -1,7 +1,7 @@
 -- What is kept of an element of a whole design says its row, but for a total.
 use Rattle.std.proofs.Common.{◌≡◌, ℕ, ◌+◌, ◌-◌, ◌%◌, ◌<◌, Bool, List, [], ◌∷◌, ◌++◌, length, take, drop, map, get_or, refl, sym, ap, ◌∙◌, subst, arith}
 use Rattle.std.proofs.Common.{true, false}
-use Rattle.std.specs.Prelude.{slice_get, leb, not, Option, Some, None, option_map, IsFalse, slice_index_or}
+use Rattle.std.specs.Prelude.{slice_get, leb, not, Option, Some, None, option_map, IfSome, IsFalse, slice_index_or}
 use Rattle.std.proofs.lemmas.List.{map-append, drop_more, get_or_default}
 use Rattle.std.proofs.lemmas.Bool.Decides.{nat_tests}
 use Rattle.std.proofs.lemmas.Option.{slice_get_within, get_or_from_slice_get, slice_get-map}
@@ -17,6 +17,7 @@ use Rattle.dgn_drawing.specs.Nesting.{is_counted, BeginsFree}
 use Rattle.dgn_drawing.proofs.Rows.{row_at-spell}
 use Rattle.elem_index.specs.declared.design.Design.{Design}
 use Rattle.elem_index.specs.Offsets.{offset_of}
+use Rattle.elem_index.specs.Counted.{IsCounted}
 use Rattle.elem_index.specs.Design.{elements, bare_row, kind_byte, kind_bytes, IsWhole}
 use Rattle.elem_index.proofs.KindBytes.{length-kind_bytes}
 use Rattle.elem_index.proofs.Places.{length-kept, get_or-kept, opening_of, axes_of, stands_at, Stands, each_at, take_one_more, is_false}
@@ -123,6 +124,14 @@ module _ (d : Design) (whole : IsWhole d) (n : ℕ) (row : Row) (is : option_map
       let read : Some (row_of there.0).total ≡ Some total = sym (ap (option_map (λ (x : Element). (row_of x).total)) there.1) ∙ said in
       let same : (row_of there.0).total ≡ total = cc in
       ap (option_map row_of) there.1 ∙ ap (λ (t : ℕ). Some (with_total (row_of there.0) t)) same ∙ ap (λ (r : Row). Some (with_total r total)) (sym there.2)
+
+-- where what is said but for the total counts members, so does the element there
+pub counted_there : (es : List Element) (n : ℕ) (row : Row) → option_map bare_row (slice_get es n) ≡ Some row
+    → is_counted (class_of row.kind) ≡ true → IfSome (slice_get es n) IsCounted
+counted_there es n row is counts =
+    let this = of_said bare_row row (slice_get es n) is in
+    subst (λ (r : Option Element). IfSome r IsCounted) (sym this.1)
+    (ap (λ (r : Row). is_counted (class_of r.kind)) (sym this.2) ∙ counts)
 
 -- what is said there is one more of them
 module _ (said : Element → Row) (es : List Element) (n : ℕ) (row : Row) (is : option_map said (slice_get es n) ≡ Some row) where

@@ -1,18 +1,23 @@
 -- What a whole design says of its elements: how many there are, and where each stands in the body.
 use Rattle.std.proofs.Common.{◌≡◌, ℕ, zero, suc, ◌+◌, ◌-◌, ◌<◌, ◌≤◌, List, [], ◌∷◌, ◌++◌, length, take, drop, map, get_or, refl, sym, ap, ◌∙◌, subst, arith}
 use Rattle.std.proofs.Common.{true, false, length-append, zero-add, inl, inr}
-use Rattle.std.specs.Prelude.{slice_get, vec_len, Option, Some, None, option_map, IsFalse, Bool, not}
+use Rattle.std.specs.Prelude.{slice_get, vec_len, Option, Some, None, option_map, IfSome, IsFalse, Bool, not}
 use Rattle.std.specs.List.{AllByRecursion}
 use Rattle.std.specs.declared.result.Result.TheVariants.{Ok}
 use Rattle.std.proofs.lemmas.List.{append-nil, take_at, drop_at, take-append-drop, drop-drop, take_all, take_more, length-map}
+use Rattle.dgn_layout.specs.declared.types.Class.{Class}
+use Rattle.dgn_layout.specs.Classes.{class_of}
+use Rattle.group_head.specs.Headers.{total_at}
 use Rattle.dgn_drawing.specs.Element.{Element}
 use Rattle.dgn_drawing.specs.Spelling.{spell, spelling, size_of}
 use Rattle.dgn_drawing.specs.WellFormed.{IsDimension, IsWellFormed}
 use Rattle.dgn_drawing.specs.Faults.{IsSoundIn, IsSound}
 use Rattle.dgn_drawing.proofs.RecordsRead.{size_said-spell, element_fault-spell}
 use Rattle.dgn_drawing.proofs.Rows.{row_at-spell}
-use Rattle.elem_head.specs.Head.{size_of as size_said}
-use Rattle.dgn_drawing.specs.Rows.{row_of, row_at}
+use Rattle.dgn_drawing.proofs.BodyEnds.{total_within}
+use Rattle.elem_head.specs.Head.{kind_of, size_of as size_said}
+use Rattle.dgn_drawing.specs.Nesting.{is_counted}
+use Rattle.dgn_drawing.specs.Rows.{row_of, row_at, total_in}
 use Rattle.dgn_drawing.specs.Opening.{dimension, Opens}
 use Rattle.dgn_drawing.proofs.FirstElements.{dimension_is}
 use Rattle.dgn_drawing.proofs.Fronts.{opens_elements, opens_of, body_spelled, four_each}
@@ -22,6 +27,7 @@ use Rattle.std.proofs.lemmas.Option.{slice_get_within, get_or_from_slice_get}
 use Rattle.std.proofs.lemmas.Bool.{cases_lt, both_ways}
 use Rattle.elem_index.specs.declared.design.Design.{Design}
 use Rattle.elem_index.specs.Offsets.{offset_of, offsets_of}
+use Rattle.elem_index.specs.Counted.{IsCounted}
 use Rattle.elem_index.specs.Opened.{opening}
 use Rattle.elem_index.specs.Design.{elements, kind_bytes, IsWhole}
 use Rattle.elem_index.specs.Answers.{IsRun, opened_of}
@@ -200,6 +206,16 @@ pub is_false : (b : Bool) → not b ≡ true → IsFalse b
 is_false false is = refl
 is_false true is = absurd (both_ways false refl is)
 
+-- a class that counts members is the one of counted headers
+counted_class : (c : Class) → is_counted c ≡ true → c ≡ Class.Counted
+counted_class Class.Silent is = absurd (cc)
+counted_class Class.Vertices is = absurd (cc)
+counted_class Class.Words is = absurd (cc)
+counted_class Class.Counted is = refl
+counted_class Class.Run is = absurd (cc)
+counted_class Class.Floating is = absurd (cc)
+counted_class Class.Boxed is = absurd (cc)
+
 -- the bytes of an element of a whole design are sound, and its row is read from them
 module _ (d : Design) (whole : IsWhole d) (n : ℕ) (b : List ℕ) (is : Some b ≡ option_map spell (slice_get (elements d) n)) where
   pub this : (e : Element) × (slice_get (elements d) n ≡ Some e) × (b ≡ spell e)
@@ -214,6 +230,19 @@ module _ (d : Design) (whole : IsWhole d) (n : ℕ) (b : List ℕ) (is : Some b 
   pub row_read : row_at b ≡ row_of this.0
   row_read = ap row_at this.2 ∙ row_at-spell d.dim this.0 (axes_of d whole) good
 
-  -- and so its total
-  pub total_read : (total : ℕ) → total ≡ (row_at b).total → option_map (λ (e : Element). (row_of e).total) (slice_get (elements d) n) ≡ Some total
-  total_read total read = ap (option_map (λ (e : Element). (row_of e).total)) this.1 ∙ ap Some (sym (read ∙ ap (λ (r : Row). r.total) row_read))
+  -- where it counts its members, they hold its total
+  module _ (counted : IfSome (slice_get (elements d) n) IsCounted) where
+    class_here : class_of (kind_of b) ≡ Class.Counted
+    class_here =
+        let here : IsCounted this.0 = subst (λ (r : Option Element). IfSome r IsCounted) this.1 counted in
+        counted_class (class_of (kind_of b)) (ap (λ (r : Row). is_counted (class_of r.kind)) row_read ∙ here)
+
+    pub total_inside : 40 ≤ length b
+    total_inside = total_within b sound_here class_here
+
+    pub total_read : (total : ℕ) → total ≡ total_at b
+        → option_map (λ (e : Element). (row_of e).total) (slice_get (elements d) n) ≡ Some total
+    total_read total read =
+        let same : (row_at b).total ≡ total_at b = ap (λ (c : Class). total_in c b) class_here in
+        ap (option_map (λ (e : Element). (row_of e).total)) this.1
+        ∙ ap Some (sym (ap (λ (r : Row). r.total) row_read) ∙ same ∙ sym read)

@@ -63,6 +63,9 @@ module _ (es : List Element) (n i : ℕ) (bare : List Row) (are : AreBareRows es
       ∙ ap (λ (l : List Row). get_or l (n + i) x) are.are ∙ get_or-map bare_row so_many (n + i) here.0 x more
       ∙ ap bare_row (get_or-take (n + length bare) es (n + i) here.0 (omega arith) ∙ get_or_from_slice_get es (n + i) here.0 here.0 here.1.found)
 
+  pub bare_here : (x : Row) → option_map bare_row (slice_get es (n + i)) ≡ Some (get_or bare i x)
+  bare_here x = ap (option_map bare_row) here.1.found ∙ ap Some (sym (said x))
+
   module _ (rows : List Row) (put : ArePut es n i bare rows) where
     pub same_here : (x : Row) → get_or rows i x ≡ get_or bare i x
     same_here x =
@@ -71,7 +74,7 @@ module _ (es : List Element) (n i : ℕ) (bare : List Row) (are : AreBareRows es
         ∙ get_or-drop i bare 0 x ∙ ap (λ (k : ℕ). get_or bare k x) at
 
     pub row_here : (x : Row) → option_map bare_row (slice_get es (n + i)) ≡ Some (get_or rows i x)
-    row_here x = ap (option_map bare_row) here.1.found ∙ ap Some (sym (same_here x ∙ said x))
+    row_here x = bare_here x ∙ ap Some (sym (same_here x))
 
     -- one more
     pub put_one : (new : List Row) (row : Row) → option_map row_of (slice_get es (n + i)) ≡ Some row → take (i + 1) new ≡ take i rows ++ row ∷ []

@@ -1,14 +1,16 @@
 // The rows of the elements, by what is kept of each. The bytes of an element are read only where its type counts its
 // members.
 
-ghost use Rattle.std.specs.Prelude.{◌≡◌, ◌<◌, ◌≤◌, ◌+◌, false, length, IfOk, OnOk, map, slice_get, option_map, Some};
+ghost use Rattle.std.specs.Prelude.{◌≡◌, ◌<◌, ◌≤◌, ◌+◌, false, length, map, slice_get, option_map, Some};
+ghost use Rattle.std.specs.Prelude.{IfOk, OnOk, IfSome};
 ghost use Rattle.dgn_drawing.specs.Nesting.{is_open, itself};
 ghost use Rattle.dgn_drawing.specs.Rows.{row_of};
-ghost use Rattle.elem_index.specs.Counted.{AreCounted};
+ghost use Rattle.elem_index.specs.Counted.{IsCounted, AreCounted};
 ghost use Rattle.elem_index.specs.Design.{elements, bare_row, AreRows, AreBareRows, IsWhole, IsBlock};
 
 use super::Design;
-use dgn_drawing::{Row, is_counted, is_header, row_of};
+use dgn_drawing::{Row, is_counted, is_header};
+use group_head::total;
 use std::alloc::{AllocError, Global};
 
 // How many rows a block has at the least, if there are so many.
@@ -137,14 +139,18 @@ impl Design {
         }
     }
 
-    // The total of element `n`, where there is one, by its bytes.
+    // The total of element `n`, where there is one that counts its members. It alone is read of the element's bytes.
     fn total(&self, n: u32) -> u16
         requires whole { IsWhole self.now }
         requires known { n < length (elements self.now) }
+        requires counted { IfSome (slice_get (elements self.now) n) IsCounted }
         ensures { option_map (λ e. (row_of e).total) (slice_get (elements self.now) n) ≡ Some result }
     {
-        match self.element(n) {
-            Some(bytes) => row_of(bytes).total,
+        let Some(bytes) = self.element(n) else {
+            unreachable!()
+        };
+        match total(bytes) {
+            Some(total) => total,
             None => unreachable!(),
         }
     }

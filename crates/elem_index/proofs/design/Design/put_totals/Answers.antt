@@ -2,7 +2,8 @@ use Rattle.std.proofs.Common.{◌≡◌, ◌+◌, [], drop, get_or, arith, subst
 use Rattle.std.proofs.lemmas.List.{drop_all}
 use Rattle.elem_index.specs.Design.{elements}
 use Rattle.elem_index.proofs.Places.{few_elements}
-use Rattle.elem_index.proofs.CountedRows.{IsPutBefore, before_next, next_within, put_first, put_next, put_last}
+use Rattle.elem_index.proofs.CountedRows.{IsPutBefore, before_next, next_within, next_counted}
+use Rattle.elem_index.proofs.CountedRows.{put_first, put_next, put_last}
 use Rattle.elem_index.proofs.design.Design.put_totals.Goals as goal
 
 pub counted-init : goal.counted-init
@@ -19,6 +20,11 @@ total-requires-clause-known c =
     let inside = next_within (elements c.args.self.now) c.args.n c.args.rows.now c.counted.rows c.args.counted.now c.counted.i-index c.counted-test.true
     c.counted.invariant in
     omega (arith, c.requires.bare.within)
+
+pub total-requires-clause-counted : goal.total-requires-clause-counted
+total-requires-clause-counted c =
+    next_counted (elements c.args.self.now) c.args.n c.args.rows.now c.counted.rows c.requires.bare c.args.counted.now
+    c.counted.i-index c.counted-test.true c.counted.invariant
 
 pub bounds-rows-i : goal.bounds-rows-i
 bounds-rows-i c =

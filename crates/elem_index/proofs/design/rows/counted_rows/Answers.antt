@@ -20,7 +20,8 @@ loop-i-preserved c =
     elim c.if-is_counted.branch [
       | then-is_counted w ↦ record {
         counted = subst (AreCounted rows 0 next) (sym w.push_reserved.ensures.items ∙ ap (λ (v : Vec ℕ Global). v.items) (sym w.counted-is))
-            (one_counted rows 0 c.loop-i.i c.loop-i.counted.items (omega arith) c.loop-i.invariant.counted);
+            (one_counted rows 0 c.loop-i.i c.loop-i.counted.items (omega arith)
+            (sym c.is_counted.ensures ∙ w.if-is_counted.true) c.loop-i.invariant.counted);
         room = omega (
           arith,
           c.loop-i.invariant.room,
