@@ -36,8 +36,8 @@ pub fn lone_at<'a>(d: &'a Design, t: &Nest, n: u32) -> Option<Found<'a>>
     Some(found)
 }
 
-/// Whether element `n`, which there is, is its whole part and live, stands below no header and isn't broken, so that
-/// nothing keeps it from any edit.
+/// Whether element `n`, which there is, is its whole part, live, and a root that isn't broken, as far as it is seen at
+/// once. Where it is, nothing keeps it from any edit; false says nothing.
 pub fn is_lone_root(d: &Design, t: &Nest, n: u32) -> bool
     requires whole { IsWhole d.now }
     requires nesting { t.now.rows ≡ map row_of (elements d.now) }

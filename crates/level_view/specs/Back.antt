@@ -1,5 +1,5 @@
 -- What is shown, found from the last element back to the first: each element is read before what the
--- elements behind it show, which is known by then.
+-- elements behind it show, which is known by then. Contracts of private functions alone cite this.
 use Rattle.std.specs.Prelude.{ℕ, zero, suc, ◌+◌, ◌≡◌, Bool, false, nat_lt, if◌then◌else◌, Option, Some, List, [], ◌∷◌, ◌++◌, slice_get}
 use Rattle.dgn_drawing.specs.declared.types.item.Item.{Item}
 use Rattle.dgn_drawing.specs.declared.mask.Mask.{Mask}
