@@ -124,8 +124,8 @@ def room() -> int:
 
 
 class Provers:
-    """Proves what isn't proved yet, the longest chain first. A crate waits for a place only behind those that don't stand
-    back further than it does: the others leave it the processors."""
+    """Proves what isn't proved yet, the longest chain first. A crate waits for a place only behind those that don't
+    stand back further than it does: the others leave it the processors."""
 
     def __init__(self, schedule: Schedule, make_tree: Callable[[str], str], temporary: str) -> None:
         self.schedule, self.make_tree, self.temporary = schedule, make_tree, temporary
