@@ -2,7 +2,6 @@
 
 import os
 import queue
-import shutil
 import signal
 import subprocess
 import threading
@@ -12,6 +11,7 @@ from typing import Callable, Dict, Iterator, List, Optional, Set, Tuple
 from schedule import Schedule
 
 PROOF_MEMORY = 3_000_000_000    # bytes that one rt takes at the most, with two processes
+RANKS = (0, 10, 12, 19)         # how far crates that are proved stand back, the first one first, and all behind these
 
 Said = Tuple['Run', Optional[str]]
 
@@ -19,17 +19,18 @@ Said = Tuple['Run', Optional[str]]
 class Run:
     """An rt ci on a tree, whose lines come into a queue, and none behind the last one."""
 
-    def __init__(self, name: str, tree: str, temporary: str, said: 'queue.Queue[Said]', niceness: int) -> None:
-        self.name, self.tree, self.niceness, self.failed = name, tree, niceness, False
+    def __init__(self, name: str, tree: str, temporary: str, said: 'queue.Queue[Said]') -> None:
+        self.name, self.tree, self.niceness, self.failed = name, tree, 0, False
         self.kept: Set[str] = set()
-        words = ['rt', 'ci']
-        if niceness and shutil.which('nice') is not None:
-            words = ['nice', '-n', str(niceness)] + words
-        self.process = subprocess.Popen(words, cwd=tree, env={**os.environ, 'TMPDIR': temporary},
+        self.process = subprocess.Popen(['rt', 'ci'], cwd=tree, env={**os.environ, 'TMPDIR': temporary},
                                         stdin=subprocess.DEVNULL, stdout=subprocess.PIPE, stderr=subprocess.STDOUT,
                                         text=True, errors='replace', start_new_session=True)
-        stand_back(self.process.pid, niceness)
         threading.Thread(target=self._read, args=(said,), daemon=True).start()
+
+    def stand_back(self, niceness: int) -> None:
+        """Sets how far all that the run has started stands back for other runs."""
+        if niceness != self.niceness and stand_back(self.process.pid, niceness):
+            self.niceness = niceness
 
     def _read(self, said: 'queue.Queue[Said]') -> None:
         assert self.process.stdout is not None
@@ -56,18 +57,20 @@ class Run:
         self.process.wait()
 
 
-def stand_back(leader: int, niceness: int) -> None:
+def stand_back(leader: int, niceness: int) -> bool:
     """Sets how far a session stands back for others, where Linux shares the processors out among sessions: then the
-    niceness of its processes counts within it alone. Who isn't root may set it ten times in a second."""
+    niceness of its processes counts within it alone. Who isn't root may set it ten times in a second. Says whether it
+    is set."""
     for _ in range(3):
         try:
             with open('/proc/%d/autogroup' % leader, 'w', encoding='ascii') as group:
                 group.write(str(niceness))
-            return
+            return True
         except BlockingIOError:
             time.sleep(0.15)
         except OSError:
-            return
+            return False
+    return False
 
 
 def lines_of(said: 'queue.Queue[Said]', seconds: float) -> Iterator[Optional[Said]]:
@@ -95,7 +98,7 @@ def is_proving(run: Run) -> bool:
 def take_kept(tree: str, temporary: str, log: Callable[[str], None]) -> Tuple[Set[str], bool]:
     """The crates of a tree that were proved before, and whether all of it was: rt is ended where it begins to prove."""
     said: 'queue.Queue[Said]' = queue.Queue()
-    run = Run('', tree, temporary, said, 0)
+    run = Run('', tree, temporary, said)
     try:
         for heard in lines_of(said, 0.5):
             if heard is None:
@@ -124,30 +127,35 @@ def room() -> int:
 
 
 class Provers:
-    """Proves what isn't proved yet, the longest chain first. A crate waits for a place only behind those that don't
-    stand back further than it does: the others leave it the processors."""
+    """Proves what isn't proved yet, the longest chain first. Those further on in that order stand back for those before
+    them, so a crate waits for a place only behind these: the others leave it the processors."""
 
     def __init__(self, schedule: Schedule, make_tree: Callable[[str], str], temporary: str) -> None:
         self.schedule, self.make_tree, self.temporary = schedule, make_tree, temporary
-        self.places, self.room = width(), room()
+        self.order, self.places, self.room = schedule.order(), width(), room()
         self.running: Dict[str, Run] = {}
         self.said: 'queue.Queue[Said]' = queue.Queue()
 
-    def has_place(self, niceness: int) -> bool:
-        ahead = [run for run in self.running.values() if run.niceness <= niceness]
+    def has_place(self, name: str) -> bool:
+        ahead = [it for it in self.order[:self.order.index(name)] if it in self.running]
         return len(ahead) < self.places and len(self.running) < self.room
+
+    def rank(self) -> None:
+        """Has each crate that is proved stand back for those before it."""
+        for place, name in enumerate(it for it in self.order if it in self.running):
+            self.running[name].stand_back(RANKS[min(place, len(RANKS) - 1)])
 
     def prove(self, done: Set[str], log: Callable[[str], None], add: Callable[[str], None],
               tick: Callable[[], None]) -> List[str]:
         """Proves all crates but those that are done, tells each, and gives those that aren't proved."""
-        left = [name for name in self.schedule.order() if name not in done]
+        left = [name for name in self.order if name not in done]
         try:
             while left or self.running:
                 for name in [it for it in left if self.schedule.is_ready(it, done)]:
-                    niceness = self.schedule.niceness(name)
-                    if self.has_place(niceness):
+                    if self.has_place(name):
                         left.remove(name)
-                        self.running[name] = Run(name, self.make_tree(name), self.temporary, self.said, niceness)
+                        self.running[name] = Run(name, self.make_tree(name), self.temporary, self.said)
+                self.rank()
                 run = self._wait(log, tick)
                 del self.running[run.name]
                 if not run.is_proved():

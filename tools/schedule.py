@@ -4,8 +4,6 @@ from typing import Dict, List, Set
 
 OVERHEAD = 290  # what each crate takes beside its own lines, in lines: reading the kit
 BELOW = 12  # how many lines of the crates below take as long to read as one of its own to prove
-NEAR = (0.1, 0.3)  # how much shorter than the longest chain, as a part of it, chains are that are nearly as long
-RANKS = (10, 15, 19)  # how far crates of those, of shorter chains, and of still shorter ones stand back
 
 
 class Schedule:
@@ -29,17 +27,6 @@ class Schedule:
 
     def is_ready(self, name: str, done: Set[str]) -> bool:
         return all(it in done for it in self.below[name])
-
-    def niceness(self, name: str) -> int:
-        """How far the crate stands back for others: not at all on the longest chain of all, since what ends late there
-        ends all late; and else the further, the shorter its chain is than that."""
-        chains = self._chains()
-        before: Dict[str, int] = {}
-        for it in self.order():
-            before[it] = max([before[low] + self.work[low] for low in self.below[it]], default=0)
-        longest = max(before[it] + chains[it] for it in self.below)
-        slack = longest - before[name] - chains[name]
-        return 0 if slack == 0 else RANKS[sum(1 for near in NEAR if slack >= near * longest)]
 
     def length(self) -> int:
         """When the last crate ends."""
