@@ -19,15 +19,12 @@ Said = Tuple['Run', Optional[str]]
 class Run:
     """An rt ci on a tree, whose lines come into a queue, and none behind the last one."""
 
-    def __init__(self, name: str, tree: str, temporary: str, said: 'queue.Queue[Said]', is_wide: bool) -> None:
+    def __init__(self, name: str, tree: str, temporary: str, said: 'queue.Queue[Said]') -> None:
         self.name, self.tree, self.niceness, self.failed = name, tree, 0, False
         self.kept: Set[str] = set()
-        given = {**os.environ, 'TMPDIR': temporary}
-        if not is_wide:
-            given['RT_JOBS'] = '1'
-        self.process = subprocess.Popen(['rt', 'ci'], cwd=tree, env=given, stdin=subprocess.DEVNULL,
-                                        stdout=subprocess.PIPE, stderr=subprocess.STDOUT, text=True, errors='replace',
-                                        start_new_session=True)
+        self.process = subprocess.Popen(['rt', 'ci'], cwd=tree, env={**os.environ, 'TMPDIR': temporary},
+                                        stdin=subprocess.DEVNULL, stdout=subprocess.PIPE, stderr=subprocess.STDOUT,
+                                        text=True, errors='replace', start_new_session=True)
         threading.Thread(target=self._read, args=(said,), daemon=True).start()
 
     def stand_back(self, niceness: int) -> None:
@@ -101,7 +98,7 @@ def is_proving(run: Run) -> bool:
 def take_kept(tree: str, temporary: str, log: Callable[[str], None]) -> Tuple[Set[str], bool]:
     """The crates of a tree that were proved before, and whether all of it was: rt is ended where it begins to prove."""
     said: 'queue.Queue[Said]' = queue.Queue()
-    run = Run('', tree, temporary, said, True)
+    run = Run('', tree, temporary, said)
     try:
         for heard in lines_of(said, 0.5):
             if heard is None:
@@ -118,7 +115,7 @@ def take_kept(tree: str, temporary: str, log: Callable[[str], None]) -> Tuple[Se
 
 
 def width() -> int:
-    """How many crates are proved at a time: one more than half the processors."""
+    """How many crates are proved at a time, each with two processes: one more than half the processors."""
     return (os.cpu_count() or 1) // 2 + 1
 
 
@@ -131,9 +128,7 @@ def room() -> int:
 
 class Provers:
     """Proves what isn't proved yet, the longest chain first. Those further on in that order stand back for those before
-    them, so a crate waits for a place only behind these: the others leave it the processors. The first one gets two
-    processes, and another one where no more than one is proved beside it: a second process shortens a proof, and costs
-    the processors more."""
+    them, so a crate waits for a place only behind these: the others leave it the processors."""
 
     def __init__(self, schedule: Schedule, make_tree: Callable[[str], str], temporary: str) -> None:
         self.schedule, self.make_tree, self.temporary = schedule, make_tree, temporary
@@ -141,16 +136,9 @@ class Provers:
         self.running: Dict[str, Run] = {}
         self.said: 'queue.Queue[Said]' = queue.Queue()
 
-    def ahead(self, name: str) -> int:
-        """How many that are before a crate in the order are being proved."""
-        return sum(1 for it in self.order[:self.order.index(name)] if it in self.running)
-
     def has_place(self, name: str) -> bool:
-        return self.ahead(name) < self.places and len(self.running) < self.room
-
-    def begin(self, name: str) -> None:
-        is_wide = self.ahead(name) == 0 or len(self.running) < 2
-        self.running[name] = Run(name, self.make_tree(name), self.temporary, self.said, is_wide)
+        ahead = [it for it in self.order[:self.order.index(name)] if it in self.running]
+        return len(ahead) < self.places and len(self.running) < self.room
 
     def rank(self) -> None:
         """Has each crate that is proved stand back for those before it."""
@@ -166,7 +154,7 @@ class Provers:
                 for name in [it for it in left if self.schedule.is_ready(it, done)]:
                     if self.has_place(name):
                         left.remove(name)
-                        self.begin(name)
+                        self.running[name] = Run(name, self.make_tree(name), self.temporary, self.said)
                 self.rank()
                 run = self._wait(log, tick)
                 del self.running[run.name]
