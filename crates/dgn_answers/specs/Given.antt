@@ -1,11 +1,10 @@
 -- The steps of a run: its commands, each import with what its second file comes to. What they do to the state of a
 -- session, and what they say.
-use Rattle.std.specs.Prelude.{ℕ, ◌+◌, Bool, Option, List, [], ◌∷◌, ◌++◌, drop, map, reverse}
+use Rattle.std.specs.Prelude.{ℕ, ◌+◌, Bool, Option, List, [], ◌∷◌, ◌++◌, drop}
 use Rattle.std.specs.Int.{from_bool}
 use Rattle.dgn_drawing.specs.Values.{Displacement}
 use Rattle.dgn_import.specs.declared.second_fault.SecondFault.TheVariants as faults
-use Rattle.dgn_import.specs.declared.second.Second.{Second}
-use Rattle.dgn_import.specs.Seconds.{SecondValue, Faulty, value_of}
+use Rattle.dgn_import.specs.Seconds.{SecondValue, Faulty}
 use Rattle.dgn_session.specs.State.{State}
 use Rattle.edit_script.specs.declared.command.Command.{Command}
 use Rattle.edit_script.specs.declared.command.Command.TheVariants as command

@@ -9,16 +9,11 @@ use Rattle.undo_log.specs.Entries.{entry_of}
 use Rattle.undo_log.proofs.EntriesBack.{entry_fits}
 use Rattle.dgn_drawing.specs.declared.row.Row.{Row}
 use Rattle.dgn_drawing.specs.Element.{Element}
-use Rattle.dgn_drawing.specs.Spelling.{size_of}
 use Rattle.dgn_drawing.specs.Rows.{row_of}
 use Rattle.dgn_drawing.specs.Nesting.{BeginsFree, itself}
-use Rattle.dgn_drawing.specs.Opening.{offsets_from}
-use Rattle.dgn_drawing.proofs.Offsets.{take-offsets_from, sizes-rows}
 use Rattle.elem_index.specs.declared.design.Design.{Design}
-use Rattle.elem_index.specs.Offsets.{offsets_of}
-use Rattle.elem_index.specs.Design.{kept_of, kinds_of, spare_of, kind_bytes, elements, IsOpen, IsWhole, IsFront, SameText}
-use Rattle.elem_index.proofs.KindBytes.{kind_bytes-front}
-use Rattle.elem_index.proofs.Places.{length-kept}
+use Rattle.elem_index.specs.Design.{kept_of, kinds_of, spare_of, elements, IsOpen, IsWhole, IsFront, SameText}
+use Rattle.elem_index.proofs.WrittenDesigns.{front_after}
 use Rattle.nest_tree.specs.Nested.{Nested}
 use Rattle.dgn_session.specs.Kept.{rows_of, OpensAt, IsUnder, Leads, AreKept, IsKept}
 use Rattle.dgn_session.specs.Carried.{IsSpelling, HasRoom, IsFollowed, IsChange, IsSoundPlan}
@@ -29,13 +24,6 @@ use Rattle.dgn_session.proofs.Leading.{may_commit, leads_back}
 -- vectors that are the same have the same items
 pub same_items : {X Z : Type 0} {v w : Vec X Z} → v ≡ w → v.items ≡ w.items
 same_items same = ap (λ v. v.items) same
-
--- the offsets of elements with the first rows of others are the first offsets of these
-pub offsets_front : (es fs : List Element) (n : ℕ) → map row_of es ≡ take n (map row_of fs) → offsets_of es ≡ take n (offsets_of fs)
-offsets_front es fs n front =
-    let sizes : map size_of es ≡ take n (map size_of fs) =
-    sym (sizes-rows es) ∙ ap (map (λ (r : Row). r.size)) front ∙ sym (take-map (λ (r : Row). r.size) n (map row_of fs)) ∙ ap (take n) (sizes-rows fs) in
-    ap (offsets_from 0) sizes ∙ sym (take-offsets_from 0 n (map size_of fs))
 
 -- what opens does so where all is the same
 pub opens_same : (dim : ℕ) (tail b : List ℕ) (dim' : ℕ) (tail' b' : List ℕ) → dim' ≡ dim → tail' ≡ tail → b' ≡ b → OpensAt dim tail b → OpensAt dim' tail' b'
@@ -78,7 +66,7 @@ module _ (dim : ℕ) (tail b : List ℕ) (ps : List Put) (append : List ℕ) (ro
 
 module _ (d : Design) (t : Nested) (l : LogState) (kept : IsKept d t l) (ps : List Put) (append : List ℕ) (rows : List Row)
     (room : HasRoom (length append) (length rows) d l) (change : IsChange d.dim d.tail.items d.body.items ps append rows) where
-  -- a design that has the new body, but the offsets and bytes of the old one
+  -- a design that has the new body, but keeps of the elements what the old one does
   module _ (e : Design) (axes : e.dim ≡ d.dim) (body : e.body.items ≡ write d.body.items ps ++ append) (tail : e.tail.items ≡ d.tail.items)
       (offsets : kept_of e ≡ kept_of d) (kinds : kinds_of e ≡ kinds_of d) (spare : spare_of e ≡ spare_of d) where
     opens_new : OpensAt e.dim e.tail.items e.body.items
@@ -97,18 +85,13 @@ module _ (d : Design) (t : Nested) (l : LogState) (kept : IsKept d t l) (ps : Li
           length-append (map row_of (elements d)) rows,
         )
 
-    pub front_after : IsFront e
-    front_after =
-        let n : ℕ = length (map row_of (elements d)) in
-        let old : length (kept_of e) ≡ length (map row_of (elements d)) =
-        ap (length {A = ℕ}) offsets ∙ length-kept d kept.whole ∙ sym (length-map (elements d) row_of) in
-        let front : map row_of (elements d) ≡ take n (map row_of (elements e)) = sym (ap (take n) rows_new ∙ take_at (map row_of (elements d)) rows n refl) in
-        record {
-          is_open = open_of e opens_new;
-          first = offsets ∙ kept.whole.kept ∙ offsets_front (elements d) (elements e) n front ∙ ap (λ (k : ℕ). take k (offsets_of (elements e))) (sym old);
-          kinds = kinds ∙ kept.whole.kinds ∙ kind_bytes-front (elements d) (elements e) n front ∙ ap (λ (k : ℕ). take k (kind_bytes (elements e))) (sym old);
-          room = omega (arith, many, ap (length {A = ℕ}) offsets, length-kept d kept.whole, spare, room.offsets);
-        }
+    first_rows : map row_of (take (length (elements d)) (elements e)) ≡ map row_of (elements d)
+    first_rows =
+        sym (take-map row_of (length (elements d)) (elements e)) ∙ ap (take (length (elements d))) rows_new
+        ∙ take_at (map row_of (elements d)) rows (length (elements d)) (length-map (elements d) row_of)
+
+    pub can_grow : IsFront e
+    can_grow = front_after d e kept.whole (open_of e opens_new) offsets kinds first_rows (omega (arith, many, spare, room.offsets))
 
     -- and one that has the new offsets too
     module _ (g : Design) (same : SameText e g) (whole : IsWhole g) where

@@ -19,15 +19,15 @@ use Rattle.dgn_drawing.specs.Opening.{BeginsWithTcb, elements_of}
 use Rattle.dgn_drawing.proofs.Fronts.{body_spelled}
 use Rattle.elem_index.specs.declared.design.Design.{Design}
 use Rattle.elem_index.specs.Offsets.{offset_of, offsets_of}
-use Rattle.elem_index.specs.Design.{kept_of, kinds_of, kind_bytes, elements, IsWhole, IsBehind, SameText}
-use Rattle.elem_index.proofs.KindBytes.{kind_bytes-front}
+use Rattle.elem_index.specs.Design.{kept_of, kinds_of, elements, IsWhole, IsBehind, SameText}
+use Rattle.elem_index.proofs.WrittenDesigns.{behind_after}
 use Rattle.elem_index.proofs.Places.{length-offsets, get_or-offsets}
 use Rattle.edit_trees.proofs.DesignElements.{four_bytes}
 use Rattle.nest_tree.specs.Nested.{Nested}
 use Rattle.dgn_session.specs.Kept.{rows_of, OpensAt, Leads, AreKept, IsKept}
 use Rattle.dgn_session.specs.Carried.{HasLast, IsCutAt}
 use Rattle.dgn_session.proofs.PlannedBody.{front_long}
-use Rattle.dgn_session.proofs.EditKeepsSession.{same_items, offsets_front, opens_same, open_of, kept_same}
+use Rattle.dgn_session.proofs.EditKeepsSession.{same_items, opens_same, open_of, kept_same}
 
 -- an element behind another begins behind it
 offset_less : (es : List Element) (k n : ℕ) → k < n → n ≤ length es → offset_of es k < offset_of es n
@@ -151,26 +151,18 @@ module _ (d : Design) (t : Nested) (l : LogState) (kept : IsKept d t l) (len : �
       body_before : c ≡ back d.body.items last.last
       body_before = undone.body ∙ ap (back d.body.items) same_last.1
 
-      -- a design that has the body before, but all the offsets and bytes
+      -- a design that has the body before, but all that was kept of the elements
       module _ (e : Design) (axes : e.dim ≡ d.dim) (body : e.body.items ≡ c) (tail : e.tail.items ≡ d.tail.items) (offsets : kept_of e ≡ kept_of d)
           (kinds : kinds_of e ≡ kinds_of d) where
         elements_before : elements e ≡ elements_of d.dim (back d.body.items last.last)
         elements_before = ap (λ (n : ℕ). elements_of n e.body.items) axes ∙ ap (elements_of d.dim) (body ∙ body_before)
 
-        pub behind_after : IsBehind count e
-        behind_after = record {
-          is_open = open_of e (opens_same d.dim d.tail.items (back d.body.items last.last) e.dim e.tail.items e.body.items axes tail (body ∙ body_before)
-              opens_before);
-          many = ap (length {A = Element}) elements_before ∙ sym count_is;
-          first =
-              ap (take count) (offsets ∙ kept.whole.kept)
-              ∙ sym (offsets_front (elements_of d.dim (back d.body.items last.last)) (elements d) count front_rows)
-              ∙ ap offsets_of (sym elements_before);
-          kinds =
-              ap (take count) (kinds ∙ kept.whole.kinds)
-              ∙ sym (kind_bytes-front (elements_of d.dim (back d.body.items last.last)) (elements d) count front_rows)
-              ∙ ap kind_bytes (sym elements_before);
-        }
+        pub can_shrink : IsBehind count e
+        can_shrink =
+            behind_after d e kept.whole
+            (open_of e (opens_same d.dim d.tail.items (back d.body.items last.last) e.dim e.tail.items e.body.items axes tail (body ∙ body_before) opens_before))
+            offsets kinds count (ap (length {A = Element}) elements_before ∙ sym count_is)
+            (sym (take-map row_of count (elements d)) ∙ sym front_rows ∙ ap (map row_of) (sym elements_before))
 
         -- and one that has those of its elements
         module _ (g : Design) (same : SameText e g) (whole : IsWhole g) where

@@ -1,6 +1,6 @@
-use Rattle.std.proofs.Common.{rules, ◌≡◌, ◌≤◌, ◌+◌, ◌∷◌, List, ℕ, drop, ap, ◌∙◌, sym, subst}
+use Rattle.std.proofs.Common.{rules, ◌≤◌, ◌+◌, List, ℕ, drop, ◌∙◌, sym, subst}
 use Rattle.std.specs.Int.{from_bool}
-use Rattle.std.proofs.lemmas.List.{drop_more, drop_all}
+use Rattle.std.proofs.lemmas.List.{drop_all}
 use Rattle.dgn_import.specs.Seconds.{SecondValue}
 use Rattle.dgn_session.specs.State.{state_of}
 use Rattle.edit_script.specs.declared.command.Command.{Command}

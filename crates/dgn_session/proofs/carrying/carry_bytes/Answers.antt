@@ -2,7 +2,7 @@ use Rattle.std.proofs.Common.{◌≡◌, ◌++◌, map, length, refl}
 use Rattle.dgn_drawing.specs.Rows.{row_of}
 use Rattle.elem_index.specs.declared.design.Design.{Design}
 use Rattle.dgn_session.specs.Carried.{IsChange, HasRoom, plan_of}
-use Rattle.dgn_session.proofs.EditKeepsSession.{plan_spells, change_same, room_for, front_after, kept_after}
+use Rattle.dgn_session.proofs.EditKeepsSession.{plan_spells, change_same, room_for, can_grow, kept_after}
 use Rattle.dgn_session.proofs.Leading.{patches_within, patches_apart}
 use Rattle.dgn_session.proofs.carrying.carry_bytes.Goals as goal
 use Rattle.dgn_session.proofs.carrying.carry_bytes.Goals.{In_default, After-commit}
@@ -25,7 +25,7 @@ room c =
     room_for c.args.append.now c.args.nest.now.rows c.follow.new.nest.rows c.follow.new.design c.follow.new.log (map row_of c.requires.sound.new)
     c.in_default.ensures.followed (grown c)
 
--- the design with the new body, but the offsets and bytes of the old one
+-- the design with the new body, but with what the old one keeps of the elements
 abbrev ungrown : goal.After-commit → Design
 ungrown c = record {
   dim = c.follow.new.design.dim;
@@ -49,7 +49,7 @@ commit-requires-clause-apart c = patches_apart c.args.design.now.body.items c.ar
 pub grow-requires : goal.grow-requires
 grow-requires c =
     let at = (goal.at.grow-requires c).In_default in
-    front_after c.follow.new.design c.args.nest.now c.follow.new.log c.follow.ensures.kept c.args.patches c.args.append.now
+    can_grow c.follow.new.design c.args.nest.now c.follow.new.log c.follow.ensures.kept c.args.patches c.args.append.now
     (map row_of c.requires.sound.new) (room at) (change at) (ungrown (goal.at.grow-requires c).After-commit)
     refl c.commit.ensures.body refl refl refl refl
 

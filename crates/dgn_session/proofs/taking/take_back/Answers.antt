@@ -4,7 +4,7 @@ use Rattle.elem_index.specs.declared.design.Design.{Design}
 use Rattle.elem_index.specs.Design.{elements}
 use Rattle.elem_index.proofs.Places.{length-offsets, few_elements}
 use Rattle.dgn_session.proofs.EditKeepsSession.{same_items}
-use Rattle.dgn_session.proofs.LastEditBack.{can_undo, is_undone, some_left, free_behind, behind_after, kept_before}
+use Rattle.dgn_session.proofs.LastEditBack.{can_undo, is_undone, some_left, free_behind, can_shrink, kept_before}
 use Rattle.dgn_session.proofs.taking.take_back.Goals as goal
 use Rattle.dgn_session.proofs.taking.take_back.Goals.{After-undo}
 
@@ -14,7 +14,7 @@ undone c =
     is_undone c.args.design.now c.args.nest.now c.args.log.now c.requires.kept c.args.len c.requires.last c.undo.result c.undo.new.self
     c.undo.new.buf.items c.undo.ensures.exactly c.undo.ensures.undone
 
--- the design with the body before, but all the offsets and bytes
+-- the design with the body before, but with all that is kept of the elements
 abbrev uncut : goal.After-undo → Design
 uncut c = record {
   dim = c.args.design.now.dim;
@@ -34,7 +34,7 @@ undo-requires c = can_undo c.args.design.now c.args.nest.now c.args.log.now c.re
 pub shrink-requires : goal.shrink-requires
 shrink-requires c =
     let at = (goal.at.shrink-requires c).After-undo in
-    behind_after c.args.design.now c.args.nest.now c.args.log.now c.requires.kept c.args.len c.requires.last c.offsets.result.now c.count_below-count.result
+    can_shrink c.args.design.now c.args.nest.now c.args.log.now c.requires.kept c.args.len c.requires.last c.offsets.result.now c.count_below-count.result
     c.offsets.ensures c.count_below-count.ensures c.undo.new.self c.undo.new.buf.items (undone at) (uncut at) refl refl refl refl refl
 
 pub shrink-requires-2-clause-some : goal.shrink-requires-2-clause-some
