@@ -159,8 +159,9 @@ module _ (d : Design) (t : Nested) (l : LogState) (kept : IsKept d t l) (len : �
 
         pub can_shrink : IsBehind count e
         can_shrink =
+            let text = body ∙ body_before in
             behind_after d e kept.whole
-            (open_of e (opens_same d.dim d.tail.items (back d.body.items last.last) e.dim e.tail.items e.body.items axes tail (body ∙ body_before) opens_before))
+            (open_of e (opens_same d.dim d.tail.items (back d.body.items last.last) e.dim e.tail.items e.body.items axes tail text opens_before))
             offsets kinds count (ap (length {A = Element}) elements_before ∙ sym count_is)
             (sym (take-map row_of count (elements d)) ∙ sym front_rows ∙ ap (map row_of) (sym elements_before))
 
