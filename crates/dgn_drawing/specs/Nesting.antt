@@ -1,6 +1,6 @@
 -- How the elements of a drawing nest: as trees, read from the front of a list. Nesting looks at the row of
 -- each element alone, so it is said of anything that has a row.
-use Rattle.std.specs.Prelude.{ℕ, zero, suc, ◌≡◌, ◌+◌, ◌-◌, ◌*◌, ◌≤◌, ◌==◌, ◌&&◌, ◌||◌, nat_le, IsTrue, IsFalse, Bool, true, false, if◌then◌else◌, Option, Some}
+use Rattle.std.specs.Prelude.{ℕ, zero, suc, ◌≡◌, ◌+◌, ◌-◌, ◌*◌, ◌≤◌, ◌==◌, ◌&&◌, nat_le, IsTrue, IsFalse, Bool, true, false, if◌then◌else◌, Option, Some}
 use Rattle.std.specs.Prelude.{None, option_map, List, [], ◌∷◌, ◌++◌, length, take, drop}
 use Rattle.std.specs.List.{AllByRecursion}
 use Rattle.dgn_layout.specs.declared.types.Class.{Class}
@@ -154,16 +154,6 @@ forest_map f (Tree knot h below behind) = Tree knot (f h) (forest_map f below) (
 abbrev pub BeginsFree : {A : Type 0} → (A → Row) → List A → Type 0
 BeginsFree row [] = Unit {0}
 BeginsFree row (e ∷ es) = IsFalse (row e).cbit
-
--- whether what is read behind elements can belong to one of them: whether a header is among them behind which all have
--- bit C; it is told whether such a header stands before them
-abbrev pub is_open : {A : Type 0} → (A → Row) → Bool → List A → Bool
-is_open row before [] = before
-is_open row before (e ∷ es) = is_open row (is_header (class_of (row e).kind) || (row e).cbit && before) es
-
--- what is read behind elements can't belong to one of them, whatever it is
-abbrev pub IsClosed : {A : Type 0} → (A → Row) → List A → Type 0
-IsClosed row es = is_open row false es ≡ false
 
 -- the row of a row
 abbrev pub itself : Row → Row

@@ -317,16 +317,12 @@ const ROWS: [Row; 3] = [
     },
 ];
 
-// Whether a design has these rows, and as many of them as a block behind the first element.
-fn has_rows(alloc: Global, design: &Design, wanted: &[Row]) -> Result<bool, AllocError>
+// Whether a design has these rows.
+fn has_rows(design: &Design, wanted: &[Row]) -> Result<bool, AllocError>
     requires { IsWhole design.now }
 {
     let rows = design.rows()?;
-    let mut block = Vec::new(alloc);
-    if 1 < design.count() {
-        design.row_block(1, &mut block)?;
-    }
-    Ok(rows.as_slice() == wanted && wanted.get(1..) == Some(block.as_slice()))
+    Ok(rows.as_slice() == wanted)
 }
 
 #[test]
@@ -335,7 +331,7 @@ fn rows_of_a_file(rt: HostRuntime) -> Result<(), AllocError> {
     let bytes = file(alloc, 0xC8, 0, &[&CHAIN_HEADER, &LINE], &[0xFF, 0xFF, 0x00])?;
     assert!(rt; bytes.len() <= MOST_DESIGN);
     match read_design(alloc, bytes) {
-        Ok(design) => assert!(rt; has_rows(alloc, &design, &ROWS)?),
+        Ok(design) => assert!(rt; has_rows(&design, &ROWS)?),
         Err(fault) => panic!(rt; "{fault}"),
     }
     Ok(())

@@ -1,26 +1,27 @@
 -- How a design becomes whole again: the walk that goes on from its last kept offset.
-use Rattle.std.proofs.Common.{◌≡◌, ℕ, suc, ◌+◌, ◌-◌, ◌<◌, ◌≤◌, List, [], ◌∷◌, ◌++◌, length, take, drop, get_or, refl, sym, ap, ◌∙◌, subst, arith, inl, inr}
+use Rattle.std.proofs.Common.{◌≡◌, ℕ, suc, ◌+◌, ◌<◌, ◌≤◌, true, List, [], ◌∷◌, ◌++◌, length, take, drop, get_or, sym, ap, ◌∙◌, subst, arith, inl, inr}
 use Rattle.std.proofs.Common.{length-append, length-drop}
-use Rattle.std.specs.Prelude.{vec_len, vec_capacity}
-use Rattle.std.proofs.lemmas.List.{append-nil, take_all, take-take, take_more, length-take, get_or-take, take_at}
-use Rattle.std.proofs.Math.Seq.{get_or-append_seam}
+use Rattle.std.specs.Prelude.{vec_len, vec_capacity, slice_index_or}
+use Rattle.std.proofs.lemmas.List.{append-nil, take_all, take_more, length-take, get_or-take, get_or_default}
 use Rattle.std.proofs.lemmas.Option.{get_or_from_slice_get}
 use Rattle.std.proofs.lemmas.Bool.{cases_lt}
-use Rattle.elem_head.specs.Head.{size_of as size_said}
+use Rattle.dgn_layout.specs.Classes.{class_of}
+use Rattle.elem_head.specs.Head.{size_of as size_said, kind_of}
 use Rattle.dgn_drawing.specs.Element.{Element}
 use Rattle.dgn_drawing.specs.Spelling.{spell, spelling, size_of}
 use Rattle.dgn_drawing.specs.WellFormed.{IsDimension, IsWellFormed}
+use Rattle.dgn_drawing.specs.Nesting.{is_counted}
 use Rattle.dgn_drawing.specs.Rows.{row_of}
 use Rattle.dgn_drawing.specs.Opening.{Opens, elements_of}
 use Rattle.dgn_drawing.proofs.RecordsRead.{size_said-spell}
 use Rattle.dgn_drawing.proofs.FirstElements.{dimension_is, not_empty}
 use Rattle.dgn_drawing.proofs.Fronts.{body_spelled}
 use Rattle.dgn_drawing.proofs.Offsets.{drop-offset}
-use Rattle.dgn_drawing.proofs.Rows.{row_at-spell}
 use Rattle.elem_index.specs.declared.design.Design.{Design}
 use Rattle.elem_index.specs.Offsets.{offset_of, offsets_of}
-use Rattle.elem_index.specs.Design.{kept_of, kinds_of, kind_byte, kind_byte_at, kind_bytes, elements, IsOpen, IsWhole, IsFront, IsKeptAlso, SameText}
-use Rattle.elem_index.proofs.KindBytes.{length-kind_bytes, kind_bytes-more, kind_bytes-take, kind_byte_at-spell}
+use Rattle.elem_index.specs.Kinds.{Kind}
+use Rattle.elem_index.specs.Design.{kept_of, kind_of_row, kind_at, kinds_in, elements, IsOpen, IsWhole, IsFront, IsKeptAlso, SameText}
+use Rattle.elem_index.proofs.KindBytes.{length-kinds_in, kinds_in-more, kinds_in-take, kind_at-spell, counted_long}
 use Rattle.elem_index.proofs.Places.{length-offsets, get_or-offsets, stands_at, offset_past, each_at, take_one_more}
 use Rattle.dgn_drawing.specs.declared.limits.TheConstants.{MOST_DESIGN}
 
@@ -34,15 +35,10 @@ offsets_more es kept at within first place =
     ∙ ap (λ (x : ℕ). take (length kept) (offsets_of es) ++ x ∷ []) (place ∙ sym (get_or-offsets es (length kept) within))
     ∙ sym (take_more (offsets_of es) (length kept) 0 inside)
 
--- offsets and bytes of the first elements are kept, and the next one begins at the place
+-- what is kept of the first elements is theirs, and the next one begins at the place
 pub record Left (d : Design) (at : ℕ) : Type 0 where
-  pub is_open : IsOpen d
-  pub first : kept_of d ≡ take (length (kept_of d)) (offsets_of (elements d))
-  pub kinds : kinds_of d ≡ take (length (kept_of d)) (kind_bytes (elements d))
+  pub front : IsFront d
   pub place : at ≡ offset_of (elements d) (length (kept_of d))
-  pub within : length (kept_of d) ≤ length (elements d)
-  pub room : length (elements d) ≤ vec_capacity d.kept
-  pub kinds_room : length (elements d) ≤ vec_capacity d.kinds
 
 -- dimension and bytes are the same, whatever room there is
 pub record SameBytes (d e : Design) : Type 0 where
@@ -72,14 +68,16 @@ open_same d e same is_open =
     }
 
 -- at the offset of element n stands a head that says its size, of at least four bytes, all of them in the body, and
--- its byte
+-- its byte and total
 pub record Heads (d : Design) (n : ℕ) : Type 0 where
   pub size : ℕ
   pub next : offset_of (elements d) (n + 1) ≡ offset_of (elements d) n + size
   pub four : 4 ≤ size
   pub inside : offset_of (elements d) n + size ≤ length d.body.items
   pub said : size_said (drop (offset_of (elements d) n) d.body.items) ≡ size
-  pub kind : take (n + 1) (kind_bytes (elements d)) ≡ take n (kind_bytes (elements d)) ++ kind_byte_at (drop (offset_of (elements d) n) d.body.items) ∷ []
+  pub kind : take (n + 1) (kinds_in (elements d)) ≡ take n (kinds_in (elements d)) ++ kind_at (drop (offset_of (elements d) n) d.body.items) ∷ []
+  pub counted : is_counted (class_of (kind_of (drop (offset_of (elements d) n) d.body.items))) ≡ true
+      → 40 ≤ length (drop (offset_of (elements d) n) d.body.items)
 
 -- what an open design says of its elements
 module _ (d : Design) (is_open : IsOpen d) where
@@ -108,18 +106,25 @@ module _ (d : Design) (is_open : IsOpen d) where
         inside = omega (arith, standing.1.inside, ap (length {A = ℕ}) spelled);
         said = ap size_said bytes ∙ size_said-spell d.dim e axes good behind;
         kind =
-            sym (kind_bytes-take (n + 1) (elements d)) ∙ ap kind_bytes (take_one_more (elements d) n e standing.1.found)
-            ∙ kind_bytes-more (take n (elements d)) e
-            ∙ ap (λ (l : List ℕ). l ++ kind_byte (row_of e) ∷ []) (kind_bytes-take n (elements d))
-            ∙ ap (λ (k : ℕ). take n (kind_bytes (elements d)) ++ k ∷ [])
-            (sym (ap kind_byte_at bytes ∙ kind_byte_at-spell e behind ∙ ap kind_byte (row_at-spell d.dim e axes good)));
+            sym (kinds_in-take (n + 1) (elements d)) ∙ ap kinds_in (take_one_more (elements d) n e standing.1.found)
+            ∙ kinds_in-more (take n (elements d)) e
+            ∙ ap (λ (l : List Kind). l ++ kind_of_row (row_of e) ∷ []) (kinds_in-take n (elements d))
+            ∙ ap (λ (k : Kind). take n (kinds_in (elements d)) ++ k ∷ []) (sym (ap kind_at bytes ∙ kind_at-spell d.dim e axes good behind));
+        counted = λ is.
+            subst (λ (b : List ℕ). 40 ≤ length b) (sym bytes)
+            (counted_long d.dim e axes good behind (ap (λ (b : List ℕ). is_counted (class_of (kind_of b))) (sym bytes) ∙ is));
       }
+
+-- no more is kept than there are elements
+front_within : (d : Design) → IsFront d → length (kept_of d) ≤ length (elements d)
+front_within d front =
+    omega (arith, ap (length {A = ℕ}) front.first, length-take (length (kept_of d)) (offsets_of (elements d)), length-offsets (elements d))
 
 -- before the end of the body stands one more element
 module _ (d : Design) (at : ℕ) (left : Left d at) where
   -- the body ends where the elements do
   ends : length d.body.items ≡ length (spelling (elements d))
-  ends = sym (ap (length {A = ℕ}) (spelled d left.is_open))
+  ends = sym (ap (length {A = ℕ}) (spelled d left.front.is_open))
 
   -- so not all offsets are kept
   more_left : at < length d.body.items → length (kept_of d) < length (elements d)
@@ -131,142 +136,98 @@ module _ (d : Design) (at : ℕ) (left : Left d at) where
 
   -- for which there is room
   pub room_here : at < length d.body.items → vec_len d.kept < vec_capacity d.kept
-  room_here before = omega (arith, more_left before, left.room, d.kept.ok.0)
+  room_here before = omega (arith, more_left before, left.front.room, d.kept.ok.0)
 
-  pub kinds_room_here : at < length d.body.items → vec_len d.kinds < vec_capacity d.kinds
-  kinds_room_here before =
-      let n : ℕ = length (kept_of d) in
-      omega (
-        arith,
-        more_left before,
-        left.kinds_room,
-        d.kinds.ok.0,
-        ap (length {A = ℕ}) left.kinds,
-        length-take n (kind_bytes (elements d)),
-        length-kind_bytes (elements d),
-      )
+  pub kinds_room_here : at < length d.body.items → 0 < d.kinds.spare
+  kinds_room_here before = omega (arith, more_left before, left.front.room)
 
   -- with its head
   pub head_here : at < length d.body.items → 4 ≤ length (drop at d.body.items)
   head_here before =
-      let h = heads_at d left.is_open (length (kept_of d)) (more_left before) in
+      let h = heads_at d left.front.is_open (length (kept_of d)) (more_left before) in
       omega (arith, left.place, h.four, h.inside, length-drop at d.body.items)
+
+  -- and a total, where its type counts its members
+  pub counted_here : at < length d.body.items → is_counted (class_of (kind_of (drop at d.body.items))) ≡ true → 40 ≤ length (drop at d.body.items)
+  counted_here before =
+      subst (λ (k : ℕ). is_counted (class_of (kind_of (drop k d.body.items))) ≡ true → 40 ≤ length (drop k d.body.items)) (sym left.place)
+      (heads_at d left.front.is_open (length (kept_of d)) (more_left before)).counted
 
   -- and its end
   pub end_here : (size : ℕ) → at < length d.body.items → size ≡ size_said (drop at d.body.items) → at + size ≤ MOST_DESIGN
   end_here size before said =
-      let h = heads_at d left.is_open (length (kept_of d)) (more_left before) in
+      let h = heads_at d left.front.is_open (length (kept_of d)) (more_left before) in
       let sized : size ≡ h.size = said ∙ ap (λ (k : ℕ). size_said (drop k d.body.items)) left.place ∙ h.said in
-      omega (arith, left.place, sized, h.inside, left.is_open.few)
+      omega (arith, left.place, sized, h.inside, left.front.is_open.few)
 
   -- whose offset is kept: the place behind it is that of the next
-  pub left_more : (e : Design) (size : ℕ) → at < length d.body.items → size ≡ size_said (drop at d.body.items) → SameText d e → (byte : ℕ)
-      → byte ≡ kind_byte_at (drop at d.body.items) → IsKeptAlso d e at byte
+  pub left_more : (e : Design) (size : ℕ) → at < length d.body.items → size ≡ size_said (drop at d.body.items) → SameText d e → (kind : Kind)
+      → kind ≡ kind_at (drop at d.body.items) → IsKeptAlso d e at kind
       → Left e (at + size)
-  left_more e size before said same byte is_byte also =
+  left_more e size before said same kind kind_is also =
+      let n : ℕ = length (kept_of d) in
       let known = more_left before in
-      let h = heads_at d left.is_open (length (kept_of d)) known in
+      let h = heads_at d left.front.is_open n known in
       let es : elements e ≡ elements d = elements_same d e (same_bytes d e same) in
-      let long : length (kept_of e) ≡ length (kept_of d) + 1 = omega (arith, ap (length {A = ℕ}) also.kept, length-append (kept_of d) (at ∷ [])) in
+      let long : length (kept_of e) ≡ n + 1 = omega (arith, ap (length {A = ℕ}) also.kept, length-append (kept_of d) (at ∷ [])) in
       let sized : size ≡ h.size = said ∙ ap (λ (k : ℕ). size_said (drop k d.body.items)) left.place ∙ h.said in
+      let next : at + size ≡ offset_of (elements d) (n + 1) = omega (arith, left.place, sized, h.next) in
       let count = ap (length {A = Element}) es in
       record {
-        is_open = open_same d e (same_bytes d e same) left.is_open;
-        first = also.kept ∙ offsets_more (elements d) (kept_of d) at known left.first left.place
-            ∙ ap (λ (k : ℕ). take k (offsets_of (elements d))) (sym long) ∙ ap (λ (xs : List Element). take (length (kept_of e)) (offsets_of xs)) (sym es);
-        kinds =
-            also.kinds ∙ ap (λ (l : List ℕ). l ++ byte ∷ []) left.kinds ∙ ap (λ (k : ℕ). take (length (kept_of d)) (kind_bytes (elements d)) ++ k ∷ []) is_byte
-            ∙ ap (λ (k : ℕ). take (length (kept_of d)) (kind_bytes (elements d)) ++ kind_byte_at (drop k d.body.items) ∷ []) left.place
-            ∙ sym h.kind ∙ ap (λ (k : ℕ). take k (kind_bytes (elements d))) (sym long)
-            ∙ ap (λ (xs : List Element). take (length (kept_of e)) (kind_bytes xs)) (sym es);
-        place =
-            let next : at + size ≡ offset_of (elements d) (length (kept_of d) + 1) = omega (arith, left.place, sized, h.next) in
-            next ∙ ap (offset_of (elements d)) (sym long) ∙ ap (λ (xs : List Element). offset_of xs (length (kept_of e))) (sym es);
-        within = omega (arith, long, count, known);
-        room = omega (arith, count, left.room, also.room);
-        kinds_room = omega (arith, count, left.kinds_room, also.kinds_room);
+        front = record {
+          is_open = open_same d e (same_bytes d e same) left.front.is_open;
+          first = also.kept ∙ offsets_more (elements d) (kept_of d) at known left.front.first left.place
+              ∙ ap (λ (k : ℕ). take k (offsets_of (elements d))) (sym long) ∙ ap (λ (xs : List Element). take (length (kept_of e)) (offsets_of xs)) (sym es);
+          kinds =
+              also.kinds ∙ ap (λ (l : List Kind). l ++ kind ∷ []) left.front.kinds ∙ ap (λ (k : Kind). take n (kinds_in (elements d)) ++ k ∷ []) kind_is
+              ∙ ap (λ (k : ℕ). take n (kinds_in (elements d)) ++ kind_at (drop k d.body.items) ∷ []) left.place
+              ∙ sym h.kind ∙ ap (λ (k : ℕ). take k (kinds_in (elements d))) (sym long)
+              ∙ ap (λ (xs : List Element). take (length (kept_of e)) (kinds_in xs)) (sym es);
+          room = omega (arith, count, long, known, left.front.room, also.room, also.kinds_room, d.kept.ok.0, e.kept.ok.0);
+        };
+        place = next ∙ ap (offset_of (elements d)) (sym long) ∙ ap (λ (xs : List Element). offset_of xs (length (kept_of e))) (sym es);
       }
 
   -- at the end of the body no element is left
   none_left : length d.body.items ≤ at → length (elements d) ≤ length (kept_of d)
   none_left past = elim (cases_lt (length (kept_of d)) (length (elements d))) [
-    | inl known ↦ (let h = heads_at d left.is_open (length (kept_of d)) known in absurd (omega (arith, left.place, h.four, h.inside)))
+    | inl known ↦ (let h = heads_at d left.front.is_open (length (kept_of d)) known in absurd (omega (arith, left.place, h.four, h.inside)))
     | inr all ↦ all
   ]
 
   -- so the design is whole
   pub left_whole : length d.body.items ≤ at → IsWhole d
   left_whole past = record {
-    is_open = left.is_open;
-    kept = left.first ∙ take_all (length (kept_of d)) (offsets_of (elements d)) (omega (arith, none_left past, length-offsets (elements d)));
-    kinds = left.kinds ∙ take_all (length (kept_of d)) (kind_bytes (elements d)) (omega (arith, none_left past, length-kind_bytes (elements d)));
+    is_open = left.front.is_open;
+    kept = left.front.first ∙ take_all (length (kept_of d)) (offsets_of (elements d)) (omega (arith, none_left past, length-offsets (elements d)));
+    kinds = left.front.kinds ∙ take_all (length (kept_of d)) (kinds_in (elements d)) (omega (arith, none_left past, length-kinds_in (elements d)));
   }
 
--- what is known where the last of the kept offsets and bytes is taken back
-pub record TakenBack (d e : Design) : Type 0 where
-  pub same : SameText d e
-  pub room : vec_capacity e.kept ≡ vec_capacity d.kept
-  pub kinds_room : vec_capacity e.kinds ≡ vec_capacity d.kinds
-  pub kinds : kinds_of e ≡ take (length (kinds_of d) - 1) (kinds_of d)
+-- the element whose offset was kept last, whose head says its size: the walk goes on behind it
+module _ (d : Design) (front : IsFront d) (n last : ℕ) (long : length (kept_of d) ≡ n + 1) (is : last ≡ slice_index_or (kept_of d) n last) where
+  last_heads : Heads d n
+  last_heads = heads_at d front.is_open n (omega (arith, front_within d front, long))
 
--- there are as many bytes as offsets where the elements begin with those whose offsets are kept
-pub length-front : (d : Design) → IsFront d → length (kinds_of d) ≡ length (kept_of d)
-length-front d front =
-    let n : ℕ = length (kept_of d) in
-    omega (
-      arith,
-      ap (length {A = ℕ}) front.first,
-      ap (length {A = ℕ}) front.kinds,
-      length-take n (offsets_of (elements d)),
-      length-take n (kind_bytes (elements d)),
-      length-offsets (elements d),
-      length-kind_bytes (elements d),
-    )
+  last_place : last ≡ offset_of (elements d) n
+  last_place =
+      is ∙ get_or_default (kept_of d) n last 0 (omega (arith, long)) ∙ ap (λ (l : List ℕ). get_or l n 0) front.first
+      ∙ get_or-take (length (kept_of d)) (offsets_of (elements d)) n 0 (omega (arith, long))
+      ∙ get_or-offsets (elements d) n (omega (arith, front_within d front, long))
 
--- the bytes that are left are those of the elements whose offsets are
-back_kinds : (d e : Design) → IsFront d → TakenBack d e → length (kept_of d) - 1 ≡ length (kept_of e)
-    → kinds_of e ≡ take (length (kept_of e)) (kind_bytes (elements e))
-back_kinds d e front back one_less =
-    let n : ℕ = length (kept_of e) in
-    let es : elements e ≡ elements d = elements_same d e (same_bytes d e back.same) in
-    back.kinds ∙ ap (λ (k : ℕ). take k (kinds_of d)) (ap (λ (k : ℕ). k - 1) (length-front d front) ∙ one_less) ∙ ap (take n) front.kinds
-    ∙ take-take n (length (kept_of d)) (kind_bytes (elements d)) (omega (arith, one_less)) ∙ ap (λ (xs : List Element). take n (kind_bytes xs)) (sym es)
+  pub last_inside : last ≤ length d.body.items
+  last_inside = omega (arith, last_place, last_heads.inside)
 
--- the last of the kept offsets is taken back, and the walk goes on from it: at the beginning, where none is kept
-pub left_start : (d e : Design) → IsFront d → TakenBack d e → length (kept_of d) ≡ 0 → length (kept_of e) ≡ 0 → Left e 0
-left_start d e front back none_kept still_none =
-    let es : length (elements e) ≡ length (elements d) = ap (length {A = Element}) (elements_same d e (same_bytes d e back.same)) in
-    record {
-      is_open = open_same d e (same_bytes d e back.same) front.is_open;
-      first = sym (take_all 0 (kept_of e) (omega (arith, still_none))) ∙ ap (λ (k : ℕ). take k (offsets_of (elements e))) (sym still_none);
-      kinds = back_kinds d e front back (omega (arith, none_kept, still_none));
-      place = ap (offset_of (elements e)) (sym still_none);
-      within = omega (arith, still_none);
-      room = omega (arith, es, front.room, none_kept, back.room, d.kept.ok.0);
-      kinds_room = omega (arith, es, front.room, none_kept, back.kinds_room, length-front d front, d.kinds.ok.0);
-    }
+  pub last_head : 4 ≤ length (drop last d.body.items)
+  last_head = omega (arith, last_place, last_heads.four, last_heads.inside, length-drop last d.body.items)
 
--- at the last of the kept offsets, where there is one
-pub left_back : (d e : Design) (last : ℕ) → IsFront d → TakenBack d e → kept_of d ≡ kept_of e ++ last ∷ [] → Left e last
-left_back d e last front back kept =
-    let n : ℕ = length (kept_of e) in
-    let es : elements e ≡ elements d = elements_same d e (same_bytes d e back.same) in
-    let count = ap (length {A = Element}) es in
-    let long : length (kept_of d) ≡ n + 1 = omega (arith, ap (length {A = ℕ}) kept, length-append (kept_of e) (last ∷ [])) in
-    let first : kept_of d ≡ take (n + 1) (offsets_of (elements d)) = front.first ∙ ap (λ (k : ℕ). take k (offsets_of (elements d))) long in
-    let known : n < length (elements d) =
-    omega (arith, long, ap (length {A = ℕ}) first, length-take (n + 1) (offsets_of (elements d)), length-offsets (elements d)) in
-    let these : kept_of e ≡ take n (offsets_of (elements d)) =
-    sym (take_at (kept_of e) (last ∷ []) n refl) ∙ ap (take n) (sym kept ∙ first) ∙ take-take n (n + 1) (offsets_of (elements d)) (omega arith) in
-    let place : last ≡ offset_of (elements d) n =
-    sym (get_or-append_seam (kept_of e) last [] 0) ∙ ap (λ (x : List ℕ). get_or x n 0) (sym kept ∙ first)
-    ∙ get_or-take (n + 1) (offsets_of (elements d)) n 0 (omega arith) ∙ get_or-offsets (elements d) n known in
-    record {
-      is_open = open_same d e (same_bytes d e back.same) front.is_open;
-      first = these ∙ ap (λ (xs : List Element). take n (offsets_of xs)) (sym es);
-      kinds = back_kinds d e front back (omega (arith, long));
-      place = place ∙ ap (λ (xs : List Element). offset_of xs n) (sym es);
-      within = omega (arith, count, known);
-      room = omega (arith, count, front.room, back.room, d.kept.ok.0, d.kept.ok.1);
-      kinds_room = omega (arith, count, front.room, back.kinds_room, length-front d front, d.kinds.ok.0, d.kinds.ok.1);
-    }
+  module _ (size : ℕ) (said : size ≡ size_said (drop last d.body.items)) where
+    sized : size ≡ last_heads.size
+    sized = said ∙ ap (λ (k : ℕ). size_said (drop k d.body.items)) last_place ∙ last_heads.said
+
+    pub last_within : last + size ≤ MOST_DESIGN
+    last_within = omega (arith, last_place, sized, last_heads.inside, front.is_open.few)
+
+    pub last_end : last + size ≡ offset_of (elements d) (length (kept_of d))
+    last_end =
+        let next : last + size ≡ offset_of (elements d) (n + 1) = omega (arith, last_place, sized, last_heads.next) in
+        next ∙ ap (offset_of (elements d)) (sym long)

@@ -1,9 +1,10 @@
 -- How the walk through a file goes on and ends.
-use Rattle.std.proofs.Common.{◌≡◌, ℕ, ◌+◌, ◌*◌, ◌/◌, ◌%◌, ◌==◌, ◌<◌, take, map, length-append, ◌≤◌, List, [], ◌∷◌, ◌++◌, length, drop, get_or, refl, sym}
+use Rattle.std.proofs.Common.{◌≡◌, ℕ, ◌+◌, ◌*◌, ◌%◌, ◌<◌, take, map, length-append, ◌≤◌, List, [], ◌∷◌, ◌++◌, length, drop, get_or, refl, sym}
 use Rattle.std.proofs.Common.{ap, ◌∙◌, subst, arith, true, false}
 use Rattle.std.specs.Prelude.{Option, Some, None}
 use Rattle.std.specs.Option.{is_some}
-use Rattle.std.proofs.lemmas.List.{get_or_default, length-take-le, get_or-take, length-map}
+use Rattle.std.proofs.lemmas.List.{get_or_default, length-take-le, get_or-take, length-map, take-append-drop}
+use Rattle.std.proofs.lemmas.List.Elements.{All-drop}
 use Rattle.std.proofs.lemmas.Bool.Decides.{nat_tests}
 use Rattle.dgn_layout.specs.Classes.{class_of, is_silent}
 use Rattle.dgn_layout.specs.declared.types.Class.{Class}
@@ -12,17 +13,19 @@ use Rattle.dgn_drawing.specs.Faults.{element_fault}
 use Rattle.dgn_drawing.proofs.BodyEnds.{silent_sound}
 use Rattle.std.proofs.lemmas.Bool.{both_ways}
 use Rattle.dgn_drawing.specs.Element.{Element}
-use Rattle.dgn_drawing.specs.Spelling.{bit, spelling, size_of}
+use Rattle.dgn_drawing.specs.Spelling.{spell, spelling, size_of}
 use Rattle.dgn_drawing.specs.Rows.{row_of}
-use Rattle.dgn_drawing.specs.WellFormed.{IsBytes}
+use Rattle.dgn_drawing.specs.Nesting.{is_counted}
+use Rattle.dgn_drawing.specs.WellFormed.{IsBytes, IsWellFormed}
 use Rattle.dgn_drawing.specs.Reading.{element_at}
 use Rattle.dgn_drawing.specs.Opening.{NotDesign, Cut, Short, Attr, is_tcb, dimension, is_tail, Front, first_element, is_cut, StandsAt, HasFault}
-use Rattle.dgn_drawing.proofs.Fronts.{front_none, front_more, front_ends, four_each}
+use Rattle.dgn_drawing.proofs.Fronts.{front_none, front_more, front_ends, four_each, first_good, first_spelled}
 use Rattle.dgn_drawing.proofs.FirstElements.{dimension_is}
 use Rattle.elem_index.specs.declared.open_fault.OpenFault.{OpenFault}
 use Rattle.elem_index.specs.Offsets.{offsets_of}
-use Rattle.elem_index.specs.Design.{kind_byte, kind_byte_at, kind_bytes}
-use Rattle.elem_index.proofs.KindBytes.{kind_bytes-more}
+use Rattle.elem_index.specs.Kinds.{Kind}
+use Rattle.elem_index.specs.Design.{kind_of_row, kind_at, kinds_in}
+use Rattle.elem_index.proofs.KindBytes.{kinds_in-more, kind_at-spell, counted_long}
 use Rattle.elem_index.specs.Answers.{HasToldFault, TellsFault, BeginsSound, BeginsFaulty, BeginsBare, Steps, StandsSound, StandsFaulty, HasCount, IsRun}
 use Rattle.elem_index.specs.Opened.{opening}
 use Rattle.dgn_drawing.proofs.Offsets.{length-offsets_from, offsets_from-more}
@@ -40,24 +43,42 @@ fault_given f bytes (OpenFault.Short at) has = opening-fault f (Short at) bytes 
 fault_given f bytes (OpenFault.Attr at) has = opening-fault f (Attr at) bytes has
 fault_given f bytes OpenFault.Memory has = tt
 
--- elements stand before the place, and these are their offsets and bytes
-pub record Going (f kept kinds : List ℕ) (p : ℕ) : Type 0 where
+-- elements stand before the place, and these are their offsets, and their bytes and totals
+pub record Going (f kept : List ℕ) (kinds : List Kind) (p : ℕ) : Type 0 where
   pub elements : List Element
   pub front : Front f elements p
   pub offsets : kept ≡ offsets_of elements
-  pub bytes : kinds ≡ kind_bytes elements
+  pub bytes : kinds ≡ kinds_in elements
 
 pub going_start : (f : List ℕ) → Going f [] [] 0
 going_start f = record { elements = []; front = front_none f; offsets = refl; bytes = refl }
 
--- the byte of the first element of some bytes is read from these
-first_kind : (dim : ℕ) (b : List ℕ) → kind_byte_at b ≡ kind_byte (row_of (element_at dim (first_element b)))
-unfolding element_at
-first_kind dim b =
-    let zeroth : get_or (first_element b) 0 0 ≡ get_or b 0 0 = get_or-take (size_said b) b 0 0 (omega arith) in
-    let second : get_or (first_element b) 1 0 ≡ get_or b 1 0 = get_or-take (size_said b) b 1 0 (omega arith) in
-    ap (λ (x : ℕ). x % 128 + bit 128 (get_or b 0 0 / 128 % 2 == 1)) (sym second)
-    ∙ ap (λ (x : ℕ). get_or (first_element b) 1 0 % 128 + bit 128 (x / 128 % 2 == 1)) (sym zeroth)
+-- at the place of a sound element stand its bytes, and its byte and total are read there
+module _ (f : List ℕ) (bytes : IsBytes f) (p q : ℕ) (stands : StandsSound f p q) where
+  abbrev at_hand : Element
+  at_hand = element_at (dimension f) (first_element (drop p f))
+
+  rest_bytes : IsBytes (drop p f)
+  rest_bytes = All-drop (λ (x : ℕ). x < 256) p f bytes
+
+  hand_good : IsWellFormed (dimension f) at_hand
+  hand_good = first_good (dimension f) (dimension_is f) (drop p f) rest_bytes stands.more stands.sound.whole stands.sound.sound
+
+  hand_spelled : drop p f ≡ spell at_hand ++ drop (size_said (drop p f)) (drop p f)
+  hand_spelled =
+      sym (take-append-drop (size_said (drop p f)) (drop p f))
+      ∙ ap (λ (x : List ℕ). x ++ drop (size_said (drop p f)) (drop p f))
+      (sym (first_spelled (dimension f) (dimension_is f) (drop p f) rest_bytes stands.more stands.sound.whole stands.sound.sound))
+
+  first_kind : kind_at (drop p f) ≡ kind_of_row (row_of at_hand)
+  first_kind =
+      ap kind_at hand_spelled ∙ kind_at-spell (dimension f) at_hand (dimension_is f) hand_good (drop (size_said (drop p f)) (drop p f))
+
+  pub counted_here : is_counted (class_of (kind_of (drop p f))) ≡ true → 40 ≤ length (drop p f)
+  counted_here counted =
+      subst (λ (b : List ℕ). 40 ≤ length b) (sym hand_spelled)
+      (counted_long (dimension f) at_hand (dimension_is f) hand_good (drop (size_said (drop p f)) (drop p f))
+      (ap (λ (b : List ℕ). is_counted (class_of (kind_of b))) (sym hand_spelled) ∙ counted))
 
 -- a step that gives a place is over an element, and one that gives none is where the elements end
 pub steps_over : (f : List ℕ) (p q : ℕ) (at : Option ℕ) → is_some at ≡ true → Steps f p q at → StandsSound f p q
@@ -68,9 +89,9 @@ pub steps_end : (f : List ℕ) (p q : ℕ) (at : Option ℕ) → is_some at ≡ 
 steps_end f p q None none step = step
 steps_end f p q (Some at) none step = absurd (both_ways true none refl)
 
-module _ (f : List ℕ) (bytes : IsBytes f) (tcb : is_tcb f ≡ true) (kept kinds : List ℕ) (p : ℕ) (going : Going f kept kinds p) where
+module _ (f : List ℕ) (bytes : IsBytes f) (tcb : is_tcb f ≡ true) (kept : List ℕ) (kinds : List Kind) (p : ℕ) (going : Going f kept kinds p) where
   -- behind an element without fault the walk goes on
-  pub going_more : (at q : ℕ) → (at ≡ p) × StandsSound f p q → Going f (kept ++ at ∷ []) (kinds ++ kind_byte_at (drop p f) ∷ []) q
+  pub going_more : (at q : ℕ) → (at ≡ p) × StandsSound f p q → Going f (kept ++ at ∷ []) (kinds ++ kind_at (drop p f) ∷ []) q
   going_more at q step =
       let stands = step.1 in
       let es = going.elements in
@@ -84,8 +105,8 @@ module _ (f : List ℕ) (bytes : IsBytes f) (tcb : is_tcb f ≡ true) (kept kind
         offsets = ap (λ (x : List ℕ). x ++ at ∷ []) going.offsets ∙ ap (λ (k : ℕ). offsets_of es ++ k ∷ []) (step.0 ∙ sym place)
             ∙ sym (offsets_from-more 0 es _);
         bytes =
-            ap (λ (x : List ℕ). x ++ kind_byte_at (drop p f) ∷ []) going.bytes ∙ ap (λ (k : ℕ). kind_bytes es ++ k ∷ []) (first_kind (dimension f) (drop p f))
-            ∙ sym (kind_bytes-more es (element_at (dimension f) (first_element (drop p f))));
+            ap (λ (x : List Kind). x ++ kind_at (drop p f) ∷ []) going.bytes ∙ ap (λ (k : Kind). kinds_in es ++ k ∷ []) (first_kind f bytes p q stands)
+            ∙ sym (kinds_in-more es (element_at (dimension f) (first_element (drop p f))));
       }
 
   -- at a tail the elements end
@@ -147,7 +168,7 @@ bare_sound dim b bare =
 -- so many elements stand before the place
 pub record Counted (f : List ℕ) (count p : ℕ) : Type 0 where
   pub kept : List ℕ
-  pub kinds : List ℕ
+  pub kinds : List Kind
   pub going : Going f kept kinds p
   pub all : count ≡ length kept
 
@@ -155,14 +176,14 @@ pub counted_start : (f : List ℕ) → Counted f 0 0
 counted_start f = record { kept = []; kinds = []; going = going_start f; all = refl }
 
 -- as many as there are offsets
-pub count_ends : (f kept kinds : List ℕ) (count p : ℕ) → count ≡ length kept → IsRun f kept kinds p → HasCount f count
+pub count_ends : (f kept : List ℕ) (kinds : List Kind) (count p : ℕ) → count ≡ length kept → IsRun f kept kinds p → HasCount f count
 count_ends f kept kinds count p all run = record {
   opened = record { dim = dimension f; elements = run.elements; tail = drop p f };
   found = run.found;
   counted = all ∙ ap (length {A = ℕ}) run.offsets ∙ length-offsets_from 0 (map size_of run.elements) ∙ length-map run.elements size_of;
 }
 
-pub counted_more : (f kept kinds : List ℕ) (count p q : ℕ) → count ≡ length kept → Going f (kept ++ p ∷ []) kinds q → Counted f (count + 1) q
+pub counted_more : (f kept : List ℕ) (kinds : List Kind) (count p q : ℕ) → count ≡ length kept → Going f (kept ++ p ∷ []) kinds q → Counted f (count + 1) q
 counted_more f kept kinds count p q all going =
     record { kept = kept ++ p ∷ []; kinds = kinds; going = going; all = omega (arith, all, length-append kept (p ∷ [])) }
 

@@ -1,10 +1,10 @@
 -- What is kept of an element of a whole design says its row, but for a total.
-use Rattle.std.proofs.Common.{◌≡◌, ℕ, ◌+◌, ◌-◌, ◌%◌, ◌<◌, Bool, List, [], ◌∷◌, ◌++◌, length, take, drop, map, get_or, refl, sym, ap, ◌∙◌, subst, arith}
+use Rattle.std.proofs.Common.{◌≡◌, ℕ, ◌+◌, ◌-◌, ◌%◌, ◌<◌, Bool, List, [], ◌∷◌, ◌++◌, length, take, map, get_or, refl, sym, ap, ◌∙◌, subst, arith}
 use Rattle.std.proofs.Common.{true, false}
-use Rattle.std.specs.Prelude.{slice_get, leb, not, Option, Some, None, option_map, IfSome, IsFalse, slice_index_or}
-use Rattle.std.proofs.lemmas.List.{map-append, drop_more, get_or_default}
+use Rattle.std.specs.Prelude.{slice_get, leb, not, Option, Some, None, option_map, IfSome, slice_index_or}
+use Rattle.std.proofs.lemmas.List.{map-append, get_or_default}
 use Rattle.std.proofs.lemmas.Bool.Decides.{nat_tests}
-use Rattle.std.proofs.lemmas.Option.{slice_get_within, get_or_from_slice_get, slice_get-map}
+use Rattle.std.proofs.lemmas.Option.{get_or_from_slice_get, slice_get-map}
 use Rattle.dgn_layout.specs.declared.types.Class.{Class}
 use Rattle.dgn_layout.specs.Classes.{class_of}
 use Rattle.elem_head.specs.Head.{kind_of}
@@ -13,20 +13,15 @@ use Rattle.dgn_drawing.specs.Element.{Element}
 use Rattle.dgn_drawing.specs.Spelling.{bit, spell}
 use Rattle.dgn_drawing.specs.WellFormed.{IsWellFormed}
 use Rattle.dgn_drawing.specs.Rows.{row_of, row_at, total_in}
-use Rattle.dgn_drawing.specs.Nesting.{is_counted, BeginsFree}
+use Rattle.dgn_drawing.specs.Nesting.{is_counted}
 use Rattle.dgn_drawing.proofs.Rows.{row_at-spell}
 use Rattle.elem_index.specs.declared.design.Design.{Design}
 use Rattle.elem_index.specs.Offsets.{offset_of}
-use Rattle.elem_index.specs.Counted.{IsCounted}
-use Rattle.elem_index.specs.Design.{elements, bare_row, kind_byte, kind_bytes, IsWhole}
-use Rattle.elem_index.proofs.KindBytes.{length-kind_bytes}
-use Rattle.elem_index.proofs.Places.{length-kept, get_or-kept, opening_of, axes_of, stands_at, Stands, each_at, take_one_more, is_false}
+use Rattle.elem_index.specs.Design.{elements, kind_byte, kind_bytes, IsCounted, IsWhole}
+use Rattle.elem_index.proofs.KindBytes.{byte_kind}
+use Rattle.elem_index.proofs.Places.{length-kept, get_or-kept, opening_of, axes_of, stands_at, Stands, each_at, take_one_more}
 
--- the type and bit C that a byte says are those of which it was made
-byte_kind : (kind : ℕ) (cbit : Bool) → kind < 128 → (kind + bit 128 cbit) % 128 ≡ kind
-byte_kind kind true small = omega arith
-byte_kind kind false small = omega arith
-
+-- the bit C that a byte says is that of which it was made
 byte_cbit : (kind : ℕ) (cbit : Bool) → kind < 128 → leb 128 (kind + bit 128 cbit) ≡ cbit
 byte_cbit kind true small = grind (arith, nat_tests)
 byte_cbit kind false small = grind (arith, nat_tests)
@@ -40,6 +35,10 @@ no_total Class.Counted b is = absurd (let x = is in cc)
 no_total Class.Run b is = refl
 no_total Class.Floating b is = refl
 no_total Class.Boxed b is = refl
+
+-- the row of an element but for its total: what is kept of all says so much
+abbrev pub bare_row : Element → Row
+bare_row e = record { size = (row_of e).size; kind = (row_of e).kind; cbit = (row_of e).cbit; total = 0 }
 
 -- a row with another total
 abbrev pub with_total : Row → ℕ → Row
@@ -74,16 +73,13 @@ module _ (d : Design) (whole : IsWhole d) (n : ℕ) (known : n < length (element
   pub kept_place : (at : ℕ) → at ≡ slice_index_or d.kept.items n at → at ≡ offset_of (elements d) n
   kept_place at is = is ∙ get_or_default d.kept.items n at 0 (omega (arith, length-kept d whole)) ∙ get_or-kept d whole n known
 
-  pub kept_byte : (byte : ℕ) → byte ≡ slice_index_or d.kinds.items n byte → byte ≡ get_or d.kinds.items n 0
-  kept_byte byte is = is ∙ get_or_default d.kinds.items n byte 0 (omega (arith, ap (length {A = ℕ}) whole.kinds, length-kind_bytes (elements d)))
-
   -- where its parts are read from what is kept, as its offset, that of the next, and its byte
-  module _ (byte : ℕ) (kept : byte ≡ get_or d.kinds.items n 0) where
+  module _ (byte : ℕ) (kept : byte ≡ get_or (kind_bytes (elements d)) n 0) where
     byte_is : byte ≡ kind_byte row
     byte_is =
         let bytes : slice_get (kind_bytes (elements d)) n ≡ Some (kind_byte row) =
         slice_get-map kind_byte (map row_of (elements d)) n ∙ ap (option_map kind_byte) (slice_get-map row_of (elements d) n ∙ found) in
-        kept ∙ ap (λ (l : List ℕ). get_or l n 0) whole.kinds ∙ get_or_from_slice_get (kind_bytes (elements d)) n (kind_byte row) 0 bytes
+        kept ∙ get_or_from_slice_get (kind_bytes (elements d)) n (kind_byte row) 0 bytes
 
     small : row.kind < 128
     small = let kind = ap (λ (r : Row). r.kind) read in omega arith
@@ -100,6 +96,14 @@ module _ (d : Design) (whole : IsWhole d) (n : ℕ) (known : n < length (element
     bare_row_is begin end begins ends =
         let size : row.size ≡ end - begin = omega (arith, here.1.next, begins, ends) in
         ap (option_map bare_row) here.1.found ∙ ap Some (same_but_total row (end - begin) (byte % 128) (leb 128 byte) size kind_is cbit_is)
+
+  -- so it is by the kept bytes of all
+  pub bare_kept : (bytes : List ℕ) → bytes ≡ kind_bytes (elements d) → (begin : ℕ) → begin ≡ slice_index_or d.kept.items n begin
+      → (end : ℕ) → end ≡ offset_of (elements d) (n + 1)
+      → option_map bare_row (slice_get (elements d) n)
+      ≡ Some (record { size = end - begin; kind = get_or bytes n 0 % 128; cbit = leb 128 (get_or bytes n 0); total = 0 })
+  bare_kept bytes are begin begins end ends =
+      bare_row_is (get_or bytes n 0) (ap (λ (l : List ℕ). get_or l n 0) are) begin end (kept_place begin begins) ends
 
 -- the row of element n by what it is but for the total
 module _ (d : Design) (whole : IsWhole d) (n : ℕ) (row : Row) (is : option_map bare_row (slice_get (elements d) n) ≡ Some row) where
@@ -140,12 +144,3 @@ module _ (said : Element → Row) (es : List Element) (n : ℕ) (row : Row) (is 
       let this = of_said said row (slice_get es n) is in
       ap (map said) (take_one_more es n this.0 this.1) ∙ map-append said (take n es) (this.0 ∷ [])
       ∙ ap (λ (r : Row). map said (take n es) ++ r ∷ []) (sym this.2)
-
--- where the row that is there has no bit C, the elements from there on begin without it
-pub free_here : (es : List Element) (n : ℕ) (row : Row) → option_map row_of (slice_get es n) ≡ Some row → not row.cbit ≡ true → BeginsFree row_of (drop n es)
-free_here es n row is free =
-    let this = of_said row_of row (slice_get es n) is in
-    let within = slice_get_within es n this.0 this.1 in
-    let from : drop n es ≡ this.0 ∷ drop (n + 1) es
-    = drop_more es n this.0 within ∙ ap (λ (e : Element). e ∷ drop (n + 1) es) (get_or_from_slice_get es n this.0 this.0 this.1) in
-    subst (BeginsFree row_of) (sym from) (subst (λ (r : Row). IsFalse r.cbit) this.2 (is_false row.cbit free))

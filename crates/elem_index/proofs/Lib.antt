@@ -1,10 +1,8 @@
 pub mod OpeningAnswers
+pub mod KindLists
+pub mod Places
 pub mod KindBytes
 pub mod FileWalk
-pub mod Places
 pub mod KeptRows
-pub mod RowBlocks
-pub mod RowTotals
-pub mod CountedRows
 pub mod DesignGrowth
 pub mod WrittenDesigns

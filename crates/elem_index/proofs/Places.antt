@@ -27,9 +27,8 @@ use Rattle.std.proofs.lemmas.Option.{slice_get_within, get_or_from_slice_get}
 use Rattle.std.proofs.lemmas.Bool.{cases_lt, both_ways}
 use Rattle.elem_index.specs.declared.design.Design.{Design}
 use Rattle.elem_index.specs.Offsets.{offset_of, offsets_of}
-use Rattle.elem_index.specs.Counted.{IsCounted}
 use Rattle.elem_index.specs.Opened.{opening}
-use Rattle.elem_index.specs.Design.{elements, kind_bytes, IsWhole}
+use Rattle.elem_index.specs.Design.{elements, kinds_in, IsCounted, IsWhole}
 use Rattle.elem_index.specs.Answers.{IsRun, opened_of}
 use Rattle.dgn_drawing.specs.declared.limits.TheConstants.{MOST_DESIGN}
 
@@ -55,7 +54,7 @@ module _ (d : Design) (f : List ℕ) (p : ℕ) (run : IsRun f d.kept.items d.kin
       opens = opens_of d.body.items d.tail.items d.dim run.elements opens_both;
     };
     kept = run.offsets ∙ ap offsets_of (sym same_elements);
-    kinds = run.bytes ∙ ap kind_bytes (sym same_elements);
+    kinds = run.bytes ∙ ap kinds_in (sym same_elements);
   }
 
   pub run_opens : opening f ≡ Ok (opened_of d)
@@ -207,7 +206,7 @@ is_false false is = refl
 is_false true is = absurd (both_ways false refl is)
 
 -- a class that counts members is the one of counted headers
-counted_class : (c : Class) → is_counted c ≡ true → c ≡ Class.Counted
+pub counted_class : (c : Class) → is_counted c ≡ true → c ≡ Class.Counted
 counted_class Class.Silent is = absurd (cc)
 counted_class Class.Vertices is = absurd (cc)
 counted_class Class.Words is = absurd (cc)

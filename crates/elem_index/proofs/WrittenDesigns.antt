@@ -1,16 +1,16 @@
 -- What a crate above knows of a design after it has written to the body: offsets hang on sizes alone, and so on rows.
-use Rattle.std.proofs.Common.{◌≡◌, ℕ, ◌+◌, ◌<◌, ◌≤◌, List, length, take, map, sym, ap, ◌∙◌, arith}
+use Rattle.std.proofs.Common.{◌≡◌, ℕ, ◌+◌, ◌≤◌, List, length, take, map, sym, ap, ◌∙◌, arith}
 use Rattle.std.proofs.lemmas.List.{take-map}
 use Rattle.dgn_drawing.specs.declared.row.Row.{Row}
 use Rattle.dgn_drawing.specs.Element.{Element}
-use Rattle.dgn_drawing.specs.Spelling.{spell, size_of}
+use Rattle.dgn_drawing.specs.Spelling.{size_of}
 use Rattle.dgn_drawing.specs.Rows.{row_of}
 use Rattle.dgn_drawing.specs.Opening.{offsets_from}
 use Rattle.dgn_drawing.proofs.Offsets.{take-offsets_from, sizes-rows}
 use Rattle.elem_index.specs.declared.design.Design.{Design}
 use Rattle.elem_index.specs.Offsets.{offsets_of}
-use Rattle.elem_index.specs.Design.{kept_of, kinds_of, spare_of, kind_byte, kind_bytes, elements, IsOpen, IsWhole, IsFront, IsBehind}
-use Rattle.elem_index.proofs.KindBytes.{kind_bytes-take, kind_bytes-front}
+use Rattle.elem_index.specs.Design.{kept_of, kinds_of, spare_of, kind_of_row, kinds_in, elements, IsOpen, IsWhole, IsFront, IsBehind}
+use Rattle.elem_index.proofs.KindBytes.{kinds_in-take, kinds_in-front}
 use Rattle.elem_index.proofs.Places.{length-offsets}
 
 -- elements with the same rows have the same offsets
@@ -26,12 +26,7 @@ offsets-take k es = ap (offsets_from 0) (sym (take-map size_of k es)) ∙ sym (t
 pub offsets-front : (es more : List Element) → map row_of (take (length es) more) ≡ map row_of es → offsets_of es ≡ take (length es) (offsets_of more)
 offsets-front es more rows = offsets-rows es (take (length es) more) (sym rows) ∙ offsets-take (length es) more
 
--- each element has bytes
-has_bytes : (e : Element) → 0 < size_of e
-unfolding spell
-has_bytes e = omega arith
-
--- what a body that was written to owes to the kept offsets and bytes
+-- what a body that was written to owes to the kept offsets, bytes and totals
 module _ (old new : Design) (whole : IsWhole old) (is_open : IsOpen new) (kept : kept_of new ≡ kept_of old) (kinds : kinds_of new ≡ kinds_of old) where
   -- before it grows: the first elements have the rows that there were, and there is room for the others
   pub front_after : map row_of (take (length (elements old)) (elements new)) ≡ map row_of (elements old)
@@ -44,7 +39,7 @@ module _ (old new : Design) (whole : IsWhole old) (is_open : IsOpen new) (kept :
       record {
         is_open = is_open;
         first = is ∙ offsets-front (elements old) (elements new) rows ∙ ap (λ (k : ℕ). take k (offsets_of (elements new))) (sym long);
-        kinds = kinds ∙ whole.kinds ∙ kind_bytes-front (elements old) (elements new) n front ∙ ap (λ (k : ℕ). take k (kind_bytes (elements new))) (sym long);
+        kinds = kinds ∙ whole.kinds ∙ kinds_in-front (elements old) (elements new) n front ∙ ap (λ (k : ℕ). take k (kinds_in (elements new))) (sym long);
         room = omega (arith, long, room);
       }
 
@@ -55,5 +50,5 @@ module _ (old new : Design) (whole : IsWhole old) (is_open : IsOpen new) (kept :
         is_open = is_open;
         many = many;
         first = ap (take count) (kept ∙ whole.kept) ∙ sym (offsets-take count (elements old)) ∙ offsets-rows (take count (elements old)) (elements new) rows;
-        kinds = ap (take count) (kinds ∙ whole.kinds) ∙ sym (kind_bytes-take count (elements old)) ∙ ap (map kind_byte) rows;
+        kinds = ap (take count) (kinds ∙ whole.kinds) ∙ sym (kinds_in-take count (elements old)) ∙ ap (map kind_of_row) rows;
       }

@@ -14,7 +14,8 @@ use Rattle.elem_index.specs.declared.design.Design.{Design}
 use Rattle.elem_index.specs.declared.open_fault.OpenFault.{OpenFault}
 use Rattle.elem_index.specs.Offsets.{offsets_of}
 use Rattle.elem_index.specs.Opened.{Opened, opening}
-use Rattle.elem_index.specs.Design.{elements, kind_bytes}
+use Rattle.elem_index.specs.Kinds.{Kind}
+use Rattle.elem_index.specs.Design.{elements, kinds_in}
 
 -- the file has the fault that is told; want of memory says nothing of the file
 abbrev pub HasToldFault : List ℕ → OpenFault → Type 0
@@ -90,12 +91,12 @@ pub record StandsFaulty (f : List ℕ) (p : ℕ) (told : OpenFault) : Type 0 whe
   pub more : IsFalse (is_tail (drop p f))
   pub faulty : BeginsFaulty (dimension f) p (drop p f) told
 
--- the file opens, its elements end at place p, and these are their offsets and bytes
-pub record IsRun (f kept kinds : List ℕ) (p : ℕ) : Type 0 where
+-- the file opens, its elements end at place p, and these are their offsets, and their bytes and totals
+pub record IsRun (f kept : List ℕ) (kinds : List Kind) (p : ℕ) : Type 0 where
   pub elements : List Element
   pub opens : Opens f (dimension f) elements (drop p f)
   pub front : take p f ≡ spelling elements
   pub offsets : kept ≡ offsets_of elements
-  pub bytes : kinds ≡ kind_bytes elements
+  pub bytes : kinds ≡ kinds_in elements
   pub within : p ≤ length f
   pub found : opening f ≡ Ok (record { dim = dimension f; elements = elements; tail = drop p f })

@@ -1,6 +1,6 @@
 pub mod Offsets
 pub mod Opened
-pub mod Counted
+pub mod Kinds
 pub mod Design
 pub mod Answers
 pub mod Laws

@@ -2,10 +2,11 @@ ghost use Rattle.std.specs.Prelude.{◌≡◌, ◌≤◌, ◌<◌, ◌+◌, ◌+
 ghost use Rattle.dgn_drawing.specs.Spelling.{spell};
 ghost use Rattle.elem_index.specs.Offsets.{offset_of, offsets_of};
 ghost use Rattle.elem_index.specs.Opened.{opening};
-ghost use Rattle.elem_index.specs.Design.{elements, kind_bytes, IsWhole};
+ghost use Rattle.elem_index.specs.Design.{elements, kind_bytes, totals_of, IsWhole};
 ghost use Rattle.elem_index.specs.Answers.{HasCount, HasToldFault, Tells, TellsFault};
 
 use crate::beginning::{begins_with_tcb, dimension};
+use crate::kind_list::KindList;
 use crate::open_fault::OpenFault;
 use crate::walk::{count_in, elements_in};
 use dgn_drawing::MOST_DESIGN;
@@ -16,7 +17,8 @@ mod rows;
 
 /// A design file that is open: its dimension, the bytes of its elements, and the bytes behind them.
 ///
-/// Elements are numbered in file order, from 0. Where each one begins is kept beside the bytes, with its type and bit C.
+/// Elements are numbered in file order, from 0. Where each one begins is kept beside the bytes, with its type and bit
+/// C, and its total where it counts its members.
 /// Whoever writes to the body or the tail and changes one of these calls `grow` or `shrink` before any other call.
 #[derive(Drop)]
 pub struct Design {
@@ -28,8 +30,8 @@ pub struct Design {
     pub tail: Vec<u8>,
     // The byte at which each element begins.
     kept: Vec<u32>,
-    // The type of each element, and 128 more where it has bit C.
-    kinds: Vec<u8>,
+    // Type and bit C of each element, and the total of each that counts its members.
+    kinds: KindList,
 }
 
 /// Opens the bytes of a file.
@@ -135,6 +137,14 @@ impl Design {
         requires { IsWhole self.now }
         ensures { result.now ≡ kind_bytes (elements self.now) }
     {
-        self.kinds.as_slice()
+        self.kinds.bytes()
+    }
+
+    /// The total of each element that counts its members, in file order.
+    pub fn totals(&self) -> &[u16]
+        requires { IsWhole self.now }
+        ensures { result.now ≡ totals_of (elements self.now) }
+    {
+        self.kinds.totals()
     }
 }

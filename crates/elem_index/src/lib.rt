@@ -5,6 +5,7 @@
 mod beginning;
 mod design;
 mod kind_byte;
+mod kind_list;
 pub mod laws;
 mod open_fault;
 mod walk;

@@ -6,7 +6,8 @@ ghost use Rattle.elem_index.specs.Answers.{Steps, StandsFaulty, HasCount, IsRun,
 ghost use Rattle.elem_index.specs.Opened.{opening};
 
 use crate::beginning::{dimension, next_size};
-use crate::kind_byte::kind_byte;
+use crate::kind_byte::{kind_byte, total_said};
+use crate::kind_list::KindList;
 use crate::open_fault::OpenFault;
 use dgn_drawing::MOST_DESIGN;
 use std::alloc::Global;
@@ -55,9 +56,9 @@ impl Walk {
     }
 }
 
-// The offsets of all elements of the file, type and bit C of each in a byte, and the byte behind the last one. A head is
-// at hand when the walk is at it, so that is the time to keep what the rows want of it.
-pub(crate) fn elements_in(alloc: Global, f: &[u8]) -> Result<(Vec<u32>, Vec<u8>, usize), OpenFault>
+// The offsets of all elements of the file, what is kept of each beside, and the byte behind the last one. A head is at
+// hand when the walk is at it, so that is the time to keep what the rows want of it.
+pub(crate) fn elements_in(alloc: Global, f: &[u8]) -> Result<(Vec<u32>, KindList, usize), OpenFault>
     requires few { length f.now ≤ MOST_DESIGN }
     requires tcb { is_tcb f.now ≡ true }
     ensures opens { IfOk result (λ run. IsRun f.now run.0.items run.1.items run.2) }
@@ -66,10 +67,10 @@ pub(crate) fn elements_in(alloc: Global, f: &[u8]) -> Result<(Vec<u32>, Vec<u8>,
 {
     let mut walk = Walk::begin(f);
     let mut kept = Vec::new(alloc);
-    let mut kinds = Vec::new(alloc);
+    let mut kinds = KindList::new(alloc);
     'elements: while let Some(at) = walk.next_place(f)? {
         let (_, rest) = f.split_at(at as usize);
-        if kept.push(at).is_err() || kinds.push(kind_byte(rest)).is_err() {
+        if kept.push(at).is_err() || kinds.push(kind_byte(rest), total_said(rest)).is_err() {
             return Err(OpenFault::Memory);
         }
     }

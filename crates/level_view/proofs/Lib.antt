@@ -9,7 +9,6 @@ pub mod RootItems
 pub mod RootsOnward
 pub mod Places
 pub mod Rows
-pub mod DesignBlocks
-pub mod PlainRuns
+pub mod KeptElements
 pub mod NumbersShown
 pub mod LeafRoots

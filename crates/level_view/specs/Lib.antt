@@ -1,4 +1,3 @@
 pub mod Back
 pub mod Laws
 pub mod Numbers
-pub mod Nested

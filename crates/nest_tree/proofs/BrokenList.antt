@@ -204,22 +204,23 @@ module _ (rows : List Row) where
       at_point n list i (λ k d less. halves.0 k d (omega arith) less) (λ k d more inside. halves.1 k d more inside) ∙ ap (first_at n) is
 
   -- what is kept of an element, and its row, say whether it is broken
-  module _ (n : ℕ) (link : Link) (row : Row) (is : Some link ≡ option_map link_of (slice_get (marks_in rows) n)) (here : Some row ≡ slice_get rows n)
+  module _ (n : ℕ) (link : Link) (cbit : Bool) (is : Some link ≡ option_map link_of (slice_get (marks_in rows) n))
+      (here : Some cbit ≡ option_map (λ (r : Row). r.cbit) (slice_get rows n))
       (list new : List ℕ) (so_far : list ≡ passing (is_broken itself rows) 0 n) where
-    said : (b : Bool) → broken_by_link n link row ≡ b → is_broken itself rows (0 + n) ≡ b
+    said : (b : Bool) → broken_by_link n link cbit ≡ b → is_broken itself rows (0 + n) ≡ b
     said b test =
         let place : n ≡ 0 + n = omega arith in
-        ap (is_broken itself rows) (sym place) ∙ sym (broken_is rows n link row is here) ∙ test
+        ap (is_broken itself rows) (sym place) ∙ sym (broken_is rows n link cbit is here) ∙ test
 
     -- so the list grows by one that is, and by no other
-    pub broken_kept : broken_by_link n link row ≡ true → new ≡ list ++ n ∷ [] → new ≡ passing (is_broken itself rows) 0 (n + 1)
+    pub broken_kept : broken_by_link n link cbit ≡ true → new ≡ list ++ n ∷ [] → new ≡ passing (is_broken itself rows) 0 (n + 1)
     broken_kept test grown =
         let place : n ≡ 0 + n = omega arith in
         let next : suc n ≡ n + 1 = omega arith in
         grown ∙ ap (λ (l : List ℕ). l ++ n ∷ []) so_far ∙ ap (λ (k : ℕ). passing (is_broken itself rows) 0 n ++ k ∷ []) place
         ∙ sym (one_passes (is_broken itself rows) 0 n (said true test)) ∙ ap (passing (is_broken itself rows) 0) next
 
-    pub sound_passed : broken_by_link n link row ≡ false → new ≡ list → new ≡ passing (is_broken itself rows) 0 (n + 1)
+    pub sound_passed : broken_by_link n link cbit ≡ false → new ≡ list → new ≡ passing (is_broken itself rows) 0 (n + 1)
     sound_passed test same =
         let next : suc n ≡ n + 1 = omega arith in
         same ∙ so_far ∙ sym (one_fails (is_broken itself rows) 0 n (said false test)) ∙ ap (passing (is_broken itself rows) 0) next

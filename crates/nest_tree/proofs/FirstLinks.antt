@@ -1,13 +1,14 @@
 -- What is kept of the first element, behind which reading goes on; and what is kept of all.
-use Rattle.std.proofs.Common.{◌≡◌, ℕ, ◌<◌, List, [], ◌∷◌, ◌++◌, length, take, map, get_or, refl, sym, ap, ◌∙◌, subst, arith}
-use Rattle.std.specs.Prelude.{slice_get, option_map}
+use Rattle.std.proofs.Common.{◌≡◌, ℕ, ◌<◌, List, [], ◌∷◌, ◌++◌, length, take, drop, map, refl, sym, ap, ◌∙◌, subst, arith}
+use Rattle.std.specs.Prelude.{None, slice_get, option_map}
 use Rattle.std.proofs.lemmas.List.{take_all}
 use Rattle.std.proofs.lemmas.Option.{slice_get-map}
 use Rattle.dgn_drawing.specs.declared.row.Row.{Row}
-use Rattle.dgn_drawing.specs.Numbering.{Mark}
+use Rattle.dgn_drawing.specs.Nesting.{Whole, itself, nest}
+use Rattle.dgn_drawing.specs.Numbering.{Mark, marks, is_broken}
 use Rattle.nest_tree.specs.Linked.{Link, plain_link}
-use Rattle.nest_tree.specs.Depths.{IsWordTotal}
-use Rattle.nest_tree.specs.Passing.{broken_in}
+use Rattle.nest_tree.specs.Passing.{passing}
+use Rattle.nest_tree.specs.Read.{AreRead}
 use Rattle.nest_tree.specs.Nested.{IsNest}
 use Rattle.nest_tree.specs.Places.{marks_in, link_of, ArePlaces}
 use Rattle.nest_tree.proofs.ListStacks.{length-marks_in}
@@ -20,32 +21,34 @@ first_place (r ∷ rows) some = record { within = omega arith; ends_are = refl; 
 one_of : {A : Type 0} (old new : List A) (x : A) → old ≡ [] → new ≡ old ++ x ∷ [] → new ≡ x ∷ []
 one_of {A} old new x none is = is ∙ ap (λ (l : List A). l ++ x ∷ []) none
 
-none_broken : (r : Row) → [] ≡ broken_in (r ∷ [])
-unfolding broken_in marks_in
-none_broken r = refl
+first_sound : (rows : List Row) → 0 < length rows → [] ≡ passing (is_broken itself rows) 0 1
+unfolding marks_in
+first_sound [] some = absurd (omega arith)
+first_sound (r ∷ rows) some = refl
 
--- what is kept of one element alone
-one_kept : (rows : List Row) (d : Row) → length rows ≡ 1 → IsWordTotal (get_or rows 0 d) → IsNest rows (1 ∷ []) (plain_link ∷ []) []
-one_kept [] d one word = absurd (omega arith)
-one_kept (r ∷ []) d one word = record {
-  some = omega arith;
-  few = omega arith;
-  words = (word, tt);
-  places = first_place (r ∷ []) (omega arith);
-  are_broken = none_broken r;
-}
-one_kept (r ∷ (s ∷ rows)) d one word = absurd (omega arith)
-
-pub one_nested : (rows first : List Row) (d : Row) (ends ends_new : List ℕ) (links links_new : List Link) (broken : List ℕ) → rows ≡ first
-    → length first ≡ 1 → IsWordTotal (get_or first 0 d)
-    → ends ≡ [] → ends_new ≡ ends ++ 1 ∷ [] → links ≡ [] → links_new ≡ links ++ plain_link ∷ [] → broken ≡ [] → IsNest rows ends_new links_new broken
-one_nested rows first d ends ends_new links links_new broken same one word no_ends ends_is no_links links_is no_broken =
+-- so what is kept of the first element is read
+pub first_read : (rows : List Row) (ends ends_new : List ℕ) (links links_new : List Link) (broken : List ℕ) → 0 < length rows
+    → ends ≡ [] → ends_new ≡ ends ++ 1 ∷ [] → links ≡ [] → links_new ≡ links ++ plain_link ∷ [] → broken ≡ []
+    → AreRead rows (length ends_new) ends_new links_new broken
+first_read rows ends ends_new links links_new broken some no_ends ends_is no_links links_is no_broken =
     let e = one_of ends ends_new 1 no_ends ends_is in
     let l = one_of links links_new plain_link no_links links_is in
-    subst (λ (x : List Row). IsNest x ends_new links_new broken) (sym same)
-    (subst (λ (x : List ℕ). IsNest first x links_new broken) (sym e)
-    (subst (λ (y : List Link). IsNest first (1 ∷ []) y broken) (sym l)
-    (subst (λ (z : List ℕ). IsNest first (1 ∷ []) (plain_link ∷ []) z) (sym no_broken) (one_kept first d one word))))
+    subst (λ (x : List ℕ). AreRead rows (length x) x links_new broken) (sym e)
+    (subst (λ (y : List Link). AreRead rows 1 (1 ∷ []) y broken) (sym l)
+    (subst (λ (z : List ℕ). AreRead rows 1 (1 ∷ []) (plain_link ∷ []) z) (sym no_broken)
+    (record { places = first_place rows some; are_broken = first_sound rows some })))
+
+marks_behind_first : (rows : List Row) → 0 < length rows → drop 1 (marks_in rows) ≡ marks (nest itself Whole (drop 1 rows)) 1 0 None
+unfolding marks_in
+marks_behind_first [] some = absurd (omega arith)
+marks_behind_first (r ∷ rows) some = refl
+
+-- and all behind it nest apart from it
+pub first_apart : (rows : List Row) (ends ends_new : List ℕ) → 0 < length rows → ends ≡ [] → ends_new ≡ ends ++ 1 ∷ []
+    → drop (length ends_new) (marks_in rows) ≡ marks (nest itself Whole (drop (length ends_new) rows)) (length ends_new) 0 None
+first_apart rows ends ends_new some no_ends ends_is =
+    subst (λ (x : List ℕ). drop (length x) (marks_in rows) ≡ marks (nest itself Whole (drop (length x) rows)) (length x) 0 None)
+    (sym (one_of ends ends_new 1 no_ends ends_is)) (marks_behind_first rows some)
 
 -- the marks of as many elements as there are are the marks of all
 pub all_marks : (rows : List Row) → take (length rows) (marks_in rows) ≡ marks_in rows

@@ -18,6 +18,16 @@ counted_header Class.Floating is = absurd (let e = is in cc)
 counted_header Class.Boxed is = absurd (let e = is in cc)
 counted_header Class.Silent is = absurd (let e = is in cc)
 
+-- what heads nothing counts nothing
+pub not_counted : (c : Class) → is_header c ≡ false → is_counted c ≡ false
+not_counted Class.Vertices none = refl
+not_counted Class.Words none = refl
+not_counted Class.Counted none = none
+not_counted Class.Run none = refl
+not_counted Class.Floating none = refl
+not_counted Class.Boxed none = refl
+not_counted Class.Silent none = refl
+
 header_among : (kind : ℕ) (k : ℕ) → (kind == k) ≡ true → is_header (class_of k) ≡ true → is_header (class_of kind) ≡ true
 header_among kind k is header = ap (λ (n : ℕ). is_header (class_of n)) (eqb-true kind k is) ∙ header
 

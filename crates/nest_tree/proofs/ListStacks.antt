@@ -19,7 +19,8 @@ use Rattle.nest_tree.specs.Places.{Going}
 use Rattle.dgn_drawing.specs.Nesting.{is_header}
 use Rattle.nest_tree.proofs.NestingSteps.{nest_nil, count_within, flat-forest}
 use Rattle.nest_tree.proofs.LeafShapes.{leaf_shape}
-use Rattle.nest_tree.proofs.MemberBytes.{no_row, between_cons}
+use Rattle.nest_tree.specs.Sources.{no_row}
+use Rattle.nest_tree.proofs.MemberBytes.{between_cons}
 use Rattle.nest_tree.proofs.ListEntry.{at_place, below_cases, mark_here, list_here, enters}
 
 -- each element has a mark

@@ -17,7 +17,7 @@ use Rattle.nest_tree.proofs.OpenLists.{no_mark}
 use Rattle.nest_tree.proofs.Depths.{depths_low}
 use Rattle.std.specs.List.{AllByRecursion}
 
-pub found_of : {B : Type 0} (f : Mark → B) (o : Option Mark) (b : B) → Some b ≡ option_map f o → (m : Mark) × (o ≡ Some m) × (b ≡ f m)
+pub found_of : {A B : Type 0} (f : A → B) (o : Option A) (b : B) → Some b ≡ option_map f o → (m : A) × (o ≡ Some m) × (b ≡ f m)
 found_of f None b is = absurd (let e = is in cc)
 found_of f (Some m) b is = (m, refl, cc)
 
@@ -66,16 +66,18 @@ same_loose nesting.Loose = refl
 
 -- whether an element is broken
 module _ (rows : List Row) (n : ℕ) where
-  pub broken_is : (link : Link) (row : Row) → Some link ≡ option_map link_of (slice_get (marks_in rows) n) → Some row ≡ slice_get rows n
-      → broken_by_link n link row ≡ is_broken itself rows n
+  pub broken_is : (link : Link) (cbit : Bool) → Some link ≡ option_map link_of (slice_get (marks_in rows) n)
+      → Some cbit ≡ option_map (λ (r : Row). r.cbit) (slice_get rows n) → broken_by_link n link cbit ≡ is_broken itself rows n
   unfolding marks_in
-  broken_is link row is here =
+  broken_is link cbit is here =
       let m = found_of link_of (slice_get (marks_in rows) n) link is in
+      let r = found_of (λ (r : Row). r.cbit) (slice_get rows n) cbit here in
       let place : mark_of itself rows n ≡ Some m.0 = m.1 in
-      ap (λ (l : Link). broken_by_link n l row) m.2
-      ∙ ap (λ (b : Bool). b || (not (n == 0) && not (is_some m.0.parent) && row.cbit)) (same_loose m.0.knot)
-      ∙ ap (λ (o : Option Mark). is_broken_as itself n o (Some row)) (sym place)
-      ∙ ap (is_broken_as itself n (mark_of itself rows n)) here
+      ap (λ (l : Link). broken_by_link n l cbit) m.2
+      ∙ ap (λ (b : Bool). b || (not (n == 0) && not (is_some m.0.parent) && cbit)) (same_loose m.0.knot)
+      ∙ ap (λ (b : Bool). is_loose m.0.knot || (not (n == 0) && not (is_some m.0.parent) && b)) r.2
+      ∙ ap (λ (o : Option Mark). is_broken_as itself n o (Some r.0)) (sym place)
+      ∙ ap (is_broken_as itself n (mark_of itself rows n)) (sym r.1)
 
 -- an element doesn't lie deep
 low_at : (l : List Mark) (n : ℕ) (m : Mark) → AllByRecursion (λ (x : Mark). x.depth ≤ 3278) l → slice_get l n ≡ Some m → m.depth ≤ 3278

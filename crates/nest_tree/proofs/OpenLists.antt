@@ -1,7 +1,6 @@
 -- What is kept of the first elements tells the lists that they stand in, and grows by one place at a time.
-use Rattle.std.proofs.Common.{◌≡◌, ℕ, ◌+◌, ◌-◌, ◌*◌, ◌≤◌, ◌<◌, List, [], ◌∷◌, ◌++◌, length, take, drop, map, get_or, sym, ap, ◌∙◌, arith}
+use Rattle.std.proofs.Common.{◌≡◌, ℕ, ◌+◌, ◌-◌, ◌≤◌, ◌<◌, List, [], ◌∷◌, ◌++◌, length, take, drop, map, get_or, sym, ap, ◌∙◌, arith}
 use Rattle.std.specs.Prelude.{Option, Some, None}
-use Rattle.std.specs.List.{AllByRecursion}
 use Rattle.std.proofs.lemmas.List.{get_or-map, get_or-take, length-map, length-take, map_push, append-nil, take_rest, drop-drop, length-drop}
 use Rattle.dgn_drawing.specs.declared.row.Row.{Row}
 use Rattle.dgn_drawing.specs.Nesting as nesting
@@ -11,10 +10,9 @@ use Rattle.nest_tree.specs.declared.knot.Knot.{Knot}
 use Rattle.nest_tree.specs.Linked.{Link}
 use Rattle.nest_tree.specs.declared.shape.Shape as code
 use Rattle.nest_tree.specs.declared.open_list.OpenList.{OpenList}
-use Rattle.nest_tree.specs.Sums.{weights, sums_from}
-use Rattle.nest_tree.specs.Shapes.{code_knot, code_shape, shape_in, rows_between, IsRow, IsBetween}
+use Rattle.nest_tree.specs.Shapes.{code_knot, code_shape, shape_in, rows_between, IsBetween}
 use Rattle.nest_tree.specs.Places.{marks_in, link_of, ArePlaces, end_in, parent_in, depth_in, knot_in, kind_in, scope_below, list_in, resume, Going}
-use Rattle.nest_tree.proofs.MemberBytes.{no_row}
+use Rattle.nest_tree.specs.Sources.{no_row}
 use Rattle.nest_tree.proofs.ListStacks.{length-marks_in, take_marks, end_read, link_read, going_ends, mark_read}
 
 abbrev pub no_mark : Mark
@@ -118,12 +116,11 @@ module _ (rows : List Row) (n : ℕ) (ends : List ℕ) (links : List Link) (plac
 -- one element is read on, by the rows from number `first` on
 module _ (rows new : List Row) (first : ℕ) (are : new ≡ drop first rows) (at : ℕ) (f : OpenList) (going : Going rows at f) (inside : at < f.end)
     (few : length rows < 4294967295) (from : first ≤ at) where
-  pub between : (sums : List ℕ) → AllByRecursion IsRow new → weights new ≤ 4294967295 * length new → sums ≡ sums_from 0 new
-      → IsBetween new sums (at - first) (f.end - first)
-  between sums each light sums_are =
+  pub between : IsBetween new (at - first) (f.end - first)
+  between =
       let bound = going_ends rows at f going in
       let long : length new ≡ length rows - first = ap (length {A = Row}) are ∙ length-drop first rows in
-      record { some = omega arith; bounds = omega arith; few = omega arith; each = each; light = light; are_sums = sums_are }
+      record { some = omega arith; bounds = omega arith; few = omega arith }
 
   same_between : rows_between new (at - first) (f.end - first) ≡ rows_between rows at f.end
   same_between =

@@ -8,11 +8,10 @@ use Rattle.dgn_drawing.specs.Nesting as nesting
 use Rattle.dgn_drawing.specs.Nesting.{is_all, is_parts, is_counted, front_count, is_spline_part, has_bit, leaf, run_over, group_or_loose, shape, itself}
 use Rattle.dgn_drawing.specs.Nesting.{member_count}
 use Rattle.nest_tree.specs.declared.shape.Scope.{Scope}
-use Rattle.nest_tree.specs.Sums.{members_in}
-use Rattle.nest_tree.specs.Shapes.{IsBetween, rows_between, defined_scope, shape_in}
+use Rattle.nest_tree.specs.Shapes.{IsBetween, rows_between, members_in, defined_scope, shape_in}
 use Rattle.nest_tree.proofs.MemberBytes.{rows_behind, between_cons}
 
-module _ (rows : List Row) (sums : List ℕ) (at end : ℕ) (between : IsBetween rows sums at end) (d : Row) where
+module _ (rows : List Row) (at end : ℕ) (between : IsBetween rows at end) (d : Row) where
   within : at < length rows
   within = let some = between.some in let bounds = between.bounds in omega arith
 

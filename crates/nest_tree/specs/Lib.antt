@@ -1,10 +1,10 @@
-pub mod Sums
 pub mod Linked
 pub mod Shapes
+pub mod Kept
+pub mod Sources
 pub mod Places
 pub mod Passing
 pub mod Read
-pub mod Plain
 pub mod Nested
 pub mod Stepped
 pub mod Depths

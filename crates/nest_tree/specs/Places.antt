@@ -27,9 +27,10 @@ link_of m = record { parent = m.parent; depth = m.depth; knot = code_knot m.knot
 abbrev pub end_of_mark : Mark → ℕ
 end_of_mark m = m.end
 
--- whether an element is broken, by what is kept of it: a loose header, or a root but for element 0 with bit C
-abbrev pub broken_by_link : ℕ → Link → Row → Bool
-broken_by_link n link row = is_loose (defined_knot link.knot) || not (n == 0) && not (is_some link.parent) && row.cbit
+-- whether an element is broken, by what is kept of it, and by whether it has bit C: a loose header, or a root but for
+-- element 0 with bit C
+abbrev pub broken_by_link : ℕ → Link → Bool → Bool
+broken_by_link n link cbit = is_loose (defined_knot link.knot) || not (n == 0) && not (is_some link.parent) && cbit
 
 -- what is kept of the first n elements
 pub record ArePlaces (rows : List Row) (n : ℕ) (ends : List ℕ) (links : List Link) : Type 0 where

@@ -1,13 +1,11 @@
 -- The words of the code for those of the definitions, and the shape of the first element of a list.
-use Rattle.std.specs.Prelude.{ℕ, Bool, ◌-◌, ◌*◌, ◌<◌, ◌≤◌, ◌≡◌, List, [], ◌∷◌, length, take, drop}
-use Rattle.std.specs.List.{AllByRecursion}
+use Rattle.std.specs.Prelude.{ℕ, Bool, ◌-◌, ◌<◌, ◌≤◌, Option, None, List, [], ◌∷◌, length, take, drop}
 use Rattle.dgn_drawing.specs.declared.row.Row.{Row}
 use Rattle.dgn_drawing.specs.Nesting as nesting
-use Rattle.dgn_drawing.specs.Nesting.{itself, leaf, shape, is_spline_part, has_bit}
+use Rattle.dgn_drawing.specs.Nesting.{itself, leaf, shape, member_count, is_spline_part, has_bit}
 use Rattle.nest_tree.specs.declared.knot.Knot.{Knot}
 use Rattle.nest_tree.specs.declared.shape.Scope.{Scope}
 use Rattle.nest_tree.specs.declared.shape.Shape.{Shape}
-use Rattle.nest_tree.specs.Sums.{weights, sums_from}
 
 abbrev pub code_knot : nesting.Knot → Knot
 code_knot nesting.Leaf = Knot.Leaf
@@ -38,6 +36,11 @@ code_shape s = record { knot = code_knot s.knot; inside = code_scope s.inside; c
 abbrev pub rows_between : List Row → ℕ → ℕ → List Row
 rows_between rows at end = take (end - at) (drop at rows)
 
+-- how many of the rows behind the first one are its members, if it has any number of them
+abbrev pub members_in : List Row → Option ℕ
+members_in [] = None
+members_in (h ∷ r) = member_count itself h r
+
 -- whether an element is a part of a run whose parts are that list
 abbrev pub is_part_in : Scope → Row → Bool
 is_part_in Scope.Parts = is_spline_part
@@ -53,11 +56,8 @@ pub record IsRow (r : Row) : Type 0 where
   pub large : 4 ≤ r.size
   pub typed : r.kind < 128
 
--- rows of elements with their sums, and two numbers between which there are some of them
-pub record IsBetween (rows : List Row) (sums : List ℕ) (at end : ℕ) : Type 0 where
+-- two numbers of rows, between which there are some
+pub record IsBetween (rows : List Row) (at end : ℕ) : Type 0 where
   pub some : at < end
   pub bounds : end ≤ length rows
   pub few : length rows < 4294967295
-  pub each : AllByRecursion IsRow rows
-  pub light : weights rows ≤ 4294967295 * length rows
-  pub are_sums : sums ≡ sums_from 0 rows

@@ -10,27 +10,26 @@ ghost use Rattle.std.specs.List.Sorted.{IsPartitionedBy};
 use crate::knot::Knot;
 use crate::link::Link;
 use crate::seen::SeenRows;
-use dgn_drawing::Row;
 
-// Whether element `n` is broken, by what is kept of it.
-fn is_broken_as(n: u32, link: Link, row: Row) -> bool
-    ensures { result ≡ broken_by_link n link row }
+// Whether element `n` is broken, by what is kept of it, and by whether it has bit C.
+fn is_broken_as(n: u32, link: Link, cbit: bool) -> bool
+    ensures { result ≡ broken_by_link n link cbit }
 {
-    let orphan = n != 0 && link.parent().is_none() && row.cbit;
+    let orphan = n != 0 && link.parent().is_none() && cbit;
     matches!(link.knot(), Knot::Loose) || orphan
 }
 
 // Adds number `n` to the broken ones before it, if element `n` is broken, of which that is kept. There is room for it.
-pub(crate) fn add_if_broken(_seen: &SeenRows, n: u32, link: Link, row: Row, list: &mut Vec<u32>)
+pub(crate) fn add_if_broken(_seen: &SeenRows, n: u32, link: Link, cbit: bool, list: &mut Vec<u32>)
     requires link { Some link ≡ option_map link_of (slice_get (marks_in _seen.now.list) n) }
-    requires row { Some row ≡ slice_get _seen.now.list n }
+    requires row { Some cbit ≡ option_map (λ r. r.cbit) (slice_get _seen.now.list n) }
     requires begun { list.old.items ≡ passing (is_broken itself _seen.now.list) 0 n }
     requires room { vec_len list.old < vec_capacity list.old }
     ensures list { list.new.items ≡ passing (is_broken itself _seen.now.list) 0 (n + 1) }
     ensures most { vec_len list.new ≤ vec_len list.old + 1 }
     ensures room { vec_capacity list.old ≤ vec_capacity list.new }
 {
-    if is_broken_as(n, link, row) {
+    if is_broken_as(n, link, cbit) {
         list.push_reserved(n);
     }
 }

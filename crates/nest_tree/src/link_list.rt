@@ -32,13 +32,14 @@ fn is_plain(link: Link) -> bool
     link.parent().is_none() && link.depth() == 0 && matches!(link.knot(), Knot::Leaf)
 }
 
-// Puts so many such links last. There is room for them.
-fn push_links(count: u32, list: &mut Vec<Link>)
+// Puts a link so many times last. There is room for it.
+fn push_links(link: Link, count: u32, list: &mut Vec<Link>)
     requires { vec_len list.old + count ≤ vec_capacity list.old }
-    ensures { list.new.items ≡ list.old.items ++ replicate count plain_link }
+    ensures items { list.new.items ≡ list.old.items ++ replicate count link }
+    ensures room { vec_capacity list.old ≤ vec_capacity list.new }
 {
     for _ in 0..count {
-        list.push_reserved(Link::new(None, 0, Knot::Leaf));
+        list.push_reserved(link);
     }
 }
 
@@ -96,16 +97,17 @@ impl LinkList {
         }
     }
 
-    // Puts the links of so many roots with nothing below them last. There is room for them.
-    pub(crate) fn push_plain(&mut self, count: u32)
+    // Puts a link so many times last. There is room for it.
+    pub(crate) fn push_same(&mut self, link: Link, count: u32)
         requires room { count ≤ self.old.spare }
         requires few { length self.old.items + count < 4294967296 }
-        ensures { self.new.items ≡ self.old.items ++ replicate count plain_link }
+        ensures items { self.new.items ≡ self.old.items ++ replicate count link }
+        ensures room { self.old.spare ≤ self.new.spare + count }
     {
-        if self.rest.is_empty() {
+        if self.rest.is_empty() && is_plain(link) {
             self.plain += count;
         } else {
-            push_links(count, &mut self.rest);
+            push_links(link, count, &mut self.rest);
         }
     }
 

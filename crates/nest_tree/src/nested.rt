@@ -1,22 +1,21 @@
-ghost use Rattle.std.specs.Prelude.{◌≡◌, ◌≤◌, ◌<◌, ◌+◌, ◌-◌, ◌++◌, ◌↔◌, ◌⊎◌, nat_lt, length, take, drop, map, slice_get, option_map, vec_len, vec_capacity};
+ghost use Rattle.std.specs.Prelude.{◌≡◌, ◌≤◌, ◌<◌, ◌+◌, ◌-◌, ◌++◌, ◌↔◌, nat_lt, length, take, drop, map, slice_get, option_map, vec_len, vec_capacity};
 ghost use Rattle.std.specs.Prelude.{IsNone, IfSome, OnOk};
 ghost use Rattle.std.specs.List.{AllByRecursion};
 ghost use Rattle.nest_tree.specs.Depths.{IsSized, IsWordTotal};
-ghost use Rattle.dgn_drawing.specs.Nesting.{BeginsFree, IsClosed, itself};
+ghost use Rattle.dgn_drawing.specs.Nesting.{BeginsFree, itself};
 ghost use Rattle.dgn_drawing.specs.Numbering.{span_of, depth_of, parent_of, knot_of, root_of, first_broken_of};
 ghost use Rattle.nest_tree.specs.Shapes.{code_knot, IsRow};
-ghost use Rattle.nest_tree.specs.Places.{marks_in, link_of, end_of_mark, NestApart};
+ghost use Rattle.nest_tree.specs.Places.{marks_in, link_of, end_of_mark};
 ghost use Rattle.nest_tree.specs.Passing.{broken_in, first_at, if_below};
-ghost use Rattle.nest_tree.specs.Plain.{IsPlain, IsPlainKind, kept_rows};
 ghost use Rattle.nest_tree.specs.Nested.{Nested, nested_of, IsNest};
 
 use crate::broken::cut_broken;
 use crate::knot::Knot;
 use crate::link::Link;
 use crate::link_list::LinkList;
-use crate::plain::{plain_front, push_numbers};
 use crate::reading::read_on;
 use crate::seen::{SeenRows, Step};
+use crate::source::Source;
 use crate::sums::set_sums;
 use dgn_drawing::Row;
 use std::alloc::AllocError;
@@ -93,60 +92,6 @@ impl Nest {
         requires free { BeginsFree itself rows.now }
         ensures { self.new.rows ≡ self.old.rows ++ rows.now }
     {
-        self.add(rows);
-    }
-
-    /// Adds the elements with these rows behind the others, of which they nest apart, since the first of them has no bit C
-    /// or none of the others waits for more. It takes no memory.
-    pub fn grow_apart(&mut self, rows: &[Row])
-        requires room { length rows.now ≤ self.old.spare }
-        requires few { length self.old.rows + length rows.now < 4294967295 }
-        requires each { AllByRecursion IsRow rows.now }
-        requires apart { BeginsFree itself rows.now ⊎ IsClosed itself self.old.rows }
-        ensures { self.new.rows ≡ self.old.rows ++ rows.now }
-    {
-        self.add(rows);
-    }
-
-    // Adds the elements with these rows behind the others, of which they nest apart.
-    pub(crate) fn add(&mut self, rows: &[Row])
-        requires room { length rows.now ≤ self.old.spare }
-        requires few { length self.old.rows + length rows.now < 4294967295 }
-        requires each { AllByRecursion IsRow rows.now }
-        requires apart { 0 < length self.old.rows → NestApart self.old.rows rows.now }
-        ensures { self.new.rows ≡ self.old.rows ++ rows.now }
-    {
-        if plain_front(rows) == rows.len() {
-            self.add_plain(rows);
-        } else {
-            self.add_any(rows);
-        }
-    }
-
-    // Adds elements of which each is a root with nothing below it.
-    fn add_plain(&mut self, rows: &[Row])
-        requires room { length rows.now ≤ self.old.spare }
-        requires few { length self.old.rows + length rows.now < 4294967295 }
-        requires plain { AllByRecursion IsPlain rows.now }
-        requires words { AllByRecursion IsWordTotal rows.now }
-        requires apart { 0 < length self.old.rows → NestApart self.old.rows rows.now }
-        ensures { self.new.rows ≡ self.old.rows ++ rows.now }
-    {
-        let count = rows.len() as u32;
-        let first = self.ends.len() as u32;
-        push_numbers(first + 1, count, &mut self.ends);
-        self.links.push_plain(count);
-        self.seen = self.seen.then(&Step::Behind(rows));
-    }
-
-    // Adds elements of any kind.
-    fn add_any(&mut self, rows: &[Row])
-        requires room { length rows.now ≤ self.old.spare }
-        requires few { length self.old.rows + length rows.now < 4294967295 }
-        requires each { AllByRecursion IsRow rows.now }
-        requires apart { 0 < length self.old.rows → NestApart self.old.rows rows.now }
-        ensures { self.new.rows ≡ self.old.rows ++ rows.now }
-    {
         // Without rows there may be no room for their sums, of which there is one more.
         if rows.is_empty() {
             return;
@@ -155,8 +100,7 @@ impl Nest {
         set_sums(rows, &mut self.sums);
         read_on(
             &seen,
-            rows,
-            &self.sums,
+            &Source::Listed(rows, &self.sums),
             &mut self.ends,
             &mut self.links,
             &mut self.broken,
@@ -164,23 +108,6 @@ impl Nest {
         self.sums.clear();
         self.sums.shrink_to(KEPT_SUMS);
         self.seen = seen;
-    }
-
-    /// Adds elements behind the others which are roots with nothing below them (`plain_run`), by what is kept of them: the
-    /// place where each begins, type and bit C of each in a byte, and the place where the last one ends. It takes no
-    /// memory.
-    pub fn grow_plain(&mut self, places: &[u32], kinds: &[u8], end: u32)
-        requires room { length places.now ≤ self.old.spare }
-        requires few { length self.old.rows + length places.now < 4294967295 }
-        requires each { length kinds.now ≡ length places.now }
-        requires plain { AllByRecursion IsPlainKind kinds.now }
-        ensures { self.new.rows ≡ self.old.rows ++ kept_rows places.now kinds.now end }
-    {
-        let count = places.len() as u32;
-        let first = self.ends.len() as u32;
-        push_numbers(first + 1, count, &mut self.ends);
-        self.links.push_plain(count);
-        self.seen = self.seen.then(&Step::Kept(places, kinds, end));
     }
 
     /// Keeps the first `count` elements. The others nest apart from them, since the first of these has

@@ -1,21 +1,22 @@
 // The nesting of all elements of a drawing.
 
-ghost use Rattle.std.specs.Prelude.{◌≡◌, ◌<◌, ◌≤◌, drop, length, IfOk};
+ghost use Rattle.std.specs.Prelude.{◌≡◌, ◌<◌, drop, length, IfOk};
 ghost use Rattle.std.specs.List.{AllByRecursion};
-ghost use Rattle.dgn_drawing.specs.Nesting.{BeginsFree, itself};
+ghost use Rattle.nest_tree.specs.Depths.{IsWordTotal};
+ghost use Rattle.nest_tree.specs.Kept.{kept_rows, AreKept};
 ghost use Rattle.nest_tree.specs.Shapes.{IsRow};
+ghost use Rattle.nest_tree.specs.Sources.{rows_of, IsSource};
 
 use crate::knot::Knot;
 use crate::link::Link;
 use crate::link_list::LinkList;
 use crate::nested::Nest;
+use crate::reading::read_on;
 use crate::seen::{SeenRows, Step};
-use crate::sums::has_word_total;
-use dgn_drawing::Row;
+use crate::source::Source;
+use crate::sums::{has_word_total, set_sums};
+use dgn_drawing::{Row, is_counted};
 use std::alloc::{AllocError, Global};
-
-// How many rows are read at once, unless elements with bit C follow.
-const BLOCK: usize = 4096;
 
 /// Nests the elements with these rows. Element 0 is a leaf, and every other one is read by its type.
 /// An error says that there was no memory.
@@ -25,48 +26,65 @@ pub fn nest(alloc: Global, rows: &[Row]) -> Result<Nest, AllocError>
     requires each { AllByRecursion IsRow rows.now }
     ensures { IfOk result (λ t. t.rows ≡ rows.now) }
 {
-    let (first, mut rest) = rows.split_at(1);
-    let mut nest = nest_first(alloc, first, rows.len())?;
-    // No element behind a block belongs to one in it or before, so the sums of one block at a time are enough.
-    'blocks: while !rest.is_empty() {
-        let (block, behind) = rest.split_at(block_len(rest));
-        nest.reserve(block.len() as u32)?;
-        nest.add(block);
-        rest = behind;
-    }
-    Ok(nest)
+    let seen = SeenRows::new().then(&Step::Behind(rows));
+    let (first, rest) = rows.split_at(1);
+    has_word_total(first[0]);
+    let mut sums = Vec::with_capacity(alloc, rows.len())?;
+    set_sums(rest, &mut sums);
+    nest_source(alloc, seen, &Source::Listed(rest, &sums))
 }
 
-// The nesting of one element, with room for the places of `count`.
-fn nest_first(alloc: Global, first: &[Row], count: usize) -> Result<Nest, AllocError>
-    requires { length first.now ≡ 1 }
-    ensures { IfOk result (λ t. t.rows ≡ first.now) }
+/// Nests the elements of which that is kept, for which no row has to be made: the place where each begins, counted in
+/// bytes, and type and bit C of each in a byte, the type and 128 more where it has bit C; the total of each that counts
+/// its members; and the place where the last one ends. Element 0 is a leaf, and every other one is read by its type.
+/// An error says that there was no memory.
+pub fn nest_kept(
+    alloc: Global,
+    places: &[u32],
+    kinds: &[u8],
+    totals: &[u16],
+    end: u32,
+) -> Result<Nest, AllocError>
+    requires some { 0 < length places.now }
+    requires kept { AreKept places.now kinds.now totals.now end }
+    ensures { IfOk result (λ t. t.rows ≡ kept_rows places.now kinds.now totals.now end) }
 {
+    have_word_totals(places, kinds, totals, end);
+    let seen = SeenRows::new().then(&Step::Kept(places, kinds, totals, end));
+    let (_, places) = places.split_at(1);
+    let (first, kinds) = kinds.split_at(1);
+    let (_, totals) = totals.split_at(usize::from(is_counted(first[0] % 128)));
+    nest_source(alloc, seen, &Source::Kept(places, kinds, totals, end))
+}
+
+// Totals of two bytes are words. It does nothing.
+fn have_word_totals(_places: &[u32], _kinds: &[u8], totals: &[u16], _end: u32)
+    ensures { AllByRecursion IsWordTotal (kept_rows _places.now _kinds.now totals.now _end) }
+{
+    let _ = totals;
+}
+
+// The nesting of the rows that are seen, of which the source gives those behind the first one.
+fn nest_source(alloc: Global, seen: SeenRows, source: &Source<'_>) -> Result<Nest, AllocError>
+    requires some { 0 < length seen.list }
+    requires few { length seen.list < 4294967295 }
+    requires source { IsSource source.now }
+    requires rows { rows_of source.now ≡ drop 1 seen.list }
+    requires words { AllByRecursion IsWordTotal seen.list }
+    ensures { IfOk result (λ t. t.rows ≡ seen.list) }
+{
+    let count = 1 + source.len();
     let mut ends = Vec::with_capacity(alloc, count)?;
     let mut links = LinkList::with_capacity(alloc, count)?;
-    ends.push(1)?;
-    links.reserve(1)?;
+    let mut broken = Vec::with_capacity(alloc, count)?;
+    ends.push_reserved(1);
     links.push(Link::new(None, 0, Knot::Leaf));
-    has_word_total(first[0]);
+    read_on(&seen, source, &mut ends, &mut links, &mut broken);
     Ok(Nest {
-        seen: SeenRows::new().then(&Step::Behind(first)),
+        seen,
         sums: Vec::new(alloc),
         ends,
         links,
-        broken: Vec::new(alloc),
+        broken,
     })
-}
-
-// How many of the rows are a block: some, behind which the first one has no bit C.
-fn block_len(rows: &[Row]) -> usize
-    requires { 0 < length rows.now }
-    ensures some { 0 < result }
-    ensures within { result ≤ length rows.now }
-    ensures free { BeginsFree itself (drop result rows.now) }
-{
-    let mut count = rows.len().min(BLOCK);
-    'members: while count < rows.len() && rows[count].cbit {
-        count += 1;
-    }
-    count
 }

@@ -3,13 +3,14 @@
 ghost use Rattle.std.specs.Prelude.{◌≡◌, ◌<◌, ◌≤◌, drop, length, IfSome, None, Some};
 ghost use Rattle.std.specs.List.{AllByRecursion};
 ghost use Rattle.dgn_drawing.specs.Numbering.{Mark};
+ghost use Rattle.nest_tree.specs.Sources.{rows_of, IsSource};
 ghost use Rattle.nest_tree.specs.Places.{marks_in, ArePlaces, Going, parent_in, scope_below, list_in, list_around};
 
 use crate::knot::Knot;
 use crate::link_list::LinkList;
 use crate::seen::SeenRows;
 use crate::shape::Scope;
-use dgn_drawing::Row;
+use crate::source::Source;
 
 // A list whose elements are being read.
 #[derive(Clone, Copy, Drop)]
@@ -48,19 +49,20 @@ fn scope_below(knot: Knot, kind: u8) -> Scope
     }
 }
 
-// The list of the elements at that depth below element `header`, which is one of those whose rows are
-// read, from number `first` on.
+// The list of the elements at that depth below element `header`, which is one of those whose rows are read, from number
+// `first` on.
 fn list_below(
     _seen: &SeenRows,
     first: usize,
-    rows: &[Row],
+    source: &Source<'_>,
     ends: &[u32],
     links: &LinkList,
     header: u32,
     depth: u32,
 ) -> OpenList
     requires few { length _seen.now.list < 4294967295 }
-    requires rows { rows.now ≡ drop first _seen.now.list }
+    requires source { IsSource source.now }
+    requires rows { rows_of source.now ≡ drop first _seen.now.list }
     requires places { ArePlaces _seen.now.list (length links.now.items) ends.now links.now.items }
     requires known { header < length links.now.items }
     requires read { first ≤ header }
@@ -68,7 +70,7 @@ fn list_below(
 {
     let n = header as usize;
     OpenList {
-        scope: scope_below(links.at(header).knot(), rows[n - first].kind),
+        scope: scope_below(links.at(header).knot(), source.kind(n - first)),
         end: ends[n],
         depth,
         parent: Some(header),
@@ -79,13 +81,14 @@ fn list_below(
 fn list_around(
     seen: &SeenRows,
     first: usize,
-    rows: &[Row],
+    source: &Source<'_>,
     ends: &[u32],
     links: &LinkList,
     n: u32,
 ) -> OpenList
     requires few { length seen.now.list < 4294967295 }
-    requires rows { rows.now ≡ drop first seen.now.list }
+    requires source { IsSource source.now }
+    requires rows { rows_of source.now ≡ drop first seen.now.list }
     requires within { first ≤ length seen.now.list }
     requires places { ArePlaces seen.now.list (length links.now.items) ends.now links.now.items }
     requires known { n < length links.now.items }
@@ -95,8 +98,8 @@ fn list_around(
 {
     let link = links.at(n);
     match link.parent() {
-        None => all_elements(seen, first + rows.len()),
-        Some(parent) => list_below(seen, first, rows, ends, links, parent, link.depth()),
+        None => all_elements(seen, first + source.len()),
+        Some(parent) => list_below(seen, first, source, ends, links, parent, link.depth()),
     }
 }
 
@@ -104,14 +107,15 @@ fn list_around(
 pub(crate) fn list_at(
     seen: &SeenRows,
     first: usize,
-    rows: &[Row],
+    source: &Source<'_>,
     ends: &[u32],
     links: &LinkList,
     at: u32,
     mut list: OpenList,
 ) -> OpenList
     requires few { length seen.now.list < 4294967295 }
-    requires rows { rows.now ≡ drop first seen.now.list }
+    requires source { IsSource source.now }
+    requires rows { rows_of source.now ≡ drop first seen.now.list }
     requires apart { AllByRecursion (λ (m : Mark). IfSome m.parent (λ p. first ≤ p)) (drop first (marks_in seen.now.list)) }
     requires within { at < length seen.now.list }
     requires read { first ≤ at }
@@ -124,7 +128,7 @@ pub(crate) fn list_at(
 {
     while list.end <= at {
         match list.parent {
-            Some(header) => list = list_around(seen, first, rows, ends, links, header),
+            Some(header) => list = list_around(seen, first, source, ends, links, header),
             None => unreachable!(),
         }
     }

@@ -1,68 +1,184 @@
 // Reading of rows, one behind the other, which finds the place of each element, and which ones are broken.
 
-ghost use Rattle.std.specs.Prelude.{◌≡◌, ◌<◌, ◌≤◌, ◌*◌, ◌+◌, ◌-◌, ◌⊎◌, length, drop, slice_get, Some, None, vec_len, vec_capacity};
-ghost use Rattle.std.specs.List.{AllByRecursion};
+ghost use Rattle.std.specs.Prelude.{◌≡◌, ◌<◌, ◌≤◌, ◌+◌, ◌-◌, ◌⊎◌, length, drop, slice_get, option_map, is_none, ◌++◌, Some, None, vec_len, vec_capacity};
+ghost use Rattle.std.specs.List.{AllByRecursion, range_with_len};
 ghost use Rattle.dgn_drawing.specs.Nesting.{Whole, itself, nest};
 ghost use Rattle.dgn_drawing.specs.Numbering.{marks};
 ghost use Rattle.nest_tree.specs.Depths.{IsWordTotal};
-ghost use Rattle.nest_tree.specs.Sums.{weights, sums_from};
-ghost use Rattle.nest_tree.specs.Shapes.{code_shape, rows_between, shape_in, IsRow};
+ghost use Rattle.nest_tree.specs.Shapes.{code_shape, rows_between, shape_in};
+ghost use Rattle.nest_tree.specs.Sources.{rows_of, IsSource, IsAhead, AreLeaves};
 ghost use Rattle.nest_tree.specs.Places.{marks_in, Going};
 ghost use Rattle.nest_tree.specs.Read.{AreRead, HaveRoom};
 
+use crate::ahead::Ahead;
 use crate::broken::add_if_broken;
+use crate::knot::Knot;
 use crate::link::Link;
 use crate::link_list::LinkList;
 use crate::open_list::{OpenList, all_elements, list_at};
 use crate::seen::SeenRows;
 use crate::shape::{LEAF, Shape, shape_at};
-use dgn_drawing::{Row, is_header};
+use crate::source::Source;
+use dgn_drawing::is_header;
 
-// Reads on behind the elements that have their places: `rows` are those from there on, and `sums` their
-// sums. There is room for the places of all, and for the numbers of the broken ones.
+// Reads on behind the elements that have their places: `source` gives the rows from there on. There is room for the places
+// of all, and for the numbers of the broken ones.
 pub(crate) fn read_on(
     seen: &SeenRows,
-    rows: &[Row],
-    sums: &[u64],
+    source: &Source<'_>,
     ends: &mut Vec<u32>,
     links: &mut LinkList,
     broken: &mut Vec<u32>,
 )
     requires few { length seen.now.list < 4294967295 }
-    requires rows { rows.now ≡ drop (length ends.old.items) seen.now.list }
-    requires each { AllByRecursion IsRow rows.now }
-    requires words { AllByRecursion IsWordTotal rows.now }
-    requires light { weights rows.now ≤ 4294967295 * length rows.now }
-    requires sums { sums.now ≡ sums_from 0 rows.now }
+    requires source { IsSource source.now }
+    requires rows { rows_of source.now ≡ drop (length ends.old.items) seen.now.list }
+    requires words { AllByRecursion IsWordTotal (rows_of source.now) }
     requires read { AreRead seen.now.list (length ends.old.items) ends.old.items links.old.items broken.old.items }
     requires apart { drop (length ends.old.items) (marks_in seen.now.list)
         ≡ marks (nest itself Whole (drop (length ends.old.items) seen.now.list)) (length ends.old.items) 0 None }
-    requires room { HaveRoom (length rows.now) (vec_capacity ends.old - vec_len ends.old) links.old.spare (vec_capacity broken.old - vec_len broken.old) }
+    requires room { HaveRoom (length (rows_of source.now)) (vec_capacity ends.old - vec_len ends.old) links.old.spare
+        (vec_capacity broken.old - vec_len broken.old) }
     ensures { AreRead seen.now.list (length seen.now.list) ends.new.items links.new.items broken.new.items }
 {
     let first = ends.len();
-    let count = first + rows.len();
+    let count = first + source.len();
     let mut list = all_elements(seen, count);
-    let mut near = 0;
-    for at in first..count {
-        let around = list_at(seen, first, rows, ends, links, at as u32, list);
-        let row = rows[at - first];
-        if is_header(row.kind) {
-            let list_end = around.end as usize;
-            let shape = shape_at(
-                rows,
-                sums,
-                around.scope,
-                at - first,
-                list_end - first,
-                &mut near,
+    let mut ahead = Ahead::new();
+    let mut at = first;
+    'elements: while at < count {
+        list = list_at(seen, first, source, ends, links, at as u32, list);
+        let list_end = list.end as usize - first;
+        let leaves = leaf_run(source, at - first, list_end, list.parent.is_none());
+        if leaves == 0 {
+            list = put_next(
+                seen, first, source, list, at, &mut ahead, ends, links, broken,
             );
-            put_element(seen, around, at as u32, row, shape, ends, links, broken);
-            list = list_behind(seen, around, at as u32, shape);
+            at += 1;
         } else {
-            put_element(seen, around, at as u32, row, LEAF, ends, links, broken);
-            list = around;
+            put_leaves(seen, list, at as u32, leaves as u32, ends, links, broken);
+            at += leaves;
         }
+    }
+}
+
+// How many rows from row `first` on, before row `end`, are one behind the other of types that head nothing, and have no
+// bit C if they are roots.
+fn leaf_run(source: &Source<'_>, first: usize, end: usize, roots: bool) -> usize
+    requires source { IsSource source.now }
+    requires ordered { first ≤ end }
+    requires known { end ≤ length (rows_of source.now) }
+    ensures within { first + result ≤ end }
+    ensures leaves { AreLeaves roots (rows_of source.now) first (first + result) }
+{
+    let mut i = first;
+    'leaves: while i < end && !is_header(source.kind(i)) && !(roots && source.cbit(i)) {
+        i += 1;
+    }
+    i - first
+}
+
+// Puts what is kept of so many elements of a list, from element `at` on, behind what is kept of those before them. They are
+// leaves, and none is broken.
+fn put_leaves(
+    _seen: &SeenRows,
+    around: OpenList,
+    at: u32,
+    count: u32,
+    ends: &mut Vec<u32>,
+    links: &mut LinkList,
+    _broken: &Vec<u32>,
+)
+    requires few { length _seen.now.list < 4294967295 }
+    requires going { Going _seen.now.list at around }
+    requires within { at + count ≤ around.end }
+    requires near { around.depth < 65536 }
+    requires leaves { AreLeaves (is_none around.parent) _seen.now.list at (at + count) }
+    requires read { AreRead _seen.now.list at ends.old.items links.old.items _broken.now.items }
+    requires room { HaveRoom (length _seen.now.list - at) (vec_capacity ends.old - vec_len ends.old) links.old.spare
+        (vec_capacity _broken.now - vec_len _broken.now) }
+    ensures read { AreRead _seen.now.list (at + count) ends.new.items links.new.items _broken.now.items }
+    ensures going { Going _seen.now.list (at + count) around }
+    ensures room { HaveRoom (length _seen.now.list - (at + count)) (vec_capacity ends.new - vec_len ends.new) links.new.spare
+        (vec_capacity _broken.now - vec_len _broken.now) }
+{
+    push_numbers(at + 1, count, ends);
+    links.push_same(Link::new(around.parent, around.depth, Knot::Leaf), count);
+}
+
+// Puts so many numbers, from `first` on, behind the others. There is room for them.
+fn push_numbers(first: u32, count: u32, list: &mut Vec<u32>)
+    requires few { first + count < 4294967296 }
+    requires room { vec_len list.old + count ≤ vec_capacity list.old }
+    ensures items { list.new.items ≡ list.old.items ++ range_with_len first count }
+    ensures room { vec_capacity list.old ≤ vec_capacity list.new }
+{
+    for number in first..first + count {
+        list.push_reserved(number);
+    }
+}
+
+// Puts what is kept of element `at` of a list behind what is kept of those before it, and gives the list that is read
+// behind it. The source gives the rows from number `first` on.
+fn put_next(
+    seen: &SeenRows,
+    first: usize,
+    source: &Source<'_>,
+    around: OpenList,
+    at: usize,
+    ahead: &mut Ahead,
+    ends: &mut Vec<u32>,
+    links: &mut LinkList,
+    broken: &mut Vec<u32>,
+) -> OpenList
+    requires few { length seen.now.list < 4294967295 }
+    requires begun { first ≤ at }
+    requires source { IsSource source.now }
+    requires rows { rows_of source.now ≡ drop first seen.now.list }
+    requires ahead { IsAhead (rows_of source.now) (at - first) ahead.old }
+    requires going { Going seen.now.list at around }
+    requires inside { at < around.end }
+    requires near { around.depth < 65536 }
+    requires read { AreRead seen.now.list at ends.old.items links.old.items broken.old.items }
+    requires room { HaveRoom (length seen.now.list - at) (vec_capacity ends.old - vec_len ends.old) links.old.spare
+        (vec_capacity broken.old - vec_len broken.old) }
+    ensures ahead { IsAhead (rows_of source.now) (at + 1 - first) ahead.new }
+    ensures read { AreRead seen.now.list (at + 1) ends.new.items links.new.items broken.new.items }
+    ensures going { Going seen.now.list (at + 1) result }
+    ensures header { (result.parent ≡ around.parent) ⊎ (result.parent ≡ Some at) }
+    ensures room { HaveRoom (length seen.now.list - (at + 1)) (vec_capacity ends.new - vec_len ends.new) links.new.spare
+        (vec_capacity broken.new - vec_len broken.new) }
+{
+    let cbit = source.cbit(at - first);
+    let shape = next_shape(seen, first, source, around, at, ahead);
+    put_element(seen, around, at as u32, cbit, shape, ends, links, broken);
+    list_behind(seen, around, at as u32, shape)
+}
+
+// The shape of element `at` of a list. The source gives the rows from number `first` on.
+fn next_shape(
+    _seen: &SeenRows,
+    first: usize,
+    source: &Source<'_>,
+    around: OpenList,
+    at: usize,
+    ahead: &mut Ahead,
+) -> Shape
+    requires few { length _seen.now.list < 4294967295 }
+    requires begun { first ≤ at }
+    requires source { IsSource source.now }
+    requires rows { rows_of source.now ≡ drop first _seen.now.list }
+    requires ahead { IsAhead (rows_of source.now) (at - first) ahead.old }
+    requires going { Going _seen.now.list at around }
+    requires inside { at < around.end }
+    ensures shape { result ≡ code_shape (shape_in around.scope (rows_between _seen.now.list at around.end)) }
+    ensures ahead { IsAhead (rows_of source.now) (at + 1 - first) ahead.new }
+{
+    let i = at - first;
+    if is_header(source.kind(i)) {
+        shape_at(source, around.scope, i, around.end as usize - first, ahead)
+    } else {
+        LEAF
     }
 }
 
@@ -72,7 +188,7 @@ fn put_element(
     seen: &SeenRows,
     around: OpenList,
     at: u32,
-    row: Row,
+    cbit: bool,
     shape: Shape,
     ends: &mut Vec<u32>,
     links: &mut LinkList,
@@ -82,7 +198,7 @@ fn put_element(
     requires going { Going seen.now.list at around }
     requires inside { at < around.end }
     requires near { around.depth < 65536 }
-    requires row { Some row ≡ slice_get seen.now.list at }
+    requires row { Some cbit ≡ option_map (λ r. r.cbit) (slice_get seen.now.list at) }
     requires shape { shape ≡ code_shape (shape_in around.scope (rows_between seen.now.list at around.end)) }
     requires read { AreRead seen.now.list at ends.old.items links.old.items broken.old.items }
     requires room { HaveRoom (length seen.now.list - at) (vec_capacity ends.old - vec_len ends.old) links.old.spare
@@ -95,7 +211,7 @@ fn put_element(
     ends.push_reserved(end as u32);
     let link = Link::new(around.parent, around.depth, shape.knot);
     links.push(link);
-    add_if_broken(seen, at, link, row, broken);
+    add_if_broken(seen, at, link, cbit, broken);
 }
 
 // The list that is read behind element `at` of a list. Where it has nothing below it, no list is entered.

@@ -22,8 +22,8 @@ impl Model for SeenRows {
 pub(crate) enum Step<'a> {
     // These are put behind them.
     Behind(&'a [Row]),
-    // Those of elements that count no members, by their places, type and bit C of each in a byte, and the last one's end.
-    Kept(&'a [u32], &'a [u8], u32),
+    // Those of elements by what is kept of each, as `Source` has it.
+    Kept(&'a [u32], &'a [u8], &'a [u16], u32),
     // So many of the first ones are left.
     First(u32),
 }

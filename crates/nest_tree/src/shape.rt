@@ -1,13 +1,17 @@
 // What the first element of a list is, and what stands below it.
 
-ghost use Rattle.std.specs.Prelude.{◌≡◌, ◌<◌, ◌==◌, ◌&&◌, Option, [], ◌∷◌};
-ghost use Rattle.dgn_drawing.specs.Nesting.{front_count, is_all, is_parts, is_spline_part, group_or_loose, run_over};
+ghost use Rattle.std.specs.Prelude.{◌≡◌, ◌<◌, ◌==◌, ◌&&◌, ◌+◌, ◌≤◌, Option, [], ◌∷◌, length, get_or};
+ghost use Rattle.dgn_drawing.specs.Nesting.{front_count, is_all, is_parts, group_or_loose, run_over};
 ghost use Rattle.dgn_layout.specs.Classes.{is_among};
+ghost use Rattle.dgn_drawing.specs.declared.row.Row.{Row};
 ghost use Rattle.nest_tree.specs.Shapes.{defined_scope, code_shape, is_part_in, shape_in, rows_between, IsBetween};
+ghost use Rattle.nest_tree.specs.Sources.{no_row, rows_of, IsSource, IsAhead};
 
+use crate::ahead::Ahead;
 use crate::knot::Knot;
-use crate::sums::members;
-use dgn_drawing::{Row, is_counted};
+use crate::members::members;
+use crate::source::Source;
+use dgn_drawing::is_counted;
 use dgn_layout::SHARED_CELL;
 
 // The list that is read.
@@ -35,34 +39,29 @@ pub(crate) const LEAF: Shape = Shape {
     count: 0,
 };
 
-// Whether an element is a part of a B-spline where it follows one.
-fn is_spline_part(row: Row) -> bool
-    ensures { result ≡ is_spline_part row }
-{
-    row.cbit && matches!(row.kind, 21 | 25 | 26 | 28)
-}
-
-// Whether an element is a part of a run, where it follows one whose parts are that list: of a B-spline, or else of a
-// shared cell definition.
-fn is_part(inside: Scope, row: Row) -> bool
-    ensures { result ≡ is_part_in inside row }
+// Whether an element of that type, with bit C or not, is a part of a run, where it follows one whose parts are that list: of
+// a B-spline, or else of a shared cell definition.
+fn is_part(inside: Scope, kind: u8, cbit: bool) -> bool
+    ensures { (r : Row) → r.kind ≡ kind → r.cbit ≡ cbit → result ≡ is_part_in inside r }
 {
     match inside {
-        Scope::Parts => is_spline_part(row),
-        Scope::All | Scope::Members => row.cbit,
+        Scope::Parts => cbit && matches!(kind, 21 | 25 | 26 | 28),
+        Scope::All | Scope::Members => cbit,
     }
 }
 
-// How many rows from the front on are parts of such a run.
-fn parts(inside: Scope, rows: &[Row]) -> usize
-    ensures { result ≡ front_count (is_part_in inside) rows.now }
+// How many rows from row `first` on, before row `end`, are parts of such a run.
+fn parts(source: &Source<'_>, inside: Scope, first: usize, end: usize) -> usize
+    requires source { IsSource source.now }
+    requires ordered { first ≤ end }
+    requires known { end ≤ length (rows_of source.now) }
+    ensures { result ≡ front_count (is_part_in inside) (rows_between (rows_of source.now) first end) }
 {
-    for (i, row) in rows.iter().enumerate() {
-        if !is_part(inside, *row) {
-            return i;
-        }
+    let mut i = first;
+    'parts: while i < end && is_part(inside, source.kind(i), source.cbit(i)) {
+        i += 1;
     }
-    rows.len()
+    i - first
 }
 
 // Whether that is the type of a shared cell definition, in the list of all elements.
@@ -86,30 +85,34 @@ fn is_spline(kind: u8) -> bool
     matches!(kind, 24 | 27)
 }
 
-// The shape of element `at` in a list of that scope, which ends before element `end`. The last header that was asked for
-// its members had so many, or so many elements before the place where its total ends, as `near` says.
+// The shape of row `at` in a list of that scope, which ends before row `end`.
 pub(crate) fn shape_at(
-    rows: &[Row],
-    sums: &[u64],
+    source: &Source<'_>,
     scope: Scope,
     at: usize,
     end: usize,
-    near: &mut usize,
+    ahead: &mut Ahead,
 ) -> Shape
-    requires { IsBetween rows.now sums.now at end }
-    ensures { result ≡ code_shape (shape_in scope (rows_between rows.now at end)) }
+    requires source { IsSource source.now }
+    requires between { IsBetween (rows_of source.now) at end }
+    requires ahead { IsAhead (rows_of source.now) at ahead.old }
+    ensures shape { result ≡ code_shape (shape_in scope (rows_between (rows_of source.now) at end)) }
+    ensures ahead { IsAhead (rows_of source.now) (at + 1) ahead.new }
 {
-    let (_, rest) = rows.split_at(at + 1);
-    let (list, _) = rest.split_at(end - at - 1);
-    let kind = rows[at].kind;
-    if is_parts(scope) {
+    let kind = source.kind(at);
+    if is_counted(kind) {
+        let members = members(source, at, end, ahead);
+        if is_parts(scope) {
+            LEAF
+        } else {
+            header(members)
+        }
+    } else if is_parts(scope) {
         LEAF
-    } else if is_counted(kind) {
-        header(members(rows, sums, at, end, near))
     } else if is_spline(kind) {
-        run(Scope::Parts, list)
+        run(Scope::Parts, parts(source, Scope::Parts, at + 1, end))
     } else if is_shared(kind, scope) {
-        run(Scope::Members, list)
+        run(Scope::Members, parts(source, Scope::Members, at + 1, end))
     } else {
         LEAF
     }
@@ -130,13 +133,13 @@ fn header(members: Option<usize>) -> Shape
     }
 }
 
-// The header of a run over those of the rows from the front on that are its parts.
-fn run(inside: Scope, rows: &[Row]) -> Shape
-    ensures { result ≡ code_shape (run_over (defined_scope inside) (front_count (is_part_in inside) rows.now)) }
+// The header of a run over so many parts.
+fn run(inside: Scope, count: usize) -> Shape
+    ensures { result ≡ code_shape (run_over (defined_scope inside) count) }
 {
     Shape {
         knot: Knot::Run,
         inside,
-        count: parts(inside, rows),
+        count,
     }
 }

@@ -1,17 +1,17 @@
-use Rattle.std.proofs.Common.{sym, ap, subst, arith, length}
-use Rattle.std.specs.List.{AllByRecursion}
+use Rattle.std.proofs.Common.{◌≡◌, ◌∙◌, subst, List}
+use Rattle.std.specs.Result.{IfOk}
 use Rattle.dgn_drawing.specs.declared.row.Row.{Row}
-use Rattle.elem_index.proofs.Places.{few_elements}
-use Rattle.nest_tree.specs.Shapes.{IsRow}
-use Rattle.level_view.proofs.DesignBlocks.{block_each}
+use Rattle.nest_tree.specs.Nested.{Nested}
+use Rattle.level_view.proofs.KeptElements.{kept_all, are_kept}
 use Rattle.level_view.proofs.nesting.nest_design.Goals as goal
 
-pub nest-requires-clause-few : goal.nest-requires-clause-few
-nest-requires-clause-few c =
-    let block = c.in_ok-row_block.ensures.block in
-    omega (arith, few_elements c.args.d.now c.requires, ap (length {A = Row}) c.deref.ensures.value, block.within)
+pub nest_kept-requires-clause-kept : goal.nest_kept-requires-clause-kept
+nest_kept-requires-clause-kept c =
+    are_kept c.args.d.now c.requires c.offsets.result.now c.kind_bytes.result.now c.totals.result.now c.len.result c.offsets.ensures
+    c.kind_bytes.ensures c.totals.ensures (c.len.ensures ∙ c.args.d.now.body.ok.0)
 
-pub nest-requires-clause-each : goal.nest-requires-clause-each
-nest-requires-clause-each c =
-    subst (AllByRecursion IsRow) (sym c.deref.ensures.value)
-    (block_each c.args.d.now c.requires 0 c.row_block.new.rows.items c.in_ok-row_block.ensures.block)
+pub returns : goal.returns
+returns c =
+    let all = kept_all c.args.d.now c.requires c.offsets.result.now c.kind_bytes.result.now c.totals.result.now c.len.result c.offsets.ensures
+    c.kind_bytes.ensures c.totals.ensures (c.len.ensures ∙ c.args.d.now.body.ok.0) in
+    subst (λ (rows : List Row). IfOk c.nest_kept.result (λ (t : Nested). t.rows ≡ rows)) all c.nest_kept.ensures

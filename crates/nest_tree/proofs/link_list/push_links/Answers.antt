@@ -1,6 +1,6 @@
-use Rattle.std.proofs.Common.{◌≡◌, ◌-◌, ◌+◌, ◌++◌, ◌∷◌, [], suc, length, replicate, ap, ◌∙◌, arith}
+use Rattle.std.proofs.Common.{◌≡◌, ◌-◌, ◌+◌, ◌++◌, suc, length, replicate, ap, arith}
 use Rattle.std.proofs.lemmas.List.{length_push}
-use Rattle.nest_tree.specs.Linked.{Link, plain_link}
+use Rattle.nest_tree.specs.Linked.{Link}
 use Rattle.nest_tree.proofs.NumbersPushed.{put_same}
 use Rattle.nest_tree.proofs.link_list.push_links.Goals as goal
 
@@ -8,16 +8,16 @@ pub loop-preserved : goal.loop-preserved
 loop-preserved c =
     let inside = c.loop-test.true in
     let left : c.args.count - c.loop.counter ≡ suc (c.args.count - (c.loop.counter + 1)) = omega arith in (
-      put_same c.loop.list.items c.push_reserved.new.self.items (c.args.list.now.items ++ replicate c.args.count plain_link) plain_link
-          (c.args.count - c.loop.counter) (c.args.count - (c.loop.counter + 1)) left c.loop.invariant.0
-          (c.push_reserved.ensures.items ∙ ap (λ (x : Link). c.loop.list.items ++ x ∷ []) c.new.ensures),
+      put_same c.loop.list.items c.push_reserved.new.self.items (c.args.list.now.items ++ replicate c.args.count c.args.link) c.args.link
+          (c.args.count - c.loop.counter) (c.args.count - (c.loop.counter + 1)) left c.loop.invariant.0 c.push_reserved.ensures.items,
       omega (
         arith,
         c.loop.invariant.1,
         c.push_reserved.ensures.capacity,
         ap (length {A = Link}) c.push_reserved.ensures.items,
-        length_push c.loop.list.items c.new.result,
+        length_push c.loop.list.items c.args.link,
         c.loop.list.ok.0,
         c.push_reserved.new.self.ok.0,
       ),
+      omega (arith, c.loop.invariant.2, c.push_reserved.ensures.capacity),
     )

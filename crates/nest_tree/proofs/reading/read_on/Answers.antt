@@ -1,44 +1,26 @@
-use Rattle.std.proofs.Common.{◌≡◌, ◌<◌, ◌≤◌, ◌-◌, get_or, sym, ap, ◌∙◌, ◌+◌, ℕ, List, drop, length, subst, arith, Fits, w32, w64, IfSome}
-use borrow.Author.Count.{falls}
-use Rattle.std.specs.Prelude.{Option, Some, slice_get, ◌⊎◌}
-use Rattle.std.proofs.Common.{inl, inr, refl}
-use Rattle.std.proofs.lemmas.List.{length-drop, get_or-drop}
-use Rattle.std.proofs.lemmas.Option.{slice_get-get_or}
-use Rattle.nest_tree.proofs.MemberBytes.{no_row}
-use Rattle.dgn_drawing.specs.declared.row.Row.{Row}
+use Rattle.std.proofs.Common.{◌≡◌, ◌<◌, ◌≤◌, ◌-◌, sym, ap, ◌∙◌, ◌+◌, ℕ, List, drop, length, subst, arith, inl, inr}
+use Rattle.std.specs.Prelude.{Bool, true, false, not, is_some, Option, Some, None, IfSome, ◌⊎◌}
 use Rattle.std.specs.List.{AllByRecursion}
+use Rattle.dgn_drawing.specs.declared.row.Row.{Row}
+use Rattle.nest_tree.specs.Depths.{IsWordTotal}
+use Rattle.dgn_drawing.specs.Nesting.{Whole, itself, nest}
+use Rattle.dgn_drawing.specs.Numbering.{marks}
 use Rattle.nest_tree.specs.Places.{marks_in, Going}
-use Rattle.dgn_drawing.specs.Nesting.{leaf}
-use Rattle.nest_tree.specs.Shapes.{code_shape}
-use Rattle.nest_tree.specs.Read.{AreRead}
+use Rattle.nest_tree.specs.declared.ahead.Ahead.{Ahead}
+use Rattle.nest_tree.specs.Shapes.{IsRow}
+use Rattle.nest_tree.specs.Sources.{rows_of, IsAhead, AreLeaves}
 use Rattle.nest_tree.specs.declared.open_list.OpenList.{OpenList}
 use Rattle.nest_tree.proofs.HeadersApart.{NotBefore, reached}
-use Rattle.nest_tree.proofs.ListStacks.{leaf_read, going_past, going_ends}
-use Rattle.nest_tree.proofs.OpenLists.{between, shaped}
-use Rattle.nest_tree.specs.Depths.{IsWordTotal}
-use Rattle.nest_tree.specs.Shapes.{IsRow}
+use Rattle.nest_tree.proofs.LeavesRead.{leaves_of, ahead_past}
+use Rattle.nest_tree.proofs.ListStacks.{going_ends}
 use Rattle.nest_tree.proofs.RowDepths.{near_apart, near_list}
+use Rattle.nest_tree.proofs.RowsRead.{length-read}
+use Rattle.nest_tree.proofs.SourceRows.{each_row_of}
 use Rattle.nest_tree.proofs.reading.read_on.Goals as goal
-use Rattle.nest_tree.proofs.reading.read_on.Goals.{then-is_header, else-is_header}
 
--- an element whose place is still to be found is one of the list
-seen_at : (list rows : List Row) (kept len first at : ℕ) → rows ≡ drop kept list → kept ≤ length list → first ≡ len → len ≡ kept → at < first + length rows
-    → at < length list
-seen_at list rows kept len first at are within known_of same before = omega (arith, length-drop kept list, ap (length {A = Row}) are)
-
-all_seen : (list rows : List Row) (kept len first at : ℕ) → rows ≡ drop kept list → kept ≤ length list → first ≡ len → len ≡ kept → first + length rows ≤ at
-    → at ≤ length list → at ≡ length list
-all_seen list rows kept len first at are within known_of same done most = omega (arith, length-drop kept list, ap (length {A = Row}) are)
-
-row_at : (list rows : List Row) (kept len first at : ℕ) → rows ≡ drop kept list → first ≡ len → len ≡ kept → first ≤ at → at < length list
-    → Some (get_or rows (at - first) no_row) ≡ slice_get list at
-row_at list rows kept len first at are known_of same from before =
-    let place : kept + (at - first) ≡ at = omega arith in
-    ap (λ (l : List Row). Some (get_or l (at - first) no_row)) are ∙ ap (λ (r : Row). Some r) (get_or-drop kept list (at - first) no_row)
-    ∙ ap (λ (k : ℕ). Some (get_or list k no_row)) place ∙ sym (slice_get-get_or list at no_row before)
-
-end_fits-64 : (list : List Row) (at : ℕ) (f : OpenList) → Going list at f → length list < 4294967295 → Fits w64 f.end
-end_fits-64 list at f going few = omega (arith, going_ends list at f going)
+twice : (b some : Bool) → some ≡ not b → b ≡ not some
+twice true some is = sym (ap not is)
+twice false some is = sym (ap not is)
 
 -- no list that is read begins before the rows
 behind_header : (first at : ℕ) (around list : OpenList) → first ≤ at → IfSome around.parent (λ p. first ≤ p)
@@ -48,132 +30,76 @@ behind_header first at around list from before is = elim is [
   | inr new ↦ subst (λ (o : Option ℕ). IfSome o (λ p. first ≤ p)) (sym new) from
 ]
 
-after_first : (first at end : ℕ) → first ≤ at → at < end → first ≤ end
-after_first first at end from before = omega arith
-
-at_fits : (n most : ℕ) → n < most → most < 4294967295 → Fits w32 n
-at_fits n most before few = omega arith
-
-pub list_at-around-requires-clause-apart : goal.list_at-around-requires-clause-apart
-list_at-around-requires-clause-apart c =
+pub list_at-list-requires-clause-apart : goal.list_at-list-requires-clause-apart
+list_at-list-requires-clause-apart c =
     let first : length c.args.ends.now.items ≡ c.len-first.result = sym c.args.ends.now.ok.0 ∙ sym c.len-first.ensures in
     subst (λ (n : ℕ). AllByRecursion (NotBefore n) (drop n (marks_in c.args.seen.now.list))) first
     (reached c.args.seen.now.list (length c.args.ends.now.items) c.requires.apart)
 
-pub shape_at-shape-requires : goal.shape_at-shape-requires
-shape_at-shape-requires c =
-    let first : c.len-first.result ≡ length c.args.ends.now.items = c.len-first.ensures ∙ c.args.ends.now.ok.0 in
-    let are : c.args.rows.now ≡ drop c.len-first.result c.args.seen.now.list = c.requires.rows ∙ ap (λ (n : ℕ). drop n c.args.seen.now.list) (sym first) in
-    between c.args.seen.now.list c.args.rows.now c.len-first.result are c.loop-at.at c.list_at-around.result c.list_at-around.ensures.going
-    c.list_at-around.ensures.inside c.requires.few c.loop-at.auto.at
-    c.args.sums.now c.requires.each c.requires.light c.requires.sums
+-- the rows are those from the first that is read on
+known : (list rows : List Row) (kept len first end : ℕ) → rows ≡ drop kept list → first ≡ len → len ≡ kept → kept ≤ length list → end ≤ length list
+    → end - first ≤ length rows
+known list rows kept len first end are is same within inside = omega (arith, length-read list rows kept are within)
 
-pub list_at-around-requires-clause-header : goal.list_at-around-requires-clause-header
-list_at-around-requires-clause-header c = c.loop-at.invariant.header
+rows_from : (list rows : List Row) (kept len first : ℕ) → rows ≡ drop kept list → first ≡ len → len ≡ kept → rows ≡ drop first list
+rows_from list rows kept len first are is same = are ∙ ap (λ (n : ℕ). drop n list) (sym same ∙ sym is)
 
-pub list_at-around-requires-clause-within : goal.list_at-around-requires-clause-within
-list_at-around-requires-clause-within c =
-    seen_at _ _ _ _ _ _ c.requires.rows c.requires.read.places.within c.len-first.ensures c.args.ends.now.ok.0 c.loop-at-test.true
+-- no list that is read lies deep
+near_read : (list rows : List Row) (kept len first at : ℕ) (f : OpenList) → rows ≡ drop kept list → first ≡ len → len ≡ kept
+    → drop kept (marks_in list) ≡ marks (nest itself Whole (drop kept list)) kept 0 None → AllByRecursion IsRow rows → AllByRecursion IsWordTotal rows
+    → first ≤ at → Going list at f → at < f.end → f.depth < 65536
+near_read list rows kept len first at f are is same apart each words from going inside =
+    let near = near_apart list kept apart (subst (AllByRecursion IsRow) are each) (subst (AllByRecursion IsWordTotal) are words) in
+    let bound = going_ends list at f going in
+    omega (arith, near_list list at f going inside kept (omega arith) (omega arith) near)
 
-pub overflow_cast-list_end : goal.overflow_cast-list_end
-overflow_cast-list_end c = end_fits-64 c.args.seen.now.list c.loop-at.at c.list_at-around.result c.list_at-around.ensures.going c.requires.few
+-- what is known ahead of the leaves is known behind them
+ahead_read : (list rows : List Row) (kept len first at run : ℕ) (f : OpenList) (a : Ahead) (roots : Bool) → rows ≡ drop kept list → first ≡ len → len ≡ kept
+    → kept ≤ length list → first ≤ at → Going list at f → IsAhead rows (at - first) a → at - first + run ≤ f.end - first
+    → AreLeaves roots rows (at - first) (at - first + run) → IsAhead rows (at + run - first) a
+ahead_read list rows kept len first at run f a roots are is same within from going ahead inside leaves =
+    let most = known list rows kept len first f.end are is same within (going_ends list at f going) in
+    let place : at - first + run ≡ at + run - first = omega arith in
+    subst (λ (k : ℕ). IsAhead rows k a) place (ahead_past run rows (at - first) a roots ahead leaves (omega arith))
 
-pub overflow_sub-at : goal.overflow_sub-at
-overflow_sub-at c = c.loop-at.auto.at
+pub leaf_run-leaves-requires-clause-known : goal.leaf_run-leaves-requires-clause-known
+leaf_run-leaves-requires-clause-known c =
+    known _ _ _ _ _ _ c.requires.rows c.len-first.ensures c.args.ends.now.ok.0 c.requires.read.places.within
+    (going_ends c.args.seen.now.list c.elements.at c.list_at-list.result c.list_at-list.ensures.going)
 
-pub overflow_sub-list_end : goal.overflow_sub-list_end
-overflow_sub-list_end c = after_first c.len-first.result c.loop-at.at c.list_at-around.result.end c.loop-at.auto.at c.list_at-around.ensures.inside
+pub put_leaves-requires-clause-near : goal.put_leaves-requires-clause-near
+put_leaves-requires-clause-near c =
+    near_read _ _ _ _ _ _ _ c.requires.rows c.len-first.ensures c.args.ends.now.ok.0 c.requires.apart (each_row_of c.args.source.now c.requires.source)
+    c.requires.words c.elements.invariant.from c.list_at-list.ensures.going c.list_at-list.ensures.inside
 
-pub overflow_cast-at : goal.overflow_cast-at
-overflow_cast-at c = at_fits c.loop-at.at (length c.args.seen.now.list)
-    (seen_at _ _ _ _ _ _ c.requires.rows c.requires.read.places.within c.len-first.ensures c.args.ends.now.ok.0 c.loop-at-test.true) c.requires.few
+pub put_leaves-requires-clause-leaves : goal.put_leaves-requires-clause-leaves
+put_leaves-requires-clause-leaves c =
+    let from = c.elements.invariant.from in
+    subst (λ (b : Bool). AreLeaves b c.args.seen.now.list c.elements.at (c.elements.at + c.leaf_run-leaves.result))
+    (twice c.is_none.result (is_some c.list_at-list.result.parent) c.is_none.ensures)
+    (leaves_of c.args.seen.now.list (rows_of c.args.source.now) c.len-first.result
+    (rows_from _ _ _ _ _ c.requires.rows c.len-first.ensures c.args.ends.now.ok.0) c.is_none.result (c.elements.at - c.len-first.result)
+    (c.elements.at - c.len-first.result + c.leaf_run-leaves.result) c.leaf_run-leaves.ensures.leaves c.elements.at
+    (c.elements.at + c.leaf_run-leaves.result) (omega arith) (omega arith))
 
-pub loop-at-smaller : goal.loop-at-smaller
-loop-at-smaller c = falls (c.len-first.result + length c.args.rows.now) c.loop-at.at c.loop-at-test.true
+pub put_next-list-requires-clause-ahead : goal.put_next-list-requires-clause-ahead
+put_next-list-requires-clause-ahead c = c.elements.invariant.ahead
 
-pub returns : goal.returns
-returns c =
-    let all = all_seen _ _ _ _ _ _ c.requires.rows c.requires.read.places.within c.len-first.ensures c.args.ends.now.ok.0 c.loop-at-test.false
-    c.loop-at.invariant.read.places.within in
-    subst (λ (n : ℕ). AreRead c.args.seen.now.list n c.loop-at.ends.items c.loop-at.links.items c.loop-at.broken.items) all c.loop-at.invariant.read
+pub put_next-list-requires-clause-near : goal.put_next-list-requires-clause-near
+put_next-list-requires-clause-near c =
+    near_read _ _ _ _ _ _ _ c.requires.rows c.len-first.ensures c.args.ends.now.ok.0 c.requires.apart (each_row_of c.args.source.now c.requires.source)
+    c.requires.words c.elements.invariant.from c.list_at-list.ensures.going c.list_at-list.ensures.inside
 
-pub put_element-requires-clause-row : goal.put_element-requires-clause-row
-put_element-requires-clause-row c =
-    row_at _ _ _ _ _ _ c.requires.rows c.len-first.ensures c.args.ends.now.ok.0 c.loop-at.auto.at
-    (seen_at _ _ _ _ _ _ c.requires.rows c.requires.read.places.within c.len-first.ensures c.args.ends.now.ok.0 c.loop-at-test.true)
-
-pub put_element-requires-clause-shape : goal.put_element-requires-clause-shape
-put_element-requires-clause-shape c =
-    let first : c.len-first.result ≡ length c.args.ends.now.items = c.len-first.ensures ∙ c.args.ends.now.ok.0 in
-    let are : c.args.rows.now ≡ drop c.len-first.result c.args.seen.now.list = c.requires.rows ∙ ap (λ (n : ℕ). drop n c.args.seen.now.list) (sym first) in
-    shaped c.args.seen.now.list c.args.rows.now c.len-first.result are c.loop-at.at c.list_at-around.result c.list_at-around.ensures.going
-    c.list_at-around.ensures.inside c.requires.few c.loop-at.auto.at c.shape_at-shape.result c.shape_at-shape.ensures
-
-pub list_behind-list-requires-clause-shape : goal.list_behind-list-requires-clause-shape
-list_behind-list-requires-clause-shape c =
-    let first : c.len-first.result ≡ length c.args.ends.now.items = c.len-first.ensures ∙ c.args.ends.now.ok.0 in
-    let are : c.args.rows.now ≡ drop c.len-first.result c.args.seen.now.list = c.requires.rows ∙ ap (λ (n : ℕ). drop n c.args.seen.now.list) (sym first) in
-    shaped c.args.seen.now.list c.args.rows.now c.len-first.result are c.loop-at.at c.list_at-around.result c.list_at-around.ensures.going
-    c.list_at-around.ensures.inside c.requires.few c.loop-at.auto.at c.shape_at-shape.result c.shape_at-shape.ensures
-
-pub put_element-requires-else-is_header-clause-row : goal.put_element-requires-else-is_header-clause-row
-put_element-requires-else-is_header-clause-row c =
-    row_at _ _ _ _ _ _ c.requires.rows c.len-first.ensures c.args.ends.now.ok.0 c.loop-at.auto.at
-    (seen_at _ _ _ _ _ _ c.requires.rows c.requires.read.places.within c.len-first.ensures c.args.ends.now.ok.0 c.loop-at-test.true)
-
-pub put_element-requires-else-is_header-clause-shape : goal.put_element-requires-else-is_header-clause-shape
-put_element-requires-else-is_header-clause-shape c =
-    let row = row_at _ _ _ _ _ _ c.requires.rows c.len-first.ensures c.args.ends.now.ok.0 c.loop-at.auto.at
-    (seen_at _ _ _ _ _ _ c.requires.rows c.requires.read.places.within c.len-first.ensures c.args.ends.now.ok.0 c.loop-at-test.true) in
-    leaf_read c.args.seen.now.list c.loop-at.at c.list_at-around.result c.list_at-around.ensures.going c.list_at-around.ensures.inside
-    (get_or c.args.rows.now (c.loop-at.at - c.len-first.result) no_row) row (sym c.is_header.ensures ∙ c.if-is_header.false)
-
-pub loop-at-preserved : goal.loop-at-preserved
-loop-at-preserved c = elim c.if-is_header.branch [
-  | then-is_header w ↦
-      rw (w.ends-is, w.links-is, w.broken-is, w.list-is) record {
-        read = w.put_element.ensures.read;
-        going = w.list_behind-list.ensures.going;
-        room = w.put_element.ensures.room;
-        header = behind_header c.len-first.result c.loop-at.at c.list_at-around.result w.list_behind-list.result c.loop-at.auto.at
-            c.list_at-around.ensures.header w.list_behind-list.ensures.header;
-      }
-  | else-is_header w ↦
-      rw (w.ends-is, w.links-is, w.broken-is, w.list-is) record {
-        read = w.put_element-else-is_header.ensures.read;
-        going = going_past c.args.seen.now.list c.loop-at.at c.list_at-around.result c.list_at-around.ensures.going c.list_at-around.ensures.inside
-            (code_shape leaf)
-            (leaf_read c.args.seen.now.list c.loop-at.at c.list_at-around.result c.list_at-around.ensures.going c.list_at-around.ensures.inside
-            (get_or c.args.rows.now (c.loop-at.at - c.len-first.result) no_row) (row_at _ _ _ _ _ _ c.requires.rows c.len-first.ensures c.args.ends.now.ok.0
-            c.loop-at.auto.at (seen_at _ _ _ _ _ _ c.requires.rows c.requires.read.places.within c.len-first.ensures c.args.ends.now.ok.0 c.loop-at-test.true))
-            (sym c.is_header.ensures ∙ w.if-is_header.false)) refl;
-        room = w.put_element-else-is_header.ensures.room;
-        header = c.list_at-around.ensures.header;
-      }
-]
-
-pub put_element-requires-clause-near : goal.put_element-requires-clause-near
-put_element-requires-clause-near c =
-    let first : length c.args.ends.now.items ≡ c.len-first.result = sym c.args.ends.now.ok.0 ∙ sym c.len-first.ensures in
-    let each = subst (AllByRecursion IsRow) c.requires.rows c.requires.each in
-    let words = subst (AllByRecursion IsWordTotal) c.requires.rows c.requires.words in
-    let near = near_apart c.args.seen.now.list (length c.args.ends.now.items) c.requires.apart each words in
-    omega (
-      arith,
-      near_list c.args.seen.now.list c.loop-at.at c.list_at-around.result c.list_at-around.ensures.going c.list_at-around.ensures.inside
-          (length c.args.ends.now.items) (let from = c.loop-at.auto.at in omega arith)
-          (seen_at _ _ _ _ _ _ c.requires.rows c.requires.read.places.within c.len-first.ensures c.args.ends.now.ok.0 c.loop-at-test.true) near,
-    )
-
-pub put_element-requires-else-is_header-clause-near : goal.put_element-requires-else-is_header-clause-near
-put_element-requires-else-is_header-clause-near c =
-    let first : length c.args.ends.now.items ≡ c.len-first.result = sym c.args.ends.now.ok.0 ∙ sym c.len-first.ensures in
-    let each = subst (AllByRecursion IsRow) c.requires.rows c.requires.each in
-    let words = subst (AllByRecursion IsWordTotal) c.requires.rows c.requires.words in
-    let near = near_apart c.args.seen.now.list (length c.args.ends.now.items) c.requires.apart each words in
-    omega (
-      arith,
-      near_list c.args.seen.now.list c.loop-at.at c.list_at-around.result c.list_at-around.ensures.going c.list_at-around.ensures.inside
-          (length c.args.ends.now.items) (let from = c.loop-at.auto.at in omega arith)
-          (seen_at _ _ _ _ _ _ c.requires.rows c.requires.read.places.within c.len-first.ensures c.args.ends.now.ok.0 c.loop-at-test.true) near,
-    )
+pub elements-preserved : goal.elements-preserved
+elements-preserved c =
+    let from = c.elements.invariant.from in
+    record {
+      from = omega arith;
+      read = c.put_leaves.ensures.read;
+      going = c.put_leaves.ensures.going;
+      room = c.put_leaves.ensures.room;
+      ahead = ahead_read _ _ _ _ _ _ _ _ _ _ c.requires.rows c.len-first.ensures c.args.ends.now.ok.0 c.requires.read.places.within
+          c.elements.invariant.from c.list_at-list.ensures.going c.elements.invariant.ahead c.leaf_run-leaves.ensures.within
+          c.leaf_run-leaves.ensures.leaves;
+      header = c.list_at-list.ensures.header;
+    }

@@ -1,7 +1,7 @@
 use Rattle.std.proofs.Common.{◌≤◌, take, vec_capacity}
 use Rattle.std.specs.List.{AllByRecursion}
 use Rattle.nest_tree.specs.Depths.{IsWordTotal}
-use Rattle.nest_tree.proofs.RowSums.{Summed}
+use Rattle.nest_tree.proofs.RowPlaces.{Summed}
 use Rattle.nest_tree.proofs.sums.set_sums.Given as goal
 
 abbrev pub invariant-loop-i : goal.invariant-loop-i

@@ -1,30 +1,14 @@
-use Rattle.std.proofs.Common.{◌≡◌, ◌≤◌, ◌<◌, ◌-◌, ℕ, length, take, drop, refl, ap, ◌∙◌, arith}
-use Rattle.elem_head.specs.Head.{size_of}
-use Rattle.elem_index.specs.declared.design.Design.{Design}
-use Rattle.elem_index.specs.Design.{kind_byte_at}
-use Rattle.elem_index.proofs.DesignGrowth.{TakenBack, left_start, left_back, room_here, kinds_room_here, head_here, end_here, left_more, left_whole}
+use Rattle.std.proofs.Common.{◌≡◌, ◌≤◌, ◌<◌, ℕ, List, length, drop, refl, sym, ap, ◌∙◌, subst, arith}
+use Rattle.dgn_layout.specs.Classes.{class_of}
+use Rattle.elem_head.specs.Head.{size_of, kind_of}
+use Rattle.dgn_drawing.specs.Nesting.{is_counted}
+use Rattle.elem_index.specs.Kinds.{kind_with}
+use Rattle.elem_index.specs.Design.{kind_at}
+use Rattle.elem_index.proofs.DesignGrowth.{room_here, kinds_room_here, head_here, counted_here, end_here, left_more, left_whole}
 use Rattle.elem_index.proofs.design.Design.grow.Goals as goal
-use Rattle.elem_index.proofs.design.Design.grow.Goals.{in-Some, in-None}
 
 pub elements-init : goal.elements-init
-elements-init c =
-    let old : Design = c.args.self.now in
-    let new : Design = record { dim = old.dim; body = old.body; tail = old.tail; kept = c.pop.new.self; kinds = c.pop-2.new.self } in
-    let back : TakenBack old new = record {
-      same = record { dim = refl; body = refl; tail = refl };
-      room = c.pop.ensures.capacity;
-      kinds_room = c.pop-2.ensures.capacity;
-      kinds = c.pop-2.ensures.rest ∙ ap (λ (k : ℕ). take (k - 1) old.kinds.items) old.kinds.ok.0;
-    } in
-    elim c.match-pop.branch [
-      | in-Some w ↦ (rw w.at-is (left_back old new w.in-Some.last c.requires back w.in-Some.ensures.items), record { dim = refl; body = refl; tail = refl })
-      | in-None w ↦ (
-        rw w.at-is
-            (left_start old new c.requires back (omega (arith, w.in-None.ensures.cases.0, old.kept.ok.0))
-            (omega (arith, w.in-None.ensures.cases.1, c.pop.new.self.ok.0))),
-        record { dim = refl; body = refl; tail = refl },
-      )
-    ]
+elements-init c = (record { front = c.requires; place = c.kept_end-at.ensures }, record { dim = refl; body = refl; tail = refl })
 
 pub size_said-size-requires : goal.size_said-size-requires
 size_said-size-requires c =
@@ -39,6 +23,22 @@ kind_byte-byte-requires c =
     let long : length c.split_at.result.1.now ≡ length (drop c.elements.at c.elements.self.body.items) =
     ap (length {A = ℕ}) (c.split_at.ensures.back ∙ ap (drop c.elements.at) c.deref.ensures.value) in
     omega (arith, head_here c.elements.self c.elements.at c.elements.invariant.0 before, long)
+
+pub total_said-total-requires-clause-head : goal.total_said-total-requires-clause-head
+total_said-total-requires-clause-head c =
+    let before : c.elements.at < length c.elements.self.body.items = omega (arith, c.elements-test.true, c.len.ensures, c.elements.self.body.ok.0) in
+    let long : length c.split_at.result.1.now ≡ length (drop c.elements.at c.elements.self.body.items) =
+    ap (length {A = ℕ}) (c.split_at.ensures.back ∙ ap (drop c.elements.at) c.deref.ensures.value) in
+    omega (arith, head_here c.elements.self c.elements.at c.elements.invariant.0 before, long)
+
+pub total_said-total-requires-clause-total : goal.total_said-total-requires-clause-total
+total_said-total-requires-clause-total c = λ counted.
+    let before : c.elements.at < length c.elements.self.body.items = omega (arith, c.elements-test.true, c.len.ensures, c.elements.self.body.ok.0) in
+    let rest : c.split_at.result.1.now ≡ drop c.elements.at c.elements.self.body.items =
+    c.split_at.ensures.back ∙ ap (drop c.elements.at) c.deref.ensures.value in
+    subst (λ (b : List ℕ). 40 ≤ length b) (sym rest)
+    (counted_here c.elements.self c.elements.at c.elements.invariant.0 before
+    (ap (λ (b : List ℕ). is_counted (class_of (kind_of b))) (sym rest) ∙ counted))
 
 pub keep-requires-clause-room : goal.keep-requires-clause-room
 keep-requires-clause-room c =
@@ -62,7 +62,9 @@ elements-preserved c =
     let same = c.keep.ensures.text in
     let first = c.elements.invariant.1 in (
       left_more c.elements.self c.elements.at c.elements.invariant.0 c.keep.new.self c.size_said-size.result before
-          (c.size_said-size.ensures ∙ ap size_of rest) same c.kind_byte-byte.result (c.kind_byte-byte.ensures ∙ ap kind_byte_at rest) c.keep.ensures.kept,
+          (c.size_said-size.ensures ∙ ap size_of rest) same (kind_with c.kind_byte-byte.result c.total_said-total.result)
+          (ap (λ (byte : ℕ). kind_with byte c.total_said-total.result) c.kind_byte-byte.ensures ∙ c.total_said-total.ensures.kind ∙ ap kind_at rest)
+          c.keep.ensures.kept,
       record { dim = same.dim ∙ first.dim; body = same.body ∙ first.body; tail = same.tail ∙ first.tail },
     )
 

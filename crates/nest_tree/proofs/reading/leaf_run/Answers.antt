@@ -1,0 +1,29 @@
+use Rattle.std.proofs.Common.{◌≡◌, ◌∙◌, ℕ, ap, sym, arith, get_or, inl, inr}
+use Rattle.std.proofs.lemmas.Bool.{cases_lt, both_ways}
+use Rattle.dgn_layout.specs.Classes.{class_of}
+use Rattle.dgn_drawing.specs.Nesting.{is_header}
+use Rattle.nest_tree.specs.Sources.{no_row, rows_of}
+use Rattle.nest_tree.proofs.reading.leaf_run.Goals as goal
+use Rattle.nest_tree.proofs.reading.leaf_run.Goals.{then-roots, else-roots}
+
+pub leaves-preserved : goal.leaves-preserved
+leaves-preserved c =
+    let from = c.leaves.invariant.0 in
+    let test = c.leaves-test.true in
+    let known = c.requires.known in (
+      omega arith,
+      omega arith,
+      λ k low high. elim (cases_lt k c.leaves.i) [
+        | inl before ↦ c.leaves.invariant.2 k low before
+        | inr here ↦
+            let same : c.leaves.i ≡ k = omega arith in (
+              ap (λ (n : ℕ). is_header (class_of (get_or (rows_of c.args.source.now) n no_row).kind)) (sym same)
+                  ∙ ap (λ (n : ℕ). is_header (class_of n)) (sym c.kind.ensures.kind) ∙ sym c.is_header.ensures ∙ c.if-not-is_header.true,
+              λ roots. ap (λ (n : ℕ). (get_or (rows_of c.args.source.now) n no_row).cbit) (sym same)
+                  ∙ elim c.if-roots.branch [
+                    | then-roots w ↦ sym w.cbit.ensures ∙ sym w.value-is ∙ c.if-not-cbit.true
+                    | else-roots w ↦ absurd (both_ways c.args.roots w.if-roots.false roots)
+                  ],
+            )
+      ],
+    )

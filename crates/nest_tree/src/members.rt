@@ -1,0 +1,53 @@
+// The members of a header, which its total counts in bytes.
+
+ghost use Rattle.std.specs.Prelude.{ℕ, ◌≡◌, ◌+◌, ◌<◌, ◌≤◌, true, length, get_or};
+ghost use Rattle.dgn_layout.specs.Classes.{class_of};
+ghost use Rattle.dgn_drawing.specs.Nesting.{is_counted};
+ghost use Rattle.nest_tree.specs.Shapes.{rows_between, members_in, IsBetween};
+ghost use Rattle.nest_tree.specs.Sources.{no_row, rows_of, place_in, IsSource, IsAhead};
+
+use crate::ahead::Ahead;
+use crate::source::Source;
+
+// How many of the rows behind row `at`, which counts its members, and before row `end` are its members, if it has any
+// number of them. These have bit C, and the place where the last of them ends is as far behind the header's own as the
+// total says; so it is the number of a place that is looked for.
+pub(crate) fn members(
+    source: &Source<'_>,
+    at: usize,
+    end: usize,
+    ahead: &mut Ahead,
+) -> Option<usize>
+    requires source { IsSource source.now }
+    requires between { IsBetween (rows_of source.now) at end }
+    requires counts { is_counted (class_of (get_or (rows_of source.now) at no_row).kind) ≡ true }
+    requires ahead { IsAhead (rows_of source.now) at ahead.old }
+    ensures members { result ≡ members_in (rows_between (rows_of source.now) at end) }
+    ensures ahead { IsAhead (rows_of source.now) (at + 1) ahead.new }
+{
+    let total = ahead.next_total(source, at);
+    let wanted = source.place(at) + 38 + 2 * u64::from(total);
+    let first = at + 1;
+    let last = ahead.marked_end(source, first).min(end);
+    if first + ahead.near <= last && source.place(first + ahead.near) == wanted {
+        return Some(ahead.near);
+    }
+    let count = source.below(first, last.min(furthest(source, first, wanted)), wanted);
+    if source.place(first + count) != wanted {
+        return None;
+    }
+    ahead.near = count;
+    Some(count)
+}
+
+// A number that no row behind row `first` has that begins at the wanted place or before, if it is greater: each row has at
+// least four bytes.
+fn furthest(source: &Source<'_>, first: usize, wanted: u64) -> usize
+    requires source { IsSource source.now }
+    requires known { first ≤ length (rows_of source.now) }
+    ensures behind { first ≤ result }
+    ensures far { (k : ℕ) → result < first + k → first + k ≤ length (rows_of source.now) → wanted < place_in source.now (first + k) }
+{
+    let most = wanted.saturating_sub(source.place(first)) / 4;
+    first + most as usize
+}
