@@ -31,14 +31,10 @@ impl PatchList {
     }
 
     /// Adds `v` at the end. Where there is no memory for it, the list stays as it was.
-    /// The first patch takes memory for sixteen, which most edits of an element and its members fit into.
     pub fn push(&mut self, v: Patch) -> Result<(), AllocError>
         ensures ok { OnOk result (self.new ≡ self.old ++ put_of v ∷ []) }
         ensures err { OnErr result (self.new ≡ self.old) }
     {
-        if self.kept.is_empty() {
-            self.kept.reserve(16)?;
-        }
         self.kept.push(v)?;
         Ok(())
     }
