@@ -58,7 +58,8 @@ pub record IsAhead (rows : List Row) (at : ℕ) (a : Ahead) : Type 0 where
   pub within : a.marked ≤ length rows
   pub marked : HaveBitC rows at a.marked
 
--- the rows from number i on, before number j, are of types that head nothing, and have no bit C if they are roots
-abbrev pub AreLeaves : Bool → List Row → ℕ → ℕ → Type 0
-AreLeaves roots rows i j =
-    (k : ℕ) → i ≤ k → k < j → (is_header (class_of (get_or rows k no_row).kind) ≡ false) × (roots ≡ true → (get_or rows k no_row).cbit ≡ false)
+-- the rows from number i on, before number j, are of types that head nothing, and if they are roots have bit C, as orphans
+-- have, or none has
+abbrev pub AreLeaves : Bool → Bool → List Row → ℕ → ℕ → Type 0
+AreLeaves roots orphans rows i j =
+    (k : ℕ) → i ≤ k → k < j → (is_header (class_of (get_or rows k no_row).kind) ≡ false) × (roots ≡ true → (get_or rows k no_row).cbit ≡ orphans)

@@ -10,7 +10,8 @@ use crate::source::Source;
 
 #[derive(Clone, Copy, Drop)]
 pub(crate) struct Ahead {
-    // How many members the last header has that has some. Headers that follow one another often have as many.
+    // How many members the last header has, or how many rows begin behind it before its total ends. Headers that follow one
+    // another often have as many.
     pub(crate) near: usize,
     // How many of the rows before count their members.
     pub(crate) counted: usize,

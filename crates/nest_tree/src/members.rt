@@ -32,12 +32,14 @@ pub(crate) fn members(
     if first + ahead.near <= last && source.place(first + ahead.near) == wanted {
         return Some(ahead.near);
     }
-    let count = source.below(first, last.min(furthest(source, first, wanted)), wanted);
-    if source.place(first + count) != wanted {
-        return None;
-    }
+    let most = last.min(furthest(source, first, wanted));
+    let count = source.below(first, most, ahead.near, wanted);
     ahead.near = count;
-    Some(count)
+    if source.place(first + count) == wanted {
+        Some(count)
+    } else {
+        None
+    }
 }
 
 // A number that no row behind row `first` has that begins at the wanted place or before, if it is greater: each row has at

@@ -1,6 +1,6 @@
 // Reading of rows, one behind the other, which finds the place of each element, and which ones are broken.
 
-ghost use Rattle.std.specs.Prelude.{◌≡◌, ◌<◌, ◌≤◌, ◌+◌, ◌-◌, ◌⊎◌, length, drop, slice_get, option_map, is_none, ◌++◌, Some, None, vec_len, vec_capacity};
+ghost use Rattle.std.specs.Prelude.{◌≡◌, ◌<◌, ◌≤◌, ◌+◌, ◌-◌, ◌⊎◌, length, drop, slice_get, option_map, is_none, ◌++◌, true, Some, None, vec_len, vec_capacity};
 ghost use Rattle.std.specs.List.{AllByRecursion, range_with_len};
 ghost use Rattle.dgn_drawing.specs.Nesting.{Whole, itself, nest};
 ghost use Rattle.dgn_drawing.specs.Numbering.{marks};
@@ -31,6 +31,7 @@ pub(crate) fn read_on(
     broken: &mut Vec<u32>,
 )
     requires few { length seen.now.list < 4294967295 }
+    requires some { 0 < length ends.old.items }
     requires source { IsSource source.now }
     requires rows { rows_of source.now ≡ drop (length ends.old.items) seen.now.list }
     requires words { AllByRecursion IsWordTotal (rows_of source.now) }
@@ -49,61 +50,78 @@ pub(crate) fn read_on(
     'elements: while at < count {
         list = list_at(seen, first, source, ends, links, at as u32, list);
         let list_end = list.end as usize - first;
-        let leaves = leaf_run(source, at - first, list_end, list.parent.is_none());
+        let roots = list.parent.is_none();
+        let orphans = roots && source.cbit(at - first);
+        let leaves = leaf_run(source, at - first, list_end, roots, orphans);
         if leaves == 0 {
             list = put_next(
                 seen, first, source, list, at, &mut ahead, ends, links, broken,
             );
             at += 1;
         } else {
-            put_leaves(seen, list, at as u32, leaves as u32, ends, links, broken);
+            put_leaves(
+                seen,
+                list,
+                at as u32,
+                leaves as u32,
+                orphans,
+                ends,
+                links,
+                broken,
+            );
             at += leaves;
         }
     }
 }
 
-// How many rows from row `first` on, before row `end`, are one behind the other of types that head nothing, and have no
-// bit C if they are roots.
-fn leaf_run(source: &Source<'_>, first: usize, end: usize, roots: bool) -> usize
+// How many rows from row `first` on, before row `end`, are one behind the other of types that head nothing, and if they are
+// roots, all with bit C or all without it, as `orphans` says.
+fn leaf_run(source: &Source<'_>, first: usize, end: usize, roots: bool, orphans: bool) -> usize
     requires source { IsSource source.now }
     requires ordered { first ≤ end }
     requires known { end ≤ length (rows_of source.now) }
     ensures within { first + result ≤ end }
-    ensures leaves { AreLeaves roots (rows_of source.now) first (first + result) }
+    ensures leaves { AreLeaves roots orphans (rows_of source.now) first (first + result) }
 {
     let mut i = first;
-    'leaves: while i < end && !is_header(source.kind(i)) && !(roots && source.cbit(i)) {
+    'leaves: while i < end && !is_header(source.kind(i)) && !(roots && source.cbit(i) != orphans) {
         i += 1;
     }
     i - first
 }
 
 // Puts what is kept of so many elements of a list, from element `at` on, behind what is kept of those before them. They are
-// leaves, and none is broken.
+// leaves, and all are broken, as orphans, or none is.
 fn put_leaves(
     _seen: &SeenRows,
     around: OpenList,
     at: u32,
     count: u32,
+    orphans: bool,
     ends: &mut Vec<u32>,
     links: &mut LinkList,
-    _broken: &Vec<u32>,
+    broken: &mut Vec<u32>,
 )
     requires few { length _seen.now.list < 4294967295 }
+    requires begun { 0 < at }
     requires going { Going _seen.now.list at around }
     requires within { at + count ≤ around.end }
     requires near { around.depth < 65536 }
-    requires leaves { AreLeaves (is_none around.parent) _seen.now.list at (at + count) }
-    requires read { AreRead _seen.now.list at ends.old.items links.old.items _broken.now.items }
+    requires leaves { AreLeaves (is_none around.parent) orphans _seen.now.list at (at + count) }
+    requires roots { orphans ≡ true → is_none around.parent ≡ true }
+    requires read { AreRead _seen.now.list at ends.old.items links.old.items broken.old.items }
     requires room { HaveRoom (length _seen.now.list - at) (vec_capacity ends.old - vec_len ends.old) links.old.spare
-        (vec_capacity _broken.now - vec_len _broken.now) }
-    ensures read { AreRead _seen.now.list (at + count) ends.new.items links.new.items _broken.now.items }
+        (vec_capacity broken.old - vec_len broken.old) }
+    ensures read { AreRead _seen.now.list (at + count) ends.new.items links.new.items broken.new.items }
     ensures going { Going _seen.now.list (at + count) around }
     ensures room { HaveRoom (length _seen.now.list - (at + count)) (vec_capacity ends.new - vec_len ends.new) links.new.spare
-        (vec_capacity _broken.now - vec_len _broken.now) }
+        (vec_capacity broken.new - vec_len broken.new) }
 {
     push_numbers(at + 1, count, ends);
     links.push_same(Link::new(around.parent, around.depth, Knot::Leaf), count);
+    if orphans {
+        push_numbers(at, count, broken);
+    }
 }
 
 // Puts so many numbers, from `first` on, behind the others. There is room for them.

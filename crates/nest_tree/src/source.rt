@@ -1,6 +1,6 @@
 // Where rows are read from.
 
-ghost use Rattle.std.specs.Prelude.{ℕ, ◌≡◌, ◌+◌, ◌-◌, ◌*◌, ◌<◌, ◌≤◌, true, length, take, drop, get_or, nat_lt};
+ghost use Rattle.std.specs.Prelude.{ℕ, ◌≡◌, ◌+◌, ◌-◌, ◌*◌, ◌<◌, ◌≤◌, true, length, take, drop, get_or, nat_lt, IsTrue};
 ghost use Rattle.dgn_layout.specs.Classes.{class_of};
 ghost use Rattle.dgn_drawing.specs.Nesting.{is_counted};
 ghost use Rattle.nest_tree.specs.Kept.{counted_in};
@@ -88,8 +88,19 @@ impl Source<'_> {
         }
     }
 
-    // How many of the places from number `first` on, before number `last`, are below the wanted one.
-    pub(crate) fn below(&self, first: usize, last: usize, wanted: u64) -> usize
+    // Whether place `i`, of those from number `first` on, is the first that isn't below the wanted one.
+    fn is_first(&self, first: usize, i: usize, wanted: u64) -> bool
+        requires source { IsSource self.now }
+        requires ordered { first ≤ i }
+        requires known { i ≤ length (rows_of self.now) }
+        ensures before { IsTrue result → (k : ℕ) → first + k < i → place_in self.now (first + k) < wanted }
+        ensures from { IsTrue result → wanted ≤ place_in self.now i }
+    {
+        wanted <= self.place(i) && (i == first || self.place(i - 1) < wanted)
+    }
+
+    // How many of the places from number `first` on, before number `last`, are below the wanted one. The guess is tried first.
+    pub(crate) fn below(&self, first: usize, last: usize, guess: usize, wanted: u64) -> usize
         requires source { IsSource self.now }
         requires ordered { first ≤ last }
         requires known { last ≤ length (rows_of self.now) }
@@ -97,6 +108,9 @@ impl Source<'_> {
         ensures before { (k : ℕ) → k < result → place_in self.now (first + k) < wanted }
         ensures from { first + result < last → wanted ≤ place_in self.now (first + result) }
     {
+        if guess < last - first && self.is_first(first, first + guess, wanted) {
+            return guess;
+        }
         match self {
             Source::Listed(_, sums) => sums_below(sums, first, last, wanted),
             Source::Kept(places, _, _, _) => places_below(places, first, last, wanted),

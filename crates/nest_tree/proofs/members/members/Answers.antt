@@ -44,6 +44,15 @@ returns-then-place-wanted-clause-members c =
 pub returns-then-place-wanted-2-clause-members : goal.returns-then-place-wanted-2-clause-members
 returns-then-place-wanted-2-clause-members c =
     let within = c.below-count.ensures.within in
+    members_found (rows_of c.args.source.now) c.args.at c.args.end c.requires.between (each_row_of c.args.source.now c.requires.source) (first_of c.args.source.now)
+    (places_of c.args.source.now) (places_are c.args.source.now c.requires.source)
+    c.next_total-total.result (c.place.result + 38 + 2 * c.from.result) c.next_total-total.ensures.total
+    (omega (arith, c.place.ensures.place, c.from.ensures)) c.marked_end.result c.marked_end.ensures.marked c.below-count.result
+    (omega (arith, c.min-most.ensures, c.min-last.ensures)) (omega (arith, c.min-most.ensures, c.min-last.ensures)) (sym c.place-2.ensures.place ∙ c.if-place-wanted-2.true)
+
+pub returns-else-place-wanted-2-clause-members : goal.returns-else-place-wanted-2-clause-members
+returns-else-place-wanted-2-clause-members c =
+    let within = c.below-count.ensures.within in
     let bounds = c.requires.between.bounds in
     let inside = c.marked_end.ensures.within in
     none_found (rows_of c.args.source.now) c.args.at c.args.end c.requires.between (each_row_of c.args.source.now c.requires.source) (first_of c.args.source.now)
@@ -52,15 +61,6 @@ returns-then-place-wanted-2-clause-members c =
     (omega (arith, c.place.ensures.place, c.from.ensures)) c.marked_end.result c.marked_end.ensures.marked c.marked_end.ensures.behind
     c.marked_end.ensures.free
     (λ k low high here. never_there c.args.source.now c.requires.source (c.args.at + 1) c.min-last.result c.furthest.result
-    c.below-count.result (c.place.result + 38 + 2 * c.from.result) (omega (arith, c.min.ensures)) (omega (arith, c.min-last.ensures))
-    c.below-count.ensures.before (λ less. c.below-count.ensures.from (omega (arith, c.min.ensures))) c.furthest.ensures.far
-    (λ same. c.if-place-wanted-2.true (c.place-2.ensures.place ∙ same)) k (omega (arith, c.min-last.ensures)) here)
-
-pub returns-clause-members : goal.returns-clause-members
-returns-clause-members c =
-    let within = c.below-count.ensures.within in
-    members_found (rows_of c.args.source.now) c.args.at c.args.end c.requires.between (each_row_of c.args.source.now c.requires.source) (first_of c.args.source.now)
-    (places_of c.args.source.now) (places_are c.args.source.now c.requires.source)
-    c.next_total-total.result (c.place.result + 38 + 2 * c.from.result) c.next_total-total.ensures.total
-    (omega (arith, c.place.ensures.place, c.from.ensures)) c.marked_end.result c.marked_end.ensures.marked c.below-count.result
-    (omega (arith, c.min-last.ensures)) (omega (arith, c.min-last.ensures)) (sym c.place-2.ensures.place ∙ c.if-place-wanted-2.false)
+    c.below-count.result (c.place.result + 38 + 2 * c.from.result) (omega (arith, c.min-most.ensures)) (omega (arith, c.min-last.ensures))
+    c.below-count.ensures.before (λ less. c.below-count.ensures.from (omega (arith, c.min-most.ensures))) c.furthest.ensures.far
+    (λ same. c.if-place-wanted-2.false (c.place-2.ensures.place ∙ same)) k (omega (arith, c.min-last.ensures)) here)

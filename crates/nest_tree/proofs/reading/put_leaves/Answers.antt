@@ -1,11 +1,12 @@
-use Rattle.std.proofs.Common.{◌∙◌, ◌+◌, ◌++◌, ap, arith, ℕ, length, replicate, length-append}
+use Rattle.std.proofs.Common.{◌≡◌, ◌∙◌, ◌+◌, ◌-◌, ◌++◌, ◌≤◌, ap, sym, arith, ℕ, Bool, length, replicate, Vec, Global, vec_len, vec_capacity, length-append}
+use Rattle.std.proofs.lemmas.List.{append-nil}
 use Rattle.std.specs.List.{range_with_len}
 use Rattle.std.proofs.lemmas.List.FromFn.{length-range_with_len}
 use Rattle.nest_tree.specs.Linked.{Link}
 use Rattle.nest_tree.proofs.HeadersApart.{parent_small}
 use Rattle.nest_tree.proofs.ListStacks.{going_ends}
 use Rattle.nest_tree.proofs.OpenLists.{length-links}
-use Rattle.nest_tree.proofs.LeavesRead.{leaves_kept, leaves_past}
+use Rattle.nest_tree.proofs.LeavesRead.{orphans_from, leaves_kept, leaves_past}
 use Rattle.nest_tree.proofs.reading.put_leaves.Goals as goal
 
 pub push_numbers-requires-clause-few : goal.push_numbers-requires-clause-few
@@ -36,34 +37,74 @@ push_same-requires-clause-few c =
       length-links c.args._seen.now.list c.args.at c.args.ends.now.items c.args.links.now.items c.requires.read.places,
     )
 
-pub returns-clause-read : goal.returns-clause-read
-returns-clause-read c =
-    leaves_kept c.args.count c.args._seen.now.list c.args.at c.args.around c.args.ends.now.items c.push_numbers.new.list.items c.args.links.now.items
-    c.push_same.new.self.items c.args._broken.now.items c.requires.going c.requires.within c.requires.leaves c.requires.read
-    c.push_numbers.ensures.items
+-- what is left of the room where numbers were put
+room_left : (first count : ℕ) (old new : Vec ℕ Global) (more left : ℕ) → more ≤ vec_capacity old - vec_len old → left + count ≤ more
+    → new.items ≡ old.items ++ range_with_len first count → vec_capacity old ≤ vec_capacity new → left ≤ vec_capacity new - vec_len new
+room_left first count old new more left room fits are grown =
+    omega (
+      arith,
+      ap (length {A = ℕ}) are,
+      length-append old.items (range_with_len first count),
+      length-range_with_len first count,
+      old.ok.0,
+      new.ok.0,
+    )
+
+pub push_numbers-requires-then-orphans-clause-room : goal.push_numbers-requires-then-orphans-clause-room
+push_numbers-requires-then-orphans-clause-room c =
+    let within = c.requires.within in
+    omega (arith, going_ends c.args._seen.now.list c.args.at c.args.around c.requires.going, c.requires.room.for_broken)
+
+pub returns-then-orphans-clause-read : goal.returns-then-orphans-clause-read
+returns-then-orphans-clause-read c =
+    leaves_kept c.args.count c.args._seen.now.list c.args.at c.args.around c.args.orphans c.args.ends.now.items c.push_numbers.new.list.items
+    c.args.links.now.items c.push_same.new.self.items c.args.broken.now.items c.push_numbers-then-orphans.new.list.items c.requires.going c.requires.within c.requires.begun
+    c.requires.leaves c.requires.roots c.requires.read c.push_numbers.ensures.items
     (c.push_same.ensures.items ∙ ap (λ (x : Link). c.args.links.now.items ++ replicate c.args.count x) c.new.ensures)
+    (c.push_numbers-then-orphans.ensures.items
+    ∙ ap (λ (b : Bool). c.args.broken.now.items ++ orphans_from b c.args.at c.args.count) (sym c.if-orphans.true))
 
-pub returns-clause-going : goal.returns-clause-going
-returns-clause-going c =
-    leaves_past c.args.count c.args._seen.now.list c.args.at c.args.around c.args.ends.now.items c.args.links.now.items c.args._broken.now.items
-    c.requires.going c.requires.within c.requires.leaves c.requires.read
+pub returns-then-orphans-clause-going : goal.returns-then-orphans-clause-going
+returns-then-orphans-clause-going c =
+    leaves_past c.args.count c.args._seen.now.list c.args.at c.args.around c.args.orphans c.args.ends.now.items c.args.links.now.items
+    c.args.broken.now.items c.requires.going c.requires.within c.requires.begun c.requires.leaves c.requires.roots c.requires.read
 
-pub returns-clause-room : goal.returns-clause-room
-returns-clause-room c =
+pub returns-then-orphans-clause-room : goal.returns-then-orphans-clause-room
+returns-then-orphans-clause-room c =
     let room = c.requires.room in
     let within = c.requires.within in
     let bound = going_ends c.args._seen.now.list c.args.at c.args.around c.requires.going in
     record {
-      for_ends = omega (
-        arith,
-        room.for_ends,
-        c.push_numbers.ensures.room,
-        ap (length {A = ℕ}) c.push_numbers.ensures.items,
-        length-append c.args.ends.now.items (range_with_len (c.args.at + 1) c.args.count),
-        length-range_with_len (c.args.at + 1) c.args.count,
-        c.args.ends.now.ok.0,
-        c.push_numbers.new.list.ok.0,
-      );
+      for_ends = room_left (c.args.at + 1) c.args.count c.args.ends.now c.push_numbers.new.list (length c.args._seen.now.list - c.args.at)
+          (length c.args._seen.now.list - (c.args.at + c.args.count)) room.for_ends (omega arith) c.push_numbers.ensures.items c.push_numbers.ensures.room;
+      for_links = omega (arith, room.for_links, c.push_same.ensures.room);
+      for_broken = room_left c.args.at c.args.count c.args.broken.now c.push_numbers-then-orphans.new.list (length c.args._seen.now.list - c.args.at)
+          (length c.args._seen.now.list - (c.args.at + c.args.count)) room.for_broken (omega arith) c.push_numbers-then-orphans.ensures.items
+          c.push_numbers-then-orphans.ensures.room;
+    }
+
+pub returns-else-orphans-clause-read : goal.returns-else-orphans-clause-read
+returns-else-orphans-clause-read c =
+    leaves_kept c.args.count c.args._seen.now.list c.args.at c.args.around c.args.orphans c.args.ends.now.items c.push_numbers.new.list.items
+    c.args.links.now.items c.push_same.new.self.items c.args.broken.now.items c.args.broken.now.items c.requires.going c.requires.within c.requires.begun
+    c.requires.leaves c.requires.roots c.requires.read c.push_numbers.ensures.items
+    (c.push_same.ensures.items ∙ ap (λ (x : Link). c.args.links.now.items ++ replicate c.args.count x) c.new.ensures)
+    (sym (append-nil c.args.broken.now.items)
+    ∙ ap (λ (b : Bool). c.args.broken.now.items ++ orphans_from b c.args.at c.args.count) (sym c.if-orphans.false))
+
+pub returns-else-orphans-clause-going : goal.returns-else-orphans-clause-going
+returns-else-orphans-clause-going c =
+    leaves_past c.args.count c.args._seen.now.list c.args.at c.args.around c.args.orphans c.args.ends.now.items c.args.links.now.items
+    c.args.broken.now.items c.requires.going c.requires.within c.requires.begun c.requires.leaves c.requires.roots c.requires.read
+
+pub returns-else-orphans-clause-room : goal.returns-else-orphans-clause-room
+returns-else-orphans-clause-room c =
+    let room = c.requires.room in
+    let within = c.requires.within in
+    let bound = going_ends c.args._seen.now.list c.args.at c.args.around c.requires.going in
+    record {
+      for_ends = room_left (c.args.at + 1) c.args.count c.args.ends.now c.push_numbers.new.list (length c.args._seen.now.list - c.args.at)
+          (length c.args._seen.now.list - (c.args.at + c.args.count)) room.for_ends (omega arith) c.push_numbers.ensures.items c.push_numbers.ensures.room;
       for_links = omega (arith, room.for_links, c.push_same.ensures.room);
       for_broken = omega (arith, room.for_broken);
     }

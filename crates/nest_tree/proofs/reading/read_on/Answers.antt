@@ -16,7 +16,9 @@ use Rattle.nest_tree.proofs.ListStacks.{going_ends}
 use Rattle.nest_tree.proofs.RowDepths.{near_apart, near_list}
 use Rattle.nest_tree.proofs.RowsRead.{length-read}
 use Rattle.nest_tree.proofs.SourceRows.{each_row_of}
+use Rattle.std.proofs.lemmas.Bool.{both_ways}
 use Rattle.nest_tree.proofs.reading.read_on.Goals as goal
+use Rattle.nest_tree.proofs.reading.read_on.Goals.{then-roots, else-roots}
 
 twice : (b some : Bool) → some ≡ not b → b ≡ not some
 twice true some is = sym (ap not is)
@@ -54,13 +56,13 @@ near_read list rows kept len first at f are is same apart each words from going 
     omega (arith, near_list list at f going inside kept (omega arith) (omega arith) near)
 
 -- what is known ahead of the leaves is known behind them
-ahead_read : (list rows : List Row) (kept len first at run : ℕ) (f : OpenList) (a : Ahead) (roots : Bool) → rows ≡ drop kept list → first ≡ len → len ≡ kept
+ahead_read : (list rows : List Row) (kept len first at run : ℕ) (f : OpenList) (a : Ahead) (roots orphans : Bool) → rows ≡ drop kept list → first ≡ len → len ≡ kept
     → kept ≤ length list → first ≤ at → Going list at f → IsAhead rows (at - first) a → at - first + run ≤ f.end - first
-    → AreLeaves roots rows (at - first) (at - first + run) → IsAhead rows (at + run - first) a
-ahead_read list rows kept len first at run f a roots are is same within from going ahead inside leaves =
+    → AreLeaves roots orphans rows (at - first) (at - first + run) → IsAhead rows (at + run - first) a
+ahead_read list rows kept len first at run f a roots orphans are is same within from going ahead inside leaves =
     let most = known list rows kept len first f.end are is same within (going_ends list at f going) in
     let place : at - first + run ≡ at + run - first = omega arith in
-    subst (λ (k : ℕ). IsAhead rows k a) place (ahead_past run rows (at - first) a roots ahead leaves (omega arith))
+    subst (λ (k : ℕ). IsAhead rows k a) place (ahead_past run rows (at - first) a roots orphans ahead leaves (omega arith))
 
 pub leaf_run-leaves-requires-clause-known : goal.leaf_run-leaves-requires-clause-known
 leaf_run-leaves-requires-clause-known c =
@@ -75,12 +77,21 @@ put_leaves-requires-clause-near c =
 pub put_leaves-requires-clause-leaves : goal.put_leaves-requires-clause-leaves
 put_leaves-requires-clause-leaves c =
     let from = c.elements.invariant.from in
-    subst (λ (b : Bool). AreLeaves b c.args.seen.now.list c.elements.at (c.elements.at + c.leaf_run-leaves.result))
-    (twice c.is_none.result (is_some c.list_at-list.result.parent) c.is_none.ensures)
+    subst (λ (b : Bool). AreLeaves b c.if-roots.orphans c.args.seen.now.list c.elements.at (c.elements.at + c.leaf_run-leaves.result))
+    (twice c.is_none-roots.result (is_some c.list_at-list.result.parent) c.is_none-roots.ensures)
     (leaves_of c.args.seen.now.list (rows_of c.args.source.now) c.len-first.result
-    (rows_from _ _ _ _ _ c.requires.rows c.len-first.ensures c.args.ends.now.ok.0) c.is_none.result (c.elements.at - c.len-first.result)
+    (rows_from _ _ _ _ _ c.requires.rows c.len-first.ensures c.args.ends.now.ok.0) c.is_none-roots.result c.if-roots.orphans (c.elements.at - c.len-first.result)
     (c.elements.at - c.len-first.result + c.leaf_run-leaves.result) c.leaf_run-leaves.ensures.leaves c.elements.at
     (c.elements.at + c.leaf_run-leaves.result) (omega arith) (omega arith))
+
+pub put_leaves-requires-clause-begun : goal.put_leaves-requires-clause-begun
+put_leaves-requires-clause-begun c = omega (arith, c.elements.invariant.from, c.len-first.ensures, c.args.ends.now.ok.0, c.requires.some)
+
+pub put_leaves-requires-clause-roots : goal.put_leaves-requires-clause-roots
+put_leaves-requires-clause-roots c = λ orphans. elim c.if-roots.branch [
+  | then-roots w ↦ sym (twice c.is_none-roots.result (is_some c.list_at-list.result.parent) c.is_none-roots.ensures) ∙ w.if-roots.true
+  | else-roots w ↦ absurd (both_ways c.if-roots.orphans (w.orphans-is ∙ w.if-roots.false) orphans)
+]
 
 pub put_next-list-requires-clause-ahead : goal.put_next-list-requires-clause-ahead
 put_next-list-requires-clause-ahead c = c.elements.invariant.ahead
@@ -98,7 +109,7 @@ elements-preserved c =
       read = c.put_leaves.ensures.read;
       going = c.put_leaves.ensures.going;
       room = c.put_leaves.ensures.room;
-      ahead = ahead_read _ _ _ _ _ _ _ _ _ _ c.requires.rows c.len-first.ensures c.args.ends.now.ok.0 c.requires.read.places.within
+      ahead = ahead_read _ _ _ _ _ _ _ _ _ _ _ c.requires.rows c.len-first.ensures c.args.ends.now.ok.0 c.requires.read.places.within
           c.elements.invariant.from c.list_at-list.ensures.going c.elements.invariant.ahead c.leaf_run-leaves.ensures.within
           c.leaf_run-leaves.ensures.leaves;
       header = c.list_at-list.ensures.header;

@@ -5,6 +5,7 @@ use Rattle.dgn_drawing.specs.declared.row.Row.{Row}
 use Rattle.nest_tree.specs.Nested.{Nested}
 use Rattle.nest_tree.proofs.GrownNestings.{marks_behind, least_room, grown_new, grown_words, grown_places, grown_apart, grown_broken}
 use Rattle.nest_tree.proofs.BrokenList.{all_listed}
+use Rattle.nest_tree.proofs.OpenLists.{length-ends}
 use Rattle.nest_tree.proofs.nested.Nest.grow.Goals as goal
 
 fewer : (a n m : ℕ) → a + n < m → n < m
@@ -40,6 +41,11 @@ read_on-requires-clause-read c =
       are_broken = grown_broken c.self.inside.seen.list c.args.rows.now c.then-seen.result.list c.self.inside.ends.items c.self.inside.links.items
           c.self.inside.broken.items c.self.invariant apart c.then-seen.ensures (length c.self.inside.ends.items) refl;
     }
+
+pub read_on-requires-clause-some : goal.read_on-requires-clause-some
+read_on-requires-clause-some c =
+    let some = c.self.invariant.some in
+    omega (arith, length-ends c.self.inside.seen.list (length c.self.inside.seen.list) c.self.inside.ends.items c.self.inside.links.items c.self.invariant.places)
 
 pub read_on-requires-clause-room : goal.read_on-requires-clause-room
 read_on-requires-clause-room c =
