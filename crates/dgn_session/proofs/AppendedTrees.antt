@@ -20,8 +20,8 @@ use Rattle.edit_ops.proofs.AppendedElements.{appended_opens, short_left}
 use Rattle.dgn_import.specs.Gathering.{AreTrees}
 use Rattle.dgn_session.specs.State.{SessionValue, state_of, value_with}
 use Rattle.dgn_session.specs.Imported.{imported, import_entry}
-use Rattle.dgn_session.specs.Kept.{OpensAt, AreKept, value_of}
-use Rattle.dgn_session.specs.Carried.{IsSoundPlan, plan_of}
+use Rattle.dgn_session.specs.SessionParts.{OpensAt, AreKept, value_of}
+use Rattle.dgn_session.specs.CarryingOut.{IsSoundPlan, plan_of}
 use Rattle.dgn_session.proofs.EditedBody.{Become}
 use Rattle.dgn_session.proofs.PlannedBody.{IsPlanned, plan_sound}
 use Rattle.dgn_session.proofs.PlanCarriedOut.{IsCarried, HasMade, made_here, has_made}

@@ -15,8 +15,8 @@ use Rattle.edit_ops.specs.Planned.{IsPlan}
 use Rattle.edit_ops.specs.Laws.{ChangesItsFields}
 use Rattle.edit_ops.proofs.EditLaws.{changes_fields}
 use Rattle.dgn_session.specs.State.{SessionValue, state_of, applied}
-use Rattle.dgn_session.specs.Kept.{OpensAt, AreKept, value_of}
-use Rattle.dgn_session.specs.Carried.{IsSoundPlan}
+use Rattle.dgn_session.specs.SessionParts.{OpensAt, AreKept, value_of}
+use Rattle.dgn_session.specs.CarryingOut.{IsSoundPlan}
 use Rattle.dgn_session.proofs.EditedBody.{edit_becomes}
 use Rattle.dgn_session.proofs.PlannedBody.{IsPlanned, plan_sound}
 use Rattle.dgn_session.proofs.PlanCarriedOut.{IsCarried, HasMade, has_made}

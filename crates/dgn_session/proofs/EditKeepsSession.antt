@@ -15,8 +15,8 @@ use Rattle.elem_index.specs.declared.design.Design.{Design}
 use Rattle.elem_index.specs.Design.{kept_of, kinds_of, spare_of, elements, IsOpen, IsWhole, IsFront, SameText}
 use Rattle.elem_index.proofs.WrittenDesigns.{front_after}
 use Rattle.nest_tree.specs.Nested.{Nested}
-use Rattle.dgn_session.specs.Kept.{rows_of, OpensAt, IsUnder, Leads, AreKept, IsKept}
-use Rattle.dgn_session.specs.Carried.{IsSpelling, HasRoom, IsFollowed, IsChange, IsSoundPlan}
+use Rattle.dgn_session.specs.SessionParts.{rows_of, OpensAt, IsUnder, Leads, AreKept, IsKept}
+use Rattle.dgn_session.specs.CarryingOut.{IsSpelling, HasRoom, IsFollowed, IsChange, IsSoundPlan}
 use Rattle.edit_ops.specs.declared.types.plan.Plan.{Plan}
 use Rattle.dgn_session.proofs.Rising.{olds_rise}
 use Rattle.dgn_session.proofs.Leading.{may_commit, leads_back}

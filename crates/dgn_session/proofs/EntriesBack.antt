@@ -18,7 +18,7 @@ use Rattle.dgn_drawing.proofs.Fronts.{body_spelled}
 use Rattle.elem_index.specs.Offsets.{offset_of}
 use Rattle.edit_trees.specs.Applying.{Applied, Done, Refused}
 use Rattle.dgn_session.specs.State.{State, pushed, pushed_if, dropped, undone, applied, fence_applied, undo_refused, earlier_of}
-use Rattle.dgn_session.specs.Kept.{rows_of, AreKept}
+use Rattle.dgn_session.specs.SessionParts.{rows_of, AreKept}
 use Rattle.dgn_session.specs.Laws.{EditsAreUndone, FenceEditsAreUndone, ImportsAreUndone, last_of, opened_in, OpenedStay, EntriesAreCounted}
 use Rattle.dgn_session.specs.Laws.{EntriesLeadBack, IsUnheld, OpenedStandsStill}
 use Rattle.dgn_session.proofs.PlannedBody.{front_long}

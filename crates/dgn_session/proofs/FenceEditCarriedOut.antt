@@ -20,8 +20,8 @@ use Rattle.edit_ops.specs.Planned.{IsFencePlan}
 use Rattle.edit_ops.specs.FenceLaws.{ChangesFencedFields}
 use Rattle.edit_ops.proofs.FenceLaws.{fenced_changes}
 use Rattle.dgn_session.specs.State.{SessionValue, state_of, selection, pushed_if, fence_entry, value_with}
-use Rattle.dgn_session.specs.Kept.{OpensAt, AreKept, value_of}
-use Rattle.dgn_session.specs.Carried.{IsSoundPlan}
+use Rattle.dgn_session.specs.SessionParts.{OpensAt, AreKept, value_of}
+use Rattle.dgn_session.specs.CarryingOut.{IsSoundPlan}
 use Rattle.dgn_session.proofs.EditedBody.{fence_becomes}
 use Rattle.dgn_session.proofs.PlannedBody.{IsPlanned, plan_sound}
 use Rattle.dgn_session.proofs.PlanCarriedOut.{IsCarried, HasMade, has_made}

@@ -21,8 +21,8 @@ use Rattle.dgn_audit.specs.Planned.{IsFitPlan}
 use Rattle.dgn_audit.proofs.FitKeepsRows.{fitted_opens, fits_change}
 use Rattle.dgn_audit.proofs.FindingsEnd.{ends_findings}
 use Rattle.dgn_session.specs.State.{SessionValue, state_of, pushed, undone, undo_refused}
-use Rattle.dgn_session.specs.Kept.{OpensAt, AreKept, value_of}
-use Rattle.dgn_session.specs.Carried.{IsSoundPlan, plan_of}
+use Rattle.dgn_session.specs.SessionParts.{OpensAt, AreKept, value_of}
+use Rattle.dgn_session.specs.CarryingOut.{IsSoundPlan, plan_of}
 use Rattle.dgn_session.specs.Fits.{fit_applied, IsFit, FitsAreUndone, OpenedStayFitted}
 use Rattle.dgn_session.proofs.EditedBody.{Become}
 use Rattle.dgn_session.proofs.PlannedBody.{IsPlanned, plan_sound}

@@ -24,8 +24,8 @@ use Rattle.elem_index.proofs.WrittenDesigns.{behind_after}
 use Rattle.elem_index.proofs.Places.{length-offsets, get_or-offsets}
 use Rattle.edit_trees.proofs.DesignElements.{four_bytes}
 use Rattle.nest_tree.specs.Nested.{Nested}
-use Rattle.dgn_session.specs.Kept.{rows_of, OpensAt, Leads, AreKept, IsKept}
-use Rattle.dgn_session.specs.Carried.{HasLast, IsCutAt}
+use Rattle.dgn_session.specs.SessionParts.{rows_of, OpensAt, Leads, AreKept, IsKept}
+use Rattle.dgn_session.specs.CarryingOut.{HasLast, IsCutAt}
 use Rattle.dgn_session.proofs.PlannedBody.{front_long}
 use Rattle.dgn_session.proofs.EditKeepsSession.{same_items, opens_same, open_of, kept_same}
 

@@ -10,7 +10,7 @@ use Rattle.dgn_drawing.specs.Rows.{row_of}
 use Rattle.dgn_drawing.specs.Nesting.{BeginsFree, itself}
 use Rattle.nest_tree.specs.Shapes.{IsRow}
 use Rattle.nest_tree.proofs.NestableRows.{each_row}
-use Rattle.dgn_session.specs.Carried.{Spells, IsSpelling, IsBlock, IsBehind, Grows}
+use Rattle.dgn_session.specs.CarryingOut.{Spells, IsSpelling, IsBlock, IsBehind, Grows}
 use Rattle.dgn_session.proofs.SpelledRows.{four}
 
 -- the elements that are left, and the rows of those that the nesting has followed

@@ -20,8 +20,8 @@ use Rattle.dgn_drawing.proofs.Fronts.{opens_elements, opens_of, body_spelled}
 use Rattle.edit_ops.specs.declared.types.plan.Plan.{Plan}
 use Rattle.edit_trees.specs.Fields.{Field, filled}
 use Rattle.dgn_session.specs.State.{entry_with}
-use Rattle.dgn_session.specs.Kept.{OpensAt}
-use Rattle.dgn_session.specs.Carried.{Spells, IsChange, IsSoundPlan}
+use Rattle.dgn_session.specs.SessionParts.{OpensAt}
+use Rattle.dgn_session.specs.CarryingOut.{Spells, IsChange, IsSoundPlan}
 use Rattle.dgn_session.proofs.EditedBody.{Become}
 use Rattle.dgn_session.proofs.Rising.{filled_rise, olds_filled}
 use Rattle.dgn_session.proofs.Leading.{leads_back}

@@ -15,7 +15,7 @@ use Rattle.dgn_drawing.specs.Faults.{IsSound}
 use Rattle.dgn_drawing.proofs.RecordsRead.{size_said-spell, size-spell}
 use Rattle.dgn_drawing.proofs.Rows.{row_at-spell}
 use Rattle.elem_index.proofs.Places.{sound_spell}
-use Rattle.dgn_session.specs.Carried.{Spells, IsSpelling, Begins}
+use Rattle.dgn_session.specs.CarryingOut.{Spells, IsSpelling, Begins}
 
 -- the elements that are left from a place on, and the rows of those before it
 pub record Left (dim : ℕ) (es : List Element) (b : List ℕ) (rows : List Row) (at : ℕ) : Type 0 where

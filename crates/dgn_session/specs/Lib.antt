@@ -1,7 +1,7 @@
 pub mod State
 pub mod Imported
-pub mod Kept
-pub mod Carried
+pub mod SessionParts
+pub mod CarryingOut
 pub mod Answers
 pub mod Laws
 pub mod Fits

@@ -1,7 +1,7 @@
 // The nesting follows what an edit appends, block by block: no more rows are kept than those of a block.
 
 ghost use Rattle.std.specs.Prelude.{◌≡◌, ◌≤◌, [], ◌∷◌, ◌++◌, length, IfOk, OnOk, OnErr};
-ghost use Rattle.dgn_session.specs.Carried.{IsSpelling, IsBlock, IsBehind, Grows};
+ghost use Rattle.dgn_session.specs.CarryingOut.{IsSpelling, IsBlock, IsBehind, Grows};
 
 use dgn_drawing::{MOST_DESIGN, Row, row_of};
 use elem_head::head;

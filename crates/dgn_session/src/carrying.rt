@@ -3,8 +3,8 @@
 ghost use Rattle.std.specs.Prelude.{◌≡◌, ◌≤◌, [], ◌∷◌, ◌++◌, length, OnOk, OnErr};
 ghost use Rattle.patch_bytes.specs.Puts.{write};
 ghost use Rattle.undo_log.specs.Entries.{entry_of};
-ghost use Rattle.dgn_session.specs.Kept.{IsKept};
-ghost use Rattle.dgn_session.specs.Carried.{IsSpelling, IsBehind, IsFollowed, IsSoundPlan, plan_of};
+ghost use Rattle.dgn_session.specs.SessionParts.{IsKept};
+ghost use Rattle.dgn_session.specs.CarryingOut.{IsSpelling, IsBehind, IsFollowed, IsSoundPlan, plan_of};
 
 use crate::appended::nest_appended;
 use crate::room::make_room;

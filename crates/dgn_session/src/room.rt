@@ -2,7 +2,7 @@
 
 ghost use Rattle.std.specs.Prelude.{◌≡◌, OnOk};
 ghost use Rattle.elem_index.specs.Design.{IsWhole};
-ghost use Rattle.dgn_session.specs.Carried.{HasRoom};
+ghost use Rattle.dgn_session.specs.CarryingOut.{HasRoom};
 
 use elem_index::Design;
 use std::alloc::AllocError;

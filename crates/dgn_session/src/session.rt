@@ -12,7 +12,7 @@ ghost use Rattle.edit_ops.specs.Planned.{IsRefused};
 ghost use Rattle.dgn_session.specs.State.{SessionValue, state_of, begun, applied, edited, undone, with_mask, entry, value_with, value_with_mask};
 ghost use Rattle.dgn_session.specs.State.{selection, fence_applied, fence_edited, with_fence, fence_entry, value_with_fence};
 ghost use Rattle.dgn_session.specs.Answers.{IsFenceRefused};
-ghost use Rattle.dgn_session.specs.Kept.{IsKept, value_of, started};
+ghost use Rattle.dgn_session.specs.SessionParts.{IsKept, value_of, started};
 ghost use Rattle.dgn_session.specs.Laws.{IsSound};
 
 use crate::carrying::carry;

@@ -2,8 +2,8 @@
 
 ghost use Rattle.std.specs.Prelude.{◌≡◌, ◌≤◌, ◌↔◌, [], length, IsNone, IfSome};
 ghost use Rattle.undo_log.specs.Entries.{IsUndone};
-ghost use Rattle.dgn_session.specs.Kept.{IsKept};
-ghost use Rattle.dgn_session.specs.Carried.{HasLast, IsCutAt};
+ghost use Rattle.dgn_session.specs.SessionParts.{IsKept};
+ghost use Rattle.dgn_session.specs.CarryingOut.{HasLast, IsCutAt};
 
 use dgn_drawing::MOST_DESIGN;
 use elem_index::Design;

@@ -7,7 +7,7 @@ use Rattle.elem_index.specs.Answers.{opened_of}
 use Rattle.elem_index.proofs.OpeningAnswers.{opens_as_once}
 use Rattle.elem_index.specs.declared.design.Design.{Design}
 use Rattle.elem_index.specs.Design.{elements, IsWhole}
-use Rattle.dgn_session.specs.Kept.{started}
+use Rattle.dgn_session.specs.SessionParts.{started}
 use Rattle.dgn_session.specs.State.{SessionValue}
 use Rattle.dgn_tool.specs.Generation.{drawing_of}
 use Rattle.dgn_generator.specs.Generator.{generated}

@@ -19,7 +19,8 @@ use Rattle.edit_ops.specs.declared.types.plan.Plan.{Plan}
 use Rattle.edit_trees.specs.Causes.{unknown, part_cause, causes_of, first_of, target_of, target_cause, cause_of}
 use Rattle.edit_trees.specs.Applying.{Refused, unless, apply, changed_forest, copied, ChangesInPlace, IsEdit}
 use Rattle.edit_trees.specs.Written.{part_puts}
-use Rattle.edit_ops.specs.Planned.{IsPlan, IsRefused, IsStopped}
+use Rattle.edit_parts.specs.Copying.{IsStopped}
+use Rattle.edit_ops.specs.Planned.{IsPlan, IsRefused}
 use Rattle.edit_trees.proofs.ListedLive.{or_assoc}
 use Rattle.edit_trees.proofs.AcceptedEdit.{met}
 use Rattle.edit_ops.proofs.AppendedElements.{append_plan}

@@ -6,6 +6,7 @@ pub mod EditLaws
 pub mod FieldsRise
 pub mod LeastCause
 pub mod CauseOrder
+pub mod SumsLast
 pub mod CopyLength
 pub mod WorkedEdits
 pub mod ListMembers

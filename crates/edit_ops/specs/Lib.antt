@@ -1,3 +1,4 @@
+pub mod Asked
 pub mod Edits
 pub mod Fenced
 pub mod Planned

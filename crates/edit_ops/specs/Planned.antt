@@ -1,10 +1,9 @@
 -- What the answer of a plan says.
-use Rattle.std.specs.Prelude.{ℕ, ◌≡◌, List, ◌++◌, length, drop, Option, Some}
+use Rattle.std.specs.Prelude.{ℕ, ◌≡◌, List, ◌++◌, length, drop}
 use Rattle.dgn_drawing.specs.declared.edit.Edit.{Edit}
 use Rattle.dgn_drawing.specs.declared.fence_edit.FenceEdit.{FenceEdit}
 use Rattle.dgn_drawing.specs.Element.{Element}
 use Rattle.dgn_drawing.specs.Spelling.{spelling}
-use Rattle.edit_trees.specs.declared.cause.Cause.{Cause}
 use Rattle.edit_trees.specs.declared.edit_fault.EditFault.{EditFault}
 use Rattle.edit_trees.specs.declared.edit_fault.EditFault.TheVariants as faults
 use Rattle.edit_ops.specs.declared.types.plan.Plan.{Plan}
@@ -38,8 +37,3 @@ pub record IsFencePlan (dim : ℕ) (es : List Element) (rest : ℕ) (e : FenceEd
 abbrev pub IsRefused : Applied → EditFault → Type 0
 IsRefused applied (faults.Refused cause) = applied ≡ Refused cause
 IsRefused applied faults.Memory = Unit {0}
-
--- this is the cause that is told; want of memory says nothing of it
-abbrev pub IsStopped : Option Cause → EditFault → Type 0
-IsStopped first (faults.Refused cause) = first ≡ Some cause
-IsStopped first faults.Memory = Unit {0}

@@ -2,30 +2,32 @@ ghost use Rattle.std.specs.Prelude.{◌≡◌, ◌+◌, ◌≤◌, ◌++◌, len
 ghost use Rattle.dgn_drawing.specs.declared.edit.Edit.{Edit};
 ghost use Rattle.elem_index.specs.Design.{elements, IsWhole};
 ghost use Rattle.edit_trees.specs.Applying.{ChangesInPlace};
+ghost use Rattle.edit_ops.specs.Asked.{causes_asked};
 ghost use Rattle.edit_trees.specs.Causes.{first_cause, too_long, first_of, causes_of, target_of};
 ghost use Rattle.edit_trees.specs.Trees.{above_of, live_of};
 ghost use Rattle.edit_trees.specs.Written.{found};
 
 use dgn_drawing::{Edit, MOST_DESIGN, New};
-use edit_parts::{first_cause, move_cause, other_axes, silent, too_long};
+use edit_parts::{first_cause, other_axes, silent, too_long};
 use edit_trees::{Cause, Test};
 use elem_index::Design;
 use new_elements::size_made;
 
-// What is against an edit of a part where it stands, which nothing keeps from any edit: `above` has the numbers of the
-// headers above the part, and `live` those of its live elements.
+// What is against an edit of a part where it stands, which nothing keeps from any edit, but for a live element that would
+// leave the design plane, which the sums tell: `above` has the numbers of the headers above the part, and `live` those of
+// its live elements.
 pub fn edit_cause(d: &Design, edit: &Edit, above: &[u32], live: &[u32]) -> Option<Cause>
     requires whole { IsWhole d.now }
     requires in_place { ChangesInPlace edit.now }
     requires above { found (elements d.now) above.now ≡ above_of (elements d.now) (target_of edit.now) }
     requires live { found (elements d.now) live.now ≡ live_of (elements d.now) (target_of edit.now) }
-    ensures { result ≡ first_of (causes_of d.now.dim (elements d.now) 0 edit.now) }
+    ensures { result ≡ first_of (causes_asked d.now.dim (elements d.now) edit.now) }
 {
     match edit {
         Edit::Move { by, .. } => locked(d, above, live)
             .or(other_axes(d.dim, by.axes))
             .or(first_cause(d, above, &Test::Widens))
-            .or(move_cause(d, live, by)),
+            .or(first_cause(d, live, &Test::Moves)),
         Edit::Sym { .. } => locked(d, above, live).or(first_cause(d, live, &Test::Looks)),
         Edit::Delete { n } => locked(d, above, live)
             .or(silent(d, *n))

@@ -1,4 +1,4 @@
-ghost use Rattle.std.specs.Prelude.{◌≡◌, ◌+◌, ◌<◌, ◌≤◌, ◌+ℤ◌, [], ◌∷◌, ◌++◌, length, map, take, slice_get, Some, IfSome, OnOk, IsTrue};
+ghost use Rattle.std.specs.Prelude.{◌≡◌, ◌+◌, ◌<◌, ◌≤◌, ◌+ℤ◌, [], ◌∷◌, ◌++◌, length, map, take, slice_get, None, IfSome, IfOk, IfErr, OnOk, IsTrue};
 ghost use Rattle.std.specs.List.{AllByRecursion, list_all, flat_map};
 ghost use Rattle.std.specs.Option.{option_to_list};
 ghost use Rattle.elem_head.specs.Head.{symbology_of};
@@ -13,22 +13,25 @@ ghost use Rattle.elem_index.specs.Design.{elements, IsWhole};
 ghost use Rattle.patch_bytes.specs.PatchView.{put_of};
 ghost use Rattle.range_code.specs.Plane.{is_on_plane};
 ghost use Rattle.dgn_drawing.specs.SpotNumbers.{sum_at, wider};
+ghost use Rattle.edit_trees.specs.Causes.{part_cause};
 ghost use Rattle.edit_trees.specs.Trees.{found_at, above_tree, live_tree};
-ghost use Rattle.edit_trees.specs.Written.{found, live_puts, above_puts, part_puts, wider_put, wider_puts, sum_put, new_look, IsReady, MayWiden};
+ghost use Rattle.edit_trees.specs.Written.{found, above_puts, part_puts, wider_put, wider_puts, MayWiden};
+ghost use Rattle.edit_parts.specs.Copying.{IsStopped};
+ghost use Rattle.edit_parts.specs.Putting.{MayBePut, leaving};
 
 use dgn_drawing::{Edit, MOST_DESIGN, Shift};
 use dgn_layout::Spot;
 use dgn_words::range_long;
-use edit_parts::push_live;
-use edit_trees::{Found, find};
+use edit_parts::{number_patch, push_live};
+use edit_trees::{Cause, EditFault, Found, find};
 use elem_index::Design;
 use patch_bytes::{Patch, PatchList};
 use range_code::Box3;
-use spot_numbers::{bytes_at, moved_number, spots_in, value, wider};
+use spot_numbers::{moved_number, spots_in, stays_on_plane, value, wider};
 use std::alloc::AllocError;
 
 // Appends what an edit of the part of element n puts into the headers above it and into its live elements, of which
-// `above` and `live` have the numbers.
+// `above` and `live` have the numbers, or says which of these would leave the design plane.
 pub fn push_part(
     patches: &mut PatchList,
     d: &Design,
@@ -36,32 +39,38 @@ pub fn push_part(
     above: &[u32],
     live: &[u32],
     edit: &Edit,
-) -> Result<(), AllocError>
+) -> Result<(), EditFault>
     requires whole { IsWhole d.now }
+    requires known { n < length (elements d.now) }
+    requires unkept { part_cause d.now.dim (elements d.now) n ≡ None }
     requires above { found (elements d.now) above.now ≡ above_tree (elements d.now) n }
     requires live { found (elements d.now) live.now ≡ live_tree (elements d.now) n }
-    requires head { IfSome (slice_get (elements d.now) n) (IsReady d.now.dim edit.now) }
     requires widens { MayWiden edit.now (above_tree (elements d.now) n) }
-    requires ready { AllByRecursion (λ v. IsReady d.now.dim edit.now v.element) (live_tree (elements d.now) n) }
-    ensures { OnOk result (patches.new ≡ patches.old ++ part_puts d.now.dim (elements d.now) edit.now n) }
+    requires readable { AllByRecursion (λ v. MayBePut edit.now v.element) (live_tree (elements d.now) n) }
+    ensures put { OnOk result (patches.new ≡ patches.old ++ part_puts d.now.dim (elements d.now) edit.now n) }
+    ensures stay { IfOk result (λ _. leaving d.now.dim edit.now (live_tree (elements d.now) n) ≡ None) }
+    ensures refused { IfErr result (IsStopped (leaving d.now.dim edit.now (live_tree (elements d.now) n))) }
 {
     push_above(patches, d, n, above, edit)?;
     push_live(patches, d, live, edit)
 }
 
-// Appends what an edit of the part of element n puts into the headers above it, of which `above` has the numbers.
+// Appends what an edit of the part of element n puts into the headers above it, of which `above` has the numbers. A moved
+// element that leaves the plane has no range for them to hold.
 fn push_above(
     patches: &mut PatchList,
     d: &Design,
     n: u32,
     above: &[u32],
     edit: &Edit,
-) -> Result<(), AllocError>
+) -> Result<(), EditFault>
     requires whole { IsWhole d.now }
-    requires head { IfSome (slice_get (elements d.now) n) (IsReady d.now.dim edit.now) }
+    requires head { IfSome (slice_get (elements d.now) n) (MayBePut edit.now) }
     requires widens { MayWiden edit.now (found (elements d.now) above.now) }
-    ensures { OnOk result (patches.new ≡ patches.old
+    ensures put { OnOk result (patches.new ≡ patches.old
         ++ above_puts d.now.dim edit.now (slice_get (elements d.now) n) (found (elements d.now) above.now)) }
+    ensures refused { IfErr result
+        (IsStopped (leaving d.now.dim edit.now (option_to_list (found_at (elements d.now) n)))) }
 {
     if above.is_empty() {
         return Ok(());
@@ -72,7 +81,11 @@ fn push_above(
     let Some(head) = find(d, n) else {
         return Ok(());
     };
-    push_all_wider(patches, d, above, moved_range(d.dim, head.bytes, by))
+    if !stays_on_plane(d.dim, head.kind, head.bytes, by) {
+        return Err(EditFault::Refused(Cause::OffPlane(n)));
+    }
+    push_all_wider(patches, d, above, moved_range(d.dim, head.bytes, by))?;
+    Ok(())
 }
 
 // Appends the range numbers of each of the headers of these numbers made to hold a range too.
@@ -164,10 +177,5 @@ fn wider_patch(found: Found, spot: Spot, r: Box3) -> Patch
     requires few { found.place + length found.bytes.now ≤ MOST_DESIGN }
     ensures { put_of result ≡ wider_put r found.entry.place found.entry.bytes.now spot }
 {
-    let number = wider(spot, value(found.bytes, spot), r);
-    Patch {
-        at: found.place as u32 + spot.at,
-        len: 4,
-        bytes: bytes_at(spot, number),
-    }
+    number_patch(found, spot, wider(spot, value(found.bytes, spot), r))
 }

@@ -8,8 +8,8 @@ ghost use Rattle.elem_index.specs.Design.{elements, IsWhole};
 ghost use Rattle.edit_trees.specs.Trees.{above_tree, live_tree};
 ghost use Rattle.edit_trees.specs.Applying.{apply, ChangesInPlace, IsEdit};
 ghost use Rattle.edit_trees.specs.Causes.{target_of, part_cause, causes_of, first_of};
-ghost use Rattle.edit_parts.specs.Copying.{tree_copy};
-ghost use Rattle.edit_ops.specs.Planned.{IsPlan, IsPlanBehind, IsRefused, IsStopped};
+ghost use Rattle.edit_parts.specs.Copying.{tree_copy, IsStopped};
+ghost use Rattle.edit_ops.specs.Planned.{IsPlan, IsPlanBehind, IsRefused};
 ghost use Rattle.edit_trees.specs.Written.{found, part_puts};
 
 use crate::above::put_numbers_above;
@@ -232,8 +232,7 @@ fn plan_found(
     if let Some(cause) = edit_cause(d, edit, above, live) {
         return Err(EditFault::Refused(cause));
     }
-    push_part(patches, d, n, above, live, edit)?;
-    Ok(())
+    push_part(patches, d, n, above, live, edit)
 }
 
 // What an appended element comes to.

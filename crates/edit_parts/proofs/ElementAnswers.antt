@@ -34,7 +34,8 @@ use Rattle.edit_trees.specs.declared.asked.Test.TheVariants as tests
 use Rattle.edit_trees.specs.Trees.{Live, found_at}
 use Rattle.edit_trees.specs.Causes.{says_locked, is_locked}
 use Rattle.edit_trees.specs.Asking.{cause_in, MayBeAskedOf, locked_in}
-use Rattle.edit_trees.specs.Written.{live_puts, look_put, new_look, IsReady}
+use Rattle.edit_trees.specs.Written.{live_puts, look_put, new_look}
+use Rattle.edit_parts.specs.Putting.{MayBePut}
 use Rattle.edit_trees.specs.Found.{IsFound}
 use Rattle.edit_trees.proofs.ReadableElements.{IsShown, is_shown, shown_long}
 use Rattle.elem_index.proofs.Places.{axes_of}
@@ -91,12 +92,12 @@ lock_cause dim test m o e b is there locks =
     ap (λ (x : Bool). cond x (Some (causes.Locked m)) None) locks ∙ ap (cause_in dim tests.Unlocked m) (sym there)
     ∙ ap (λ (x : Test). cause_in dim x m o) (sym is)
 
--- nothing stands against the edit of the one element
-pub ready_of : (dim : ℕ) (e : Edit) (es : List Element) (m : ℕ) (v : Element) → slice_get es m ≡ Some v
-    → AllByRecursion (λ (x : Live). IsReady dim e x.element) (option_to_list (found_at es m)) → IsReady dim e v
-ready_of dim e es m v there each =
+-- the edit may be put into the one element
+pub readable_of : (e : Edit) (es : List Element) (m : ℕ) (v : Element) → slice_get es m ≡ Some v
+    → AllByRecursion (λ (x : Live). MayBePut e x.element) (option_to_list (found_at es m)) → MayBePut e v
+readable_of e es m v there each =
     let P : Option Element → Type 0 =
-    λ o. AllByRecursion (λ (x : Live). IsReady dim e x.element)
+    λ o. AllByRecursion (λ (x : Live). MayBePut e x.element)
     (option_to_list (option_map (λ (x : Element). record { number = m; place = offset_of es m; element = x }) o)) in
     (subst P there each).0
 

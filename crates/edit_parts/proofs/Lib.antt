@@ -7,5 +7,6 @@ pub mod CopiedPart
 pub mod CopyRefusals
 pub mod ElementAnswers
 pub mod ElementMoves
+pub mod LeavingElements
 pub mod LoneCopy
 pub mod TreesBehind

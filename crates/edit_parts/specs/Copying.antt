@@ -21,7 +21,7 @@ tree_copy dim es by n = copied dim es (edit.Copy n by) n
 abbrev pub copy_cause : ℕ → List Element → Displacement → ℕ → Option Cause
 copy_cause dim es by n = option_or (first_cause dim tests.Moves (live_tree es n)) (first_cause dim (tests.Leaves by) (live_tree es n))
 
--- it is refused with the cause that is told; want of memory says nothing of it
-abbrev pub IsCopyRefused : Option Cause → EditFault → Type 0
-IsCopyRefused found (faults.Refused cause) = found ≡ Some cause
-IsCopyRefused found faults.Memory = Unit {0}
+-- this is the cause that is told; want of memory says nothing of it
+abbrev pub IsStopped : Option Cause → EditFault → Type 0
+IsStopped first (faults.Refused cause) = first ≡ Some cause
+IsStopped first faults.Memory = Unit {0}

@@ -1,4 +1,4 @@
-ghost use Rattle.std.specs.Prelude.{ℕ, ◌≡◌, ◌+◌, ◌%◌, ◌<◌, ◌≤◌, List, ◌++◌, length, map, slice_index, slice_set, OnOk, OnErr};
+ghost use Rattle.std.specs.Prelude.{ℕ, ◌≡◌, ◌+◌, ◌%◌, ◌<◌, ◌≤◌, List, ◌++◌, length, map, slice_index, slice_set, None, IfOk, IfErr, OnOk, OnErr};
 ghost use Rattle.std.specs.List.{AllByRecursion};
 ghost use Rattle.dgn_drawing.specs.Rows.{row_of};
 ghost use Rattle.dgn_drawing.specs.Nesting.{flat, forest};
@@ -9,14 +9,17 @@ ghost use Rattle.edit_trees.specs.Trees.{tree_at, live_tree};
 ghost use Rattle.patch_bytes.specs.Puts.{write, Span};
 ghost use Rattle.edit_trees.specs.Applying.{IsEdit, copied};
 ghost use Rattle.edit_trees.specs.Written.{found, live_puts, IsReady};
+ghost use Rattle.edit_parts.specs.Copying.{IsStopped};
+ghost use Rattle.edit_parts.specs.Putting.{MayBePut, leaving};
 
 use crate::live::end_of;
 use crate::live_patches::push_live;
 use dgn_drawing::{Edit, MOST_DESIGN};
+use edit_trees::EditFault;
 use elem_index::Design;
 use nest_tree::types::Nest;
 use patch_bytes::{Patch, PatchList, swap_in};
-use std::alloc::{AllocError, Global};
+use std::alloc::Global;
 
 // Bit C of an element's first byte.
 const BIT_C: u8 = 0x80;
@@ -55,7 +58,8 @@ pub fn part_len(d: &Design, t: &Nest, n: u32) -> usize
 }
 
 // Appends the bytes of the copy of the part of element n: those of the part with what the edit puts into its live
-// elements, of which `live` has the numbers, and the head without bit C. Where there is no memory, `out` is as before.
+// elements, of which `live` has the numbers, and the head without bit C; or says that one would leave the plane. Then, and
+// where there is no memory, `out` is as before.
 pub fn push_copy(
     alloc: Global,
     d: &Design,
@@ -64,15 +68,17 @@ pub fn push_copy(
     live: &[u32],
     edit: &Edit,
     out: &mut Vec<u8>,
-) -> Result<(), AllocError>
+) -> Result<(), EditFault>
     requires whole { IsWhole d.now }
     requires nesting { t.now.rows ≡ map row_of (elements d.now) }
     requires known { n < length (elements d.now) }
     requires fits { IsEdit edit.now }
     requires live { found (elements d.now) live.now ≡ live_tree (elements d.now) n }
-    requires ready { AllByRecursion (λ v. IsReady d.now.dim edit.now v.element) (live_tree (elements d.now) n) }
+    requires readable { AllByRecursion (λ v. MayBePut edit.now v.element) (live_tree (elements d.now) n) }
     ensures copied { OnOk result
         (out.new.items ≡ out.old.items ++ spelling (flat (copied d.now.dim (elements d.now) edit.now n))) }
+    ensures accepted { IfOk result (λ _. leaving d.now.dim edit.now (live_tree (elements d.now) n) ≡ None) }
+    ensures refused { IfErr result (IsStopped (leaving d.now.dim edit.now (live_tree (elements d.now) n))) }
     ensures kept { OnErr result (out.new.items ≡ out.old.items) }
 {
     let mut patches = PatchList::new(alloc);

@@ -3,16 +3,16 @@ ghost use Rattle.dgn_drawing.specs.Rows.{row_of};
 ghost use Rattle.dgn_drawing.specs.Spelling.{spelling};
 ghost use Rattle.dgn_drawing.specs.Nesting.{flat};
 ghost use Rattle.elem_index.specs.Design.{elements, IsWhole};
-ghost use Rattle.edit_parts.specs.Copying.{tree_copy, copy_cause, IsCopyRefused};
+ghost use Rattle.edit_parts.specs.Copying.{tree_copy, copy_cause, IsStopped};
 
-use crate::asking::move_cause;
+use crate::asking::first_cause;
 use crate::copying::push_copy;
 use crate::live::live_numbers;
 use crate::lone::lone_at;
 use crate::lone_copy::push_lone_copy;
 use crate::shift::same_shift;
 use dgn_drawing::{Edit, Shift};
-use edit_trees::EditFault;
+use edit_trees::{EditFault, Test};
 use elem_index::Design;
 use nest_tree::types::Nest;
 use patch_bytes::ByteList;
@@ -42,7 +42,7 @@ pub fn copy_tree(
     ensures copied { OnOk result
         (out.new ≡ out.old ++ spelling (flat (tree_copy d.now.dim (elements d.now) by.now n))) }
     ensures accepted { OnOk result (copy_cause d.now.dim (elements d.now) by.now n ≡ None) }
-    ensures refused { IfErr result (IsCopyRefused (copy_cause d.now.dim (elements d.now) by.now n)) }
+    ensures refused { IfErr result (IsStopped (copy_cause d.now.dim (elements d.now) by.now n)) }
     ensures kept { OnErr result (out.new ≡ out.old) }
 {
     let mut bytes = mem::replace(out, ByteList::new(alloc)).into_vec();
@@ -66,14 +66,14 @@ fn push_tree_copy(
     ensures copied { OnOk result
         (out.new.items ≡ out.old.items ++ spelling (flat (tree_copy d.now.dim (elements d.now) by.now n))) }
     ensures accepted { OnOk result (copy_cause d.now.dim (elements d.now) by.now n ≡ None) }
-    ensures refused { IfErr result (IsCopyRefused (copy_cause d.now.dim (elements d.now) by.now n)) }
+    ensures refused { IfErr result (IsStopped (copy_cause d.now.dim (elements d.now) by.now n)) }
     ensures kept { OnErr result (out.new.items ≡ out.old.items) }
 {
     if let Some(found) = lone_at(d, t, n) {
         return push_lone_copy(d, n, found, by, out);
     }
     let live = live_numbers(alloc, d, t, n)?;
-    if let Some(cause) = move_cause(d, &live, by) {
+    if let Some(cause) = first_cause(d, &live, &Test::Moves) {
         return Err(EditFault::Refused(cause));
     }
     // What a displacement holds is such as its type keeps, which is known where a value of it is read.
@@ -82,6 +82,5 @@ fn push_tree_copy(
         n,
         by: same_shift(by),
     };
-    push_copy(alloc, d, t, n, &live, &edit, out)?;
-    Ok(())
+    push_copy(alloc, d, t, n, &live, &edit, out)
 }

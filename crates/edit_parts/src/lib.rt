@@ -19,6 +19,6 @@ pub use causes::{other_axes, part_cause, silent, too_long, unknown};
 pub use copying::{part_bytes, part_len};
 pub use importing::copy_tree;
 pub use live::put_live_numbers;
-pub use live_patches::push_live;
+pub use live_patches::{number_patch, push_live};
 pub use lone::is_lone_root;
 pub use shift::same_shift;

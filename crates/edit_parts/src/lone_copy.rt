@@ -16,7 +16,7 @@ ghost use Rattle.dgn_drawing.specs.WellFormed.{IsDimension};
 ghost use Rattle.elem_index.specs.Design.{elements, IsWhole};
 ghost use Rattle.patch_bytes.specs.Puts.{lay, write};
 ghost use Rattle.edit_trees.specs.Causes.{unmovable};
-ghost use Rattle.edit_parts.specs.Copying.{tree_copy, copy_cause, IsCopyRefused};
+ghost use Rattle.edit_parts.specs.Copying.{tree_copy, copy_cause, IsStopped};
 ghost use Rattle.edit_trees.specs.Found.{IsFound};
 ghost use Rattle.edit_trees.specs.Trees.{found_at, live_tree, tree_at};
 ghost use Rattle.edit_trees.specs.Written.{sum_put};
@@ -45,7 +45,7 @@ pub fn push_lone_copy(
     ensures copied { OnOk result
         (out.new.items ≡ out.old.items ++ spelling (flat (tree_copy d.now.dim (elements d.now) by.now n))) }
     ensures accepted { OnOk result (copy_cause d.now.dim (elements d.now) by.now n ≡ None) }
-    ensures refused { IfErr result (IsCopyRefused (copy_cause d.now.dim (elements d.now) by.now n)) }
+    ensures refused { IfErr result (IsStopped (copy_cause d.now.dim (elements d.now) by.now n)) }
     ensures kept { OnErr result (out.new.items ≡ out.old.items) }
 {
     if let Some(cause) = unmovable(n, class(found.kind)) {

@@ -1,37 +1,34 @@
--- A word of digits is text, and parsing it gives its value where that fits.
-use Rattle.std.proofs.Common.{◌≡◌, ℕ, ◌<◌, ◌≤◌, ◌^◌, true, false, List, length, None, Err, refl, ⊎_elim, ◌==◌, arith, rules}
-use Rattle.std.specs.Prelude.{nat_le, not}
+-- The value of digits, one after the other.
+use Rattle.std.proofs.Common.{◌≡◌, ℕ, ◌+◌, ◌-◌, ◌*◌, ◌<◌, ◌≤◌, true, false, List, [], ◌∷◌, length, get_or, drop, Option, Some, None, refl, sym, ap, ◌∙◌, arith}
+use Rattle.std.specs.Prelude.{nat_le, if◌then◌else◌}
 use Rattle.std.specs.List.{list_all}
-use Rattle.std.specs.Char.{is_ascii_digit}
-use Rattle.std.specs.Str.{IsUtf8}
-use Rattle.std.specs.Str.Parse.{ParsesUnsigned, digits_value}
-use Rattle.std.proofs.lemmas.Bool.{and_parts, cases_lt}
+use Rattle.std.specs.Char.{is_ascii_digit, digit_value}
+use Rattle.std.specs.Str.Parse.{digits_value, digits_value_after}
+use Rattle.std.proofs.lemmas.Bool.{and_parts}
 use Rattle.std.proofs.lemmas.Bool.Decides.{nat_tests}
-use Rattle.std.proofs.lemmas.Str.{IsUtf8-from_ascii}
-use Rattle.std.proofs.lemmas.Str.Parse.{IsNumeralModel, numerals_by_value, parse_digits}
-use Rattle.std.proofs.lemmas.Fmt.{IsAscii-from_digits}
-use Rattle.edit_script.specs.Numbers.{is_number_word, number_within}
+use Rattle.std.proofs.lemmas.List.{drop_more}
 
-digits : IsNumeralModel (λ ds. list_all is_ascii_digit ds ≡ true) (digits_value 10)
-digits = numerals_by_value _ (search rules)
+-- a digit is a byte from 48 to 57, and worth what is above 48
+pub digit_is : (c : ℕ) → is_ascii_digit c ≡ true → (48 ≤ c) × (c ≤ 57) × (digit_value c ≡ c - 48)
+digit_is c is = grind (arith, nat_tests)
 
-all_digits : (word : List ℕ) → is_number_word word ≡ true → list_all is_ascii_digit word ≡ true
-all_digits word h = (and_parts _ (list_all is_ascii_digit word) h).1
+-- the next of digits that are left, and the others
+pub digit_next : (word : List ℕ) (i : ℕ) → i < length word → list_all is_ascii_digit (drop i word) ≡ true
+    → (is_ascii_digit (get_or word i 0) ≡ true) × (list_all is_ascii_digit (drop (i + 1) word) ≡ true)
+digit_next word i within all =
+    and_parts (is_ascii_digit (get_or word i 0)) (list_all is_ascii_digit (drop (i + 1) word))
+    (sym (ap (list_all is_ascii_digit) (drop_more word i 0 within)) ∙ all)
 
-some_digits : (word : List ℕ) → is_number_word word ≡ true → 0 < length word
-some_digits word h =
-    let parts = and_parts _ (list_all is_ascii_digit word) h in
-    let test : not (length word == 0) ≡ true = (and_parts (not (length word == 0)) _ parts.0).0 in
-    grind (arith, nat_tests)
+-- the value of what is left behind a value goes on with the next
+pub value_next : (word : List ℕ) (i value : ℕ) → i < length word
+    → digits_value_after 10 value (drop i word) ≡ digits_value_after 10 (value * 10 + digit_value (get_or word i 0)) (drop (i + 1) word)
+value_next word i value within = ap (digits_value_after 10 value) (drop_more word i 0 within)
 
-pub number_is_text : (word : List ℕ) → is_number_word word ≡ true → IsUtf8 word
-number_is_text word h = IsUtf8-from_ascii word (IsAscii-from_digits word (digits.to word (all_digits word h)))
+-- more digits are worth no less
+pub grows : (n : ℕ) (ds : List ℕ) → n ≤ digits_value_after 10 n ds
+grows n [] = omega arith
+grows n (d ∷ ds) = omega (arith, grows (n * 10 + digit_value d) ds)
 
-pub number_too_large : {E : Type 0} (word : List ℕ) (most : ℕ) (e : E) → is_number_word word ≡ true → most < 2 ^ 32 → ParsesUnsigned 32 10 word (Err e)
-    → number_within most word ≡ None
-number_too_large word most e h fits parsed =
-    let not_both = parse_digits digits 32 word (Err e) parsed (all_digits word h) in
-    let small : digits_value 10 word < 2 ^ 32 → number_within most word ≡ None = λ l. absurd (not_both (some_digits word h, l)) in
-    let large : 2 ^ 32 ≤ digits_value 10 word → number_within most word ≡ None =
-    λ l. let above : nat_le (digits_value 10 word) most ≡ false = grind (arith, nat_tests) in rw (h, above) refl in
-    ⊎_elim small large (cases_lt (digits_value 10 word) (2 ^ 32))
+-- a value above so much isn't given
+pub not_given : (value most : ℕ) → most < value → (if nat_le value most then Some value else None) ≡ None
+not_given value most large = let is : nat_le value most ≡ false = grind (arith, nat_tests) in rw is refl

@@ -1,6 +1,7 @@
-ghost use Rattle.std.specs.Prelude.{◌≡◌, ◌≤ℤ◌, pos, neg_ℤ, IfSome, option_map};
+ghost use Rattle.std.specs.Prelude.{◌≡◌, ◌≤ℤ◌, nat_le, pos, neg_ℤ, Some, None, if◌then◌else◌, IsTrue, IfSome, option_map};
 ghost use Rattle.std.specs.List.{list_all};
 ghost use Rattle.std.specs.Char.{is_ascii_digit};
+ghost use Rattle.std.specs.Str.Parse.{digits_value};
 ghost use Rattle.edit_script.specs.Numbers.{is_number_word, number_within, negated, signed_within};
 
 /// The number that a word spells, a decimal without sign and without leading zeros, where it is at most `most`. None
@@ -8,16 +9,27 @@ ghost use Rattle.edit_script.specs.Numbers.{is_number_word, number_within, negat
 pub fn number(word: &[u8], most: u32) -> Option<u32>
     ensures { result ≡ number_within most word.now }
 {
-    if !is_number(word) {
-        return None;
+    if is_number(word) {
+        value_within(word, most)
+    } else {
+        None
     }
-    let Ok(text) = str::from_utf8(word) else {
-        return None;
-    };
-    let Ok(value) = text.parse::<u32>() else {
-        return None;
-    };
-    if value <= most { Some(value) } else { None }
+}
+
+// The number that digits spell, where it is at most `most`.
+fn value_within(digits: &[u8], most: u32) -> Option<u32>
+    requires { IsTrue (list_all is_ascii_digit digits.now) }
+    ensures { result ≡ (if nat_le (digits_value 10 digits.now) most then Some (digits_value 10 digits.now) else None) }
+{
+    let most = u64::from(most);
+    let mut value = 0;
+    'digits: for digit in digits {
+        value = value * 10 + u64::from(*digit - b'0');
+        if value > most {
+            return None;
+        }
+    }
+    Some(value as u32)
 }
 
 // The number that a word spells, in which a dash may stand in front, where it is at least minus so much and

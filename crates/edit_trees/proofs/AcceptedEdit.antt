@@ -1,6 +1,6 @@
 -- An edit that isn't refused: its element is there, is live and isn't the first, and nothing stands against it.
 use Rattle.std.proofs.Common.{◌≡◌, ℕ, zero, suc, ◌<◌, ◌==◌, List, [], ◌∷◌, ◌++◌, length, drop, Bool, true, false, cond, refl, sym, ap, ◌∙◌, subst, arith}
-use Rattle.std.specs.Prelude.{nat_lt, slice_get, option_map, Option, Some, None, IfSome}
+use Rattle.std.specs.Prelude.{nat_lt, slice_get, option_map, Option, Some, None}
 use Rattle.std.specs.Option.{option_or, option_to_list}
 use Rattle.std.specs.List.{AllByRecursion}
 use Rattle.std.proofs.lemmas.List.{drop_at}
@@ -24,11 +24,10 @@ use Rattle.edit_trees.specs.declared.cause.Cause.TheVariants as causes
 use Rattle.edit_trees.specs.declared.asked.Test.{Test}
 use Rattle.edit_trees.specs.declared.asked.Test.TheVariants as tests
 use Rattle.edit_trees.specs.Trees.{Live, live_from, live_tree, above_tree, found_at, path_to}
-use Rattle.edit_trees.specs.Causes.{unknown, broken, broken_in, silent, unwidened, unmovable, lookless, unmarkable, cause_at, first_cause, first_of}
+use Rattle.edit_trees.specs.Causes.{unknown, broken, broken_in, silent, unmovable, lookless, unmarkable, cause_at, first_cause, first_of}
 use Rattle.edit_trees.specs.Causes.{part_cause, causes_of, target_of, target_cause, cause_of}
 use Rattle.edit_trees.specs.Applying.{Done, unless, apply, changed_forest}
-use Rattle.edit_trees.specs.Written.{IsReady, MayWiden}
-use Rattle.edit_trees.proofs.HeaderClasses.{headers_head, all_spotted}
+use Rattle.edit_trees.specs.Written.{IsReady}
 use Rattle.edit_trees.proofs.ReadableElements.{silent_class}
 use Rattle.edit_trees.proofs.PartPlace.{IsPlaced, placed, first_left}
 use Rattle.edit_trees.proofs.EachLive.{each_first, each_last, live_alive}
@@ -40,12 +39,13 @@ none_both None b is = (refl, is)
 none_both (Some c) b is = absurd (let x = is in cc)
 
 -- nor any of some
-none_of : (cs : List (Option Cause)) → first_of cs ≡ None → AllByRecursion (λ c. c ≡ None) cs
+pub none_of : (cs : List (Option Cause)) → first_of cs ≡ None → AllByRecursion (λ c. c ≡ None) cs
 none_of [] is = tt
 none_of (c ∷ cs) is = let both = none_both c (first_of cs) is in (both.0, none_of cs both.1)
 
 -- a test against which no live element falls has nothing against each
-none_first : (dim : ℕ) (test : Test) (vs : List Live) → first_cause dim test vs ≡ None → AllByRecursion (λ v. cause_at dim test v.number v.element ≡ None) vs
+pub none_first : (dim : ℕ) (test : Test) (vs : List Live) → first_cause dim test vs ≡ None → AllByRecursion (λ v. cause_at dim test
+    v.number v.element ≡ None) vs
 none_first dim test [] is = tt
 none_first dim test (v ∷ vs) is = let both = none_both (cause_at dim test v.number v.element) (first_cause dim test vs) is in
     (both.0, none_first dim test vs both.1)
@@ -81,7 +81,7 @@ met true c is = refl
 met false c is = absurd (let x = is in cc)
 
 -- one that can be marked isn't of type 127
-markable : (m kind : ℕ) → unmarkable m kind ≡ None → ¬ (kind ≡ 127)
+pub markable : (m kind : ℕ) → unmarkable m kind ≡ None → ¬ (kind ≡ 127)
 markable m kind is = λ same.
     let off : (kind == 127) ≡ false = unmet (kind == 127) (causes.Opaque m) is in
     let on : (kind == 127) ≡ true = ap (λ (k : ℕ). k == 127) same in
@@ -223,11 +223,6 @@ pub head_ready : (dim : ℕ) (es : List Element) (e : Edit) (n : ℕ) → AllByR
     → IsReady dim e k.head
 head_ready dim es e n able k = (subst (AllByRecursion (λ v. IsReady dim e v.element)) k.first.1 able).0
 
--- nothing stands against an edit of this element, said of what is found
-pub some_ready : (dim : ℕ) (es : List Element) (e : Edit) (n : ℕ) (x : Element) → slice_get es n ≡ Some x → IsReady dim e x
-    → IfSome (slice_get es n) (IsReady dim e)
-some_ready dim es e n x there able = subst (λ (o : Option Element). IfSome o (IsReady dim e)) (sym there) able
-
 -- the first element is silent, so it isn't edited
 not_first : (dim : ℕ) (es : List Element) (n : ℕ) (x : Element) → AllByRecursion (IsWellFormed dim) es → BeginsWithTcb es
     → slice_get es n ≡ Some x → (is_silent (class_of x.kind) ≡ true → ⊥) → 0 < n
@@ -266,27 +261,6 @@ accepted dim es rest e n named each first is =
       headers_alive = k.headers_alive;
       sound = k.sound;
     }
-
--- a move of a part leaves the headers above it on the way: each has a range that can be made wider
-pub widens : (dim : ℕ) (es : List Element) (rest n : ℕ) (by : Displacement) → cause_of dim es rest (edit.Move n by) ≡ None
-    → AllByRecursion (λ v. unwidened v.number (class_of v.element.kind) ≡ None) (above_tree es n)
-widens dim es rest n by is =
-    let three = named_cause dim es rest (edit.Move n by) n refl is in
-    let each = none_of (causes_of dim es rest (edit.Move n by)) three.2 in
-    none_first dim tests.Widens (above_tree es n) each.1.1.0
-
--- so these headers have spots
-pub may_widen : (dim : ℕ) (es : List Element) (rest n : ℕ) (e : Edit) → target_of e ≡ Some n → cause_of dim es rest e ≡ None → MayWiden e (above_tree es n)
-may_widen dim es rest n (edit.Move m by) named is =
-    let is_n : Some m ≡ Some n = named in
-    let same : m ≡ n = cc in
-    let wide : AllByRecursion (λ v. unwidened v.number (class_of v.element.kind) ≡ None) (above_tree es n) =
-    subst (λ (k : ℕ). AllByRecursion (λ v. unwidened v.number (class_of v.element.kind) ≡ None) (above_tree es k)) same (widens dim es rest m by is) in
-    all_spotted (above_tree es n) (headers_head es n) wide
-may_widen dim es rest n (edit.Copy m by) named is = tt
-may_widen dim es rest n (edit.Sym m change) named is = tt
-may_widen dim es rest n (edit.Delete m) named is = tt
-may_widen dim es rest n (edit.Append new) named is = tt
 
 -- what is done has no cause, and leaves the elements of the changed trees
 pub done_unless : (c : Option Cause) (left made : List Element) → unless c left ≡ Done made → (c ≡ None) × (made ≡ left)

@@ -31,7 +31,8 @@ kind_kept (p ∷ ps) [] ts end i same within = absurd (omega arith)
 kind_kept (p ∷ ps) (k ∷ ks) ts end zero same within = refl
 kind_kept (p ∷ ps) (k ∷ ks) ts end (suc i) same within = kind_kept ps ks (totals_behind k ts) end i (omega arith) (omega arith)
 
-pub cbit_kept : (ps ks ts : List ℕ) (end i : ℕ) → length ks ≡ length ps → i < length ps → (get_or (kept_rows ps ks ts end) i no_row).cbit ≡ leb 128 (get_or ks i 0)
+pub cbit_kept : (ps ks ts : List ℕ) (end i : ℕ) → length ks ≡ length ps → i < length ps → (get_or (kept_rows ps ks ts end) i no_row).cbit ≡
+    leb 128 (get_or ks i 0)
 cbit_kept [] ks ts end i same within = absurd (omega arith)
 cbit_kept (p ∷ ps) [] ts end i same within = absurd (omega arith)
 cbit_kept (p ∷ ps) (k ∷ ks) ts end zero same within = refl

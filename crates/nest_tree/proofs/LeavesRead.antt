@@ -164,7 +164,8 @@ leaves_of list rows first are roots orphans i j leaves m n from to k low high =
     )
 
 -- what is known ahead of leaves is known behind them
-pub ahead_past : (n : ℕ) (rows : List Row) (i : ℕ) (a : Ahead) (roots orphans : Bool) → IsAhead rows i a → AreLeaves roots orphans rows i (i + n) → i + n ≤ length rows
+pub ahead_past : (n : ℕ) (rows : List Row) (i : ℕ) (a : Ahead) (roots orphans : Bool) → IsAhead rows i a → AreLeaves roots orphans rows i
+    (i + n) → i + n ≤ length rows
     → IsAhead rows (i + n) a
 ahead_past zero rows i a roots orphans known leaves within = let e : i ≡ i + 0 = omega arith in subst (λ (k : ℕ). IsAhead rows k a) e known
 ahead_past (suc n) rows i a roots orphans known leaves within =

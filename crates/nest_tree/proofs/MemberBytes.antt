@@ -1,5 +1,6 @@
 -- A number of rows are the members of a header exactly where they have bit C and end at the place that its total says.
-use Rattle.std.proofs.Common.{◌≡◌, ℕ, zero, suc, ◌+◌, ◌-◌, ◌*◌, ◌≤◌, ◌<◌, List, [], ◌∷◌, length, take, drop, get_or, refl, sym, ap, ◌∙◌, arith, true, false, inl, inr}
+use Rattle.std.proofs.Common.{◌≡◌, ℕ, zero, suc, ◌+◌, ◌-◌, ◌*◌, ◌≤◌, ◌<◌, List, [], ◌∷◌, length, take, drop, get_or}
+use Rattle.std.proofs.Common.{refl, sym, ap, ◌∙◌, arith, true, false, inl, inr}
 use Rattle.std.specs.Prelude.{Option, Some, None, IsTrue}
 use Rattle.std.specs.List.{AllByRecursion}
 use Rattle.std.proofs.lemmas.List.{get_or-take, get_or-drop, length-take, length-drop, take-take, drop_more}
@@ -106,13 +107,15 @@ module _ (rows : List Row) (at end : ℕ) (between : IsBetween rows at end) (eac
         let long = length-rest in
         let members : AreMembers itself header rest k = record {
           within = omega arith;
-          marked = all_marked rest k (omega arith) (λ i low. ap (λ (r : Row). r.cbit) (row_behind i (omega arith)) ∙ marked (at + 1 + i) (omega arith) (omega arith));
+          marked = all_marked rest k (omega arith) (λ i low. ap (λ (r : Row). r.cbit) (row_behind i (omega arith)) ∙ marked (at + 1 + i)
+              (omega arith) (omega arith));
           bytes = omega (arith, total_is);
         } in
         sym ((members_are itself header rest k rest_bytes).1 members) ∙ counted
 
     -- no member stands behind a row without bit C
-    past_free : (k : ℕ) → at + 1 ≤ free → k ≤ length rest → HaveC (take k rest) → (free < length rows → (get_or rows free no_row).cbit ≡ false) → free < at + 1 + k
+    past_free : (k : ℕ) → at + 1 ≤ free → k ≤ length rest → HaveC (take k rest) → (free < length rows → (get_or rows free no_row).cbit ≡
+        false) → free < at + 1 + k
         → at + 1 + k ≤ end → ⊥
     past_free k behind few each_bit stops past low =
         let long = length-rest in

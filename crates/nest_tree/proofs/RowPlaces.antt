@@ -83,7 +83,8 @@ pub record Summed (rows : List Row) (sums : List ℕ) (sum i : ℕ) : Type 0 whe
   pub light : sum ≤ 4294967295 * i
   pub within : i ≤ length rows
 
-bytes-more : (rows : List Row) (i : ℕ) (d : Row) → i < length rows → bytes_of itself (take (i + 1) rows) ≡ bytes_of itself (take i rows) + (get_or rows i d).size
+bytes-more : (rows : List Row) (i : ℕ) (d : Row) → i < length rows → bytes_of itself (take (i + 1) rows) ≡ bytes_of itself (take i rows) +
+    (get_or rows i d).size
 bytes-more [] i d within = absurd (omega arith)
 bytes-more (r ∷ rows) zero d within = omega arith
 bytes-more (r ∷ rows) (suc i) d within =

@@ -61,19 +61,18 @@ impl Ahead {
     }
 }
 
-// The number of the first row from row `begin` on that has no bit C, or of all rows; those from row `at` on, before
+// The number of the first row from row `begin` on that has no bit C, or of all rows; those from row `_at` on, before
 // row `begin`, have it.
-fn marked_from(source: &Source<'_>, at: usize, begin: usize) -> usize
+fn marked_from(source: &Source<'_>, _at: usize, begin: usize) -> usize
     requires source { IsSource source.now }
-    requires ordered { at ≤ begin }
+    requires ordered { _at ≤ begin }
     requires known { begin ≤ length (rows_of source.now) }
-    requires marked { HaveBitC (rows_of source.now) at begin }
-    ensures behind { at ≤ result }
+    requires marked { HaveBitC (rows_of source.now) _at begin }
+    ensures behind { _at ≤ result }
     ensures within { result ≤ length (rows_of source.now) }
-    ensures marked { HaveBitC (rows_of source.now) at result }
+    ensures marked { HaveBitC (rows_of source.now) _at result }
     ensures free { result < length (rows_of source.now) → (get_or (rows_of source.now) result no_row).cbit ≡ false }
 {
-    let _ = at;
     let mut end = begin;
     'marked: while end < source.len() && source.cbit(end) {
         end += 1;

@@ -30,6 +30,13 @@ impl PatchList {
         }
     }
 
+    /// Makes room for so many patches more. The list stays as it was, also where there is no memory for them.
+    pub fn reserve(&mut self, more: usize) -> Result<(), AllocError>
+        ensures { self.new ≡ self.old }
+    {
+        self.kept.reserve(more)
+    }
+
     /// Adds `v` at the end. Where there is no memory for it, the list stays as it was.
     pub fn push(&mut self, v: Patch) -> Result<(), AllocError>
         ensures ok { OnOk result (self.new ≡ self.old ++ put_of v ∷ []) }

@@ -24,9 +24,17 @@ pub struct Spots<'a> {
 }
 
 impl<'a> Spots<'a> {
-    ghost use Rattle.std.specs.Prelude.{[]};
+    ghost use Rattle.std.specs.Prelude.{[], length};
     ghost use Rattle.dgn_layout.specs.Spots.{points_spots};
     ghost use Rattle.dgn_layout.specs.SpotsLeft.{spots_left};
+
+    /// How many coordinate fields are still to come.
+    pub fn len(&self) -> usize
+        ensures { result ≡ length (spots_left self.now) }
+    {
+        let points = self.points.count as usize * usize::from(self.points.axes);
+        self.fixed.len() + usize::from(self.left) + points
+    }
 
     // These at fixed places, and then these points.
     pub(crate) fn new(fixed: &'a [Spot], points: Points) -> Self

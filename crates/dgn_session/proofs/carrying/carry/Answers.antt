@@ -1,5 +1,5 @@
 use Rattle.std.proofs.Common.{ℕ, List, sym, subst}
-use Rattle.dgn_session.specs.Carried.{IsSoundPlan, plan_of}
+use Rattle.dgn_session.specs.CarryingOut.{IsSoundPlan, plan_of}
 use Rattle.dgn_session.proofs.carrying.carry.Goals as goal
 
 pub carry_bytes-requires-clause-sound : goal.carry_bytes-requires-clause-sound

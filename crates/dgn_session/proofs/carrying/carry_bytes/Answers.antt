@@ -1,7 +1,7 @@
 use Rattle.std.proofs.Common.{◌≡◌, ◌++◌, map, length, refl}
 use Rattle.dgn_drawing.specs.Rows.{row_of}
 use Rattle.elem_index.specs.declared.design.Design.{Design}
-use Rattle.dgn_session.specs.Carried.{IsChange, HasRoom, plan_of}
+use Rattle.dgn_session.specs.CarryingOut.{IsChange, HasRoom, plan_of}
 use Rattle.dgn_session.proofs.EditKeepsSession.{plan_spells, change_same, room_for, can_grow, kept_after}
 use Rattle.dgn_session.proofs.Leading.{patches_within, patches_apart}
 use Rattle.dgn_session.proofs.carrying.carry_bytes.Goals as goal

@@ -1,4 +1,4 @@
-use Rattle.std.proofs.Common.{◌≡◌, ◌++◌, ◌∷◌, length, map, true, sym, ap, ◌∙◌, subst, List}
+use Rattle.std.proofs.Common.{◌≡◌, ◌++◌, length, map, sym, ap, ◌∙◌, subst, List}
 use Rattle.std.specs.List.{list_all}
 use Rattle.range_code.specs.Plane.{is_on_plane}
 use Rattle.dgn_layout.specs.declared.spot.Spot.{Spot}
@@ -8,8 +8,9 @@ use Rattle.dgn_layout.specs.SpotsLeft.{spots_left}
 use Rattle.dgn_drawing.specs.SpotNumbers.{sum_at}
 use Rattle.patch_bytes.specs.Puts.{Put}
 use Rattle.edit_trees.specs.Written.{sum_put}
-use Rattle.spot_numbers.proofs.SpotSteps.{LieIn, lie_in, all_next}
+use Rattle.spot_numbers.proofs.SpotSteps.{LieIn, lie_in}
 use Rattle.edit_parts.proofs.SpotPuts.{all_put}
+use Rattle.edit_parts.proofs.ElementMoves.{stays_next}
 use Rattle.edit_parts.proofs.live_patches.push_sums.Goals as goal
 
 pub spots-init : goal.spots-init
@@ -20,28 +21,22 @@ spots-init c =
       all = ap (λ (ss : List Spot). c.args.patches.now ++ map (sum_put c.args.by.now c.args.found.place c.args.found.bytes.now) ss) begun;
       lie = subst (LieIn (length c.args.found.bytes.now)) (sym begun)
           (lie_in c.args.dim c.args.found.kind c.args.found.bytes.now c.requires.dimension c.requires.holds);
-      plane = ap (λ (ss : List Spot). list_all (λ s. is_on_plane (sum_at c.args.by.now c.args.found.bytes.now s)) ss) begun ∙ c.requires.plane;
+      same = ap (λ (ss : List Spot). list_all (λ s. is_on_plane (sum_at c.args.by.now c.args.found.bytes.now s)) ss) begun;
     }
-
-pub sum_patch-requires-clause-plane : goal.sum_patch-requires-clause-plane
-sum_patch-requires-clause-plane c =
-    let here : list_all (λ s. is_on_plane (sum_at c.args.by.now c.args.found.bytes.now s)) (c.in-Some.spot ∷ spots_left c.next.new.self) ≡ true =
-    ap (λ (ss : List Spot). list_all (λ s. is_on_plane (sum_at c.args.by.now c.args.found.bytes.now s)) ss) (sym c.in-Some.ensures.steps)
-    ∙ c.spots.invariant.plane in
-    (all_next (λ s. is_on_plane (sum_at c.args.by.now c.args.found.bytes.now s)) c.in-Some.spot (spots_left c.next.new.self) here).0
 
 pub spots-preserved : goal.spots-preserved
-spots-preserved c =
-    let here : list_all (λ s. is_on_plane (sum_at c.args.by.now c.args.found.bytes.now s)) (c.in-Some.spot ∷ spots_left c.next.new.self) ≡ true =
-    ap (λ (ss : List Spot). list_all (λ s. is_on_plane (sum_at c.args.by.now c.args.found.bytes.now s)) ss) (sym c.in-Some.ensures.steps)
-    ∙ c.spots.invariant.plane in
-    record {
-      all =
-          ap (λ (qs : List Put). qs ++ map (sum_put c.args.by.now c.args.found.place c.args.found.bytes.now) (spots_left c.next.new.self))
-          c.in_ok-push.ensures.ok
-          ∙ all_put c.args.by.now c.args.found.place c.args.found.bytes.now c.spots.patches c.in-Some.spot (spots_left c.next.new.self) _ c.sum_patch.ensures
-          ∙ ap (λ (ss : List Spot). c.spots.patches ++ map (sum_put c.args.by.now c.args.found.place c.args.found.bytes.now) ss) (sym c.in-Some.ensures.steps)
-          ∙ c.spots.invariant.all;
-      lie = (subst (LieIn (length c.args.found.bytes.now)) c.in-Some.ensures.steps c.spots.invariant.lie).1;
-      plane = (all_next (λ s. is_on_plane (sum_at c.args.by.now c.args.found.bytes.now s)) c.in-Some.spot (spots_left c.next.new.self) here).1;
-    }
+spots-preserved c = record {
+  all =
+      ap (λ (qs : List Put). qs ++ map (sum_put c.args.by.now c.args.found.place c.args.found.bytes.now) (spots_left c.next.new.self))
+      c.in_ok-push.ensures.ok
+      ∙ all_put c.args.by.now c.args.found.place c.args.found.bytes.now c.spots.patches c.in-Some.spot (spots_left c.next.new.self) _
+      c.in-Some-sum_patch.ensures.put
+      ∙ ap (λ (ss : List Spot). c.spots.patches ++ map (sum_put c.args.by.now c.args.found.place c.args.found.bytes.now) ss) (sym c.in-Some.ensures.steps)
+      ∙ c.spots.invariant.all;
+  lie = (subst (LieIn (length c.args.found.bytes.now)) c.in-Some.ensures.steps c.spots.invariant.lie).1;
+  same =
+      stays_next (λ s. is_on_plane (sum_at c.args.by.now c.args.found.bytes.now s)) c.in-Some.spot (spots_left c.next.new.self)
+      c.in-Some-sum_patch.ensures.on
+      ∙ ap (λ (ss : List Spot). list_all (λ s. is_on_plane (sum_at c.args.by.now c.args.found.bytes.now s)) ss) (sym c.in-Some.ensures.steps)
+      ∙ c.spots.invariant.same;
+}

@@ -34,7 +34,8 @@ never_there s is first last most count wanted within known before from far other
 
 pub returns-then-place-wanted-clause-members : goal.returns-then-place-wanted-clause-members
 returns-then-place-wanted-clause-members c =
-    members_found (rows_of c.args.source.now) c.args.at c.args.end c.requires.between (each_row_of c.args.source.now c.requires.source) (first_of c.args.source.now)
+    members_found (rows_of c.args.source.now) c.args.at c.args.end c.requires.between (each_row_of c.args.source.now c.requires.source)
+    (first_of c.args.source.now)
     (places_of c.args.source.now) (places_are c.args.source.now c.requires.source)
     c.next_total-total.result (c.place.result + 38 + 2 * c.from.result) c.next_total-total.ensures.total
     (omega (arith, c.place.ensures.place, c.from.ensures)) c.marked_end.result c.marked_end.ensures.marked c.marked_end.new.self.near
@@ -44,18 +45,21 @@ returns-then-place-wanted-clause-members c =
 pub returns-then-place-wanted-2-clause-members : goal.returns-then-place-wanted-2-clause-members
 returns-then-place-wanted-2-clause-members c =
     let within = c.below-count.ensures.within in
-    members_found (rows_of c.args.source.now) c.args.at c.args.end c.requires.between (each_row_of c.args.source.now c.requires.source) (first_of c.args.source.now)
+    members_found (rows_of c.args.source.now) c.args.at c.args.end c.requires.between (each_row_of c.args.source.now c.requires.source)
+    (first_of c.args.source.now)
     (places_of c.args.source.now) (places_are c.args.source.now c.requires.source)
     c.next_total-total.result (c.place.result + 38 + 2 * c.from.result) c.next_total-total.ensures.total
     (omega (arith, c.place.ensures.place, c.from.ensures)) c.marked_end.result c.marked_end.ensures.marked c.below-count.result
-    (omega (arith, c.min-most.ensures, c.min-last.ensures)) (omega (arith, c.min-most.ensures, c.min-last.ensures)) (sym c.place-2.ensures.place ∙ c.if-place-wanted-2.true)
+    (omega (arith, c.min-most.ensures, c.min-last.ensures)) (omega (arith, c.min-most.ensures, c.min-last.ensures)) (sym
+    c.place-2.ensures.place ∙ c.if-place-wanted-2.true)
 
 pub returns-else-place-wanted-2-clause-members : goal.returns-else-place-wanted-2-clause-members
 returns-else-place-wanted-2-clause-members c =
     let within = c.below-count.ensures.within in
     let bounds = c.requires.between.bounds in
     let inside = c.marked_end.ensures.within in
-    none_found (rows_of c.args.source.now) c.args.at c.args.end c.requires.between (each_row_of c.args.source.now c.requires.source) (first_of c.args.source.now)
+    none_found (rows_of c.args.source.now) c.args.at c.args.end c.requires.between (each_row_of c.args.source.now c.requires.source)
+    (first_of c.args.source.now)
     (places_of c.args.source.now) (places_are c.args.source.now c.requires.source)
     c.next_total-total.result (c.place.result + 38 + 2 * c.from.result) c.next_total-total.ensures.total
     (omega (arith, c.place.ensures.place, c.from.ensures)) c.marked_end.result c.marked_end.ensures.marked c.marked_end.ensures.behind

@@ -25,7 +25,8 @@ nest_source-requires-clause-few c =
     let few = c.requires.kept.few in
     omega (
       arith,
-      ap (length {A = Row}) (c.then-seen.ensures ∙ ap (λ (l : List Row). l ++ kept_rows c.args.places.now c.args.kinds.now c.args.totals.now c.args.end) c.new.ensures),
+      ap (length {A = Row}) (c.then-seen.ensures ∙ ap (λ (l : List Row). l ++ kept_rows c.args.places.now c.args.kinds.now
+          c.args.totals.now c.args.end) c.new.ensures),
       length-kept c.args.places.now c.args.kinds.now c.args.totals.now c.args.end c.requires.kept.each,
     )
 

@@ -58,7 +58,8 @@ push_numbers-requires-then-orphans-clause-room c =
 pub returns-then-orphans-clause-read : goal.returns-then-orphans-clause-read
 returns-then-orphans-clause-read c =
     leaves_kept c.args.count c.args._seen.now.list c.args.at c.args.around c.args.orphans c.args.ends.now.items c.push_numbers.new.list.items
-    c.args.links.now.items c.push_same.new.self.items c.args.broken.now.items c.push_numbers-then-orphans.new.list.items c.requires.going c.requires.within c.requires.begun
+    c.args.links.now.items c.push_same.new.self.items c.args.broken.now.items c.push_numbers-then-orphans.new.list.items c.requires.going
+    c.requires.within c.requires.begun
     c.requires.leaves c.requires.roots c.requires.read c.push_numbers.ensures.items
     (c.push_same.ensures.items ∙ ap (λ (x : Link). c.args.links.now.items ++ replicate c.args.count x) c.new.ensures)
     (c.push_numbers-then-orphans.ensures.items

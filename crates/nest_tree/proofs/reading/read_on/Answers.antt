@@ -56,7 +56,8 @@ near_read list rows kept len first at f are is same apart each words from going 
     omega (arith, near_list list at f going inside kept (omega arith) (omega arith) near)
 
 -- what is known ahead of the leaves is known behind them
-ahead_read : (list rows : List Row) (kept len first at run : ℕ) (f : OpenList) (a : Ahead) (roots orphans : Bool) → rows ≡ drop kept list → first ≡ len → len ≡ kept
+ahead_read : (list rows : List Row) (kept len first at run : ℕ) (f : OpenList) (a : Ahead) (roots orphans : Bool) → rows ≡ drop kept list →
+    first ≡ len → len ≡ kept
     → kept ≤ length list → first ≤ at → Going list at f → IsAhead rows (at - first) a → at - first + run ≤ f.end - first
     → AreLeaves roots orphans rows (at - first) (at - first + run) → IsAhead rows (at + run - first) a
 ahead_read list rows kept len first at run f a roots orphans are is same within from going ahead inside leaves =
@@ -80,7 +81,8 @@ put_leaves-requires-clause-leaves c =
     subst (λ (b : Bool). AreLeaves b c.if-roots.orphans c.args.seen.now.list c.elements.at (c.elements.at + c.leaf_run-leaves.result))
     (twice c.is_none-roots.result (is_some c.list_at-list.result.parent) c.is_none-roots.ensures)
     (leaves_of c.args.seen.now.list (rows_of c.args.source.now) c.len-first.result
-    (rows_from _ _ _ _ _ c.requires.rows c.len-first.ensures c.args.ends.now.ok.0) c.is_none-roots.result c.if-roots.orphans (c.elements.at - c.len-first.result)
+    (rows_from _ _ _ _ _ c.requires.rows c.len-first.ensures c.args.ends.now.ok.0) c.is_none-roots.result c.if-roots.orphans (c.elements.at
+    - c.len-first.result)
     (c.elements.at - c.len-first.result + c.leaf_run-leaves.result) c.leaf_run-leaves.ensures.leaves c.elements.at
     (c.elements.at + c.leaf_run-leaves.result) (omega arith) (omega arith))
 

@@ -10,7 +10,8 @@ parts-preserved c =
     let from = c.parts.invariant.0 in
     let test = c.parts-test.true in
     let known = c.requires.known in
-    let part = sym (c.is_part.ensures (get_or (rows_of c.args.source.now) c.parts.i no_row) (sym c.kind.ensures.kind) (sym c.cbit.ensures)) ∙ c.if-is_part.true in (
+    let part = sym (c.is_part.ensures (get_or (rows_of c.args.source.now) c.parts.i no_row) (sym c.kind.ensures.kind) (sym c.cbit.ensures))
+    ∙ c.if-is_part.true in (
       omega arith,
       omega arith,
       omega (
@@ -27,7 +28,8 @@ returns c =
     let known = c.requires.known in
     elim c.parts-test.branch [
       | then-parts-test+else-is_part w ↦
-          let part = sym (w.is_part.ensures (get_or (rows_of c.args.source.now) c.parts.i no_row) (sym w.kind.ensures.kind) (sym w.cbit.ensures)) ∙ w.if-is_part.false in
+          let part = sym (w.is_part.ensures (get_or (rows_of c.args.source.now) c.parts.i no_row) (sym w.kind.ensures.kind) (sym
+          w.cbit.ensures)) ∙ w.if-is_part.false in
           let test = w.parts-test.true in
           omega (arith, c.parts.invariant.2, front_stops (is_part_in c.args.inside) (rows_of c.args.source.now) c.parts.i c.args.end test (omega arith) part)
       | else-parts-test w ↦

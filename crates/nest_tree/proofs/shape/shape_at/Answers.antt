@@ -29,7 +29,8 @@ ahead_stays rows at end between a known none =
     }
 
 pub members-members-requires-clause-counts : goal.members-members-requires-clause-counts
-members-members-requires-clause-counts c = (ap (λ (k : ℕ). is_counted (class_of k)) (sym c.kind-kind.ensures.kind) ∙ sym c.is_counted.ensures ∙ c.if-is_counted.true)
+members-members-requires-clause-counts c = (ap (λ (k : ℕ). is_counted (class_of k)) (sym c.kind-kind.ensures.kind) ∙ sym
+    c.is_counted.ensures ∙ c.if-is_counted.true)
 
 pub returns-else-is_parts-clause-shape : goal.returns-else-is_parts-clause-shape
 returns-else-is_parts-clause-shape c =
@@ -49,7 +50,8 @@ returns-then-is_spline-clause-shape c =
     ∙ ap (λ (n : ℕ). code_shape (run_over nesting.Parts n))
     (c.parts.ensures ∙ ap (front_count is_spline_part) (behind_is (rows_of c.args.source.now) c.args.at c.args.end))
     ∙ ap code_shape
-    (tests.spline_shape (rows_of c.args.source.now) c.args.at c.args.end c.requires.between no_row c.args.scope (sym c.is_parts-else-is_counted.ensures ∙ c.if-is_parts-2.false)
+    (tests.spline_shape (rows_of c.args.source.now) c.args.at c.args.end c.requires.between no_row c.args.scope (sym
+    c.is_parts-else-is_counted.ensures ∙ c.if-is_parts-2.false)
     (ap (λ (k : ℕ). is_counted (class_of k)) (sym c.kind-kind.ensures.kind) ∙ sym c.is_counted.ensures ∙ c.if-is_counted.false)
     (ap (λ (k : ℕ). is_among k (24 ∷ 27 ∷ [])) (sym c.kind-kind.ensures.kind) ∙ sym c.is_spline.ensures ∙ c.if-is_spline.true))
 
@@ -64,7 +66,8 @@ returns-then-is_shared-clause-shape c =
     ∙ ap (λ (n : ℕ). code_shape (run_over nesting.Members n))
     (c.parts-then-is_shared.ensures ∙ ap (front_count has_bit) (behind_is (rows_of c.args.source.now) c.args.at c.args.end))
     ∙ ap code_shape
-    (tests.shared_shape (rows_of c.args.source.now) c.args.at c.args.end c.requires.between no_row c.args.scope (sym c.is_parts-else-is_counted.ensures ∙ c.if-is_parts-2.false)
+    (tests.shared_shape (rows_of c.args.source.now) c.args.at c.args.end c.requires.between no_row c.args.scope (sym
+    c.is_parts-else-is_counted.ensures ∙ c.if-is_parts-2.false)
     (ap (λ (k : ℕ). is_counted (class_of k)) (sym c.kind-kind.ensures.kind) ∙ sym c.is_counted.ensures ∙ c.if-is_counted.false)
     (ap (λ (k : ℕ). is_among k (24 ∷ 27 ∷ [])) (sym c.kind-kind.ensures.kind) ∙ sym c.is_spline.ensures ∙ c.if-is_spline.false)
     (ap (λ (k : ℕ). k == 34 && is_all (defined_scope c.args.scope)) (sym c.kind-kind.ensures.kind) ∙ sym c.is_shared.ensures ∙ c.if-is_shared.true))
@@ -77,7 +80,8 @@ returns-then-is_shared-clause-ahead c =
 pub returns-else-is_shared-clause-shape : goal.returns-else-is_shared-clause-shape
 returns-else-is_shared-clause-shape c =
     ap code_shape
-    (tests.leaf_shape (rows_of c.args.source.now) c.args.at c.args.end c.requires.between no_row c.args.scope (sym c.is_parts-else-is_counted.ensures ∙ c.if-is_parts-2.false)
+    (tests.leaf_shape (rows_of c.args.source.now) c.args.at c.args.end c.requires.between no_row c.args.scope (sym
+    c.is_parts-else-is_counted.ensures ∙ c.if-is_parts-2.false)
     (ap (λ (k : ℕ). is_counted (class_of k)) (sym c.kind-kind.ensures.kind) ∙ sym c.is_counted.ensures ∙ c.if-is_counted.false)
     (ap (λ (k : ℕ). is_among k (24 ∷ 27 ∷ [])) (sym c.kind-kind.ensures.kind) ∙ sym c.is_spline.ensures ∙ c.if-is_spline.false)
     (ap (λ (k : ℕ). k == 34 && is_all (defined_scope c.args.scope)) (sym c.kind-kind.ensures.kind) ∙ sym c.is_shared.ensures ∙ c.if-is_shared.false))

@@ -1,5 +1,5 @@
 use Rattle.std.proofs.Common.{sym, ◌∙◌}
-use Rattle.dgn_session.specs.Kept.{value_of}
+use Rattle.dgn_session.specs.SessionParts.{value_of}
 use Rattle.dgn_session.proofs.AppendedTrees.{IsImported, trees_sound, trees_made}
 use Rattle.dgn_session.proofs.session.Session.append_trees.Goals as goal
 use Rattle.dgn_session.proofs.session.Session.append_trees.Goals.{In_ok-carry_bytes}

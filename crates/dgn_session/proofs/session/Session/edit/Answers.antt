@@ -4,7 +4,7 @@ use Rattle.elem_index.specs.Design.{elements}
 use Rattle.edit_trees.specs.Applying.{apply}
 use Rattle.edit_ops.specs.Planned.{IsRefused}
 use Rattle.dgn_session.specs.State.{SessionValue, state_of, applied}
-use Rattle.dgn_session.specs.Kept.{value_of}
+use Rattle.dgn_session.specs.SessionParts.{value_of}
 use Rattle.dgn_session.proofs.EditCarriedOut.{IsEdited, edit_sound, edit_made}
 use Rattle.dgn_session.proofs.session.Session.edit.Goals as goal
 use Rattle.dgn_session.proofs.session.Session.edit.Goals.{In_ok-carry}

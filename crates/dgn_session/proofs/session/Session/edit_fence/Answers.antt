@@ -5,7 +5,7 @@ use Rattle.elem_index.specs.Design.{elements}
 use Rattle.elem_index.proofs.Places.{few_elements}
 use Rattle.dgn_import.proofs.TakenRoots.{chosen_few}
 use Rattle.dgn_session.specs.State.{state_of, selection}
-use Rattle.dgn_session.specs.Kept.{value_of}
+use Rattle.dgn_session.specs.SessionParts.{value_of}
 use Rattle.dgn_session.proofs.FenceEditCarriedOut.{IsFenceEdited, fence_sound, fence_made}
 use Rattle.dgn_session.proofs.session.Session.edit_fence.Goals as goal
 use Rattle.dgn_session.proofs.session.Session.edit_fence.Goals.{In_ok-carry}

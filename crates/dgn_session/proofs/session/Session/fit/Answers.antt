@@ -1,4 +1,4 @@
-use Rattle.dgn_session.specs.Kept.{value_of}
+use Rattle.dgn_session.specs.SessionParts.{value_of}
 use Rattle.dgn_session.proofs.FitCarriedOut.{IsFitted, fit_sound, fit_made}
 use Rattle.dgn_session.proofs.session.Session.fit.Goals as goal
 use Rattle.dgn_session.proofs.session.Session.fit.Goals.{In_ok-carry}

@@ -1,6 +1,6 @@
 use Rattle.std.proofs.Common.{◌≡◌, subst}
 use Rattle.dgn_session.specs.State.{SessionValue, state_of, undone}
-use Rattle.dgn_session.specs.Kept.{value_of}
+use Rattle.dgn_session.specs.SessionParts.{value_of}
 use Rattle.dgn_session.proofs.PlanCarriedOut.{undone_value}
 use Rattle.dgn_session.proofs.session.Session.undo.Goals as goal
 

@@ -45,7 +45,11 @@ read_on-requires-clause-read c =
 pub read_on-requires-clause-some : goal.read_on-requires-clause-some
 read_on-requires-clause-some c =
     let some = c.self.invariant.some in
-    omega (arith, length-ends c.self.inside.seen.list (length c.self.inside.seen.list) c.self.inside.ends.items c.self.inside.links.items c.self.invariant.places)
+    omega (
+      arith,
+      length-ends c.self.inside.seen.list (length c.self.inside.seen.list) c.self.inside.ends.items c.self.inside.links.items
+          c.self.invariant.places,
+    )
 
 pub read_on-requires-clause-room : goal.read_on-requires-clause-room
 read_on-requires-clause-room c =

@@ -13,7 +13,7 @@ use Rattle.dgn_drawing.specs.Nesting.{BeginsFree, itself}
 use Rattle.elem_index.specs.declared.design.Design.{Design}
 use Rattle.elem_index.specs.Design.{spare_of}
 use Rattle.edit_ops.specs.declared.types.plan.Plan.{Plan}
-use Rattle.dgn_session.specs.Kept.{rows_of, OpensAt}
+use Rattle.dgn_session.specs.SessionParts.{rows_of, OpensAt}
 use Rattle.dgn_drawing.specs.declared.limits.TheConstants.{MOST_DESIGN}
 
 -- bytes are the spellings of these elements, which are well formed
