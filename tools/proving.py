@@ -11,17 +11,19 @@ from typing import Callable, Dict, Iterator, List, Optional, Set, Tuple
 from schedule import Schedule
 
 PROOF_MEMORY = 3_000_000_000    # bytes that one rt takes at the most, with two processes
-RANKS = (0, 10, 12, 19)         # how far crates that are proved stand back, the first one first, and all behind these
+RANKS = (0, 10, 12, 15, 17, 19)  # how far crates that are proved stand back, the first one first, and all behind these
 
 Said = Tuple['Run', Optional[str]]
 
 
 class Run:
-    """An rt ci on a tree, whose lines come into a queue, and none behind the last one."""
+    """An rt ci on a tree, for one crate or some that stand on one another, whose lines come into a queue, and none
+    behind the last one."""
 
-    def __init__(self, name: str, tree: str, temporary: str, said: 'queue.Queue[Said]') -> None:
-        self.name, self.tree, self.niceness, self.failed = name, tree, 0, False
+    def __init__(self, names: List[str], tree: str, temporary: str, said: 'queue.Queue[Said]') -> None:
+        self.names, self.tree, self.niceness, self.failed = names, tree, 0, False
         self.kept: Set[str] = set()
+        self.proved: List[str] = []
         self.process = subprocess.Popen(['rt', 'ci'], cwd=tree, env={**os.environ, 'TMPDIR': temporary},
                                         stdin=subprocess.DEVNULL, stdout=subprocess.PIPE, stderr=subprocess.STDOUT,
                                         text=True, errors='replace', start_new_session=True)
@@ -43,6 +45,8 @@ class Run:
         words = line.split()
         if words[:1] == ['rt:'] and words[2:4] == ['is', 'kept:']:
             self.kept.add(words[1])
+        if words[:1] == ['rt:'] and words[2:] == ['proved'] and words[1] in self.names:
+            self.proved.append(words[1])
         self.failed = self.failed or ' NOT PROVED' in line
 
     def is_proved(self) -> bool:
@@ -98,7 +102,7 @@ def is_proving(run: Run) -> bool:
 def take_kept(tree: str, temporary: str, log: Callable[[str], None]) -> Tuple[Set[str], bool]:
     """The crates of a tree that were proved before, and whether all of it was: rt is ended where it begins to prove."""
     said: 'queue.Queue[Said]' = queue.Queue()
-    run = Run('', tree, temporary, said)
+    run = Run([], tree, temporary, said)
     try:
         for heard in lines_of(said, 0.5):
             if heard is None:
@@ -128,11 +132,13 @@ def room() -> int:
 
 class Provers:
     """Proves what isn't proved yet, the longest chain first. Those further on in that order stand back for those before
-    them, so a crate waits for a place only behind these: the others leave it the processors."""
+    them, so a crate waits for a place only behind these: the others leave it the processors. The last crates, each of
+    which waits for the one before, have one run, which is begun while those below are proved yet: until it has read
+    what is kept, rt proves nothing, and it waits for what another rt is proving."""
 
     def __init__(self, schedule: Schedule, make_tree: Callable[[str], str], temporary: str) -> None:
         self.schedule, self.make_tree, self.temporary = schedule, make_tree, temporary
-        self.order, self.places, self.room = schedule.order(), width(), room()
+        self.order, self.tail, self.places, self.room = schedule.order(), schedule.tail(), width(), room()
         self.running: Dict[str, Run] = {}
         self.said: 'queue.Queue[Said]' = queue.Queue()
 
@@ -149,33 +155,55 @@ class Provers:
               tick: Callable[[], None]) -> List[str]:
         """Proves all crates but those that are done, tells each, and gives those that aren't proved."""
         left = [name for name in self.order if name not in done]
+
+        def note(names: List[str]) -> None:
+            for name in names:
+                if name not in done:
+                    done.add(name)
+                    add(name)
+
         try:
             while left or self.running:
-                for name in [it for it in left if self.schedule.is_ready(it, done)]:
-                    if self.has_place(name):
-                        left.remove(name)
-                        self.running[name] = Run(name, self.make_tree(name), self.temporary, self.said)
+                self._begin(left, done)
                 self.rank()
-                run = self._wait(log, tick)
-                del self.running[run.name]
-                if not run.is_proved():
-                    return [run.name]
-                done.add(run.name)
-                add(run.name)
+                run, ends = self._wait(log, tick)
+                note(run.proved if not ends else [])
+                if ends:
+                    del self.running[run.names[0]]
+                    if not run.is_proved():
+                        return [name for name in run.names if name not in done]
+                    note(run.names)
             return []
         finally:
             for run in self.running.values():
                 run.end()
 
-    def _wait(self, log: Callable[[str], None], tick: Callable[[], None]) -> Run:
-        """The next run that ends."""
+    def _begin(self, left: List[str], done: Set[str]) -> None:
+        """Begins the runs that have a place: of crates whose libraries are done, and of the last ones once all others
+        are begun."""
+        for name in [it for it in left if it not in self.tail and self.schedule.is_ready(it, done)]:
+            if self.has_place(name):
+                left.remove(name)
+                self._run([name])
+        if left and all(it in self.tail for it in left) and self.has_place(left[0]):
+            self._run(list(left))
+            left.clear()
+
+    def _run(self, names: List[str]) -> None:
+        self.running[names[0]] = Run(names, self.make_tree(names[-1]), self.temporary, self.said)
+
+    def _wait(self, log: Callable[[str], None], tick: Callable[[], None]) -> Tuple[Run, bool]:
+        """The next run that has proved one of its crates, and whether it ends."""
         for heard in lines_of(self.said, 1):
             if heard is None:
                 tick()
                 continue
             run, line = heard
             if line is None:
-                return run
+                return run, True
             log(line)
+            before = len(run.proved)
             run.hear(line)
+            if len(run.names) > 1 and len(run.proved) > before:
+                return run, False
         raise AssertionError

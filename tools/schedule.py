@@ -25,6 +25,16 @@ class Schedule:
         chains = self._chains()
         return sorted(self.below, key=lambda name: -chains[name])
 
+    def tail(self) -> List[str]:
+        """The last crates, of which each waits for the one before it alone, when all others are done."""
+        found = self.order()[-1:]
+        while True:
+            below = self.below[found[0]]
+            last = [name for name in below if not any(name in self._all_below(it) for it in below)]
+            if len(last) != 1:
+                return found
+            found = last + found
+
     def is_ready(self, name: str, done: Set[str]) -> bool:
         return all(it in done for it in self.below[name])
 
@@ -36,8 +46,8 @@ class Schedule:
         """When the last of these crates ends."""
         return max((self.ends[name] for name in done), default=0)
 
-    def _lines_below(self, name: str, lines: Dict[str, int]) -> int:
-        """The lines of all crates that a crate stands on."""
+    def _all_below(self, name: str) -> Set[str]:
+        """All crates that a crate stands on."""
         found: Set[str] = set()
         left = list(self.below[name])
         while left:
@@ -45,7 +55,11 @@ class Schedule:
             if one not in found:
                 found.add(one)
                 left += self.below[one]
-        return sum(lines[one] for one in found)
+        return found
+
+    def _lines_below(self, name: str, lines: Dict[str, int]) -> int:
+        """The lines of all crates that a crate stands on."""
+        return sum(lines[one] for one in self._all_below(name))
 
     def _chains(self) -> Dict[str, int]:
         """The work of each crate and of the longest chain of crates above it."""

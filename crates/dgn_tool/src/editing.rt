@@ -22,6 +22,7 @@ use dgn_session::Session;
 use edit_script::Command;
 use elem_index::Design;
 use std::alloc::Global;
+use std::mem::ManuallyDrop;
 
 // Reads IN, SCRIPT and the second files of its imports, runs the commands, says what each of them says, and writes OUT.
 pub(crate) fn edit<D: Desk>(
@@ -62,7 +63,11 @@ fn run_script<D: Desk>(
         desk.old desk.new result }
 {
     let mut session = Session::start(alloc, design)?;
-    finish(alloc, desk, &mut session, commands, seconds, output)
+    let ended = finish(alloc, desk, &mut session, commands, seconds, output);
+    // The program ends with its run, and the system then takes all memory at once. To give back what is kept of each edit
+    // would take a tenth of the time of the edits.
+    let _kept = ManuallyDrop::new(session);
+    ended
 }
 
 // Runs the commands and writes OUT.
