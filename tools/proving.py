@@ -151,28 +151,28 @@ class Provers:
         for place, name in enumerate(it for it in self.order if it in self.running):
             self.running[name].stand_back(RANKS[min(place, len(RANKS) - 1)])
 
-    def prove(self, done: Set[str], log: Callable[[str], None], add: Callable[[str], None],
+    def prove(self, done: Set[str], log: Callable[[str], None], add: Callable[[str, bool], None],
               tick: Callable[[], None]) -> List[str]:
         """Proves all crates but those that are done, tells each, and gives those that aren't proved."""
         left = [name for name in self.order if name not in done]
 
-        def note(names: List[str]) -> None:
+        def note(run: Run, names: List[str]) -> None:
             for name in names:
                 if name not in done:
                     done.add(name)
-                    add(name)
+                    add(name, name in run.kept)
 
         try:
             while left or self.running:
                 self._begin(left, done)
                 self.rank()
                 run, ends = self._wait(log, tick)
-                note(run.proved if not ends else [])
+                note(run, run.proved)
                 if ends:
                     del self.running[run.names[0]]
                     if not run.is_proved():
                         return [name for name in run.names if name not in done]
-                    note(run.names)
+                    note(run, run.names)
             return []
         finally:
             for run in self.running.values():
