@@ -87,14 +87,17 @@ def lines_of(said: 'queue.Queue[Said]', seconds: float) -> Iterator[Optional[Sai
 
 
 def is_proving(run: Run) -> bool:
-    """Whether the prover is at work in a run: a process 'rattle' of its session."""
+    """Whether the prover is at work in a run: a process 'rattle build' or 'rattle check' of its session. Before it
+    proves, rt reads the sources by other commands of rattle."""
     for name in os.listdir('/proc'):
         try:
             with open('/proc/%s/stat' % name, encoding='ascii', errors='replace') as file:
                 command, _, rest = file.read().partition('(')[2].rpartition(')')
+            with open('/proc/%s/cmdline' % name, encoding='utf-8', errors='replace') as file:
+                words = file.read().split('\0')
         except OSError:
             continue
-        if command == 'rattle' and rest.split()[3:4] == [str(run.process.pid)]:
+        if command == 'rattle' and words[1:2] in (['build'], ['check']) and rest.split()[3:4] == [str(run.process.pid)]:
             return True
     return False
 
@@ -153,8 +156,10 @@ class Provers:
 
     def prove(self, done: Set[str], log: Callable[[str], None], add: Callable[[str, bool], None],
               tick: Callable[[], None]) -> List[str]:
-        """Proves all crates but those that are done, tells each, and gives those that aren't proved."""
+        """Proves all crates but those that are done, tells each, and gives those that aren't proved. It ends at once
+        where the first crate of the order wasn't done and turns out to be kept, since others may be too."""
         left = [name for name in self.order if name not in done]
+        first = left[0] if left == self.order else ''
 
         def note(run: Run, names: List[str]) -> None:
             for name in names:
@@ -173,6 +178,8 @@ class Provers:
                     if not run.is_proved():
                         return [name for name in run.names if name not in done]
                     note(run, run.names)
+                    if run.names == [first] and first in run.kept:
+                        return []
             return []
         finally:
             for run in self.running.values():
