@@ -1,5 +1,6 @@
 -- The steps of a run, one after the other: what those that ran have said and done, and what those that are left will.
-use Rattle.std.proofs.Common.{◌≡◌, ℕ, ◌+◌, Bool, Ok, Err, List, [], ◌∷◌, ◌++◌, take, drop, arith, Option, Some, None, refl, sym, ap, ◌∙◌, append_assoc}
+use Rattle.std.proofs.Common.{◌≡◌, ℕ, ◌+◌, ◌<◌, Bool, Ok, Err, List, [], ◌∷◌, ◌++◌, length, get_or, take, drop, arith, Option, Some, None, refl, sym, ap}
+use Rattle.std.proofs.Common.{◌∙◌, subst, append_assoc}
 use Rattle.std.specs.Prelude.{option_map}
 use Rattle.std.specs.Int.{from_bool}
 use Rattle.std.proofs.lemmas.List.{append-nil, take-append-drop}
@@ -11,7 +12,10 @@ use Rattle.dgn_desk.specs.declared.stop.Stop.TheVariants as stops
 use Rattle.dgn_desk.proofs.InTurn.{done_so, stopped_so, then_so}
 use Rattle.dgn_desk.proofs.Telling.{spoken-append}
 use Rattle.dgn_session.specs.State.{State}
-use Rattle.dgn_answers.specs.Given.{Given, step_text, step_refused, after_step, after_all, texts_of, refused_count}
+use Rattle.dgn_import.specs.Seconds.{SecondValue}
+use Rattle.edit_script.specs.declared.command.Command.{Command}
+use Rattle.dgn_answers.specs.Given.{Given, given, given_all, seconds_behind, step_text, step_refused, after_step, after_all, texts_of, refused_count}
+use Rattle.dgn_answers.proofs.Stepping.{next_step}
 use Rattle.dgn_files.specs.Leaving.{SaysFront, SaysAs}
 
 -- all of this text was said
@@ -47,16 +51,28 @@ ran_none all s old = record {
   state = refl;
 }
 
--- what is put into a text that was cleared is all of it
-pub line_so : (line out before text : List ℕ) → line ≡ out → out ≡ before ++ text → before ≡ [] → line ≡ text
-line_so line out before text is put none = is ∙ put ∙ ap (λ (b : List ℕ). b ++ text) none
+-- of the commands that are left one is the next, and its line is what it says
+pub record IsNext (all more : List Given) (c : Given) (refused : ℕ) (line : List ℕ) (from s : State) (old now : Seen) : Type 0 where
+  pub ran : Ran all (c ∷ more) refused from s old now
+  pub line_is : line ≡ step_text s c
+
+pub is_next : (all : List Given) (cs : List Command) (i : ℕ) (c : Command) (vs left : List SecondValue) (refused : ℕ) (from s : State) (old now : Seen)
+    → i < length cs → c ≡ get_or cs i c → left ≡ seconds_behind c vs → Ran all (given_all (drop i cs) vs) refused from s old now
+    → (line out before : List ℕ) → line ≡ out → out ≡ before ++ step_text s (given c vs) → before ≡ []
+    → IsNext all (given_all (drop (i + 1) cs) left) (given c vs) refused line from s old now
+is_next all cs i c vs left refused from s old now more is behind ran line out before same put none = record {
+  ran = subst (λ (rest : List Given). Ran all rest refused from s old now) (next_step cs i c vs left more is behind) ran;
+  line_is = same ∙ put ∙ ap (λ (b : List ℕ). b ++ step_text s (given c vs)) none;
+}
 
 -- one more command
 pub ran_more : (all left : List Given) (c : Given) (refused : ℕ) (was : Bool) (line : List ℕ) (from s new : State) (old now then : Seen)
-    → Ran all (c ∷ left) refused from s old now
-    → new ≡ after_step s c → line ≡ step_text s c → Writes {T = Unit {0}} (Ok tt) (SaysAll (Ok tt) line) now then → was ≡ step_refused s c
+    → IsNext all left c refused line from s old now
+    → new ≡ after_step s c → Writes {T = Unit {0}} (Ok tt) (SaysAll (Ok tt) line) now then → was ≡ step_refused s c
     → Ran all left (refused + from_bool was) from new old then
-ran_more all left c refused was line from s new old now then ran new_is line_is says was_is =
+ran_more all left c refused was line from s new old now then next new_is says was_is =
+    let ran = next.ran in
+    let line_is = next.line_is in
     let text : List ℕ = step_text s c in
     record {
       done = ran.done ++ text;
@@ -103,10 +119,12 @@ ran_front all left refused from s old now ran = record {
 
 -- and where the desk stops in the midst of its text, a front of that too
 pub ran_part : (all left : List Given) (c : Given) (refused : ℕ) (stop : Stop) (line : List ℕ) (from s : State) (old now then : Seen)
-    → Ran all (c ∷ left) refused from s old now → line ≡ step_text s c
+    → IsNext all left c refused line from s old now
     → Writes {T = Unit {0}} (Err stop) (SaysAll (Err stop) line) now then → Writes {T = ℕ} (Err stop) (SaysAs {T = ℕ} (Err stop) (texts_of all from))
     old then
-ran_part all left c refused stop line from s old now then ran line_is says =
+ran_part all left c refused stop line from s old now then next says =
+    let ran = next.ran in
+    let line_is = next.line_is in
     let both : Writes {T = Unit {0}} (Err stop) (λ a b. SaysFront (texts_of all from) a b) old then =
     then_so tt (Err stop) ran.said says (λ before part.
     let more : List ℕ = texts_of left (after_step s c) in (
