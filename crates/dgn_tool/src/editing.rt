@@ -64,8 +64,8 @@ fn run_script<D: Desk>(
 {
     let mut session = Session::start(alloc, design)?;
     let ended = finish(alloc, desk, &mut session, commands, seconds, output);
-    // The program ends with its run, and the system then takes all memory at once. To give back what is kept of each edit
-    // would take a tenth of the time of the edits.
+    // The program ends with its run, and the system then takes all memory at once: what is kept of each edit needn't be
+    // gone over once more.
     let _kept = ManuallyDrop::new(session);
     ended
 }
