@@ -10,7 +10,7 @@ use Rattle.dgn_drawing.specs.declared.mode.Mode.{Mode}
 use Rattle.edit_trees.specs.Applying.{Applied, Done}
 use Rattle.dgn_session.specs.Fits.{fit_applied, fit_entry}
 use Rattle.dgn_session.specs.State.{State, SessionValue, state_of, applied, entry, fence_entry, value_with, selection, fence_applied}
-use Rattle.edit_script.specs.declared.command.Command.TheVariants as command
+use Rattle.dgn_drawing.specs.declared.command.Command.TheVariants as command
 use Rattle.dgn_answers.specs.Given.{Given, after_step}
 use Rattle.dgn_answers.specs.Remaining.{Made, Alone, Fenced, Fitted, with_made, with_all_made, without_newest, with_step, with_steps}
 use Rattle.dgn_answers.specs.Logs.{entry_made, IsLogOf, LogsAs, StepLogsAs, AllLogAs}

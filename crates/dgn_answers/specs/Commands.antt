@@ -16,8 +16,8 @@ use Rattle.listing_texts.specs.SelectedTexts.{selected_text}
 use Rattle.listing_texts.specs.TreeTexts.{tree_text}
 use Rattle.edit_trees.specs.Applying.{Applied, Done, Refused}
 use Rattle.edit_trees.specs.declared.cause.Cause.TheVariants as causes
-use Rattle.edit_script.specs.declared.command.Command.{Command}
-use Rattle.edit_script.specs.declared.command.Command.TheVariants as command
+use Rattle.dgn_drawing.specs.declared.command.Command.{Command}
+use Rattle.dgn_drawing.specs.declared.command.Command.TheVariants as command
 use Rattle.elem_index.specs.Opened.{Opened}
 use Rattle.plane_geom.specs.declared.pt.Pt.{Pt}
 use Rattle.listing_texts.specs.NumberedLines.{numbered}

@@ -6,8 +6,8 @@ use Rattle.dgn_drawing.specs.Values.{Displacement}
 use Rattle.dgn_import.specs.declared.second_fault.SecondFault.TheVariants as faults
 use Rattle.dgn_import.specs.Seconds.{SecondValue, Faulty}
 use Rattle.dgn_session.specs.State.{State}
-use Rattle.edit_script.specs.declared.command.Command.{Command}
-use Rattle.edit_script.specs.declared.command.Command.TheVariants as command
+use Rattle.dgn_drawing.specs.declared.command.Command.{Command}
+use Rattle.dgn_drawing.specs.declared.command.Command.TheVariants as command
 use Rattle.dgn_answers.specs.Commands.{text_of, is_refused, after_command, trees_of}
 use Rattle.dgn_answers.specs.Imports.{importing_of, import_answer, import_refused, import_left}
 

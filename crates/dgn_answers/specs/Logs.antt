@@ -2,7 +2,7 @@
 use Rattle.std.specs.Prelude.{◌≡◌, ℕ, List, map, reverse}
 use Rattle.undo_log.specs.declared.entry.Entry.{Entry}
 use Rattle.dgn_session.specs.State.{SessionValue, state_of, entry_with}
-use Rattle.edit_script.specs.declared.command.Command.{Command}
+use Rattle.dgn_drawing.specs.declared.command.Command.{Command}
 use Rattle.dgn_answers.specs.Imports.{Importing}
 use Rattle.dgn_answers.specs.Given.{Given}
 use Rattle.dgn_answers.specs.Remaining.{Made, with_command, with_import, with_step, with_steps, fields_made}

@@ -10,8 +10,8 @@ use Rattle.edit_trees.specs.Fields.{Field, edited_fields}
 use Rattle.edit_ops.specs.Fenced.{fenced_fields}
 use Rattle.dgn_audit.specs.Fitting.{fit_fields}
 use Rattle.dgn_session.specs.Fits.{fit_applied}
-use Rattle.edit_script.specs.declared.command.Command.{Command}
-use Rattle.edit_script.specs.declared.command.Command.TheVariants as command
+use Rattle.dgn_drawing.specs.declared.command.Command.{Command}
+use Rattle.dgn_drawing.specs.declared.command.Command.TheVariants as command
 use Rattle.dgn_answers.specs.Imports.{Importing, Appends, Declines, importing_of}
 use Rattle.dgn_answers.specs.Given.{Given, Plain, Import, after_step}
 

@@ -3,17 +3,16 @@ ghost use Rattle.listing_texts.specs.Lines.{AppendsFrontOf};
 ghost use Rattle.dgn_session.specs.State.{state_of, applied, edited, undone, undo_refused, with_mask, is_refused as is_refusal};
 ghost use Rattle.dgn_answers.specs.Commands.{edit_answer, undo_answer, is_import, text_of, is_refused, after_command, trees_of};
 ghost use Rattle.dgn_answers.specs.Logs.{LogsAs};
-ghost use Rattle.edit_script.specs.declared.command.Command.{Command};
+ghost use Rattle.dgn_drawing.specs.declared.command.Command.{Command};
 
 use crate::answered::Answered;
 use crate::fences::{answer_fence, answer_fenced, answer_no_fence, answer_select};
 use crate::listings::{answer_elements, answer_links, answer_refs, answer_show, answer_tree};
 use crate::ranges::{answer_audit, answer_fit};
-use dgn_drawing::{Edit, Mask};
+use dgn_drawing::{Command, Edit, Mask};
 use dgn_listing::write_cause;
 use dgn_session::Session;
 use edit_ops::EditFault;
-use edit_script::Command;
 use std::alloc::{AllocError, Global};
 
 // The room that a command makes for its text before it changes the session. No line that it says then is longer.

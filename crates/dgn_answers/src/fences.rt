@@ -7,7 +7,7 @@ ghost use Rattle.listing_texts.specs.NumberedLines.{numbered};
 ghost use Rattle.dgn_answers.specs.Commands.{fence_edit_answer, fenced_refused, trees_edited, fence_answer, fence_refused, fence_set};
 ghost use Rattle.dgn_answers.specs.Commands.{selection_answer, selection_refused};
 ghost use Rattle.dgn_answers.specs.Logs.{LogsAs};
-ghost use Rattle.edit_script.specs.declared.command.Command.{Command};
+ghost use Rattle.dgn_drawing.specs.declared.command.Command.{Command};
 
 use crate::answered::Answered;
 use crate::answers::{ROOM, put_known};

@@ -8,7 +8,7 @@ ghost use Rattle.listing_texts.specs.ElementTexts.{elements_text};
 ghost use Rattle.listing_texts.specs.RefTexts.{refs_text};
 ghost use Rattle.dgn_session.specs.State.{state_of};
 ghost use Rattle.dgn_answers.specs.Commands.{tree_answer, links_answer, text_of};
-ghost use Rattle.edit_script.specs.declared.command.Command.{Command};
+ghost use Rattle.dgn_drawing.specs.declared.command.Command.{Command};
 
 use crate::answered::Answered;
 use dgn_listing::{write_cause, write_elements, write_items, write_links, write_refs, write_tree};

@@ -6,7 +6,7 @@ ghost use Rattle.dgn_session.specs.State.{state_of, is_refused as is_refusal};
 ghost use Rattle.dgn_session.specs.Fits.{fit_applied, fit_made};
 ghost use Rattle.dgn_answers.specs.Commands.{edit_answer, text_of};
 ghost use Rattle.dgn_answers.specs.Logs.{LogsAs};
-ghost use Rattle.edit_script.specs.declared.command.Command.{Command};
+ghost use Rattle.dgn_drawing.specs.declared.command.Command.{Command};
 
 use crate::answered::Answered;
 use crate::answers::{ROOM, put_known};

@@ -12,9 +12,9 @@ ghost use Rattle.dgn_import.specs.Seconds.{waiting};
 use crate::answered::Answered;
 use crate::answers::respond;
 use crate::importing::{answer_gathering, gather_last};
+use dgn_drawing::Command;
 use dgn_import::{Second, SecondFault};
 use dgn_session::Session;
-use edit_script::Command;
 use std::alloc::{AllocError, Global};
 
 /// Runs one command in a session, an import with the next second file, which is dropped before its trees are appended, and

@@ -9,9 +9,9 @@ ghost use Rattle.dgn_answers.specs.Logs.{AllLogAs};
 ghost use Rattle.dgn_import.specs.Seconds.{waiting};
 
 use crate::steps::take_step;
+use dgn_drawing::Command;
 use dgn_import::Second;
 use dgn_session::Session;
-use edit_script::Command;
 use std::alloc::{AllocError, Global};
 
 /// What commands came to.

@@ -3,6 +3,7 @@
 
 mod body_fault;
 mod check;
+mod command;
 mod edit;
 mod fence_edit;
 mod form;
@@ -20,6 +21,7 @@ pub mod types;
 
 pub use body_fault::BodyFault;
 pub use check::{check_elem, is_counted, is_header, row_of};
+pub use command::Command;
 pub use edit::Edit;
 pub use fence_edit::FenceEdit;
 pub use items::item;

@@ -12,7 +12,7 @@ use Rattle.elem_index.specs.declared.open_fault.OpenFault.{OpenFault}
 use Rattle.elem_index.specs.Opened.{Opened, opening}
 use Rattle.elem_index.specs.Answers.{HasCount, TellsFault}
 use Rattle.edit_script.specs.Script.{commands_of}
-use Rattle.edit_script.specs.declared.command.Command.{Command}
+use Rattle.dgn_drawing.specs.declared.command.Command.{Command}
 use Rattle.edit_script.specs.declared.fault.ScriptFault.{ScriptFault}
 use Rattle.edit_script.specs.declared.limits.TheConstants.{MOST_SCRIPT}
 use Rattle.listing_texts.specs.NumberedLines.{numbered}

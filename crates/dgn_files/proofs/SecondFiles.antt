@@ -11,7 +11,7 @@ use Rattle.dgn_drawing.specs.WellFormed.{IsBytes}
 use Rattle.dgn_drawing.specs.declared.limits.TheConstants.{MOST_DESIGN}
 use Rattle.dgn_import.specs.declared.second.Second.{Second}
 use Rattle.dgn_import.specs.Seconds.{SecondValue, second_of, value_of, IsSound}
-use Rattle.edit_script.specs.declared.command.Command.{Command}
+use Rattle.dgn_drawing.specs.declared.command.Command.{Command}
 use Rattle.dgn_files.specs.Ended.{Outcome, ended}
 use Rattle.dgn_files.specs.InBytes.{IsLonger, AreInBytes, AreCutOff}
 use Rattle.dgn_files.specs.Readings.{IsWholeFile, whole_file, ComeTo, ComeBehind, seconds_in}

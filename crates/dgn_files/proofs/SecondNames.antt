@@ -1,8 +1,8 @@
 -- The commands that name no second file.
 use Rattle.std.proofs.Common.{◌≡◌, ℕ, List, [], Option, refl}
 use Rattle.dgn_drawing.specs.Values.{Displacement}
-use Rattle.edit_script.specs.declared.command.Command.{Command}
-use Rattle.edit_script.specs.declared.command.Command.TheVariants as command
+use Rattle.dgn_drawing.specs.declared.command.Command.{Command}
+use Rattle.dgn_drawing.specs.declared.command.Command.TheVariants as command
 use Rattle.dgn_files.specs.SecondFiles.{names_of}
 
 -- a command that is no import names no file

@@ -4,7 +4,7 @@ use Rattle.std.specs.Prelude.{ℕ, ◌≤◌, ◌<◌, List, [], ◌∷◌, leng
 use Rattle.dgn_desk.specs.Content.{Files, bytes_of}
 use Rattle.dgn_drawing.specs.WellFormed.{IsBytes}
 use Rattle.edit_script.specs.Script.{commands_of}
-use Rattle.edit_script.specs.declared.command.Command.{Command}
+use Rattle.dgn_drawing.specs.declared.command.Command.{Command}
 use Rattle.edit_script.specs.declared.fault.ScriptFault.{ScriptFault}
 use Rattle.dgn_files.specs.InputOutcomes.{comes_to_script}
 use Rattle.dgn_files.specs.SecondFiles.{names_in}

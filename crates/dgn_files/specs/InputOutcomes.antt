@@ -7,7 +7,7 @@ use Rattle.dgn_desk.specs.Content.{Files, bytes_of}
 use Rattle.dgn_drawing.specs.Opening.{Fault, NotDesign, Cut, Short, Attr}
 use Rattle.elem_index.specs.Opened.{Opened, opening}
 use Rattle.edit_script.specs.Script.{commands_of}
-use Rattle.edit_script.specs.declared.command.Command.{Command}
+use Rattle.dgn_drawing.specs.declared.command.Command.{Command}
 use Rattle.edit_script.specs.declared.fault.ScriptFault.{ScriptFault}
 use Rattle.edit_script.specs.declared.fault.ScriptFault.TheVariants as faults
 use Rattle.dgn_files.specs.Ended.{Outcome, ended}

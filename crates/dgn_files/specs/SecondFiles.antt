@@ -4,8 +4,8 @@ use Rattle.std.specs.FinMap as maps
 use Rattle.std.specs.List.{list_all}
 use Rattle.dgn_desk.specs.Content.{Files, bytes_of}
 use Rattle.dgn_import.specs.Seconds.{SecondValue, second_of}
-use Rattle.edit_script.specs.declared.command.Command.{Command}
-use Rattle.edit_script.specs.declared.command.Command.TheVariants as command
+use Rattle.dgn_drawing.specs.declared.command.Command.{Command}
+use Rattle.dgn_drawing.specs.declared.command.Command.TheVariants as command
 use Rattle.edit_script.specs.declared.fault.ScriptFault.{ScriptFault}
 use Rattle.edit_script.specs.Imports.{is_name_byte}
 use Rattle.dgn_files.specs.Ended.{Outcome, ended}

@@ -14,7 +14,7 @@ use Rattle.dgn_audit.proofs.FindingsEnd.{ends_findings}
 use Rattle.dgn_listing.specs.FindingTexts.{findings_text}
 use Rattle.dgn_session.specs.State as machine
 use Rattle.dgn_session.specs.State.{State, pushed}
-use Rattle.edit_script.specs.declared.command.Command.TheVariants as command
+use Rattle.dgn_drawing.specs.declared.command.Command.TheVariants as command
 use Rattle.dgn_answers.specs.Commands.{begun, text_of}
 use Rattle.dgn_answers.specs.Given.{Given, after_all}
 use Rattle.dgn_answers.specs.Remaining.{Made, with_steps}

@@ -16,8 +16,8 @@ use Rattle.dgn_drawing.specs.Values.{Displacement, LookChange, IsShift, IsLook}
 use Rattle.dgn_drawing.specs.WellFormed.{IsBytes}
 use Rattle.dgn_drawing.specs.NewElements.{ArePoints, IsShapeFor}
 use Rattle.edit_ops.specs.Fenced.{IsFenceEdit}
-use Rattle.edit_script.specs.declared.command.Command.{Command}
-use Rattle.edit_script.specs.declared.command.Command.TheVariants as command
+use Rattle.dgn_drawing.specs.declared.command.Command.{Command}
+use Rattle.dgn_drawing.specs.declared.command.Command.TheVariants as command
 use Rattle.edit_script.specs.declared.fault.ScriptFault.{ScriptFault}
 use Rattle.edit_script.specs.declared.reading.Reading.{Reading}
 use Rattle.edit_script.specs.declared.reading.Reading.TheVariants.{Nothing, Asks, Bad}

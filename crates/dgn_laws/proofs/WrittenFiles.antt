@@ -12,7 +12,7 @@ use Rattle.dgn_drawing.specs.WellFormed.{IsBytes}
 use Rattle.dgn_drawing.specs.declared.limits.TheConstants.{MOST_DESIGN}
 use Rattle.dgn_import.specs.Seconds.{second_of}
 use Rattle.edit_script.specs.Script.{commands_of}
-use Rattle.edit_script.specs.declared.command.Command.{Command}
+use Rattle.dgn_drawing.specs.declared.command.Command.{Command}
 use Rattle.edit_script.specs.declared.fault.ScriptFault.{ScriptFault}
 use Rattle.edit_script.specs.declared.fault.ScriptFault.TheVariants as faults
 use Rattle.elem_index.specs.Opened.{Opened, opening}

@@ -8,8 +8,8 @@ use Rattle.dgn_audit.specs.Findings.{findings}
 use Rattle.dgn_audit.specs.Laws.{is_outside}
 use Rattle.dgn_listing.specs.FindingTexts.{findings_text}
 use Rattle.dgn_session.specs.State.{State}
-use Rattle.edit_script.specs.declared.command.Command.{Command}
-use Rattle.edit_script.specs.declared.command.Command.TheVariants as command
+use Rattle.dgn_drawing.specs.declared.command.Command.{Command}
+use Rattle.dgn_drawing.specs.declared.command.Command.TheVariants as command
 use Rattle.elem_index.specs.Opened.{Opened}
 use Rattle.dgn_answers.specs.Commands.{begun, text_of, is_refused, after_command}
 use Rattle.dgn_answers.specs.Given.{after_all}

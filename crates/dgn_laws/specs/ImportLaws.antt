@@ -11,7 +11,7 @@ use Rattle.dgn_drawing.specs.WellFormed.{IsBytes}
 use Rattle.dgn_import.specs.Seconds.{second_of}
 use Rattle.dgn_import.specs.Gathering.{taken, import_trees, cause_of_roots}
 use Rattle.dgn_session.specs.State.{State}
-use Rattle.edit_script.specs.declared.command.Command.{Command}
+use Rattle.dgn_drawing.specs.declared.command.Command.{Command}
 use Rattle.elem_index.specs.Opened.{Opened}
 use Rattle.listing_texts.specs.NumberedLines.{numbered}
 use Rattle.dgn_answers.specs.Commands.{begun}

@@ -6,7 +6,7 @@ use Rattle.dgn_drawing.specs.Spelling.{spelling}
 use Rattle.dgn_drawing.specs.Opening.{Opens}
 use Rattle.dgn_drawing.specs.WellFormed.{IsBytes}
 use Rattle.dgn_session.specs.State.{State}
-use Rattle.edit_script.specs.declared.command.Command.{Command}
+use Rattle.dgn_drawing.specs.declared.command.Command.{Command}
 use Rattle.elem_index.specs.Opened.{Opened}
 use Rattle.dgn_answers.specs.Commands.{begun}
 use Rattle.dgn_answers.specs.Given.{Given, after_all}

@@ -4,7 +4,7 @@ use Rattle.std.specs.Prelude.{ℕ, ◌≡◌, List, Option, Some, Ok, IfSome, �
 use Rattle.dgn_desk.specs.Content.{Files, Content, bytes_of, with_file}
 use Rattle.dgn_drawing.specs.Opening.{Opens}
 use Rattle.edit_script.specs.Script.{commands_of}
-use Rattle.edit_script.specs.declared.command.Command.{Command}
+use Rattle.dgn_drawing.specs.declared.command.Command.{Command}
 use Rattle.elem_index.specs.Opened.{Opened}
 use Rattle.dgn_answers.specs.Commands.{begun}
 use Rattle.dgn_answers.specs.Given.{Given}

@@ -2,7 +2,7 @@
 use Rattle.std.specs.Prelude.{ℕ, ◌≡◌, List, All, Ok}
 use Rattle.dgn_drawing.specs.Opening.{Opens}
 use Rattle.dgn_drawing.specs.WellFormed.{IsBytes}
-use Rattle.edit_script.specs.declared.command.Command.{Command}
+use Rattle.dgn_drawing.specs.declared.command.Command.{Command}
 use Rattle.edit_script.specs.Script.{commands_of}
 use Rattle.elem_index.specs.Opened.{Opened}
 use Rattle.dgn_answers.specs.Commands.{begun}

@@ -13,7 +13,7 @@ use Rattle.dgn_desk.proofs.InTurn.{done_so, stopped_so, then_so}
 use Rattle.dgn_desk.proofs.Telling.{spoken-append}
 use Rattle.dgn_session.specs.State.{State}
 use Rattle.dgn_import.specs.Seconds.{SecondValue}
-use Rattle.edit_script.specs.declared.command.Command.{Command}
+use Rattle.dgn_drawing.specs.declared.command.Command.{Command}
 use Rattle.dgn_answers.specs.Given.{Given, given, given_all, seconds_behind, step_text, step_refused, after_step, after_all, texts_of, refused_count}
 use Rattle.dgn_answers.proofs.Stepping.{next_step}
 use Rattle.dgn_files.specs.Leaving.{SaysFront, SaysAs}

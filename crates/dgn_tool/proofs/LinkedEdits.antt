@@ -30,8 +30,8 @@ use Rattle.edit_ops.proofs.FenceLaws.{fenced_opens, fenced_fits, fenced_changes,
 use Rattle.dgn_audit.specs.Fitting.{apply_fit, fit_fields}
 use Rattle.dgn_audit.proofs.FitKeepsRows.{fitted_opens, fits_change}
 use Rattle.dgn_session.specs.Fits.{fit_applied}
-use Rattle.edit_script.specs.declared.command.Command.{Command}
-use Rattle.edit_script.specs.declared.command.Command.TheVariants as command
+use Rattle.dgn_drawing.specs.declared.command.Command.{Command}
+use Rattle.dgn_drawing.specs.declared.command.Command.TheVariants as command
 use Rattle.dgn_answers.specs.Commands.{fence_refused, after_command}
 use Rattle.dgn_answers.specs.Imports.{Importing, Appends, Declines, importing_of, import_left}
 use Rattle.dgn_answers.specs.Given.{Given, Plain, Import, after_step, after_all}

@@ -24,8 +24,8 @@ use Rattle.dgn_import.specs.Seconds.{SecondValue, Drawing, Faulty, as_second, se
 use Rattle.dgn_import.specs.Gathering.{Gathering, Trees, Bad, Dimension, Refused, fits, gathered, AreTrees}
 use Rattle.dgn_import.proofs.GatheredTrees.{are_trees, other_dim}
 use Rattle.dgn_session.specs.State.{State}
-use Rattle.edit_script.specs.declared.command.Command.{Command}
-use Rattle.edit_script.specs.declared.command.Command.TheVariants as command
+use Rattle.dgn_drawing.specs.declared.command.Command.{Command}
+use Rattle.dgn_drawing.specs.declared.command.Command.TheVariants as command
 use Rattle.edit_trees.specs.Fields.{filled}
 use Rattle.dgn_answers.specs.Imports.{Appends, unless_long, importing, importing_of}
 use Rattle.dgn_answers.specs.Given.{Given, Plain, Import, first_second, given, seconds_behind, given_all}

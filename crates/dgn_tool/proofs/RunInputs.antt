@@ -5,7 +5,7 @@ use Rattle.std.proofs.lemmas.Bool.{cond-true}
 use Rattle.dgn_desk.specs.Content.{Files, bytes_of}
 use Rattle.dgn_import.specs.Seconds.{SecondValue}
 use Rattle.elem_index.specs.Opened.{Opened}
-use Rattle.edit_script.specs.declared.command.Command.{Command}
+use Rattle.dgn_drawing.specs.declared.command.Command.{Command}
 use Rattle.edit_script.specs.declared.fault.ScriptFault.{ScriptFault}
 use Rattle.dgn_files.specs.Ended.{Outcome}
 use Rattle.dgn_files.specs.InBytes.{SecondsInBytes, AreInBytes, AllInBytes}

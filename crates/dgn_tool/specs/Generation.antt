@@ -10,8 +10,8 @@ use Rattle.dgn_drawing.specs.Spelling.{spelling}
 use Rattle.dgn_session.specs.State.{State}
 use Rattle.elem_index.specs.Opened.{Opened}
 use Rattle.edit_script.specs.Script.{commands_of}
-use Rattle.edit_script.specs.declared.command.Command.{Command}
-use Rattle.edit_script.specs.declared.command.Command.TheVariants as command
+use Rattle.dgn_drawing.specs.declared.command.Command.{Command}
+use Rattle.dgn_drawing.specs.declared.command.Command.TheVariants as command
 use Rattle.dgn_answers.specs.Commands.{begun}
 use Rattle.dgn_answers.specs.Given.{Given, given_all, after_all, refused_count, trees_of_all}
 use Rattle.dgn_files.specs.Filling.{file_made}

@@ -10,8 +10,8 @@ use Rattle.dgn_session.specs.State.{State}
 use Rattle.edit_trees.specs.Applying.{IsEdit}
 use Rattle.edit_trees.specs.Fields.{IsIn}
 use Rattle.edit_ops.specs.Fenced.{IsFenceEdit}
-use Rattle.edit_script.specs.declared.command.Command.{Command}
-use Rattle.edit_script.specs.declared.command.Command.TheVariants as command
+use Rattle.dgn_drawing.specs.declared.command.Command.{Command}
+use Rattle.dgn_drawing.specs.declared.command.Command.TheVariants as command
 use Rattle.elem_index.specs.Opened.{Opened}
 use Rattle.dgn_answers.specs.Commands.{begun}
 use Rattle.dgn_answers.specs.Given.{Given, given_all, after_all}

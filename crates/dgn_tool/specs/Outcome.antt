@@ -6,7 +6,7 @@ use Rattle.std.specs.FinMap as maps
 use Rattle.dgn_desk.specs.Content.{Files, Content, bytes_of}
 use Rattle.dgn_session.specs.State.{State}
 use Rattle.elem_index.specs.Opened.{Opened}
-use Rattle.edit_script.specs.declared.command.Command.{Command}
+use Rattle.dgn_drawing.specs.declared.command.Command.{Command}
 use Rattle.dgn_files.specs.Request.{Request, Edit, Check, Gen, Pack, Apply, request_of}
 use Rattle.dgn_files.specs.Ended.{Outcome, ended, said_then_filed}
 use Rattle.dgn_tool.specs.FileAfter.{file_after}

@@ -4,8 +4,8 @@ use Rattle.dgn_drawing.specs.WellFormed.{IsBytes, IsCoordinate}
 use Rattle.dgn_drawing.specs.declared.edit.Edit.TheVariants.{Append}
 use Rattle.dgn_drawing.specs.declared.new_shape.NewShape.{NewShape}
 use Rattle.dgn_drawing.specs.declared.new_shape.NewShape.TheVariants as shapes
-use Rattle.edit_script.specs.declared.command.Command.{Command}
-use Rattle.edit_script.specs.declared.command.Command.TheVariants as command
+use Rattle.dgn_drawing.specs.declared.command.Command.{Command}
+use Rattle.dgn_drawing.specs.declared.command.Command.TheVariants as command
 use Rattle.edit_script.specs.declared.appends.Pen.{Pen}
 use Rattle.edit_script.specs.declared.appends.Lettering.{Lettering}
 use Rattle.edit_script.specs.declared.points.PointGiven.{PointGiven}

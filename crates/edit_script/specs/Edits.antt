@@ -4,8 +4,8 @@ use Rattle.std.specs.Prelude.{ℕ, if◌then◌else◌, ℤ, pos, List, [], ◌�
 use Rattle.std.specs.Str.{bytes_eq}
 use Rattle.dgn_drawing.specs.Values.{Displacement, LookChange}
 use Rattle.dgn_drawing.specs.declared.edit.Edit.TheVariants.{Move, Copy, Sym, Delete}
-use Rattle.edit_script.specs.declared.command.Command.{Command}
-use Rattle.edit_script.specs.declared.command.Command.TheVariants as command
+use Rattle.dgn_drawing.specs.declared.command.Command.{Command}
+use Rattle.dgn_drawing.specs.declared.command.Command.TheVariants as command
 use Rattle.edit_script.specs.Numbers.{number_within, signed_within}
 
 -- the number of an element

@@ -5,8 +5,8 @@ use Rattle.range_code.specs.Ranges.{on_axis}
 use Rattle.plane_geom.specs.declared.pt.Pt.{Pt}
 use Rattle.dgn_drawing.specs.declared.mode.Mode.{Mode}
 use Rattle.dgn_drawing.specs.declared.fence_edit.FenceEdit.{FenceEdit}
-use Rattle.edit_script.specs.declared.command.Command.{Command}
-use Rattle.edit_script.specs.declared.command.Command.TheVariants as command
+use Rattle.dgn_drawing.specs.declared.command.Command.{Command}
+use Rattle.dgn_drawing.specs.declared.command.Command.TheVariants as command
 use Rattle.edit_script.specs.declared.points.PointGiven.{PointGiven}
 use Rattle.edit_script.specs.Words.{each_named}
 use Rattle.edit_script.specs.Points.{point_named}

@@ -7,11 +7,10 @@ ghost use Rattle.edit_script.specs.Points.{point_named};
 ghost use Rattle.edit_script.specs.Appends.{pen_of, pen_named, appending, line_command, string_command, shape_command, multiplier_named, lettering_of};
 ghost use Rattle.edit_script.specs.Appends.{lettering_named, chars_given, behind_words, text_command, IsPen, IsMultiplier, IsLettering, IsChars};
 
-use crate::command::Command;
 use crate::numbers::number;
 use crate::points::{PointGiven, point, read_path};
 use crate::words::next_word;
-use dgn_drawing::{Edit, New, NewShape};
+use dgn_drawing::{Command, Edit, New, NewShape};
 use elem_head::types::Symb;
 use patch_bytes::ByteList;
 use std::alloc::{AllocError, Global};

@@ -4,10 +4,9 @@ ghost use Rattle.edit_script.specs.Words.{words_of};
 ghost use Rattle.edit_script.specs.Edits.{color_command, given_within, look_named, sym_command, distance_named, shift_of, shift_named, move_command};
 ghost use Rattle.edit_script.specs.Edits.{copy_command, delete_command, one_element};
 
-use crate::command::Command;
 use crate::numbers::{number, signed_number};
 use crate::words::next_word;
-use dgn_drawing::{Edit, Shift, SymbChange};
+use dgn_drawing::{Command, Edit, Shift, SymbChange};
 
 // The command of `color` with these bytes behind it: the number of an element, and a colour.
 pub fn read_color(rest: &[u8]) -> Option<Command>

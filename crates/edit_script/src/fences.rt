@@ -3,11 +3,10 @@ ghost use Rattle.edit_script.specs.Words.{words_of, each_named};
 ghost use Rattle.edit_script.specs.Fences.{corner_named, fence_command, mode_named, select_command, fmove_command, fcopy_command, fsym_command};
 ghost use Rattle.edit_script.specs.Fences.{fdelete_command};
 
-use crate::command::Command;
 use crate::edits::{read_look, read_shift};
 use crate::points::point;
 use crate::words::next_word;
-use dgn_drawing::{FenceEdit, Mode};
+use dgn_drawing::{Command, FenceEdit, Mode};
 use plane_geom::{Pt, PtList};
 use std::alloc::{AllocError, Global};
 

@@ -3,13 +3,13 @@ ghost use Rattle.edit_script.specs.Words.{words_of};
 ghost use Rattle.edit_script.specs.Grammar.{command_of, reading_of, other_reading, listing_reading, fence_reading, range_reading, alone};
 
 use crate::appends;
-use crate::command::Command;
 use crate::edits::{one_element, read_color, read_copy, read_delete, read_move, read_sym};
 use crate::fences::{read_fcopy, read_fdelete, read_fence, read_fmove, read_fsym, read_select};
 use crate::imports::read_import;
 use crate::levels::read_levels;
 use crate::reading::Reading;
 use crate::words::{first_piece, next_word, strip_blanks};
+use dgn_drawing::Command;
 use std::alloc::{AllocError, Global};
 
 // What a line says.

@@ -3,10 +3,9 @@ ghost use Rattle.std.specs.List.{list_all};
 ghost use Rattle.edit_script.specs.Words.{words_of};
 ghost use Rattle.edit_script.specs.Imports.{is_name_byte, is_name, given_shift, import_command};
 
-use crate::command::Command;
 use crate::edits::read_shift;
 use crate::words::next_word;
-use dgn_drawing::Shift;
+use dgn_drawing::{Command, Shift};
 use patch_bytes::ByteList;
 use std::alloc::{AllocError, Global};
 

@@ -6,7 +6,6 @@
 #![tactic(auto)]
 
 mod appends;
-mod command;
 mod edits;
 mod fault;
 mod fences;
@@ -22,7 +21,7 @@ mod reading;
 mod script;
 mod words;
 
-pub use command::Command;
+pub use dgn_drawing::Command;
 pub use fault::ScriptFault;
 pub use limits::MOST_SCRIPT;
 pub use numbers::number;

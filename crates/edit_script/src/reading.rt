@@ -1,4 +1,4 @@
-use crate::command::Command;
+use dgn_drawing::Command;
 
 // How many lines of a script may ask for an import.
 const MOST_IMPORTS: u32 = 4;

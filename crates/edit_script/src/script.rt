@@ -2,11 +2,11 @@ ghost use Rattle.std.specs.Prelude.{◌≡◌, ◌≤◌, length, Ok, IfOk, IfEr
 ghost use Rattle.edit_script.specs.Script.{commands_of, Tells};
 
 use crate::MOST_SCRIPT;
-use crate::command::Command;
 use crate::fault::ScriptFault;
 use crate::grammar::read_line;
 use crate::lines::next_line;
 use crate::reading::Reading;
+use dgn_drawing::Command;
 use std::alloc::Global;
 
 /// The commands of a script of at most `MOST_SCRIPT` bytes, in the order of its lines.

@@ -5,7 +5,7 @@ use Rattle.std.proofs.lemmas.Result.{err_from_is_err_and}
 use Rattle.dgn_desk.specs.Seen.{seen}
 use Rattle.dgn_import.specs.declared.second.Second.{Second}
 use Rattle.dgn_import.specs.Seconds.{IsSound}
-use Rattle.edit_script.specs.declared.command.Command.{Command}
+use Rattle.dgn_drawing.specs.declared.command.Command.{Command}
 use Rattle.dgn_files.specs.Ends.{ReadTo}
 use Rattle.dgn_files.specs.InBytes.{AreInBytes, AreCutOff}
 use Rattle.dgn_files.specs.Readings.{ComeTo, seconds_in}

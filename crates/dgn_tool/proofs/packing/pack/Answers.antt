@@ -1,5 +1,5 @@
 use Rattle.std.proofs.Common.{List, subst}
-use Rattle.edit_script.specs.declared.command.Command.{Command}
+use Rattle.dgn_drawing.specs.declared.command.Command.{Command}
 use Rattle.elem_index.specs.Answers.{opened_of}
 use Rattle.dgn_files.specs.Ends.{DeskComes}
 use Rattle.dgn_files.specs.InBytes.{AllInBytes}

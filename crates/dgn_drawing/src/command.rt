@@ -1,4 +1,8 @@
-use dgn_drawing::{Edit, FenceEdit, Mask, Mode, Shift};
+use crate::edit::Edit;
+use crate::fence_edit::FenceEdit;
+use crate::mask::Mask;
+use crate::mode::Mode;
+use crate::shift::Shift;
 use patch_bytes::ByteList;
 use plane_geom::PtList;
 
