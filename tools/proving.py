@@ -18,13 +18,14 @@ Said = Tuple['Run', Optional[str]]
 
 class Run:
     """An rt ci on a tree, for one crate or some that stand on one another, whose lines come into a queue, and none
-    behind the last one."""
+    behind the last one. It proves by one process where it is told to, else as rt does where processors are free."""
 
-    def __init__(self, names: List[str], tree: str, temporary: str, said: 'queue.Queue[Said]') -> None:
+    def __init__(self, names: List[str], tree: str, temporary: str, said: 'queue.Queue[Said]', alone: bool) -> None:
         self.names, self.tree, self.niceness, self.failed = names, tree, 0, False
         self.kept: Set[str] = set()
         self.proved: List[str] = []
-        self.process = subprocess.Popen(['rt', 'ci'], cwd=tree, env={**os.environ, 'TMPDIR': temporary},
+        jobs = {'RT_JOBS': '1'} if alone else {}
+        self.process = subprocess.Popen(['rt', 'ci'], cwd=tree, env={**os.environ, **jobs, 'TMPDIR': temporary},
                                         stdin=subprocess.DEVNULL, stdout=subprocess.PIPE, stderr=subprocess.STDOUT,
                                         text=True, errors='replace', start_new_session=True)
         threading.Thread(target=self._read, args=(said,), daemon=True).start()
@@ -105,7 +106,7 @@ def is_proving(run: Run) -> bool:
 def take_kept(tree: str, temporary: str, log: Callable[[str], None]) -> Tuple[Set[str], bool]:
     """The crates of a tree that were proved before, and whether all of it was: rt is ended where it begins to prove."""
     said: 'queue.Queue[Said]' = queue.Queue()
-    run = Run([], tree, temporary, said)
+    run = Run([], tree, temporary, said, False)
     try:
         for heard in lines_of(said, 0.5):
             if heard is None:
@@ -122,8 +123,8 @@ def take_kept(tree: str, temporary: str, log: Callable[[str], None]) -> Tuple[Se
 
 
 def width() -> int:
-    """How many crates are proved at a time, each with two processes: one more than half the processors."""
-    return (os.cpu_count() or 1) // 2 + 1
+    """How many crates are proved at a time: as many as there are processors."""
+    return os.cpu_count() or 1
 
 
 def room() -> int:
@@ -134,10 +135,12 @@ def room() -> int:
 
 
 class Provers:
-    """Proves what isn't proved yet, the longest chain first. Those further on in that order stand back for those before
-    them, so a crate waits for a place only behind these: the others leave it the processors. The last crates, each of
-    which waits for the one before, have one run, which is begun while those below are proved yet: until it has read
-    what is kept, rt proves nothing, and it waits for what another rt is proving."""
+    """Proves what isn't proved yet, the longest chain first. Those further on in that order stand back for those
+    before them, so a crate waits for a place only behind these: the others leave it the processors. Two processes
+    prove a crate faster than one, but take more of the processors in all: so the crates of the longest chain have two,
+    and the others one. The last crates, each of which waits for the one before, have one run, which is begun while
+    those below are proved yet: until it has read what is kept, rt proves nothing, and it waits for what another rt is
+    proving."""
 
     def __init__(self, schedule: Schedule, make_tree: Callable[[str], str], temporary: str) -> None:
         self.schedule, self.make_tree, self.temporary = schedule, make_tree, temporary
@@ -197,7 +200,8 @@ class Provers:
             left.clear()
 
     def _run(self, names: List[str]) -> None:
-        self.running[names[0]] = Run(names, self.make_tree(names[-1]), self.temporary, self.said)
+        alone = names[0] not in self.schedule.longest
+        self.running[names[0]] = Run(names, self.make_tree(names[-1]), self.temporary, self.said, alone)
 
     def _wait(self, log: Callable[[str], None], tick: Callable[[], None]) -> Tuple[Run, bool]:
         """The next run that has proved one of its crates, and whether it ends."""

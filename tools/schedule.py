@@ -2,16 +2,21 @@
 
 from typing import Dict, List, Set
 
-OVERHEAD = 290  # what each crate takes beside its own lines, in lines: reading the kit
-BELOW = 12  # how many lines of the crates below take as long to read as one of its own to prove
+OVERHEAD = 170  # what each crate takes beside its own lines, in lines: reading the kit and the crates below
+PAIR = 1.5  # how many times as fast a crate is proved by two processes, where each has a processor
 
 
 class Schedule:
-    """Crates that are proved so many at a time, each once those below it are, the longest chain above it first."""
+    """Crates that are proved so many at a time, each once those below it are, the longest chain above it first. Those
+    of the longest chain of all, for which the others wait in the end, are proved by two processes, and the others by
+    one."""
 
     def __init__(self, below: Dict[str, List[str]], lines: Dict[str, int], lanes: int) -> None:
         self.below = {name: [it for it in names if it in below] for name, names in below.items()}
-        self.work = {name: lines[name] + OVERHEAD + self._lines_below(name, lines) // BELOW for name in below}
+        self.work = {name: float(lines[name] + OVERHEAD) for name in below}
+        self.longest = self._longest()
+        for name in self.longest:
+            self.work[name] /= PAIR
         self.lanes, self.count = lanes, len(below)
         self.ends = self._ends()
 
@@ -38,13 +43,13 @@ class Schedule:
     def is_ready(self, name: str, done: Set[str]) -> bool:
         return all(it in done for it in self.below[name])
 
-    def length(self) -> int:
+    def length(self) -> float:
         """When the last crate ends."""
         return max(self.ends.values())
 
-    def reached(self, done: Set[str]) -> int:
+    def reached(self, done: Set[str]) -> float:
         """When the last of these crates ends."""
-        return max((self.ends[name] for name in done), default=0)
+        return max((self.ends[name] for name in done), default=0.0)
 
     def _all_below(self, name: str) -> Set[str]:
         """All crates that a crate stands on."""
@@ -57,29 +62,35 @@ class Schedule:
                 left += self.below[one]
         return found
 
-    def _lines_below(self, name: str, lines: Dict[str, int]) -> int:
-        """The lines of all crates that a crate stands on."""
-        return sum(lines[one] for one in self._all_below(name))
+    def _longest(self) -> List[str]:
+        """The crates of the longest chain, the lowest first."""
+        chains = self._chains()
+        found: List[str] = []
+        above = list(self.below)
+        while above:
+            found.append(max(above, key=lambda it: chains[it]))
+            above = [it for it in self.below if found[-1] in self.below[it]]
+        return found
 
-    def _chains(self) -> Dict[str, int]:
+    def _chains(self) -> Dict[str, float]:
         """The work of each crate and of the longest chain of crates above it."""
-        chains: Dict[str, int] = {}
+        chains: Dict[str, float] = {}
 
-        def chain(name: str) -> int:
+        def chain(name: str) -> float:
             if name not in chains:
                 above = [it for it in self.below if name in self.below[it]]
-                chains[name] = self.work[name] + max([chain(it) for it in above], default=0)
+                chains[name] = self.work[name] + max([chain(it) for it in above], default=0.0)
             return chains[name]
 
         for name in self.below:
             chain(name)
         return chains
 
-    def _ends(self) -> Dict[str, int]:
+    def _ends(self) -> Dict[str, float]:
         """When each crate ends, where a free lane takes the ready crate of the longest chain."""
-        chains, now = self._chains(), 0
-        ends: Dict[str, int] = {}
-        running: Dict[str, int] = {}
+        chains, now = self._chains(), 0.0
+        ends: Dict[str, float] = {}
+        running: Dict[str, float] = {}
         left = sorted(self.below, key=lambda name: -chains[name])
         while left or running:
             ready = [it for it in left if all(below in ends for below in self.below[it])]
