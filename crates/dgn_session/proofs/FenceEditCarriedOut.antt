@@ -20,12 +20,29 @@ use Rattle.edit_ops.specs.Planned.{IsFencePlan}
 use Rattle.edit_ops.specs.FenceLaws.{ChangesFencedFields}
 use Rattle.edit_ops.proofs.FenceLaws.{fenced_changes}
 use Rattle.dgn_session.specs.State.{SessionValue, state_of, selection, pushed_if, fence_entry, value_with}
-use Rattle.dgn_session.specs.SessionParts.{OpensAt, AreKept, value_of}
-use Rattle.dgn_session.specs.CarryingOut.{IsSoundPlan}
+use Rattle.dgn_session.specs.Laws.{IsSound}
+use Rattle.dgn_session.specs.SessionParts.{OpensAt, value_of}
+use Rattle.dgn_session.specs.CarryingOut.{IsSoundPlan, plan_of, carried}
 use Rattle.dgn_session.proofs.EditedBody.{fence_becomes}
 use Rattle.dgn_session.proofs.PlannedBody.{IsPlanned, plan_sound}
-use Rattle.dgn_session.proofs.PlanCarriedOut.{IsCarried, HasMade, has_made}
+use Rattle.dgn_session.proofs.PlanCarriedOut.{has_made}
 use Rattle.dgn_session.proofs.LastEditBack.{opens_kept}
+
+-- a plan of an edit of these roots of a session's drawing, by its value
+pub plan_seen : (d : Design) (l : LogState) (mask : Mask) (fence : Option (List Pt)) (old : SessionValue) → value_of d l mask fence ≡ old
+    → (e : FenceEdit) (ns : List ℕ) (p : Plan) (append : List ℕ) → append ≡ p.append
+    → IsFencePlan d.dim (elements d) (length d.tail.items) e ns p
+    → IsFencePlan old.dim (state_of old).top (length old.tail) e ns (plan_of p.patches append)
+plan_seen d l mask fence old view e ns p append is plan =
+    subst (λ (v : SessionValue). IsFencePlan v.dim (state_of v).top (length v.tail) e ns (plan_of p.patches append)) view
+    (subst (λ (b : List ℕ). IsFencePlan d.dim (elements d) (length d.tail.items) e ns (plan_of p.patches b)) (sym is) plan)
+
+-- the roots that are chosen, by its value
+pub roots_seen : (d : Design) (l : LogState) (mask : Mask) (fence : Option (List Pt)) (old : SessionValue) → value_of d l mask fence ≡ old
+    → (mode : Mode) (corners : List Pt) (ns : List ℕ) → ns ≡ selected d.dim mask corners mode (elements d)
+    → ns ≡ selected old.dim old.mask corners mode (state_of old).top
+roots_seen d l mask fence old view mode corners ns are =
+    subst (λ (v : SessionValue). ns ≡ selected v.dim v.mask corners mode (state_of v).top) view are
 
 -- a session before and after an edit of what is chosen, where it is done
 pub record IsFenceEdited (e : FenceEdit) (old new : SessionValue) (chosen : Option (List ℕ)) : Type 0 where
@@ -35,45 +52,43 @@ pub record IsFenceEdited (e : FenceEdit) (old new : SessionValue) (chosen : Opti
       (old.entries ++ fence_entry old.dim (state_of old).top e ns ∷ []) old) chosen
   pub changed : IfSome chosen (λ (ns : List ℕ). ChangesFencedFields old.dim (state_of old).top e ns (state_of new).top)
 
-module _ (d : Design) (l : LogState) (kept : AreKept d.dim d.tail.items d.body.items (reverse l.entries)) (mask : Mask) (corners : List Pt) (mode : Mode)
-    (ns : List ℕ) (are : ns ≡ selected d.dim mask corners mode (elements d)) (e : FenceEdit) (p : Plan) (fits : IsFenceEdit e)
-    (plan : IsFencePlan d.dim (elements d) (length d.tail.items) e ns p) where
-  opens : OpensAt d.dim d.tail.items d.body.items
-  opens = opens_kept d.dim d.tail.items d.body.items (reverse l.entries) kept
+module _ (old : SessionValue) (sound : IsSound old) (corners : List Pt) (mode : Mode) (is : old.fence ≡ Some corners) (ns : List ℕ)
+    (are : ns ≡ selected old.dim old.mask corners mode (state_of old).top) (e : FenceEdit) (p : Plan) (fits : IsFenceEdit e)
+    (plan : IsFencePlan old.dim (state_of old).top (length old.tail) e ns p) where
+  opens : OpensAt old.dim old.tail old.body
+  opens = opens_kept old.dim old.tail old.body (reverse old.entries) sound
 
-  roots : AreRoots (elements d) ns
-  roots = ((λ (n : ℕ). takes mode corners (tree_shown d.dim mask (elements d) n)), are)
+  roots : AreRoots (state_of old).top ns
+  roots = ((λ (n : ℕ). takes mode corners (tree_shown old.dim old.mask (state_of old).top n)), are)
 
-  planned : IsPlanned d.dim d.tail.items d.body.items (fenced_fields d.dim (elements d) e ns) plan.made p
+  planned : IsPlanned old.dim old.tail old.body (fenced_fields old.dim (state_of old).top e ns) plan.made p
   planned =
-      let body : spelling (elements d) ≡ d.body.items = body_spelled d.body.items d.tail.items d.dim (elements d) opens.opens in
+      let body : spelling (state_of old).top ≡ old.body = body_spelled old.body old.tail old.dim (state_of old).top opens.opens in
       record {
         opens = opens;
-        becomes = fence_becomes (d.body.items ++ d.tail.items) d.dim (elements d) d.tail.items e ns plan.made fits roots opens.opens
+        becomes = fence_becomes (old.body ++ old.tail) old.dim (state_of old).top old.tail e ns plan.made fits roots opens.opens
             (omega (arith, opens.few, ap (length {A = ℕ}) body)) plan.done;
         patches = plan.patches;
         append = plan.append;
       }
 
   -- it may be carried out
-  pub fence_sound : IsSoundPlan d.dim d.tail.items d.body.items p
-  fence_sound = plan_sound d.dim d.tail.items d.body.items (fenced_fields d.dim (elements d) e ns) plan.made p planned
+  pub fence_sound : IsSoundPlan old.dim old.tail old.body p
+  fence_sound = plan_sound old.dim old.tail old.body (fenced_fields old.dim (state_of old).top e ns) plan.made p planned
+
+  chosen : selection mode (state_of old) ≡ Some ns
+  chosen = ap (option_map (λ (f : List Pt). selected old.dim old.mask f mode (state_of old).top)) is ∙ ap Some (sym are)
 
   -- and where it is, the session is edited
-  pub fence_made : (fence : Option (List Pt)) → fence ≡ Some corners → (old : SessionValue) → value_of d l mask fence ≡ old
-      → (g : Design) (m : LogState) → IsCarried d l p g m → IsFenceEdited e old (value_of g m mask fence) (selection mode (state_of old))
-  fence_made fence is old view g m carried =
-      let has : HasMade (apply_all d.dim (elements d) (length d.tail.items) e ns) (fenced_fields d.dim (elements d) e ns)
-      (value_of d l mask fence) (value_of g m mask fence) =
-      has_made d l mask fence (fenced_fields d.dim (elements d) e ns) plan.made p planned g m carried
-      (apply_all d.dim (elements d) (length d.tail.items) e ns) plan.done in
-      let chosen : selection mode (state_of (value_of d l mask fence)) ≡ Some ns =
-      ap (option_map (λ (f : List Pt). selected d.dim mask f mode (elements d))) is ∙ ap Some (sym are) in
-      subst (λ (v : SessionValue). IsFenceEdited e v (value_of g m mask fence) (selection mode (state_of v))) view
-      (subst (IsFenceEdited e (value_of d l mask fence) (value_of g m mask fence)) (sym chosen) (record {
+  pub fence_made : (new : SessionValue) → new ≡ carried p.patches p.append old → IsFenceEdited e old new (selection mode (state_of old))
+  fence_made new carried =
+      let has =
+      has_made old (fenced_fields old.dim (state_of old).top e ns) plan.made p planned
+      (apply_all old.dim (state_of old).top (length old.tail) e ns) plan.done new carried in
+      subst (IsFenceEdited e old new) (sym chosen) (record {
         done = has.done;
         accepted = ap Some has.accepted;
         value = ap Some has.value;
-        changed = fenced_changes (d.body.items ++ d.tail.items) d.dim (elements d) d.tail.items (length d.tail.items) e ns (elements g) fits roots
+        changed = fenced_changes (old.body ++ old.tail) old.dim (state_of old).top old.tail (length old.tail) e ns (state_of new).top fits roots
             opens.opens has.accepted;
-      }))
+      })

@@ -1,19 +1,14 @@
 -- What a session comes to when a fit is carried out on it.
-use Rattle.std.proofs.Common.{◌≡◌, ℕ, ◌+◌, ◌≤◌, List, [], ◌++◌, length, drop, map, reverse, Option, sym, ap, ◌∙◌, subst, arith}
+use Rattle.std.proofs.Common.{◌≡◌, ℕ, ◌+◌, ◌≤◌, List, [], ◌++◌, length, drop, map, reverse, sym, ap, ◌∙◌, subst, arith}
 use Rattle.std.proofs.lemmas.List.{append-nil, drop_all, take_all, length-map}
 use Rattle.patch_bytes.specs.Puts.{Put, write}
-use Rattle.plane_geom.specs.declared.pt.Pt.{Pt}
-use Rattle.undo_log.specs.LogState.{LogState}
 use Rattle.dgn_drawing.specs.declared.row.Row.{Row}
 use Rattle.dgn_drawing.specs.Element.{Element}
-use Rattle.dgn_drawing.specs.declared.mask.Mask.{Mask}
 use Rattle.dgn_drawing.specs.Spelling.{spelling}
 use Rattle.dgn_drawing.specs.Rows.{row_of}
 use Rattle.dgn_drawing.specs.Nesting.{BeginsFree}
 use Rattle.dgn_drawing.specs.Opening.{Opens}
 use Rattle.dgn_drawing.proofs.Fronts.{body_spelled}
-use Rattle.elem_index.specs.declared.design.Design.{Design}
-use Rattle.elem_index.specs.Design.{elements}
 use Rattle.edit_trees.specs.Applying.{Applied, Done}
 use Rattle.edit_trees.specs.Fields.{filled}
 use Rattle.dgn_audit.specs.Fitting.{apply_fit, fit_fields}
@@ -21,12 +16,13 @@ use Rattle.dgn_audit.specs.Planned.{IsFitPlan}
 use Rattle.dgn_audit.proofs.FitKeepsRows.{fitted_opens, fits_change}
 use Rattle.dgn_audit.proofs.FindingsEnd.{ends_findings}
 use Rattle.dgn_session.specs.State.{SessionValue, state_of, pushed, undone, undo_refused}
-use Rattle.dgn_session.specs.SessionParts.{OpensAt, AreKept, value_of}
-use Rattle.dgn_session.specs.CarryingOut.{IsSoundPlan, plan_of}
+use Rattle.dgn_session.specs.Laws.{IsSound}
+use Rattle.dgn_session.specs.SessionParts.{OpensAt}
+use Rattle.dgn_session.specs.CarryingOut.{IsSoundPlan, plan_of, carried}
 use Rattle.dgn_session.specs.Fits.{fit_applied, IsFit, FitsAreUndone, OpenedStayFitted}
 use Rattle.dgn_session.proofs.EditedBody.{Become}
 use Rattle.dgn_session.proofs.PlannedBody.{IsPlanned, plan_sound}
-use Rattle.dgn_session.proofs.PlanCarriedOut.{IsCarried, HasMade, has_made}
+use Rattle.dgn_session.proofs.PlanCarriedOut.{HasMade, has_made}
 use Rattle.dgn_session.proofs.LastEditBack.{opens_kept}
 use Rattle.dgn_session.proofs.EntriesBack.{pushed_stays}
 use Rattle.dgn_drawing.specs.declared.limits.TheConstants.{MOST_DESIGN}
@@ -54,44 +50,42 @@ pub record IsFitted (n : ℕ) (old new : SessionValue) : Type 0 where
   pub has : HasMade (fit_applied n (state_of old)) (fit_fields old.dim (state_of old).top n) old new
   pub fitted : IsFit old.dim (state_of old).top n (state_of new).top
 
-module _ (d : Design) (l : LogState) (kept : AreKept d.dim d.tail.items d.body.items (reverse l.entries)) (n : ℕ) (patches : List Put)
-    (plan : IsFitPlan d.dim (elements d) n patches) (append : List ℕ) (nothing : append ≡ []) where
-  opens : OpensAt d.dim d.tail.items d.body.items
-  opens = opens_kept d.dim d.tail.items d.body.items (reverse l.entries) kept
+module _ (old : SessionValue) (sound : IsSound old) (n : ℕ) (patches : List Put) (plan : IsFitPlan old.dim (state_of old).top n patches) where
+  opens : OpensAt old.dim old.tail old.body
+  opens = opens_kept old.dim old.tail old.body (reverse old.entries) sound
 
-  planned : IsPlanned d.dim d.tail.items d.body.items (fit_fields d.dim (elements d) n) plan.made (plan_of patches append)
+  planned : IsPlanned old.dim old.tail old.body (fit_fields old.dim (state_of old).top n) plan.made (plan_of patches [])
   planned =
-      let body : spelling (elements d) ≡ d.body.items = body_spelled d.body.items d.tail.items d.dim (elements d) opens.opens in
-      let none : drop (length (spelling (elements d))) (spelling plan.made) ≡ [] = drop_all (length (spelling (elements d))) (spelling plan.made)
-      (omega (arith, (fits_change (d.body.items ++ d.tail.items) d.dim (elements d) d.tail.items n plan.made opens.opens plan.done).long)) in
+      let body : spelling (state_of old).top ≡ old.body = body_spelled old.body old.tail old.dim (state_of old).top opens.opens in
+      let none : drop (length (spelling (state_of old).top)) (spelling plan.made) ≡ [] =
+      drop_all (length (spelling (state_of old).top)) (spelling plan.made)
+      (omega (arith, (fits_change (old.body ++ old.tail) old.dim (state_of old).top old.tail n plan.made opens.opens plan.done).long)) in
       record {
         opens = opens;
-        becomes = fit_becomes (d.body.items ++ d.tail.items) d.dim (elements d) d.tail.items n plan.made opens.opens
+        becomes = fit_becomes (old.body ++ old.tail) old.dim (state_of old).top old.tail n plan.made opens.opens
             (omega (arith, opens.few, ap (length {A = ℕ}) body)) plan.done;
         patches = plan.are;
-        append = nothing ∙ sym none;
+        append = sym none;
       }
 
   -- it may be carried out
-  pub fit_sound : IsSoundPlan d.dim d.tail.items d.body.items (plan_of patches append)
-  fit_sound = plan_sound d.dim d.tail.items d.body.items (fit_fields d.dim (elements d) n) plan.made (plan_of patches append) planned
+  pub fit_sound : IsSoundPlan old.dim old.tail old.body (plan_of patches [])
+  fit_sound = plan_sound old.dim old.tail old.body (fit_fields old.dim (state_of old).top n) plan.made (plan_of patches []) planned
 
   -- it ends the findings of its tree
-  ends : (made : List Element) → apply_fit d.dim (elements d) n ≡ Done made → IsFit d.dim (elements d) n made
+  ends : (made : List Element) → fit_applied n (state_of old) ≡ Done made → IsFit old.dim (state_of old).top n made
   ends made done = record {
-    ended = λ root end at spanned. ends_findings (d.body.items ++ d.tail.items) d.dim (elements d)
-        d.tail.items n made root end opens.opens done at spanned;
-    stays = (fits_change (d.body.items ++ d.tail.items) d.dim (elements d) d.tail.items n made opens.opens done).stays;
+    ended = λ root end at spanned. ends_findings (old.body ++ old.tail) old.dim (state_of old).top
+        old.tail n made root end opens.opens done at spanned;
+    stays = (fits_change (old.body ++ old.tail) old.dim (state_of old).top old.tail n made opens.opens done).stays;
   }
 
   -- and where it is carried out, the session is fitted
-  pub fit_made : (mask : Mask) (fence : Option (List Pt)) (old : SessionValue) → value_of d l mask fence ≡ old
-      → (g : Design) (m : LogState) → IsCarried d l (plan_of patches append) g m → IsFitted n old (value_of g m mask fence)
-  fit_made mask fence old view g m carried =
-      let has : HasMade (apply_fit d.dim (elements d) n) (fit_fields d.dim (elements d) n) (value_of d l mask fence) (value_of g m mask fence) =
-      has_made d l mask fence (fit_fields d.dim (elements d) n) plan.made (plan_of patches append) planned g m carried
-      (apply_fit d.dim (elements d) n) plan.done in
-      subst (λ (v : SessionValue). IsFitted n v (value_of g m mask fence)) view (record { has = has; fitted = ends (elements g) has.accepted })
+  pub fit_made : (new : SessionValue) → new ≡ carried patches [] old → IsFitted n old new
+  fit_made new is =
+      let has =
+      has_made old (fit_fields old.dim (state_of old).top n) plan.made (plan_of patches []) planned (fit_applied n (state_of old)) plan.done new is in
+      record { has = has; fitted = ends (state_of new).top has.accepted }
 
 pub fits_are_undone : FitsAreUndone
 fits_are_undone s n made done = (ap (λ (a : Applied). undone (pushed a s)) done, ap (λ (a : Applied). undo_refused (pushed a s)) done)

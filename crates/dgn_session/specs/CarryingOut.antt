@@ -4,6 +4,7 @@ use Rattle.std.specs.List.{AllByRecursion}
 use Rattle.patch_bytes.specs.Puts.{Put, write, Span}
 use Rattle.undo_log.specs.declared.entry.Entry.{Entry}
 use Rattle.undo_log.specs.LogState.{LogState}
+use Rattle.undo_log.specs.Entries.{entry_of}
 use Rattle.dgn_drawing.specs.declared.row.Row.{Row}
 use Rattle.dgn_drawing.specs.Element.{Element}
 use Rattle.dgn_drawing.specs.Spelling.{spelling}
@@ -13,6 +14,7 @@ use Rattle.dgn_drawing.specs.Nesting.{BeginsFree, itself}
 use Rattle.elem_index.specs.declared.design.Design.{Design}
 use Rattle.elem_index.specs.Design.{spare_of}
 use Rattle.edit_ops.specs.declared.types.plan.Plan.{Plan}
+use Rattle.dgn_session.specs.State.{SessionValue, value_with}
 use Rattle.dgn_session.specs.SessionParts.{rows_of, OpensAt}
 use Rattle.dgn_drawing.specs.declared.limits.TheConstants.{MOST_DESIGN}
 
@@ -83,6 +85,10 @@ pub record IsSoundPlan (dim : ℕ) (tail b : List ℕ) (p : Plan) : Type 0 where
   pub spells : Spells dim new p.append
   pub short : length p.append ≤ MOST_DESIGN
   pub change : IsChange dim tail b p.patches p.append (map row_of new)
+
+-- a session's value where patches are written into the body and bytes are put behind it, with the entry of this
+abbrev pub carried : List Put → List ℕ → SessionValue → SessionValue
+carried ps append v = value_with (write v.body ps ++ append) (v.entries ++ entry_of v.body ps ∷ []) v
 
 -- the last of some entries has this length
 pub record HasLast (entries : List Entry) (len : ℕ) : Type 0 where

@@ -4,43 +4,39 @@ ghost use Rattle.std.specs.Prelude.{◌≡◌, ◌≤◌, [], ◌∷◌, ◌++�
 ghost use Rattle.patch_bytes.specs.Puts.{write};
 ghost use Rattle.undo_log.specs.Entries.{entry_of};
 ghost use Rattle.dgn_session.specs.SessionParts.{IsKept};
-ghost use Rattle.dgn_session.specs.CarryingOut.{IsSpelling, IsBehind, IsFollowed, IsSoundPlan, plan_of};
+ghost use Rattle.dgn_session.specs.CarryingOut.{IsSpelling, IsBehind, IsFollowed, IsSoundPlan, plan_of, carried};
 
 use crate::appended::nest_appended;
 use crate::room::make_room;
+use crate::session::Session;
 use dgn_drawing::MOST_DESIGN;
-use edit_ops::types::Plan;
 use elem_index::Design;
 use nest_tree::types::Nest;
 use patch_bytes::PatchList;
 use std::alloc::{AllocError, Global};
 use undo_log::Log;
 
-// Takes the memory that a plan wants, and then carries it out. Where there is no memory, all stays as it was.
-pub(crate) fn carry(
-    alloc: Global,
-    design: &mut Design,
-    nest: &mut Nest,
-    log: &mut Log,
-    plan: Plan,
-) -> Result<(), AllocError>
-    requires kept { IsKept design.old nest.old log.old }
-    requires sound { IsSoundPlan design.old.dim design.old.tail.items design.old.body.items plan }
-    ensures kept { IsKept design.new nest.new log.new }
-    ensures dim { design.new.dim ≡ design.old.dim }
-    ensures tail { design.new.tail.items ≡ design.old.tail.items }
-    ensures body { OnOk result (design.new.body.items ≡ write design.old.body.items plan.patches ++ plan.append) }
-    ensures entries { OnOk result
-        (log.new.entries ≡ log.old.entries ++ entry_of design.old.body.items plan.patches ∷ []) }
-    ensures same_body { OnErr result (design.new.body.items ≡ design.old.body.items) }
-    ensures same_entries { OnErr result (log.new.entries ≡ log.old.entries) }
-{
-    let Plan { patches, append } = plan;
-    carry_bytes(alloc, design, nest, log, patches, append.as_slice())
+impl Session {
+    // Takes the memory that patches and bytes to append want, and carries them out. Where there is no memory, the session
+    // is as before.
+    pub(crate) fn carry_out(&mut self, patches: PatchList, append: &[u8]) -> Result<(), AllocError>
+        requires { IsSoundPlan self.old.dim self.old.tail self.old.body (plan_of patches append.now) }
+        ensures carried { OnOk result (self.new ≡ carried patches append.now self.old) }
+        ensures kept { OnErr result (self.new ≡ self.old) }
+    {
+        carry(
+            self.alloc,
+            &mut self.design,
+            &mut self.nest,
+            &mut self.log,
+            patches,
+            append,
+        )
+    }
 }
 
-// Takes the memory that patches and bytes to append want, and carries them out. The bytes aren't copied anywhere else.
-pub(crate) fn carry_bytes(
+// The same on the parts of a session. The bytes aren't copied anywhere else.
+fn carry(
     alloc: Global,
     design: &mut Design,
     nest: &mut Nest,

@@ -6,7 +6,6 @@ ghost use Rattle.dgn_import.specs.Gathering.{AreTrees};
 ghost use Rattle.dgn_session.specs.State.{state_of, value_with};
 ghost use Rattle.dgn_session.specs.Imported.{imported, import_entry, IsTooLong};
 
-use crate::carrying::carry_bytes;
 use crate::session::Session;
 use dgn_drawing::MOST_DESIGN;
 use edit_ops::{Cause, EditFault};
@@ -48,14 +47,7 @@ impl Session {
             return Err(EditFault::Refused(cause));
         }
         let patches = PatchList::new(self.alloc);
-        carry_bytes(
-            self.alloc,
-            &mut self.design,
-            &mut self.nest,
-            &mut self.log,
-            patches,
-            bytes,
-        )?;
+        self.carry_out(patches, bytes)?;
         Ok(())
     }
 }

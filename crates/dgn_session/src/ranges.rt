@@ -8,12 +8,9 @@ ghost use Rattle.dgn_audit.specs.Findings.{findings};
 ghost use Rattle.dgn_session.specs.State.{state_of, value_with};
 ghost use Rattle.dgn_session.specs.Fits.{fit_applied, fit_made, fit_entry, IsFit};
 
-use crate::carrying::carry;
 use crate::session::Session;
 use dgn_audit::{Finding, audit, plan_fit};
 use edit_ops::EditFault;
-use edit_ops::types::Plan;
-use patch_bytes::ByteList;
 use std::alloc::AllocError;
 
 impl Session {
@@ -42,17 +39,7 @@ impl Session {
         ensures kept { OnErr result (self.new ≡ self.old) }
     {
         let patches = plan_fit(self.alloc, &self.design, &self.nest, n)?;
-        let plan = Plan {
-            patches,
-            append: ByteList::new(self.alloc),
-        };
-        carry(
-            self.alloc,
-            &mut self.design,
-            &mut self.nest,
-            &mut self.log,
-            plan,
-        )?;
+        self.carry_out(patches, &[])?;
         Ok(())
     }
 }

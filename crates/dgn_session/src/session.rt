@@ -15,7 +15,6 @@ ghost use Rattle.dgn_session.specs.Answers.{IsFenceRefused};
 ghost use Rattle.dgn_session.specs.SessionParts.{IsKept, value_of, started};
 ghost use Rattle.dgn_session.specs.Laws.{IsSound};
 
-use crate::carrying::carry;
 use crate::fence_edit_fault::FenceEditFault;
 use crate::nothing::Nothing;
 use crate::select_fault::SelectFault;
@@ -97,13 +96,7 @@ impl Session {
         ensures kept { OnErr result (self.new ≡ self.old) }
     {
         let plan = plan(self.alloc, &self.design, &self.nest, e, 0)?;
-        carry(
-            self.alloc,
-            &mut self.design,
-            &mut self.nest,
-            &mut self.log,
-            plan,
-        )?;
+        self.carry_out(plan.patches, plan.append.as_slice())?;
         Ok(())
     }
 
@@ -136,13 +129,7 @@ impl Session {
         };
         let roots = select(self.alloc, &self.design, &self.nest, self.mask, fence, mode)?;
         let plan = plan_all(self.alloc, &self.design, &self.nest, &roots, e)?;
-        carry(
-            self.alloc,
-            &mut self.design,
-            &mut self.nest,
-            &mut self.log,
-            plan,
-        )?;
+        self.carry_out(plan.patches, plan.append.as_slice())?;
         Ok(roots.len() as u32)
     }
 

@@ -1,29 +1,28 @@
-use Rattle.std.proofs.Common.{sym, ◌∙◌}
-use Rattle.dgn_session.specs.SessionParts.{value_of}
+use Rattle.std.proofs.Common.{◌≡◌, ◌+◌, length, sym, ◌∙◌, subst}
+use Rattle.std.specs.Prelude.{None}
+use Rattle.edit_trees.specs.Causes.{too_long}
+use Rattle.dgn_session.specs.State.{SessionValue}
+use Rattle.dgn_session.specs.Laws.{IsSound}
 use Rattle.dgn_session.proofs.AppendedTrees.{IsImported, trees_sound, trees_made}
 use Rattle.dgn_session.proofs.session.Session.append_trees.Goals as goal
-use Rattle.dgn_session.proofs.session.Session.append_trees.Goals.{In_ok-carry_bytes}
+use Rattle.dgn_session.proofs.session.Session.append_trees.Goals.{In_ok-carry_out}
 
 -- what the session comes to
-imported : (c : goal.In_ok-carry_bytes) → IsImported c.args.bytes.now c.args.self.now
-    (value_of c.carry_bytes.new.design c.carry_bytes.new.log c.self.inside.mask c.self.inside.fence)
+imported : (c : goal.In_ok-carry_out) → IsImported c.args.bytes.now c.args.self.now c.carry_out.new.self
 imported c =
-    trees_made c.self.inside.design c.self.inside.log c.self.invariant.back c.self.inside.mask c.self.inside.fence c.args.self.now c.self.view_is
-    c.args.bytes.now c.requires.trees (sym c.growth_cause.ensures ∙ c.in_default.is) c.new-patches.result c.new-patches.ensures
-    c.carry_bytes.new.design c.carry_bytes.new.log (record {
-      dim = c.carry_bytes.ensures.dim;
-      tail = c.carry_bytes.ensures.tail;
-      body = c.in_ok-carry_bytes.ensures.body;
-      entries = c.in_ok-carry_bytes.ensures.entries;
-    })
+    trees_made c.args.self.now (subst IsSound c.self.view_is c.self.invariant.back) c.args.bytes.now c.requires.trees
+    (subst (λ (v : SessionValue). too_long (length v.body + length v.tail + length c.args.bytes.now) ≡ None) c.self.view_is
+    (sym c.growth_cause.ensures ∙ c.in_default.is)) c.new-patches.result c.new-patches.ensures
+    c.carry_out.new.self c.in_ok-carry_out.ensures.carried
 
-pub carry_bytes-requires-clause-sound : goal.carry_bytes-requires-clause-sound
-carry_bytes-requires-clause-sound c =
-    trees_sound c.self.inside.design c.self.inside.log c.self.invariant.back c.self.inside.mask c.self.inside.fence c.args.self.now c.self.view_is
-    c.args.bytes.now c.requires.trees (sym c.growth_cause.ensures ∙ c.in_default.is) c.new-patches.result c.new-patches.ensures
+pub carry_out-requires : goal.carry_out-requires
+carry_out-requires c =
+    trees_sound c.args.self.now (subst IsSound c.self.view_is c.self.invariant.back) c.args.bytes.now c.requires.trees
+    (subst (λ (v : SessionValue). too_long (length v.body + length v.tail + length c.args.bytes.now) ≡ None) c.self.view_is
+    (sym c.growth_cause.ensures ∙ c.in_default.is)) c.new-patches.result c.new-patches.ensures
 
 pub returns-clause-done : goal.returns-clause-done
-returns-clause-done c = (imported (goal.at.returns-clause-done c).In_ok-carry_bytes).done
+returns-clause-done c = (imported (goal.at.returns-clause-done c).In_ok-carry_out).done
 
 pub returns-clause-value : goal.returns-clause-value
-returns-clause-value c = (imported (goal.at.returns-clause-value c).In_ok-carry_bytes).value
+returns-clause-value c = (imported (goal.at.returns-clause-value c).In_ok-carry_out).value

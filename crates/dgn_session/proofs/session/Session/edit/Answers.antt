@@ -4,10 +4,11 @@ use Rattle.elem_index.specs.Design.{elements}
 use Rattle.edit_trees.specs.Applying.{apply}
 use Rattle.edit_ops.specs.Planned.{IsRefused}
 use Rattle.dgn_session.specs.State.{SessionValue, state_of, applied}
-use Rattle.dgn_session.specs.SessionParts.{value_of}
-use Rattle.dgn_session.proofs.EditCarriedOut.{IsEdited, edit_sound, edit_made}
+use Rattle.dgn_session.specs.Laws.{IsSound}
+use Rattle.dgn_session.specs.CarryingOut.{plan_of}
+use Rattle.dgn_session.proofs.EditCarriedOut.{IsEdited, plan_seen, edit_sound, edit_made}
 use Rattle.dgn_session.proofs.session.Session.edit.Goals as goal
-use Rattle.dgn_session.proofs.session.Session.edit.Goals.{In_ok-carry}
+use Rattle.dgn_session.proofs.session.Session.edit.Goals.{In_ok-carry_out}
 
 -- an error that is handed on stands as it came
 handed_on : {T E : Type 0} (r : Result T E) (e : E) (P : E → Type 0) → IsErrAnd r (λ x. x ≡ e) → P e → IfErr r P
@@ -18,12 +19,12 @@ none_more : (n : ℕ) → n + 0 ≡ n
 none_more n = omega arith
 
 -- what the session comes to
-edited : (c : goal.In_ok-carry) → IsEdited c.args.e.now c.args.self.now
-    (value_of c.carry.new.design c.carry.new.log c.self.inside.mask c.self.inside.fence)
+edited : (c : goal.In_ok-carry_out) → IsEdited c.args.e.now c.args.self.now c.carry_out.new.self
 edited c =
-    edit_made c.self.inside.design c.self.inside.log c.self.invariant.back c.args.e.now c.in_ok-plan.plan c.in_ok-plan.ensures.kept
-    c.in_ok-plan.ensures.planned c.self.inside.mask c.self.inside.fence c.args.self.now c.self.view_is c.carry.new.design c.carry.new.log
-    (record { dim = c.carry.ensures.dim; tail = c.carry.ensures.tail; body = c.in_ok-carry.ensures.body; entries = c.in_ok-carry.ensures.entries })
+    edit_made c.args.self.now (subst IsSound c.self.view_is c.self.invariant.back) c.args.e.now
+    (plan_of c.in_ok-plan.plan.patches c.as_slice.result.now) c.in_ok-plan.ensures.kept
+    (plan_seen c.self.inside.design c.self.inside.log c.self.inside.mask c.self.inside.fence c.args.self.now c.self.view_is c.args.e.now
+    c.in_ok-plan.plan c.as_slice.result.now c.as_slice.ensures c.in_ok-plan.ensures.planned) c.carry_out.new.self c.in_ok-carry_out.ensures.carried
 
 pub returns-in_err-plan-clause-refused : goal.returns-in_err-plan-clause-refused
 returns-in_err-plan-clause-refused c =
@@ -34,19 +35,21 @@ returns-in_err-plan-clause-refused c =
     (subst (λ (n : ℕ). IsRefused (apply d.dim (elements d) n c.args.e.now) c.in_err-plan.field-0.0) (none_more (length d.tail.items))
     c.in_err-plan.ensures.refused))
 
-pub carry-requires-clause-sound : goal.carry-requires-clause-sound
-carry-requires-clause-sound c =
-    edit_sound c.self.inside.design c.self.inside.log c.self.invariant.back c.args.e.now c.in_ok-plan.plan c.in_ok-plan.ensures.kept
-    c.in_ok-plan.ensures.planned
+pub carry_out-requires : goal.carry_out-requires
+carry_out-requires c =
+    edit_sound c.args.self.now (subst IsSound c.self.view_is c.self.invariant.back) c.args.e.now
+    (plan_of c.in_ok-plan.plan.patches c.as_slice.result.now) c.in_ok-plan.ensures.kept
+    (plan_seen c.self.inside.design c.self.inside.log c.self.inside.mask c.self.inside.fence c.args.self.now c.self.view_is c.args.e.now
+    c.in_ok-plan.plan c.as_slice.result.now c.as_slice.ensures c.in_ok-plan.ensures.planned)
 
 pub returns-clause-done : goal.returns-clause-done
-returns-clause-done c = (edited (goal.at.returns-clause-done c).In_ok-carry).has.done
+returns-clause-done c = (edited (goal.at.returns-clause-done c).In_ok-carry_out).has.done
 
 pub returns-clause-accepted : goal.returns-clause-accepted
-returns-clause-accepted c = (edited (goal.at.returns-clause-accepted c).In_ok-carry).has.accepted
+returns-clause-accepted c = (edited (goal.at.returns-clause-accepted c).In_ok-carry_out).has.accepted
 
 pub returns-clause-value : goal.returns-clause-value
-returns-clause-value c = (edited (goal.at.returns-clause-value c).In_ok-carry).has.value
+returns-clause-value c = (edited (goal.at.returns-clause-value c).In_ok-carry_out).has.value
 
 pub returns-clause-changed : goal.returns-clause-changed
-returns-clause-changed c = (edited (goal.at.returns-clause-changed c).In_ok-carry).changed
+returns-clause-changed c = (edited (goal.at.returns-clause-changed c).In_ok-carry_out).changed

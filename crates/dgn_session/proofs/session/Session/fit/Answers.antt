@@ -1,28 +1,31 @@
-use Rattle.dgn_session.specs.SessionParts.{value_of}
+use Rattle.std.proofs.Common.{subst}
+use Rattle.dgn_audit.specs.Planned.{IsFitPlan}
+use Rattle.dgn_session.specs.State.{SessionValue, state_of}
+use Rattle.dgn_session.specs.Laws.{IsSound}
 use Rattle.dgn_session.proofs.FitCarriedOut.{IsFitted, fit_sound, fit_made}
 use Rattle.dgn_session.proofs.session.Session.fit.Goals as goal
-use Rattle.dgn_session.proofs.session.Session.fit.Goals.{In_ok-carry}
+use Rattle.dgn_session.proofs.session.Session.fit.Goals.{In_ok-carry_out}
 
 -- what the session comes to
-fitted : (c : goal.In_ok-carry) → IsFitted c.args.n c.args.self.now (value_of c.carry.new.design c.carry.new.log c.self.inside.mask c.self.inside.fence)
+fitted : (c : goal.In_ok-carry_out) → IsFitted c.args.n c.args.self.now c.carry_out.new.self
 fitted c =
-    fit_made c.self.inside.design c.self.inside.log c.self.invariant.back c.args.n c.in_ok-patches.patches c.in_ok-patches.ensures.planned
-    c.new.result c.new.ensures c.self.inside.mask c.self.inside.fence c.args.self.now c.self.view_is c.carry.new.design c.carry.new.log
-    (record { dim = c.carry.ensures.dim; tail = c.carry.ensures.tail; body = c.in_ok-carry.ensures.body; entries = c.in_ok-carry.ensures.entries })
+    fit_made c.args.self.now (subst IsSound c.self.view_is c.self.invariant.back) c.args.n c.in_ok-patches.patches
+    (subst (λ (v : SessionValue). IsFitPlan v.dim (state_of v).top c.args.n c.in_ok-patches.patches) c.self.view_is c.in_ok-patches.ensures.planned)
+    c.carry_out.new.self c.in_ok-carry_out.ensures.carried
 
-pub carry-requires-clause-sound : goal.carry-requires-clause-sound
-carry-requires-clause-sound c =
-    fit_sound c.self.inside.design c.self.inside.log c.self.invariant.back c.args.n c.in_ok-patches.patches c.in_ok-patches.ensures.planned
-    c.new.result c.new.ensures
+pub carry_out-requires : goal.carry_out-requires
+carry_out-requires c =
+    fit_sound c.args.self.now (subst IsSound c.self.view_is c.self.invariant.back) c.args.n c.in_ok-patches.patches
+    (subst (λ (v : SessionValue). IsFitPlan v.dim (state_of v).top c.args.n c.in_ok-patches.patches) c.self.view_is c.in_ok-patches.ensures.planned)
 
 pub returns-clause-done : goal.returns-clause-done
-returns-clause-done c = (fitted (goal.at.returns-clause-done c).In_ok-carry).has.done
+returns-clause-done c = (fitted (goal.at.returns-clause-done c).In_ok-carry_out).has.done
 
 pub returns-clause-accepted : goal.returns-clause-accepted
-returns-clause-accepted c = (fitted (goal.at.returns-clause-accepted c).In_ok-carry).has.accepted
+returns-clause-accepted c = (fitted (goal.at.returns-clause-accepted c).In_ok-carry_out).has.accepted
 
 pub returns-clause-value : goal.returns-clause-value
-returns-clause-value c = (fitted (goal.at.returns-clause-value c).In_ok-carry).has.value
+returns-clause-value c = (fitted (goal.at.returns-clause-value c).In_ok-carry_out).has.value
 
 pub returns-clause-fitted : goal.returns-clause-fitted
-returns-clause-fitted c = (fitted (goal.at.returns-clause-fitted c).In_ok-carry).fitted
+returns-clause-fitted c = (fitted (goal.at.returns-clause-fitted c).In_ok-carry_out).fitted
