@@ -2,6 +2,8 @@
 #![tactic(auto)]
 
 #[cfg(test)]
+mod buffering;
+#[cfg(test)]
 mod desks;
 #[cfg(test)]
 mod headers;

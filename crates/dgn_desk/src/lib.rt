@@ -3,6 +3,7 @@
 #![tactic(auto)]
 
 mod act;
+mod buffered_desk;
 mod desk;
 mod failing;
 mod file_map;
@@ -15,6 +16,7 @@ mod sure_desk;
 mod writing;
 
 pub use act::Act;
+pub use buffered_desk::{BufferedDesk, MOST_HELD};
 pub use desk::Desk;
 pub use given_words::words;
 pub use host_desk::HostDesk;

@@ -1,9 +1,11 @@
 -- What a whole run ensures, said as one.
-use Rattle.std.specs.Prelude.{ℕ, ◌≡◌, Option, IfSome, IsNone, IsTrue}
+use Rattle.std.specs.Prelude.{ℕ, ◌≡◌, List, [], Option, Result, Ok, Err, IfOk, IfSome, IsNone, IsTrue}
 use Rattle.dgn_desk.specs.declared.desk.Desk.{Ghosts}
 use Rattle.dgn_desk.specs.Content.{OnlyLeftDiffers}
 use Rattle.dgn_desk.specs.Desk.{Rose}
-use Rattle.dgn_desk.specs.Seen.{Seen, seen}
+use Rattle.dgn_desk.specs.Seen.{Seen, DeskWrites, seen}
+use Rattle.dgn_desk.specs.declared.stop.Stop.{Stop}
+use Rattle.dgn_desk.specs.declared.stop.Stop.TheVariants as stops
 use Rattle.dgn_files.specs.Request.{Request}
 use Rattle.dgn_tool.specs.RunInBytes.{FilesInBytes}
 use Rattle.dgn_tool.specs.Outcome.{outcome_of, IsEnding, EndsAs, StoppedAs, IsFaultless, HasFiles, Reads}
@@ -32,3 +34,25 @@ DeskRuns g request old new status = Runs request (seen g old) (seen g new) statu
 -- so it ended with the number of its status
 abbrev pub DeskExits : {D : Type 0} → Ghosts D → Option Request → D → D → ℕ → Type 0
 DeskExits g request old new number = (status : Status) × (number ≡ number_of status) × DeskRuns g request old new status
+
+-- what a run over a desk that holds back what is said ends with, once it is flushed: its own number, or that of what stopped
+-- the flush
+abbrev pub flushed_number : Result (Unit {0}) Stop → ℕ → ℕ
+flushed_number (Ok x) ended = ended
+flushed_number (Err stops.Failed) ended = number_of statuses.WriteFault
+flushed_number (Err stops.Memory) ended = number_of statuses.Memory
+
+-- a flush at the end of a run that ended with this number: what is told stays, and where it came to its end nothing is held
+-- back any more
+pub record EndsFlushed {D : Type 0} (g : Ghosts D) (run new : D) (held : List ℕ) (ended number : ℕ) : Type 0 where
+  pub flush : Result (Unit {0}) Stop
+  pub writes : DeskWrites g flush (λ told now. now ≡ told) run new
+  pub handed : IfOk flush (λ _. held ≡ [])
+  pub number_is : number ≡ flushed_number flush ended
+
+-- a run with this request, and then the flush
+pub record ExitsFlushed {D : Type 0} (g : Ghosts D) (request : Option Request) (old new : D) (held : List ℕ) (number : ℕ) : Type 0 where
+  pub run : D
+  pub ended : ℕ
+  pub exits : DeskExits g request old run ended
+  pub flushed : EndsFlushed g run new held ended number

@@ -5,12 +5,12 @@ ghost use Rattle.std.specs.Process.{exit_status};
 ghost use Rattle.std.specs.IoError.{error_kind};
 ghost use Rattle.std.specs.declared.io.ErrorKind.TheVariants.{OutOfMemory};
 ghost use Rattle.dgn_files.specs.Request.{request_of};
-ghost use Rattle.dgn_tool.specs.Runs.{DeskRuns, DeskExits};
+ghost use Rattle.dgn_tool.specs.Runs.{DeskRuns, DeskExits, EndsFlushed, ExitsFlushed};
 ghost use Rattle.dgn_files.specs.Status.{number_of};
 
 use crate::top::run_words;
-use dgn_desk::Desk;
-use dgn_files::Status;
+use dgn_desk::{BufferedDesk, Desk};
+use dgn_files::{End, Status};
 use std::alloc::Global;
 use std::io;
 use std::process::ExitCode;
@@ -29,7 +29,39 @@ pub fn run_given<D: Desk>(alloc: Global, given: io::Result<Vec<String>>, desk: &
     exit_code(end_given(alloc, given, desk))
 }
 
-// The same by its status.
+/// The same over a desk that holds back what is said, which is flushed at the end. Where the flush stops, the number is that
+/// of what stopped it: text that wasn't handed on wasn't said.
+pub fn run_flushed<D: Desk + Drop>(
+    alloc: Global,
+    given: io::Result<Vec<String>>,
+    desk: &mut BufferedDesk<D>,
+) -> ExitCode
+    ensures words { IfOk given
+        (λ words. ExitsFlushed ⟦<BufferedDesk<D> as Desk>⟧ (request_of (map string_bytes words.items))
+        desk.old desk.new desk.new.held.items (exit_status result)) }
+    ensures none { IfErr given (λ error. ¬ (error_kind error ≡ OutOfMemory)
+        → ExitsFlushed ⟦<BufferedDesk<D> as Desk>⟧ (request_of [])
+        desk.old desk.new desk.new.held.items (exit_status result)) }
+    ensures memory { IfErr given (λ error. error_kind error ≡ OutOfMemory
+        → EndsFlushed ⟦<BufferedDesk<D> as Desk>⟧ desk.old desk.new
+        desk.new.held.items (number_of Status.Memory) (exit_status result)) }
+{
+    let ended = run_given(alloc, given, desk);
+    flushed(desk, ended)
+}
+
+// What the program ends with once the desk is flushed, where its run ended with this.
+fn flushed<D: Desk + Drop>(desk: &mut BufferedDesk<D>, ended: ExitCode) -> ExitCode
+    ensures { EndsFlushed ⟦<BufferedDesk<D> as Desk>⟧ desk.old desk.new desk.new.held.items
+        (exit_status ended) (exit_status result) }
+{
+    match desk.flush() {
+        Ok(()) => ended,
+        Err(stop) => exit_code(End::Stopped(stop).status()),
+    }
+}
+
+// `run_given` by its status.
 fn end_given<D: Desk>(alloc: Global, given: io::Result<Vec<String>>, desk: &mut D) -> Status
     ensures words { IfOk given
         (λ words. DeskRuns D.Desk (request_of (map string_bytes words.items)) desk.old desk.new result) }

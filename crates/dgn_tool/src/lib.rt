@@ -15,5 +15,5 @@ mod writing;
 pub use dgn_answers::{answer, answer_import};
 pub use dgn_files::Status;
 pub use dgn_generator::generate;
-pub use given::run_given;
+pub use given::{run_flushed, run_given};
 pub use top::run;
