@@ -1,4 +1,4 @@
--- An element that is a tree by itself, and may be edited.
+-- An element that is a tree by itself, and may be edited. No contract of a public call of `edit_ops` cites this.
 use Rattle.std.specs.Prelude.{ℕ, ◌≡◌, ◌+◌, List, Some, None, false, slice_get, option_map}
 use Rattle.dgn_drawing.specs.Element.{Element}
 use Rattle.dgn_drawing.specs.Rows.{row_of}

@@ -2,7 +2,8 @@ ghost use Rattle.std.specs.Prelude.{◌≡◌, ◌+◌, ◌<◌, ◌≤◌, ◌�
 ghost use Rattle.std.specs.List.{AllByRecursion, list_all};
 ghost use Rattle.std.specs.Option.{option_to_list};
 ghost use Rattle.elem_head.specs.Head.{symbology_of};
-ghost use Rattle.dgn_layout.specs.Spots.{HoldsPoints, spots_of};
+ghost use Rattle.dgn_layout.specs.Classes.{class_of};
+ghost use Rattle.dgn_layout.specs.Spots.{HoldsPoints, has_spots, spots_of};
 ghost use Rattle.dgn_drawing.specs.WellFormed.{IsDimension};
 ghost use Rattle.elem_index.specs.Design.{elements, IsWhole};
 ghost use Rattle.patch_bytes.specs.PatchView.{put_of};
@@ -44,10 +45,53 @@ pub fn push_live(
     ensures stay { IfOk result (λ _. leaving d.now.dim edit.now (found (elements d.now) live.now) ≡ None) }
     ensures refused { IfErr result (IsStopped (leaving d.now.dim edit.now (found (elements d.now) live.now))) }
 {
+    make_room(patches, d, live, edit)?;
     'live: for m in live {
         push_patches(patches, d, *m, edit)?;
     }
     Ok(())
+}
+
+// Makes room at once for the sums of several live elements that are moved, so that the list doesn't grow by steps. It stays
+// as it was.
+fn make_room(
+    patches: &mut PatchList,
+    d: &Design,
+    live: &[u32],
+    edit: &Edit,
+) -> Result<(), AllocError>
+    requires whole { IsWhole d.now }
+    requires readable { AllByRecursion (λ v. MayBePut edit.now v.element) (found (elements d.now) live.now) }
+    ensures { patches.new ≡ patches.old }
+{
+    match edit {
+        Edit::Move { .. } if live.len() > 1 => patches.reserve(numbers_in(d, live)),
+        _ => Ok(()),
+    }
+}
+
+// How many coordinate fields the elements of these numbers have.
+fn numbers_in(d: &Design, live: &[u32]) -> usize
+    requires whole { IsWhole d.now }
+    requires spotted { AllByRecursion (λ v. IsTrue (has_spots (class_of v.element.kind))) (found (elements d.now) live.now) }
+{
+    let mut count = 0_usize;
+    'live: for m in live {
+        count = count.saturating_add(numbers_at(d, *m));
+    }
+    count
+}
+
+// How many coordinate fields element m has, where there is one.
+fn numbers_at(d: &Design, m: u32) -> usize
+    requires whole { IsWhole d.now }
+    requires spotted { AllByRecursion (λ v. IsTrue (has_spots (class_of v.element.kind)))
+        (option_to_list (found_at (elements d.now) m)) }
+{
+    let Some(found) = find(d, m) else {
+        return 0;
+    };
+    spots_in(d.dim, found.kind, found.bytes).len()
 }
 
 // Appends what an edit puts into element m, where there is one, or says that it would leave the plane.

@@ -43,7 +43,7 @@ returns-in_err-push_patches-clause-refused c =
     let m = get_or c.args.live.now c.live.m-index 0 in
     let first = leaving d.dim c.args.edit.now (option_to_list (found_at es m)) in
     let others = leaving d.dim c.args.edit.now (found es (drop (c.live.m-index + 1) c.args.live.now)) in
-    let p = err_from_is_err_and c.from_residual.result c.from_residual.ensures.1 in
+    let p = err_from_is_err_and c.from_residual-in_err-push_patches.result c.from_residual-in_err-push_patches.ensures.1 in
     rw (p.1, p.2)
     (subst (λ (o : Option Cause). IsStopped o c.in_err-push_patches.field-0.0)
     (sym (leaving_next d.dim c.args.edit.now es c.args.live.now c.live.m-index c.live-test.true) ∙ c.live.invariant.same)
