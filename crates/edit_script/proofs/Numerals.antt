@@ -1,10 +1,9 @@
 -- The value of digits, one after the other.
 use Rattle.std.proofs.Common.{◌≡◌, ℕ, ◌+◌, ◌-◌, ◌*◌, ◌<◌, ◌≤◌, true, false, List, [], ◌∷◌, length, get_or, drop, Option, Some, None, refl, sym, ap, ◌∙◌, arith}
-use Rattle.std.specs.Prelude.{nat_le, if◌then◌else◌}
+use Rattle.std.specs.Prelude.{nat_le, Bool, ◌&&◌, if◌then◌else◌}
 use Rattle.std.specs.List.{list_all}
 use Rattle.std.specs.Char.{is_ascii_digit, digit_value}
 use Rattle.std.specs.Str.Parse.{digits_value, digits_value_after}
-use Rattle.std.proofs.lemmas.Bool.{and_parts}
 use Rattle.std.proofs.lemmas.Bool.Decides.{nat_tests}
 use Rattle.std.proofs.lemmas.List.{drop_more}
 
@@ -12,12 +11,19 @@ use Rattle.std.proofs.lemmas.List.{drop_more}
 pub digit_is : (c : ℕ) → is_ascii_digit c ≡ true → (48 ≤ c) × (c ≤ 57) × (digit_value c ≡ c - 48)
 digit_is c is = grind (arith, nat_tests)
 
--- the next of digits that are left, and the others
-pub digit_next : (word : List ℕ) (i : ℕ) → i < length word → list_all is_ascii_digit (drop i word) ≡ true
-    → (is_ascii_digit (get_or word i 0) ≡ true) × (list_all is_ascii_digit (drop (i + 1) word) ≡ true)
-digit_next word i within all =
-    and_parts (is_ascii_digit (get_or word i 0)) (list_all is_ascii_digit (drop (i + 1) word))
-    (sym (ap (list_all is_ascii_digit) (drop_more word i 0 within)) ∙ all)
+-- the bytes that are left are digits where the next one is and those behind it are
+pub digits_left : (word : List ℕ) (i : ℕ) → i < length word
+    → list_all is_ascii_digit (drop i word) ≡ (is_ascii_digit (get_or word i 0) && list_all is_ascii_digit (drop (i + 1) word))
+digits_left word i within = ap (list_all is_ascii_digit) (drop_more word i 0 within)
+
+-- they aren't where the next one isn't
+pub none_left : (word : List ℕ) (i : ℕ) → i < length word → is_ascii_digit (get_or word i 0) ≡ false → list_all is_ascii_digit (drop i word) ≡ false
+none_left word i within other = digits_left word i within ∙ ap (λ (is : Bool). is && list_all is_ascii_digit (drop (i + 1) word)) other
+
+-- and where it is one, they are where those behind it are
+pub digits_behind : (word : List ℕ) (i : ℕ) → i < length word → is_ascii_digit (get_or word i 0) ≡ true
+    → list_all is_ascii_digit (drop i word) ≡ list_all is_ascii_digit (drop (i + 1) word)
+digits_behind word i within is = digits_left word i within ∙ ap (λ (is : Bool). is && list_all is_ascii_digit (drop (i + 1) word)) is
 
 -- the value of what is left behind a value goes on with the next
 pub value_next : (word : List ℕ) (i value : ℕ) → i < length word
@@ -30,5 +36,10 @@ grows n [] = omega arith
 grows n (d ∷ ds) = omega (arith, grows (n * 10 + digit_value d) ds)
 
 -- a value above so much isn't given
-pub not_given : (value most : ℕ) → most < value → (if nat_le value most then Some value else None) ≡ None
-not_given value most large = let is : nat_le value most ≡ false = grind (arith, nat_tests) in rw is refl
+pub not_given : (all : Bool) (value most : ℕ) → most < value → (if all && nat_le value most then Some value else None) ≡ None
+not_given false value most large = refl
+not_given true value most large = let is : nat_le value most ≡ false = grind (arith, nat_tests) in rw is refl
+
+-- and none that isn't spelled by digits alone
+pub none_given : (all : Bool) (value most : ℕ) → all ≡ false → (if all && nat_le value most then Some value else None) ≡ None
+none_given all value most other = rw other refl

@@ -1,29 +1,40 @@
-ghost use Rattle.std.specs.Prelude.{◌≡◌, ◌≤ℤ◌, nat_le, pos, neg_ℤ, Some, None, if◌then◌else◌, IsTrue, IfSome, option_map};
+ghost use Rattle.std.specs.Prelude.{◌≡◌, ◌==◌, ◌&&◌, ◌||◌, not, ◌≤ℤ◌, nat_le, pos, neg_ℤ, length, slice_index, Some, None, if◌then◌else◌};
+ghost use Rattle.std.specs.Prelude.{IfSome, option_map};
 ghost use Rattle.std.specs.List.{list_all};
 ghost use Rattle.std.specs.Char.{is_ascii_digit};
 ghost use Rattle.std.specs.Str.Parse.{digits_value};
-ghost use Rattle.edit_script.specs.Numbers.{is_number_word, number_within, negated, signed_within};
+ghost use Rattle.edit_script.specs.Numbers.{number_within, negated, signed_within};
 
 /// The number that a word spells, a decimal without sign and without leading zeros, where it is at most `most`. None
 /// exactly where it spells no such number.
 pub fn number(word: &[u8], most: u32) -> Option<u32>
     ensures { result ≡ number_within most word.now }
 {
-    if is_number(word) {
+    if begins_number(word) {
         value_within(word, most)
     } else {
         None
     }
 }
 
-// The number that digits spell, where it is at most `most`.
-fn value_within(digits: &[u8], most: u32) -> Option<u32>
-    requires { IsTrue (list_all is_ascii_digit digits.now) }
-    ensures { result ≡ (if nat_le (digits_value 10 digits.now) most then Some (digits_value 10 digits.now) else None) }
+// Whether a word has a byte, and no 0 in front of others.
+fn begins_number(word: &[u8]) -> bool
+    ensures { result ≡ not (length word.now == 0) && (not (slice_index word.now 0 == 48) || (length word.now == 1)) }
+{
+    !word.is_empty() && (word[0] != b'0' || word.len() == 1)
+}
+
+// The number that a word's bytes spell, where they are digits and it is at most `most`.
+fn value_within(word: &[u8], most: u32) -> Option<u32>
+    ensures { result ≡ (if list_all is_ascii_digit word.now && nat_le (digits_value 10 word.now) most
+        then Some (digits_value 10 word.now) else None) }
 {
     let most = u64::from(most);
     let mut value = 0;
-    'digits: for digit in digits {
+    'digits: for digit in word {
+        if !digit.is_ascii_digit() {
+            return None;
+        }
         value = value * 10 + u64::from(*digit - b'0');
         if value > most {
             return None;
@@ -64,17 +75,4 @@ fn negated(digits: &[u8], most: u32) -> Option<i64>
     } else {
         Some(-i64::from(value))
     }
-}
-
-// Whether a word is a number: digits, with no 0 in front.
-fn is_number(word: &[u8]) -> bool
-    ensures { result ≡ is_number_word word.now }
-{
-    !word.is_empty() && (word[0] != b'0' || word.len() == 1) && all_digits(word)
-}
-
-fn all_digits(word: &[u8]) -> bool
-    ensures { result ≡ list_all is_ascii_digit word.now }
-{
-    word.iter().all(|b| b.is_ascii_digit())
 }
