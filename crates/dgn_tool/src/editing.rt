@@ -42,7 +42,12 @@ pub(crate) fn edit<D: Desk>(
                 commands,
                 mut seconds,
             },
-        ) => End::of(run_script(alloc, desk, design, &commands, &mut seconds, output)),
+        ) => {
+            let ended = run_script(alloc, desk, design, &commands, &mut seconds, output);
+            // As with the session below.
+            let _kept = ManuallyDrop::new(commands);
+            End::of(ended)
+        }
         Err(end) => end,
     }
 }
