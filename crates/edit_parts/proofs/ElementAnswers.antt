@@ -1,5 +1,5 @@
 -- What is read of an element says what stands against an edit of it, and what the edit puts into it.
-use Rattle.std.proofs.Common.{◌≡◌, ℕ, ◌+◌, ◌≤◌, List, [], ◌∷◌, length, Bool, true, false, cond, Option, Some, None, refl, sym, ap, ◌∙◌}
+use Rattle.std.proofs.Common.{◌≡◌, ℕ, ◌+◌, ◌<◌, ◌≤◌, List, [], ◌∷◌, length, Bool, true, false, cond, Option, Some, None, refl, sym, ap, ◌∙◌}
 use Rattle.std.proofs.Common.{subst, arith}
 use Rattle.std.specs.Prelude.{◌&&◌, not, slice_get, option_map}
 use Rattle.std.specs.List.{AllByRecursion, list_all}
@@ -40,6 +40,7 @@ use Rattle.edit_trees.specs.Found.{IsFound}
 use Rattle.edit_trees.proofs.ReadableElements.{IsShown, is_shown, shown_long}
 use Rattle.elem_index.proofs.Places.{axes_of}
 use Rattle.edit_trees.proofs.DesignElements.{four_bytes}
+use Rattle.edit_trees.proofs.WiderRanges.{one_of}
 
 -- the test of the plane may be asked where the element has spots
 pub asked_of_spots : (test : Test) (by : Displacement) (o : Option Element) (e : Element) → test ≡ tests.Leaves by → o ≡ Some e → MayBeAskedOf test o
@@ -104,6 +105,15 @@ readable_of e es m v there each =
 module _ (d : Design) (whole : IsWhole d) (m : ℕ) (f : Found) (found : IsFound d m f) where
   axes : IsDimension d.dim
   axes = axes_of d whole
+
+  -- a type is below 128
+  pub kind_found : f.kind < 128
+  kind_found = subst (λ (k : ℕ). k < 128) (sym found.kind) found.good.kind
+
+  -- it has fields, where each that is found has
+  pub spotted_found : AllByRecursion (λ (v : Live). has_spots (class_of v.element.kind) ≡ true) (option_to_list (found_at (elements d) m))
+      → has_spots (class_of found.element.kind) ≡ true
+  spotted_found each = one_of (λ (v : Live). has_spots (class_of v.element.kind) ≡ true) (elements d) m found.element found.there each
 
   -- it holds its points
   pub holds_found : has_spots (class_of found.element.kind) ≡ true → HoldsPoints d.dim f.kind f.bytes.now (length f.bytes.now)

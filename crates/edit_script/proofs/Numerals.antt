@@ -1,5 +1,5 @@
 -- The value of digits, one after the other.
-use Rattle.std.proofs.Common.{◌≡◌, ℕ, ◌+◌, ◌-◌, ◌*◌, ◌<◌, ◌≤◌, true, false, List, [], ◌∷◌, length, get_or, drop, Option, Some, None, refl, sym, ap, ◌∙◌, arith}
+use Rattle.std.proofs.Common.{◌≡◌, ℕ, ◌+◌, ◌-◌, ◌*◌, ◌<◌, ◌≤◌, true, false, List, [], ◌∷◌, length, get_or, drop, Some, None, refl, ap, ◌∙◌, arith}
 use Rattle.std.specs.Prelude.{nat_le, Bool, ◌&&◌, if◌then◌else◌}
 use Rattle.std.specs.List.{list_all}
 use Rattle.std.specs.Char.{is_ascii_digit, digit_value}
@@ -19,11 +19,6 @@ digits_left word i within = ap (list_all is_ascii_digit) (drop_more word i 0 wit
 -- they aren't where the next one isn't
 pub none_left : (word : List ℕ) (i : ℕ) → i < length word → is_ascii_digit (get_or word i 0) ≡ false → list_all is_ascii_digit (drop i word) ≡ false
 none_left word i within other = digits_left word i within ∙ ap (λ (is : Bool). is && list_all is_ascii_digit (drop (i + 1) word)) other
-
--- and where it is one, they are where those behind it are
-pub digits_behind : (word : List ℕ) (i : ℕ) → i < length word → is_ascii_digit (get_or word i 0) ≡ true
-    → list_all is_ascii_digit (drop i word) ≡ list_all is_ascii_digit (drop (i + 1) word)
-digits_behind word i within is = digits_left word i within ∙ ap (λ (is : Bool). is && list_all is_ascii_digit (drop (i + 1) word)) is
 
 -- the value of what is left behind a value goes on with the next
 pub value_next : (word : List ℕ) (i value : ℕ) → i < length word

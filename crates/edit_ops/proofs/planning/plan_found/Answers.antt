@@ -1,12 +1,8 @@
-use Rattle.std.proofs.Common.{◌≡◌, None, Option, sym, ap, ◌∙◌}
-use Rattle.std.specs.Option.{option_or}
+use Rattle.std.proofs.Common.{◌≡◌, None, sym, ◌∙◌}
 use Rattle.elem_index.specs.Design.{elements}
-use Rattle.edit_trees.specs.declared.cause.Cause.{Cause}
 use Rattle.edit_trees.specs.Causes.{first_of}
-use Rattle.edit_trees.specs.Trees.{live_tree}
-use Rattle.edit_parts.specs.Putting.{leaving}
 use Rattle.edit_ops.specs.Asked.{causes_asked}
-use Rattle.edit_ops.proofs.SumsLast.{sums_last, headers_widen, live_readable}
+use Rattle.edit_ops.proofs.SumsLast.{headers_widen, live_readable}
 use Rattle.edit_ops.proofs.planning.plan_found.Goals as goal
 
 pub push_part-requires : goal.push_part-requires

@@ -1,8 +1,8 @@
-use Rattle.std.proofs.Common.{◌≡◌, ℕ, ◌+◌, ◌*◌, get_or, drop, false, true, sym, ap, ◌∙◌, arith}
+use Rattle.std.proofs.Common.{◌≡◌, ◌+◌, ◌*◌, get_or, drop, false, true, sym, ◌∙◌, arith}
 use Rattle.std.specs.List.{list_all}
 use Rattle.std.specs.Char.{is_ascii_digit, digit_value}
 use Rattle.std.specs.Str.Parse.{digits_value, digits_value_after}
-use Rattle.edit_script.proofs.Numerals.{digit_is, none_left, digits_behind, value_next, grows, not_given, none_given}
+use Rattle.edit_script.proofs.Numerals.{digit_is, none_left, value_next, grows, not_given, none_given}
 use Rattle.edit_script.proofs.numbers.value_within.Goals as goal
 
 pub returns-then-not-is_ascii_digit : goal.returns-then-not-is_ascii_digit
