@@ -16,12 +16,13 @@ returns-in-Ok g c =
     let d = opened_of inputs.design in
     let vs = waiting inputs.seconds.items in
     let o = c.args.output.now in
+    let ran = c.run_script-ended in
     then_comes c.in-Ok.ensures.read (HasAll c.args.input.now c.args.script.now) (AllInBytes c.args.input.now c.args.script.now)
     (λ files. run_outcome c.args.input.now c.args.script.now files (λ x gs. edited x gs o)) (edited d (given_all inputs.commands.items vs) o)
-    c.run_script-ended.result c.of.result
+    ran.result c.of.result
     (λ files known. known.0 (λ x gs. edited x gs o)) (λ files known. known.1) c.of.ensures
-    (subst (λ (cs : List Command). DeskComes g.D.Desk (λ _. edited d (given_all cs vs) o) c.read_inputs.new.desk c.run_script-ended.new.desk c.run_script-ended.result)
-    c.deref.ensures.value c.run_script-ended.ensures)
+    (subst (λ (cs : List Command). DeskComes g.D.Desk (λ _. edited d (given_all cs vs) o) c.read_inputs.new.desk ran.new.desk ran.result)
+    c.deref.ensures.value ran.ensures)
 
 pub returns-in-Err : goal.returns-in-Err
 returns-in-Err g c = c.in-Err.ensures.ended.early (λ _ read. edited read.0 read.1 c.args.output.now)
