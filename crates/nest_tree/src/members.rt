@@ -1,10 +1,10 @@
 // The members of a header, which its total counts in bytes.
 
-ghost use Rattle.std.specs.Prelude.{ℕ, ◌≡◌, ◌+◌, ◌<◌, ◌≤◌, true, length, get_or};
+ghost use Rattle.std.specs.Prelude.{◌≡◌, ◌+◌, ◌<◌, ◌≤◌, true, length, get_or};
 ghost use Rattle.dgn_layout.specs.Classes.{class_of};
 ghost use Rattle.dgn_drawing.specs.Nesting.{is_counted};
 ghost use Rattle.nest_tree.specs.Shapes.{rows_between, members_in, IsBetween};
-ghost use Rattle.nest_tree.specs.Sources.{no_row, rows_of, place_in, IsSource, IsAhead};
+ghost use Rattle.nest_tree.specs.Sources.{no_row, rows_of, IsSource, IsAhead};
 
 use crate::ahead::Ahead;
 use crate::source::Source;
@@ -29,27 +29,11 @@ pub(crate) fn members(
     let wanted = source.place(at) + 38 + 2 * u64::from(total);
     let first = at + 1;
     let last = ahead.marked_end(source, first).min(end);
-    if first + ahead.near <= last && source.place(first + ahead.near) == wanted {
-        return Some(ahead.near);
-    }
-    let most = last.min(furthest(source, first, wanted));
-    let count = source.below(first, most, ahead.near, wanted);
+    let count = source.below(first, last, ahead.near, wanted);
     ahead.near = count;
     if source.place(first + count) == wanted {
         Some(count)
     } else {
         None
     }
-}
-
-// A number that no row behind row `first` has that begins at the wanted place or before, if it is greater: each row has at
-// least four bytes.
-fn furthest(source: &Source<'_>, first: usize, wanted: u64) -> usize
-    requires source { IsSource source.now }
-    requires known { first ≤ length (rows_of source.now) }
-    ensures behind { first ≤ result }
-    ensures far { (k : ℕ) → result < first + k → first + k ≤ length (rows_of source.now) → wanted < place_in source.now (first + k) }
-{
-    let most = wanted.saturating_sub(source.place(first)) / 4;
-    first + most as usize
 }

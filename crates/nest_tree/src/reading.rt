@@ -17,7 +17,7 @@ use crate::link::Link;
 use crate::link_list::LinkList;
 use crate::open_list::{OpenList, all_elements, list_at};
 use crate::seen::SeenRows;
-use crate::shape::{LEAF, Shape, shape_at};
+use crate::shape::{Shape, shape_at};
 use crate::source::Source;
 use dgn_drawing::is_header;
 
@@ -168,36 +168,15 @@ fn put_next(
         (vec_capacity broken.new - vec_len broken.new) }
 {
     let cbit = source.cbit(at - first);
-    let shape = next_shape(seen, first, source, around, at, ahead);
+    let shape = shape_at(
+        source,
+        around.scope,
+        at - first,
+        around.end as usize - first,
+        ahead,
+    );
     put_element(seen, around, at as u32, cbit, shape, ends, links, broken);
     list_behind(seen, around, at as u32, shape)
-}
-
-// The shape of element `at` of a list. The source gives the rows from number `first` on.
-fn next_shape(
-    _seen: &SeenRows,
-    first: usize,
-    source: &Source<'_>,
-    around: OpenList,
-    at: usize,
-    ahead: &mut Ahead,
-) -> Shape
-    requires few { length _seen.now.list < 4294967295 }
-    requires begun { first ≤ at }
-    requires source { IsSource source.now }
-    requires rows { rows_of source.now ≡ drop first _seen.now.list }
-    requires ahead { IsAhead (rows_of source.now) (at - first) ahead.old }
-    requires going { Going _seen.now.list at around }
-    requires inside { at < around.end }
-    ensures shape { result ≡ code_shape (shape_in around.scope (rows_between _seen.now.list at around.end)) }
-    ensures ahead { IsAhead (rows_of source.now) (at + 1 - first) ahead.new }
-{
-    let i = at - first;
-    if is_header(source.kind(i)) {
-        shape_at(source, around.scope, i, around.end as usize - first, ahead)
-    } else {
-        LEAF
-    }
 }
 
 // Puts what is kept of element `at` behind what is kept of those before it.

@@ -33,7 +33,7 @@ pub(crate) struct Shape {
     pub(crate) count: usize,
 }
 
-pub(crate) const LEAF: Shape = Shape {
+const LEAF: Shape = Shape {
     knot: Knot::Leaf,
     inside: Scope::Members,
     count: 0,

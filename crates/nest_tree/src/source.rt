@@ -96,7 +96,8 @@ impl Source<'_> {
         ensures before { IsTrue result → (k : ℕ) → first + k < i → place_in self.now (first + k) < wanted }
         ensures from { IsTrue result → wanted ≤ place_in self.now i }
     {
-        wanted <= self.place(i) && (i == first || self.place(i - 1) < wanted)
+        let here = self.place(i);
+        here == wanted || wanted < here && (i == first || self.place(i - 1) < wanted)
     }
 
     // How many of the places from number `first` on, before number `last`, are below the wanted one. The guess is tried first.
@@ -108,9 +109,33 @@ impl Source<'_> {
         ensures before { (k : ℕ) → k < result → place_in self.now (first + k) < wanted }
         ensures from { first + result < last → wanted ≤ place_in self.now (first + result) }
     {
-        if guess < last - first && self.is_first(first, first + guess, wanted) {
+        if guess <= last - first && self.is_first(first, first + guess, wanted) {
             return guess;
         }
+        let end = last.min(self.past(first, wanted));
+        self.search(first, end, wanted)
+    }
+
+    // A number from which on all rows begin behind the wanted place: each row from row `first` on has at least four bytes.
+    fn past(&self, first: usize, wanted: u64) -> usize
+        requires source { IsSource self.now }
+        requires known { first ≤ length (rows_of self.now) }
+        ensures behind { first ≤ result }
+        ensures far { (k : ℕ) → result ≤ first + k → first + k ≤ length (rows_of self.now) → wanted < place_in self.now (first + k) }
+    {
+        let most = wanted.saturating_sub(self.place(first)) / 4;
+        first + most as usize + 1
+    }
+
+    // How many of the places from number `first` on, before number `last`, are below the wanted one.
+    fn search(&self, first: usize, last: usize, wanted: u64) -> usize
+        requires source { IsSource self.now }
+        requires ordered { first ≤ last }
+        requires known { last ≤ length (rows_of self.now) }
+        ensures within { first + result ≤ last }
+        ensures before { (k : ℕ) → k < result → place_in self.now (first + k) < wanted }
+        ensures from { first + result < last → wanted ≤ place_in self.now (first + result) }
+    {
         match self {
             Source::Listed(_, sums) => sums_below(sums, first, last, wanted),
             Source::Kept(places, _, _, _) => places_below(places, first, last, wanted),
