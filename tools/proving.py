@@ -2,6 +2,7 @@
 
 import os
 import queue
+import shutil
 import signal
 import subprocess
 import threading
@@ -138,9 +139,9 @@ class Provers:
     """Proves what isn't proved yet, the longest chain first. Those further on in that order stand back for those
     before them, so a crate waits for a place only behind these: the others leave it the processors. Two processes
     prove a crate faster than one, but take more of the processors in all: so the crates of the longest chain have two,
-    and the others one. The last crates, each of which waits for the one before, have one run, which is begun while
-    those below are proved yet: until it has read what is kept, rt proves nothing, and it waits for what another rt is
-    proving."""
+    and the others one. Until it has read what is kept, rt proves nothing, and it waits for what another rt is proving:
+    so the runs of the longest chain are begun while those below are proved yet. The last crates, each of which waits
+    for the one before, have one run."""
 
     def __init__(self, schedule: Schedule, make_tree: Callable[[str], str], temporary: str) -> None:
         self.schedule, self.make_tree, self.temporary = schedule, make_tree, temporary
@@ -148,9 +149,18 @@ class Provers:
         self.running: Dict[str, Run] = {}
         self.said: 'queue.Queue[Said]' = queue.Queue()
 
-    def has_place(self, name: str) -> bool:
-        ahead = [it for it in self.order[:self.order.index(name)] if it in self.running]
+    def has_place(self, name: str, done: Set[str]) -> bool:
+        """Whether a crate can be begun: a run that waits for crates below it takes no place from those behind it."""
+        ahead = [it for it in self.order[:self.order.index(name)]
+                 if it in self.running and self.schedule.is_ready(it, done)]
         return len(ahead) < self.places and len(self.running) < self.room
+
+    def may_begin(self, name: str, done: Set[str]) -> bool:
+        """Whether all crates below are done, or for one of the longest chain, are done or at least proved by now."""
+        if name not in self.schedule.longest:
+            return self.schedule.is_ready(name, done)
+        below = [it for it in self.schedule.below[name] if it not in done]
+        return all(it in self.running for it in below) and all(is_proving(self.running[it]) for it in below)
 
     def rank(self) -> None:
         """Has each crate that is proved stand back for those before it."""
@@ -174,7 +184,11 @@ class Provers:
             while left or self.running:
                 self._begin(left, done)
                 self.rank()
-                run, ends = self._wait(log, tick)
+                heard = self._wait(log)
+                if heard is None:
+                    tick()
+                    continue
+                run, ends = heard
                 note(run, run.proved)
                 if ends:
                     del self.running[run.names[0]]
@@ -183,19 +197,22 @@ class Provers:
                     note(run, run.names)
                     if run.names == [first] and first in run.kept:
                         return []
+                    if run.names[-1] != self.order[-1]:
+                        shutil.rmtree(run.tree, ignore_errors=True)
             return []
         finally:
             for run in self.running.values():
                 run.end()
 
     def _begin(self, left: List[str], done: Set[str]) -> None:
-        """Begins the runs that have a place: of crates whose libraries are done, and of the last ones once all others
-        are begun."""
-        for name in [it for it in left if it not in self.tail and self.schedule.is_ready(it, done)]:
-            if self.has_place(name):
+        """Begins the runs that have a place: of crates that may begin, and of the last ones once all others are
+        proved by now. Else these would prove a crate that another run waits to prove."""
+        for name in [it for it in left if it not in self.tail and self.may_begin(it, done)]:
+            if self.has_place(name, done):
                 left.remove(name)
                 self._run([name])
-        if left and all(it in self.tail for it in left) and self.has_place(left[0]):
+        waiting = [it for it in self.running if not self.schedule.is_ready(it, done)]
+        if left and not waiting and all(it in self.tail for it in left) and self.has_place(left[0], done):
             self._run(list(left))
             left.clear()
 
@@ -203,12 +220,11 @@ class Provers:
         alone = names[0] not in self.schedule.longest
         self.running[names[0]] = Run(names, self.make_tree(names[-1]), self.temporary, self.said, alone)
 
-    def _wait(self, log: Callable[[str], None], tick: Callable[[], None]) -> Tuple[Run, bool]:
-        """The next run that has proved one of its crates, and whether it ends."""
+    def _wait(self, log: Callable[[str], None]) -> Optional[Tuple[Run, bool]]:
+        """The next run that has proved one of its crates, and whether it ends; none where a second goes by first."""
         for heard in lines_of(self.said, 1):
             if heard is None:
-                tick()
-                continue
+                return None
             run, line = heard
             if line is None:
                 return run, True
