@@ -7,7 +7,7 @@ import signal
 import subprocess
 import threading
 import time
-from typing import Callable, Dict, Iterator, List, Optional, Set, Tuple
+from typing import Callable, Dict, Iterator, List, NamedTuple, Optional, Set, Tuple
 
 from schedule import Schedule
 
@@ -88,20 +88,38 @@ def lines_of(said: 'queue.Queue[Said]', seconds: float) -> Iterator[Optional[Sai
             yield None
 
 
-def is_proving(run: Run) -> bool:
-    """Whether the prover is at work in a run: a process 'rattle build' or 'rattle check' of its session. Before it
-    proves, rt reads the sources by other commands of rattle."""
-    for name in os.listdir('/proc'):
+class Process(NamedTuple):
+    """A process: its name, the session that it belongs to, what it and its children that have ended took of the
+    processors, in seconds, and the words of its command."""
+
+    name: str
+    session: int
+    seconds: float
+    words: List[str]
+
+
+def processes() -> List[Process]:
+    """All processes."""
+    found = []
+    for number in os.listdir('/proc'):
         try:
-            with open('/proc/%s/stat' % name, encoding='ascii', errors='replace') as file:
-                command, _, rest = file.read().partition('(')[2].rpartition(')')
-            with open('/proc/%s/cmdline' % name, encoding='utf-8', errors='replace') as file:
+            with open('/proc/%s/stat' % number, encoding='ascii', errors='replace') as file:
+                name, _, rest = file.read().partition('(')[2].rpartition(')')
+            with open('/proc/%s/cmdline' % number, encoding='utf-8', errors='replace') as file:
                 words = file.read().split('\0')
         except OSError:
             continue
-        if command == 'rattle' and words[1:2] in (['build'], ['check']) and rest.split()[3:4] == [str(run.process.pid)]:
-            return True
-    return False
+        fields = rest.split()
+        ticks = sum(int(it) for it in fields[11:15])
+        found.append(Process(name, int(fields[3]), ticks / os.sysconf('SC_CLK_TCK'), words))
+    return found
+
+
+def is_proving(run: Run, among: List[Process]) -> bool:
+    """Whether the prover is at work in a run: a process 'rattle build' or 'rattle check' of its session. Before it
+    proves, rt reads the sources by other commands of rattle."""
+    return any(it.session == run.process.pid and it.name == 'rattle' and it.words[1:2] in (['build'], ['check'])
+               for it in among)
 
 
 def take_kept(tree: str, temporary: str, log: Callable[[str], None]) -> Tuple[Set[str], bool]:
@@ -111,7 +129,7 @@ def take_kept(tree: str, temporary: str, log: Callable[[str], None]) -> Tuple[Se
     try:
         for heard in lines_of(said, 0.5):
             if heard is None:
-                if is_proving(run):
+                if is_proving(run, processes()):
                     return run.kept, False
                 continue
             if heard[1] is None:
@@ -121,6 +139,12 @@ def take_kept(tree: str, temporary: str, log: Callable[[str], None]) -> Tuple[Se
         return run.kept, run.is_proved()
     finally:
         run.end()
+
+
+def children_seconds() -> float:
+    """What the children of this process took of the processors, of those that have ended and were waited for."""
+    spent = os.times()
+    return spent.children_user + spent.children_system
 
 
 def width() -> int:
@@ -137,22 +161,28 @@ def room() -> int:
 
 class Provers:
     """Proves what isn't proved yet, the longest chain first. Those further on in that order stand back for those
-    before them, so a crate waits for a place only behind these: the others leave it the processors. Two processes
-    prove a crate faster than one, but take more of the processors in all: so the crates of the longest chain have two,
-    and the others one. Until it has read what is kept, rt proves nothing, and it waits for what another rt is proving:
-    so the runs of the longest chain are begun while those below are proved yet. The last crates, each of which waits
-    for the one before, have one run."""
+    before them, so a crate waits for a place only behind these: the others leave it the processors. Until it has read
+    what is kept, rt proves nothing, and it waits for what another rt is proving: so the runs of the longest chain are
+    begun while those below are proved yet. The last crates, each of which waits for the one before, have one run."""
 
     def __init__(self, schedule: Schedule, make_tree: Callable[[str], str], temporary: str) -> None:
         self.schedule, self.make_tree, self.temporary = schedule, make_tree, temporary
         self.order, self.tail, self.places, self.room = schedule.order(), schedule.tail(), width(), room()
         self.running: Dict[str, Run] = {}
+        self.processes: List[Process] = []
+        self.spent = self.reckoned = 0.0
         self.said: 'queue.Queue[Said]' = queue.Queue()
+
+    def left(self, name: str) -> float:
+        """How much work is left from a crate on, as the schedule reckons it, by the rate of the crates so far."""
+        spent = 0.0
+        if name in self.running:
+            spent = sum(it.seconds for it in self.processes if it.session == self.running[name].process.pid)
+        return self.schedule.left(name, spent * self.reckoned / self.spent if self.reckoned else spent)
 
     def has_place(self, name: str, done: Set[str]) -> bool:
         """Whether a crate can be begun: a run that waits for crates below it takes no place from those behind it."""
-        ahead = [it for it in self.order[:self.order.index(name)]
-                 if it in self.running and self.schedule.is_ready(it, done)]
+        ahead = [it for it in self.running if self.schedule.is_ready(it, done) and self.left(it) > self.left(name)]
         return len(ahead) < self.places and len(self.running) < self.room
 
     def may_begin(self, name: str, done: Set[str]) -> bool:
@@ -160,11 +190,11 @@ class Provers:
         if name not in self.schedule.longest:
             return self.schedule.is_ready(name, done)
         below = [it for it in self.schedule.below[name] if it not in done]
-        return all(it in self.running for it in below) and all(is_proving(self.running[it]) for it in below)
+        return all(it in self.running and is_proving(self.running[it], self.processes) for it in below)
 
     def rank(self) -> None:
-        """Has each crate that is proved stand back for those before it."""
-        for place, name in enumerate(it for it in self.order if it in self.running):
+        """Has each crate that is proved stand back for those from which on more is left."""
+        for place, name in enumerate(sorted(self.running, key=lambda it: -self.left(it))):
             self.running[name].stand_back(RANKS[min(place, len(RANKS) - 1)])
 
     def prove(self, done: Set[str], log: Callable[[str], None], add: Callable[[str, bool], None],
@@ -182,6 +212,7 @@ class Provers:
 
         try:
             while left or self.running:
+                self.processes = processes()
                 self._begin(left, done)
                 self.rank()
                 heard = self._wait(log)
@@ -192,7 +223,7 @@ class Provers:
                 note(run, run.proved)
                 if ends:
                     del self.running[run.names[0]]
-                    if not run.is_proved():
+                    if not self._ends(run, log):
                         return [name for name in run.names if name not in done]
                     note(run, run.names)
                     if run.names == [first] and first in run.kept:
@@ -203,6 +234,17 @@ class Provers:
         finally:
             for run in self.running.values():
                 run.end()
+
+    def _ends(self, run: Run, log: Callable[[str], None]) -> bool:
+        """Whether a run that ends has proved its crates, and notes what that took of the processors."""
+        before = children_seconds()
+        is_proved = run.is_proved()
+        spent = children_seconds() - before
+        log('== the processors took %.0f s for %s\n' % (spent, ' '.join(run.names)))
+        if not run.kept.intersection(run.names):
+            self.spent += spent
+            self.reckoned += sum(self.schedule.work[name] for name in run.names)
+        return is_proved
 
     def _begin(self, left: List[str], done: Set[str]) -> None:
         """Begins the runs that have a place: of crates that may begin, and of the last ones once all others are
@@ -217,7 +259,7 @@ class Provers:
             left.clear()
 
     def _run(self, names: List[str]) -> None:
-        alone = names[0] not in self.schedule.longest
+        alone = names[0] not in self.schedule.by_two
         self.running[names[0]] = Run(names, self.make_tree(names[-1]), self.temporary, self.said, alone)
 
     def _wait(self, log: Callable[[str], None]) -> Optional[Tuple[Run, bool]]:

@@ -1,34 +1,36 @@
 """How long the proofs of crates take beside one another, in units of work: which crate ends when."""
 
-from typing import Dict, List, Set
+from typing import Container, Dict, List, Set, Tuple
 
-OVERHEAD = 170  # what each crate takes beside its own lines, in lines: reading the kit and the crates below
 PAIR = 1.5  # how many times as fast a crate is proved by two processes, where each has a processor
 
 
 class Schedule:
-    """Crates that are proved so many at a time, each once those below it are, the longest chain above it first. Those
-    of the longest chain of all, for which the others wait in the end, are proved by two processes, and the others by
-    one."""
+    """Crates that are proved so many at a time, each once those below it are, the longest chain above it first. By two
+    processes one is proved sooner, but takes more of the processors in all: so a crate is proved by one where others
+    are at hand for the rest of the processors."""
 
-    def __init__(self, below: Dict[str, List[str]], lines: Dict[str, int], lanes: int) -> None:
+    def __init__(self, below: Dict[str, List[str]], work: Dict[str, float], lanes: int) -> None:
         self.below = {name: [it for it in names if it in below] for name, names in below.items()}
-        self.work = {name: float(lines[name] + OVERHEAD) for name in below}
+        self.work = dict(work)
+        self.chains = self._chains()
         self.longest = self._longest()
-        for name in self.longest:
-            self.work[name] /= PAIR
         self.lanes, self.count = lanes, len(below)
-        self.ends = self._ends()
+        self.ends, self.by_two = self._run_through()
 
     def leave_out(self, name: str) -> None:
         """Takes a crate as proved before: it takes no time."""
         self.work[name] = 0
-        self.ends = self._ends()
+        self.chains = self._chains()
+        self.ends, self.by_two = self._run_through()
 
     def order(self) -> List[str]:
         """The crates, each behind those below it, the longest chain above first."""
-        chains = self._chains()
-        return sorted(self.below, key=lambda name: -chains[name])
+        return sorted(self.below, key=lambda name: -self.chains[name])
+
+    def left(self, name: str, spent: float) -> float:
+        """The work of the longest chain above a crate, and what is left of its own, of which so much is done."""
+        return self.chains[name] - min(spent, self.work[name])
 
     def tail(self) -> List[str]:
         """The last crates, of which each waits for the one before it alone, when all others are done."""
@@ -40,7 +42,7 @@ class Schedule:
                 return found
             found = last + found
 
-    def is_ready(self, name: str, done: Set[str]) -> bool:
+    def is_ready(self, name: str, done: Container[str]) -> bool:
         return all(it in done for it in self.below[name])
 
     def length(self) -> float:
@@ -64,11 +66,10 @@ class Schedule:
 
     def _longest(self) -> List[str]:
         """The crates of the longest chain, the lowest first."""
-        chains = self._chains()
         found: List[str] = []
         above = list(self.below)
         while above:
-            found.append(max(above, key=lambda it: chains[it]))
+            found.append(max(above, key=lambda it: self.chains[it]))
             above = [it for it in self.below if found[-1] in self.below[it]]
         return found
 
@@ -86,17 +87,22 @@ class Schedule:
             chain(name)
         return chains
 
-    def _ends(self) -> Dict[str, float]:
-        """When each crate ends, where a free lane takes the ready crate of the longest chain."""
-        chains, now = self._chains(), 0.0
+    def _run_through(self) -> Tuple[Dict[str, float], Set[str]]:
+        """When each crate ends, where a free lane takes the ready crate of the longest chain, and which are by two
+        processes, since a lane would have no crate when they begin."""
+        now = 0.0
         ends: Dict[str, float] = {}
         running: Dict[str, float] = {}
-        left = sorted(self.below, key=lambda name: -chains[name])
+        by_two: Set[str] = set()
+        left = self.order()
         while left or running:
-            ready = [it for it in left if all(below in ends for below in self.below[it])]
+            ready = [it for it in left if self.is_ready(it, ends)]
+            is_lane_left = len(running) + len(ready) < self.lanes
             for name in ready[:self.lanes - len(running)]:
                 left.remove(name)
-                running[name] = now + self.work[name]
+                if is_lane_left:
+                    by_two.add(name)
+                running[name] = now + self.work[name] / (PAIR if name in by_two else 1)
             name = min(running, key=lambda it: running[it])
             now = ends[name] = running.pop(name)
-        return ends
+        return ends, by_two
