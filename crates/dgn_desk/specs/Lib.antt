@@ -1,8 +1,3 @@
-pub mod Content
-pub mod Holding
-pub mod Desk
-pub mod Seen
-pub mod FileLaws
 pub mod FileMap
 pub mod NumberedDesk
 pub mod PieceDesk

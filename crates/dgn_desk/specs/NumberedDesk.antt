@@ -8,9 +8,10 @@ use Rattle.std.specs.Coded.{Coded, code_by, coded×, coded_ℕ, coded_list}
 use Rattle.std.specs.FinMap as maps
 use Rattle.dgn_desk.specs.declared.act.Act.{Act}
 use Rattle.dgn_desk.specs.declared.act.Act.TheVariants.{BeginRead, Read, BeginWrite, Write, Say}
-use Rattle.dgn_desk.specs.declared.stop.Stop.{Stop}
-use Rattle.dgn_desk.specs.declared.stop.Stop.TheVariants.{Failed, Memory}
-use Rattle.dgn_desk.specs.Content.{Content, coded_content}
+use Rattle.host_desk.specs.declared.stop.Stop.{Stop}
+use Rattle.host_desk.specs.declared.stop.Stop.TheVariants.{Failed, Memory}
+use Rattle.host_desk.specs.Content.{Content, coded_content}
+use Rattle.host_desk.specs.Desk.{one_more}
 
 pub record NumberedDesk : Type 0 where
   pub content : Content
@@ -47,10 +48,6 @@ coded_desk =
     (coded× (coded_list coded_ℕ) (coded× (coded_list (code_by ℕ coded_ℕ number_of_act act_of_number act_of-number_of)) (coded× coded_ℕ coded_ℕ)))))
     (λ d. (d.content, (d.piece, (d.fails, (d.acts, (d.read_faults, d.write_faults))))))
     (λ p. record { content = p.0; piece = p.1.0; fails = p.1.1.0; acts = p.1.1.1.0; read_faults = p.1.1.1.1.0; write_faults = p.1.1.1.1.1 }) (λ _. refl)
-
--- one more, up to the last value of a counter of 64 bits
-abbrev pub one_more : ℕ → ℕ
-one_more count = min (count + 1) (2 ^ 64 - 1)
 
 -- the number of the next call: how many there were, up to the last value of a counter of 64 bits
 abbrev pub next_number : List Act → ℕ

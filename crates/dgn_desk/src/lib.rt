@@ -1,27 +1,15 @@
-//! The outside of the program, as a trait: files that are read and written by name, and a place to say
-//! things. Its contract counts the faults and, for a desk that tells it, gives the content.
+//! The outside of the program, as a trait, with the desks that stand for it: that of the machine, which `host_desk` has, as it
+//! has the trait, and two of memory. The program doesn't stand on those of memory.
 #![tactic(auto)]
 
 mod act;
-mod buffered_desk;
-mod desk;
-mod failing;
 mod file_map;
-mod given_words;
-mod host_desk;
 mod mem_desk;
-mod reading;
-mod stop;
 mod sure_desk;
-mod writing;
 
 pub use act::Act;
-pub use buffered_desk::{BufferedDesk, MOST_HELD};
-pub use desk::Desk;
-pub use given_words::words;
-pub use host_desk::HostDesk;
+pub use host_desk::{
+    BufferedDesk, Desk, HostDesk, MOST_HELD, ReadEnd, Stop, read_all, say_all, words, write_file,
+};
 pub use mem_desk::MemDesk;
-pub use reading::{ReadEnd, read_all};
-pub use stop::Stop;
 pub use sure_desk::SureDesk;
-pub use writing::{say_all, write_file};

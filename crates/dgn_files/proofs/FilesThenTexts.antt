@@ -2,11 +2,11 @@
 use Rattle.std.proofs.Common.{◌≡◌, List, [], ℕ, take, Option, Some, None, Result, Ok, Err, inl, inr, refl, sym}
 use Rattle.std.specs.Prelude.{option_map, IfSome}
 use Rattle.std.proofs.lemmas.List.{append-nil}
-use Rattle.dgn_desk.specs.Content.{Content, filed}
-use Rattle.dgn_desk.specs.Desk.{FilesAll}
-use Rattle.dgn_desk.specs.Seen.{Seen, Writes}
-use Rattle.dgn_desk.specs.declared.stop.Stop.{Stop}
-use Rattle.dgn_desk.proofs.InTurn.{stopped_so, then_so}
+use Rattle.host_desk.specs.Content.{Content, filed}
+use Rattle.host_desk.specs.Desk.{FilesAll}
+use Rattle.host_desk.specs.Seen.{Seen, Writes}
+use Rattle.host_desk.specs.declared.stop.Stop.{Stop}
+use Rattle.host_desk.proofs.InTurn.{stopped_so, then_so}
 use Rattle.dgn_files.specs.Ended.{ended, filed_then_said}
 use Rattle.dgn_files.specs.Ends.{Tells, status_said}
 use Rattle.dgn_files.specs.Leaving.{Leaves, Stops, IsFrontOf}

@@ -4,7 +4,7 @@ use Rattle.std.proofs.Common.{arith}
 use Rattle.std.specs.Prelude.{◌&&◌, IsTrue, codes}
 use Rattle.std.specs.Result.{is_ok}
 use Rattle.std.proofs.lemmas.Bool.Decides.{nat_tests}
-use Rattle.dgn_desk.specs.Content.{Files, bytes_of}
+use Rattle.host_desk.specs.Content.{Files, bytes_of}
 use Rattle.dgn_drawing.specs.Opening.{Fault, NotDesign, Cut, Short, Attr}
 use Rattle.dgn_drawing.specs.WellFormed.{IsBytes}
 use Rattle.dgn_drawing.specs.declared.limits.TheConstants.{MOST_DESIGN}

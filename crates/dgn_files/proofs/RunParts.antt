@@ -1,12 +1,12 @@
 -- Parts of a run, one after the other: reading and then an end, reading twice, and what an end of one part is for the run.
 use Rattle.std.proofs.Common.{◌≡◌, List, ℕ, Option, Some, None, Result, Ok, Err, refl, sym, ◌∙◌, subst}
 use Rattle.std.specs.Prelude.{IfOk, IfSome}
-use Rattle.dgn_desk.specs.declared.stop.Stop.{Stop}
-use Rattle.dgn_desk.specs.declared.stop.Stop.TheVariants as stops
-use Rattle.dgn_desk.specs.Content.{Content, Files, OnlyLeftDiffers}
-use Rattle.dgn_desk.specs.Desk.{Rose, Counts, SaysAll}
-use Rattle.dgn_desk.specs.Seen.{Seen, OnlyReads, Writes}
-use Rattle.dgn_desk.proofs.InTurn.{done_so, stopped_so, wanted}
+use Rattle.host_desk.specs.declared.stop.Stop.{Stop}
+use Rattle.host_desk.specs.declared.stop.Stop.TheVariants as stops
+use Rattle.host_desk.specs.Content.{Content, Files, OnlyLeftDiffers}
+use Rattle.host_desk.specs.Desk.{Rose, Counts, SaysAll}
+use Rattle.host_desk.specs.Seen.{Seen, OnlyReads, Writes}
+use Rattle.host_desk.proofs.InTurn.{done_so, stopped_so, wanted}
 use Rattle.dgn_files.specs.Ended.{Outcome, ended}
 use Rattle.dgn_files.specs.Ends.{status_said, Tells, IsSaid, IsUnread, Ends, ReadTo, end_of}
 use Rattle.dgn_files.specs.declared.ending.Ending.{Ending}

@@ -2,9 +2,9 @@
 use Rattle.std.proofs.Common.{◌≡◌, List, [], ℕ, take, drop, inl, inr, true, false, Bool, Option, Some, None, Result, Ok, Err, refl, sym, ap, ◌∙◌}
 use Rattle.std.specs.Prelude.{option_map, IfSome}
 use Rattle.std.proofs.lemmas.List.{append-nil, take-append-drop}
-use Rattle.dgn_desk.specs.Desk.{SaysAll}
-use Rattle.dgn_desk.specs.declared.stop.Stop.{Stop}
-use Rattle.dgn_desk.specs.Content.{Content, Files, spoken, with_left, OnlyLeftDiffers}
+use Rattle.host_desk.specs.Desk.{SaysAll}
+use Rattle.host_desk.specs.declared.stop.Stop.{Stop}
+use Rattle.host_desk.specs.Content.{Content, Files, spoken, with_left, OnlyLeftDiffers}
 use Rattle.dgn_files.specs.Ended.{Outcome, ended}
 use Rattle.dgn_files.specs.Ends.{Tells, status_said}
 use Rattle.dgn_files.specs.Leaving.{Leaves, Stops, IsFrontOf, HoldsFront, InOrder}

@@ -1,12 +1,12 @@
 -- How a part of a run ends the run, and what it leaves of the desk.
 use Rattle.std.specs.Prelude.{ℕ, List, Option, Result, Ok, Err, IfSome, IsSome, IsTrue}
 use Rattle.std.specs.FinMap as maps
-use Rattle.dgn_desk.specs.declared.desk.Desk.{Ghosts}
-use Rattle.dgn_desk.specs.declared.stop.Stop.{Stop}
-use Rattle.dgn_desk.specs.declared.stop.Stop.TheVariants as stops
-use Rattle.dgn_desk.specs.Content.{Files, Content, OnlyLeftDiffers}
-use Rattle.dgn_desk.specs.Desk.{Rose}
-use Rattle.dgn_desk.specs.Seen.{Seen, seen, OnlyReads, Writes}
+use Rattle.host_desk.specs.declared.desk.Desk.{Ghosts}
+use Rattle.host_desk.specs.declared.stop.Stop.{Stop}
+use Rattle.host_desk.specs.declared.stop.Stop.TheVariants as stops
+use Rattle.host_desk.specs.Content.{Files, Content, OnlyLeftDiffers}
+use Rattle.host_desk.specs.Desk.{Rose}
+use Rattle.host_desk.specs.Seen.{Seen, seen, OnlyReads, Writes}
 use Rattle.dgn_files.specs.Ended.{Outcome}
 use Rattle.dgn_files.specs.Leaving.{Leaves, Stops}
 use Rattle.dgn_files.specs.declared.status.Status.{Status}

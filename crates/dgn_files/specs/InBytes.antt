@@ -1,7 +1,7 @@
 -- Which of the files that a run read are known to be bytes, once it came to an ending: each that is within its limit. Of a
 -- longer one no more was read than shows that it is longer.
 use Rattle.std.specs.Prelude.{ℕ, ◌≤◌, ◌<◌, List, [], ◌∷◌, length, Result, Ok, Err, IsTrue, ⊤}
-use Rattle.dgn_desk.specs.Content.{Files, bytes_of}
+use Rattle.host_desk.specs.Content.{Files, bytes_of}
 use Rattle.dgn_drawing.specs.WellFormed.{IsBytes}
 use Rattle.edit_script.specs.Script.{commands_of}
 use Rattle.dgn_drawing.specs.declared.command.Command.{Command}

@@ -3,7 +3,7 @@ use Rattle.std.specs.Prelude.{ℕ, ◌≤◌, nat_lt, nat_le, Bool, ◌&&◌, if
 use Rattle.std.specs.Prelude.{Result, Ok, Err, IsSome, IsTrue}
 use Rattle.std.specs.FinMap as maps
 use Rattle.std.specs.Result.{is_ok}
-use Rattle.dgn_desk.specs.Content.{Files, bytes_of}
+use Rattle.host_desk.specs.Content.{Files, bytes_of}
 use Rattle.dgn_drawing.specs.Opening.{Fault, NotDesign, Cut, Short, Attr}
 use Rattle.elem_index.specs.Opened.{Opened, opening}
 use Rattle.edit_script.specs.Script.{commands_of}

@@ -1,8 +1,8 @@
 -- What a run leaves of the content that its desk told, by the outcome that it came to.
 use Rattle.std.specs.Prelude.{ℕ, ◌≡◌, ◌⊎◌, Bool, true, false, List, [], ◌++◌, Option, Some, None}
 use Rattle.std.specs.Prelude.{Result, Ok, Err, option_map}
-use Rattle.dgn_desk.specs.Content.{Files, Content, with_file, spoken}
-use Rattle.dgn_desk.specs.declared.stop.Stop.{Stop}
+use Rattle.host_desk.specs.Content.{Files, Content, with_file, spoken}
+use Rattle.host_desk.specs.declared.stop.Stop.{Stop}
 use Rattle.dgn_files.specs.Ended.{Outcome}
 use Rattle.dgn_files.specs.declared.status.Status.{Status}
 

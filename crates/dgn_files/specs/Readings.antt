@@ -1,7 +1,7 @@
 -- The parts of a run that read files: what is known once they are read, and what the run comes to by what it goes on with.
 use Rattle.std.specs.Prelude.{ℕ, ◌≡◌, ◌≤◌, nat_lt, true, if◌then◌else◌, List, ◌++◌, length, map, Ok}
 use Rattle.std.specs.List.{list_all}
-use Rattle.dgn_desk.specs.Content.{Files, bytes_of}
+use Rattle.host_desk.specs.Content.{Files, bytes_of}
 use Rattle.dgn_drawing.specs.Opening.{NotDesign, Cut, Short, Attr}
 use Rattle.dgn_drawing.specs.WellFormed.{IsBytes}
 use Rattle.dgn_import.specs.declared.second.Second.{Second}

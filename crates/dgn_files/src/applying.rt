@@ -1,7 +1,7 @@
 // Applying a patch file to a design file.
 
 ghost use Rattle.std.specs.Prelude.{◌≤◌, ◌<◌, ◌+◌, ◌^◌, length};
-ghost use Rattle.dgn_desk.specs.Content.{bytes_of};
+ghost use Rattle.host_desk.specs.Content.{bytes_of};
 ghost use Rattle.patch_file.specs.PatchView.{all_packed};
 ghost use Rattle.dgn_files.specs.Applied.{entries_outcome, body_patched, patched};
 ghost use Rattle.dgn_files.specs.Ends.{DeskComes, DeskEnds, Has};
@@ -15,8 +15,8 @@ use crate::putting::put_entries;
 use crate::reading::{open_design, read_file};
 use crate::saying::{end_numbered, end_with};
 use crate::writing::file_filled;
-use dgn_desk::{Desk, Stop};
 use dgn_drawing::MOST_DESIGN;
+use host_desk::{Desk, Stop};
 use listing_texts::numbered_line;
 use patch_file::{MOST_PATCH, PatchEntry, PatchFault, read_patch};
 use std::alloc::Global;

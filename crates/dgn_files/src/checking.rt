@@ -1,6 +1,6 @@
 // Checking that a file is a design file.
 
-ghost use Rattle.dgn_desk.specs.Content.{bytes_of};
+ghost use Rattle.host_desk.specs.Content.{bytes_of};
 ghost use Rattle.dgn_files.specs.Ends.{DeskEnds, Has};
 ghost use Rattle.dgn_files.specs.InBytes.{IsInBytes};
 ghost use Rattle.dgn_files.specs.InputOutcomes.{input_outcome, checked};
@@ -9,9 +9,9 @@ use crate::end::End;
 use crate::ending::Ending;
 use crate::reading::{end_bad_design, read_input};
 use crate::saying::end_numbered;
-use dgn_desk::Desk;
 use dgn_drawing::MOST_DESIGN;
 use elem_index::count_elements;
+use host_desk::Desk;
 use std::alloc::Global;
 
 /// Reads IN, and says how many elements it has, or what keeps it from being a design file.

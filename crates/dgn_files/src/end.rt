@@ -1,11 +1,11 @@
 ghost use Rattle.std.specs.Prelude.{◌≡◌};
-ghost use Rattle.dgn_desk.specs.declared.stop.Stop.TheVariants as stops;
+ghost use Rattle.host_desk.specs.declared.stop.Stop.TheVariants as stops;
 ghost use Rattle.dgn_files.specs.declared.end.End.TheVariants as ends;
 ghost use Rattle.dgn_files.specs.Ends.{end_of, status_of};
 
 use crate::ending::Ending;
 use crate::status::Status;
-use dgn_desk::Stop;
+use host_desk::Stop;
 use std::alloc::AllocError;
 
 /// How a part of a run that reads ended the run: by an ending that was said, or by one of the three stops.

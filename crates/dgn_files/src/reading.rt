@@ -1,7 +1,7 @@
 // Reading and opening the files that a run is given.
 
 ghost use Rattle.std.specs.Prelude.{◌≡◌, ◌+◌, ◌<◌, ◌≤◌, ◌^◌, codes, vec_len, IfOk, IfErr, Result};
-ghost use Rattle.dgn_desk.specs.Content.{Files};
+ghost use Rattle.host_desk.specs.Content.{Files};
 ghost use Rattle.elem_index.specs.Answers.{TellsFault, opened_of};
 ghost use Rattle.elem_index.specs.Design.{IsWhole};
 ghost use Rattle.elem_index.specs.Opened.{Opened};
@@ -16,10 +16,10 @@ ghost use Rattle.dgn_files.specs.Readings.{whole_file, opening_in, script_in, Is
 use crate::end::End;
 use crate::ending::Ending;
 use crate::saying::{end_numbered, end_with};
-use dgn_desk::{Desk, ReadEnd, Stop, read_all};
 use dgn_drawing::MOST_DESIGN;
 use edit_script::{Command, MOST_SCRIPT, ScriptFault, read_script};
 use elem_index::{Design, OpenFault, read_design};
+use host_desk::{Desk, ReadEnd, Stop, read_all};
 use listing_texts::numbered_line;
 use std::alloc::{AllocError, Global};
 

@@ -5,7 +5,7 @@ ghost use Rattle.dgn_files.specs.Ended.{ended};
 ghost use Rattle.dgn_files.specs.Ends.{DeskComes, status_said};
 
 use crate::ending::Ending;
-use dgn_desk::{Desk, Stop, say_all};
+use host_desk::{Desk, Stop, say_all};
 use listing_texts::numbered_line;
 use std::alloc::Global;
 

@@ -12,10 +12,10 @@ ghost use Rattle.dgn_import.specs.Seconds.{waiting};
 
 use crate::end::End;
 use crate::reading::read_file;
-use dgn_desk::{Desk, Stop};
 use dgn_drawing::MOST_DESIGN;
 use dgn_import::{Second, read_second};
 use edit_script::Command;
+use host_desk::{Desk, Stop};
 use patch_bytes::ByteList;
 use std::alloc::Global;
 

@@ -1,8 +1,8 @@
 // Writing: the file of a drawing with what fills its last block, and a file with a text behind it.
 
 ghost use Rattle.std.specs.Prelude.{◌≡◌, ◌+◌, ◌<◌, ◌≤◌, ◌++◌, length, if◌then◌else◌};
-ghost use Rattle.dgn_desk.specs.Desk.{FilesAll};
-ghost use Rattle.dgn_desk.specs.Seen.{DeskWrites};
+ghost use Rattle.host_desk.specs.Desk.{FilesAll};
+ghost use Rattle.host_desk.specs.Seen.{DeskWrites};
 ghost use Rattle.dgn_files.specs.Ended.{filed_then_said};
 ghost use Rattle.dgn_files.specs.Ends.{DeskComes, status_said};
 ghost use Rattle.dgn_files.specs.Filling.{is_blocks, left_in_block, file_made};
@@ -10,8 +10,8 @@ ghost use Rattle.dgn_files.specs.Filling.{is_blocks, left_in_block, file_made};
 use crate::ending::Ending;
 use crate::saying::end_with;
 use crate::status::Status;
-use dgn_desk::{Desk, Stop, write_file};
 use dgn_drawing::MOST_DESIGN;
+use host_desk::{Desk, Stop, write_file};
 
 // How many bytes a block has.
 const BLOCK: usize = 512;

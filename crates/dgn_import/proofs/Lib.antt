@@ -1,4 +1,3 @@
-pub mod TakenRoots
 pub mod RootTreesAlone
 pub mod TakenTrees
 pub mod TreesGathered

@@ -17,7 +17,7 @@ use Rattle.dgn_import.specs.declared.import_fault.ImportFault.{ImportFault}
 use Rattle.dgn_import.specs.declared.import_fault.ImportFault.TheVariants as faults
 use Rattle.dgn_import.specs.Answers.{TellsCause}
 use Rattle.dgn_import.specs.Gathering.{is_taken, taken, import_tree, import_trees, import_cause, cause_of_roots}
-use Rattle.dgn_import.proofs.TakenRoots.{StandsAt, stands_first, all_found, first_passes, further, stands_taken, stands_left, chosen_few}
+use Rattle.level_view.proofs.TakenRoots.{StandsAt, stands_first, all_found, first_passes, further, stands_taken, stands_left, chosen_few}
 
 or_three : {A : Type 0} (a b c : Option A) → option_or a (option_or b c) ≡ option_or (option_or a b) c
 or_three None b c = refl

@@ -17,7 +17,7 @@ use Rattle.dgn_drawing.specs.Spelling.{spelling}
 use Rattle.dgn_drawing.specs.Opening.{Opens}
 use Rattle.dgn_drawing.specs.declared.limits.TheConstants.{MOST_DESIGN}
 use Rattle.dgn_session.specs.State.{State}
-use Rattle.dgn_session.proofs.Leading.{leads_back}
+use Rattle.session_parts.proofs.Leading.{leads_back}
 use Rattle.dgn_session.proofs.Rising.{rise_long, filled_rise, olds_filled}
 use Rattle.edit_trees.specs.Fields.{Field, Rise, filled}
 use Rattle.dgn_answers.specs.Commands.{begun}

@@ -1,6 +1,6 @@
 -- What a run that applies a patch file comes to, by which of its entries stand.
 use Rattle.std.proofs.Common.{◌≡◌, List, ℕ, length, Ok, refl, sym, ap, ◌∙◌}
-use Rattle.dgn_desk.specs.Content.{Files, bytes_of}
+use Rattle.host_desk.specs.Content.{Files, bytes_of}
 use Rattle.dgn_drawing.specs.Spelling.{spelling}
 use Rattle.elem_index.specs.Opened.{Opened}
 use Rattle.patch_file.specs.Spelling.{Packed}

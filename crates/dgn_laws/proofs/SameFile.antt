@@ -1,6 +1,6 @@
 -- What is packed, applied to the same file, writes the file that `edit` writes.
 use Rattle.std.proofs.Common.{◌≡◌, ◌≤◌, ℕ, List, length, Ok, ap, ◌∙◌, subst}
-use Rattle.dgn_desk.specs.Content.{bytes_of}
+use Rattle.host_desk.specs.Content.{bytes_of}
 use Rattle.dgn_drawing.specs.Spelling.{spelling}
 use Rattle.elem_index.proofs.OpeningAnswers.{opens-opening}
 use Rattle.patch_file.specs.Spelling.{Packed}

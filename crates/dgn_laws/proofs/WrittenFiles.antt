@@ -6,7 +6,7 @@ use Rattle.std.specs.List.{list_all}
 use Rattle.std.proofs.lemmas.Bool.{and_parts}
 use Rattle.std.proofs.lemmas.Bool.Decides.{nat_tests}
 use Rattle.std.proofs.lemmas.List.Elements.{All-nil, All-cons}
-use Rattle.dgn_desk.specs.Content.{Files, Content, bytes_of}
+use Rattle.host_desk.specs.Content.{Files, Content, bytes_of}
 use Rattle.dgn_drawing.specs.Opening.{Fault, Opens}
 use Rattle.dgn_drawing.specs.WellFormed.{IsBytes}
 use Rattle.dgn_drawing.specs.declared.limits.TheConstants.{MOST_DESIGN}

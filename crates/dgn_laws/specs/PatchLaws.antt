@@ -15,7 +15,7 @@ use Rattle.dgn_tool.specs.Packing.{packed_after}
 use Rattle.dgn_drawing.specs.declared.limits.TheConstants.{MOST_DESIGN}
 use Rattle.patch_file.specs.declared.limits.TheConstants.{MOST_PATCH}
 use Rattle.std.specs.Prelude.{ℕ, ◌≡◌, ◌+◌, ◌≤◌, List, ◌∷◌, ◌++◌, length, codes, false, Some, Ok, All}
-use Rattle.dgn_desk.specs.Content.{Files, bytes_of}
+use Rattle.host_desk.specs.Content.{Files, bytes_of}
 use Rattle.elem_index.specs.Opened.{Opened, opening}
 use Rattle.patch_file.specs.Spelling.{Packed, patch_spelling}
 use Rattle.patch_file.specs.Reading.{patch_of}

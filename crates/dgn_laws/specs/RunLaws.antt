@@ -1,7 +1,7 @@
 -- What holds of every run of `edit` over a desk that tells what it holds, by the clauses of `run` alone, the contract of a
 -- function in `laws`.
 use Rattle.std.specs.Prelude.{ℕ, ◌≡◌, List, Option, Some, Ok, IfSome, ⊤}
-use Rattle.dgn_desk.specs.Content.{Files, Content, bytes_of, with_file}
+use Rattle.host_desk.specs.Content.{Files, Content, bytes_of, with_file}
 use Rattle.dgn_drawing.specs.Opening.{Opens}
 use Rattle.edit_script.specs.Script.{commands_of}
 use Rattle.dgn_drawing.specs.declared.command.Command.{Command}

@@ -17,12 +17,12 @@ use Rattle.dgn_import.specs.Gathering.{AreTrees}
 use Rattle.dgn_session.specs.State.{SessionValue, state_of, value_with}
 use Rattle.dgn_session.specs.Imported.{imported, import_entry}
 use Rattle.dgn_session.specs.Laws.{IsSound}
-use Rattle.dgn_session.specs.SessionParts.{OpensAt}
-use Rattle.dgn_session.specs.CarryingOut.{IsSoundPlan, plan_of, carried}
+use Rattle.session_parts.specs.Kept.{OpensAt}
+use Rattle.dgn_session.specs.SessionParts.{IsSoundPlan, plan_of, carried}
 use Rattle.dgn_session.proofs.EditedBody.{Become}
 use Rattle.dgn_session.proofs.PlannedBody.{IsPlanned, plan_sound, entry_is}
 use Rattle.dgn_session.proofs.PlanCarriedOut.{has_made}
-use Rattle.dgn_session.proofs.LastEditBack.{opens_kept}
+use Rattle.session_parts.proofs.LastEditBack.{opens_kept}
 use Rattle.dgn_drawing.specs.declared.limits.TheConstants.{MOST_DESIGN}
 
 -- a session before and after an import of these bytes

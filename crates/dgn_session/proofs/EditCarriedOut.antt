@@ -16,12 +16,13 @@ use Rattle.edit_ops.specs.Laws.{ChangesItsFields}
 use Rattle.edit_ops.proofs.EditLaws.{changes_fields}
 use Rattle.dgn_session.specs.State.{SessionValue, state_of, applied}
 use Rattle.dgn_session.specs.Laws.{IsSound}
-use Rattle.dgn_session.specs.SessionParts.{OpensAt, value_of}
-use Rattle.dgn_session.specs.CarryingOut.{IsSoundPlan, plan_of, carried}
+use Rattle.session_parts.specs.Kept.{OpensAt}
+use Rattle.dgn_session.specs.SessionParts.{value_of}
+use Rattle.dgn_session.specs.SessionParts.{IsSoundPlan, plan_of, carried}
 use Rattle.dgn_session.proofs.EditedBody.{edit_becomes}
 use Rattle.dgn_session.proofs.PlannedBody.{IsPlanned, plan_sound}
 use Rattle.dgn_session.proofs.PlanCarriedOut.{HasMade, has_made}
-use Rattle.dgn_session.proofs.LastEditBack.{opens_kept}
+use Rattle.session_parts.proofs.LastEditBack.{opens_kept}
 
 -- a plan of an edit of a session's drawing, by its value
 pub plan_seen : (d : Design) (l : LogState) (mask : Mask) (fence : Option (List Pt)) (old : SessionValue) → value_of d l mask fence ≡ old

@@ -17,13 +17,13 @@ use Rattle.dgn_audit.proofs.FitKeepsRows.{fitted_opens, fits_change}
 use Rattle.dgn_audit.proofs.FindingsEnd.{ends_findings}
 use Rattle.dgn_session.specs.State.{SessionValue, state_of, pushed, undone, undo_refused}
 use Rattle.dgn_session.specs.Laws.{IsSound}
-use Rattle.dgn_session.specs.SessionParts.{OpensAt}
-use Rattle.dgn_session.specs.CarryingOut.{IsSoundPlan, plan_of, carried}
+use Rattle.session_parts.specs.Kept.{OpensAt}
+use Rattle.dgn_session.specs.SessionParts.{IsSoundPlan, plan_of, carried}
 use Rattle.dgn_session.specs.Fits.{fit_applied, IsFit, FitsAreUndone, OpenedStayFitted}
 use Rattle.dgn_session.proofs.EditedBody.{Become}
 use Rattle.dgn_session.proofs.PlannedBody.{IsPlanned, plan_sound}
 use Rattle.dgn_session.proofs.PlanCarriedOut.{HasMade, has_made}
-use Rattle.dgn_session.proofs.LastEditBack.{opens_kept}
+use Rattle.session_parts.proofs.LastEditBack.{opens_kept}
 use Rattle.dgn_session.proofs.EntriesBack.{pushed_stays}
 use Rattle.dgn_drawing.specs.declared.limits.TheConstants.{MOST_DESIGN}
 

@@ -1,17 +1,10 @@
-pub mod SpelledRows
-pub mod NestingGrowth
 pub mod Rising
 pub mod EditedBody
-pub mod Leading
 pub mod PlannedBody
-pub mod EditKeepsSession
-pub mod LastEditBack
 pub mod Steps
 pub mod PlanCarriedOut
 pub mod EditCarriedOut
 pub mod FenceEditCarriedOut
 pub mod EntriesBack
-pub mod LoneElements
 pub mod AppendedTrees
 pub mod FitCarriedOut
-pub mod ItemsApart

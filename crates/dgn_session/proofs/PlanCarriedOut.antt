@@ -14,7 +14,7 @@ use Rattle.edit_trees.specs.Applying.{Applied, Done}
 use Rattle.edit_trees.specs.Fields.{Field}
 use Rattle.dgn_session.specs.State.{SessionValue, state_of, pushed, undone, entry_with, value_with}
 use Rattle.dgn_session.specs.SessionParts.{value_of}
-use Rattle.dgn_session.specs.CarryingOut.{carried}
+use Rattle.dgn_session.specs.SessionParts.{carried}
 use Rattle.dgn_session.proofs.PlannedBody.{IsPlanned, text_is, made_are, entry_leads, entry_is}
 use Rattle.dgn_session.proofs.Steps.{pushed_state, undone_state}
 

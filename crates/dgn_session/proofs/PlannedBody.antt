@@ -1,6 +1,6 @@
 -- What a plan says of a body that opens, whose elements become others: the body with the plan carried out opens too, as
 -- these, and the entry is that of the fields.
-use Rattle.std.proofs.Common.{◌≡◌, ℕ, ◌+◌, List, [], ◌∷◌, ◌++◌, length, take, drop, map, refl, sym, ap, ◌∙◌, subst, arith, length-append}
+use Rattle.std.proofs.Common.{◌≡◌, ℕ, ◌+◌, List, [], ◌∷◌, ◌++◌, length, take, drop, map, sym, ap, ◌∙◌, subst, arith, length-append}
 use Rattle.std.specs.List.{AllByRecursion}
 use Rattle.std.proofs.lemmas.Grind.{flat_map-append}
 use Rattle.std.proofs.lemmas.List.{map-append, take-append-drop, drop_at}
@@ -20,25 +20,13 @@ use Rattle.dgn_drawing.proofs.Fronts.{opens_elements, opens_of, body_spelled}
 use Rattle.edit_ops.specs.declared.types.plan.Plan.{Plan}
 use Rattle.edit_trees.specs.Fields.{Field, filled}
 use Rattle.dgn_session.specs.State.{entry_with}
-use Rattle.dgn_session.specs.SessionParts.{OpensAt}
-use Rattle.dgn_session.specs.CarryingOut.{Spells, IsChange, IsSoundPlan}
+use Rattle.session_parts.specs.Kept.{OpensAt}
+use Rattle.session_parts.specs.CarryingOut.{Spells, IsChange}
+use Rattle.dgn_session.specs.SessionParts.{IsSoundPlan}
+use Rattle.session_parts.proofs.FrontSizes.{front_long}
 use Rattle.dgn_session.proofs.EditedBody.{Become}
 use Rattle.dgn_session.proofs.Rising.{filled_rise, olds_filled}
-use Rattle.dgn_session.proofs.Leading.{leads_back}
-
--- the sizes of elements are in their rows
-sizes_of : List Row → ℕ
-sizes_of [] = 0
-sizes_of (r ∷ rs) = r.size + sizes_of rs
-
-spelling_long : (es : List Element) → length (spelling es) ≡ sizes_of (map row_of es)
-unfolding sizes_of
-spelling_long [] = refl
-spelling_long (e ∷ es) = omega (arith, length-append (spell e) (spelling es), spelling_long es)
-
--- so elements that begin with the rows of others spell as many bytes before those behind
-pub front_long : (made es : List Element) (n : ℕ) → map row_of (take n made) ≡ map row_of es → length (spelling (take n made)) ≡ length (spelling es)
-front_long made es n front = spelling_long (take n made) ∙ ap sizes_of front ∙ sym (spelling_long es)
+use Rattle.session_parts.proofs.Leading.{leads_back}
 
 -- elements and what is behind some of them
 parted : (made : List Element) (n : ℕ) → spelling made ≡ spelling (take n made) ++ spelling (drop n made)

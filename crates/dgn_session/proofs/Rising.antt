@@ -1,8 +1,7 @@
--- Fields that rise, filled from a text that is long enough, are puts that rise; and so are they with what stood there.
+-- Fields that rise, filled from a text that is long enough, are puts that rise.
 use Rattle.std.proofs.Common.{◌≡◌, ℕ, ◌+◌, ◌≤◌, List, [], ◌∷◌, length, take, drop, map, refl, sym, ap, ◌∙◌, subst, arith}
 use Rattle.std.proofs.lemmas.List.{length-take-le, length-drop}
 use Rattle.patch_bytes.specs.Puts.{Put, old_of, Span}
-use Rattle.patch_bytes.proofs.RisingPuts.{span_long}
 use Rattle.edit_trees.specs.Fields.{Field, Rise, filled}
 
 -- fields that rise begin before they end
@@ -35,13 +34,3 @@ olds_filled b text m (f ∷ fs) n long rise =
     let same : length (take f.len (drop f.at text)) ≡ f.len = field_long text f (omega arith) in
     ap (λ (k : ℕ). put_at f.at k b ∷ map (old_of b) (filled text fs)) same
     ∙ ap (λ (l : List Put). put_at f.at f.len b ∷ l) (olds_filled b text m fs (f.at + f.len) long rise.1)
-
--- puts that rise do so with what stood there
-pub olds_rise : (b : List ℕ) (m : ℕ) (ps : List Put) (n : ℕ) → m ≤ length b → Span n ps m → Span n (map (old_of b) ps) m
-unfolding old_of
-olds_rise b m [] n long rise = rise
-olds_rise b m (p ∷ ps) n long rise =
-    let ends = span_long m ps (p.at + length p.bytes) rise.1 in
-    let same : length (take (length p.bytes) (drop p.at b)) ≡ length p.bytes =
-    length-take-le (length p.bytes) (drop p.at b) (omega (arith, length-drop p.at b)) in
-    (rise.0, subst (λ (k : ℕ). Span (p.at + k) (map (old_of b) ps) m) (sym same) (olds_rise b m ps (p.at + length p.bytes) long rise.1))

@@ -1,53 +1,14 @@
--- What the type of a session keeps of its values.
-use Rattle.std.specs.Prelude.{ℕ, ◌≡◌, ◌+◌, ◌≤◌, Option, None, List, [], ◌∷◌, ◌++◌, length, take, drop, map, reverse}
-use Rattle.patch_bytes.specs.Puts.{Span}
+-- What a contract sees of a session, and how its parts are carried on.
+use Rattle.std.specs.Prelude.{ℕ, Option, None, List, [], ◌∷◌, ◌++◌}
+use Rattle.patch_bytes.specs.Puts.{Put, write}
 use Rattle.plane_geom.specs.declared.pt.Pt.{Pt}
-use Rattle.undo_log.specs.declared.entry.Entry.{Entry}
 use Rattle.undo_log.specs.LogState.{LogState}
-use Rattle.undo_log.specs.Entries.{back}
-use Rattle.dgn_drawing.specs.declared.row.Row.{Row}
+use Rattle.undo_log.specs.Entries.{entry_of}
 use Rattle.dgn_drawing.specs.declared.mask.Mask.{Mask}
-use Rattle.dgn_drawing.specs.Rows.{row_of}
-use Rattle.dgn_drawing.specs.Nesting.{BeginsFree, itself}
-use Rattle.dgn_drawing.specs.Opening.{Opens, elements_of}
 use Rattle.elem_index.specs.declared.design.Design.{Design}
-use Rattle.elem_index.specs.Design.{elements, IsWhole}
-use Rattle.nest_tree.specs.Nested.{Nested}
-use Rattle.dgn_session.specs.State.{SessionValue, all_levels}
-use Rattle.dgn_drawing.specs.declared.limits.TheConstants.{MOST_DESIGN}
-
--- the rows of the elements of a body: their sizes, types, bits C and totals
-abbrev pub rows_of : ℕ → List ℕ → List Row
-rows_of dim b = map row_of (elements_of dim b)
-
--- a body and the tail are a file that opens, in this dimension
-pub record OpensAt (dim : ℕ) (tail b : List ℕ) : Type 0 where
-  pub few : length b + length tail ≤ MOST_DESIGN
-  pub opens : Opens (b ++ tail) dim (elements_of dim b) tail
-
--- a body and an earlier one: the elements of the earlier one have the same rows in both, and the element behind them,
--- if there is one, has no bit C
-pub record IsUnder (dim : ℕ) (earlier b : List ℕ) : Type 0 where
-  pub front : rows_of dim earlier ≡ take (length (rows_of dim earlier)) (rows_of dim b)
-  pub free : BeginsFree itself (drop (length (rows_of dim earlier)) (rows_of dim b))
-
--- an entry leads from a body to an earlier one: it is no longer than the body, its patches rise within its length, so
--- no two share a byte, and what it leads to lies under the body
-pub record Leads (dim : ℕ) (b : List ℕ) (e : Entry) : Type 0 where
-  pub long : e.len ≤ length b
-  pub rise : Span 0 e.patches e.len
-  pub under : IsUnder dim (back b e) b
-
--- a body, and each that its entries lead back to, the newest first, opens with the tail, and each entry leads
-abbrev pub AreKept : ℕ → List ℕ → List ℕ → List Entry → Type 0
-AreKept dim tail b [] = OpensAt dim tail b
-AreKept dim tail b (e ∷ es) = OpensAt dim tail b × Leads dim b e × AreKept dim tail (back b e) es
-
--- what the type keeps: the design is whole, the nesting is that of its elements, and what the log leads back to is sound
-pub record IsKept (d : Design) (t : Nested) (l : LogState) : Type 0 where
-  pub whole : IsWhole d
-  pub nesting : t.rows ≡ map row_of (elements d)
-  pub back : AreKept d.dim d.tail.items d.body.items (reverse l.entries)
+use Rattle.edit_ops.specs.declared.types.plan.Plan.{Plan}
+use Rattle.session_parts.specs.CarryingOut.{IsSoundChange}
+use Rattle.dgn_session.specs.State.{SessionValue, all_levels, value_with}
 
 -- what a contract sees of a session
 abbrev pub value_of : Design → LogState → Mask → Option (List Pt) → SessionValue
@@ -56,3 +17,15 @@ value_of d l mask fence = record { dim = d.dim; body = d.body.items; tail = d.ta
 -- the value of a session that begins on a design
 abbrev pub started : Design → SessionValue
 started d = record { dim = d.dim; body = d.body.items; tail = d.tail.items; entries = []; mask = all_levels; fence = None }
+
+-- patches and bytes to append, as a plan
+abbrev pub plan_of : List Put → List ℕ → Plan
+plan_of ps append = record { patches = ps; append = append }
+
+-- a plan that may be carried out on a body
+abbrev pub IsSoundPlan : ℕ → List ℕ → List ℕ → Plan → Type 0
+IsSoundPlan dim tail b p = IsSoundChange dim tail b p.patches p.append
+
+-- a session's value where patches are written into the body and bytes are put behind it, with the entry of this
+abbrev pub carried : List Put → List ℕ → SessionValue → SessionValue
+carried ps append v = value_with (write v.body ps ++ append) (v.entries ++ entry_of v.body ps ∷ []) v

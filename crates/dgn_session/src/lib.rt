@@ -5,18 +5,14 @@
 //! earlier drawing is kept.
 #![tactic(auto)]
 
-mod appended;
 mod carrying;
 mod fence_edit_fault;
 mod importing;
 pub mod laws;
 mod nothing;
 mod ranges;
-mod room;
 mod select_fault;
-mod selecting;
 mod session;
-mod taking;
 
 pub use fence_edit_fault::FenceEditFault;
 pub use nothing::Nothing;

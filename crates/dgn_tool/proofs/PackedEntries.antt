@@ -15,7 +15,7 @@ use Rattle.dgn_drawing.specs.Spelling.{spelling}
 use Rattle.dgn_drawing.specs.Opening.{elements_of}
 use Rattle.dgn_drawing.proofs.Fronts.{body_spelled}
 use Rattle.dgn_session.specs.State.{State, SessionValue, state_of, earlier_of}
-use Rattle.dgn_session.specs.SessionParts.{AreKept}
+use Rattle.session_parts.specs.Kept.{AreKept}
 use Rattle.dgn_session.specs.Laws.{IsSound}
 use Rattle.dgn_session.proofs.Steps.{bodies_first}
 use Rattle.dgn_answers.specs.Given.{Given, after_all, refused_count}

@@ -3,11 +3,11 @@ use Rattle.std.proofs.Common.{◌≡◌, List, [], ℕ, length, vec_len, take}
 use Rattle.std.proofs.Common.{Option, Some, None, Ok, Err, inl, inr, refl, sym, ap, ◌∙◌, subst}
 use Rattle.std.specs.Prelude.{option_map, IfSome}
 use Rattle.std.proofs.lemmas.List.{append-nil}
-use Rattle.dgn_desk.specs.Content.{Content, filed, spoken}
-use Rattle.dgn_desk.specs.Desk.{FilesAll}
-use Rattle.dgn_desk.specs.Seen.{Seen, Writes}
-use Rattle.dgn_desk.specs.declared.stop.Stop.{Stop}
-use Rattle.dgn_desk.proofs.InTurn.{done_with, stopped_so, then_so}
+use Rattle.host_desk.specs.Content.{Content, filed, spoken}
+use Rattle.host_desk.specs.Desk.{FilesAll}
+use Rattle.host_desk.specs.Seen.{Seen, Writes}
+use Rattle.host_desk.specs.declared.stop.Stop.{Stop}
+use Rattle.host_desk.proofs.InTurn.{done_with, stopped_so, then_so}
 use Rattle.dgn_drawing.specs.Opening.{elements_of}
 use Rattle.dgn_drawing.specs.Spelling.{spelling}
 use Rattle.elem_index.specs.declared.design.Design.{Design}

@@ -1,9 +1,9 @@
 -- What is told once the line of the forms was said, or a front of it.
 use Rattle.std.proofs.Common.{◌≡◌, ◌++◌, List, ℕ, take, Option, Some, None, Err, refl, ap, subst}
 use Rattle.std.specs.Prelude.{option_map, IfSome}
-use Rattle.dgn_desk.specs.Desk.{SaysAll}
-use Rattle.dgn_desk.specs.declared.stop.Stop.{Stop}
-use Rattle.dgn_desk.specs.Content.{Content, spoken}
+use Rattle.host_desk.specs.Desk.{SaysAll}
+use Rattle.host_desk.specs.declared.stop.Stop.{Stop}
+use Rattle.host_desk.specs.Content.{Content, spoken}
 use Rattle.dgn_files.specs.Ended.{ended}
 use Rattle.dgn_tool.specs.Outcome.{usage_line}
 use Rattle.dgn_files.specs.Leaving.{Leaves, Stops, IsFrontOf}

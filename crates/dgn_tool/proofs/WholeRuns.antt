@@ -1,9 +1,9 @@
 -- What a whole run ensures, by the end of the form that was asked for, or by what was said of words of no form.
 use Rattle.std.proofs.Common.{◌≡◌, ℕ, List, Option, Some, None, Ok, Err, refl, sym, subst}
-use Rattle.dgn_desk.specs.declared.stop.Stop.{Stop}
-use Rattle.dgn_desk.specs.declared.stop.Stop.TheVariants as stops
-use Rattle.dgn_desk.specs.Desk.{SaysAll}
-use Rattle.dgn_desk.specs.Seen.{Seen, Writes}
+use Rattle.host_desk.specs.declared.stop.Stop.{Stop}
+use Rattle.host_desk.specs.declared.stop.Stop.TheVariants as stops
+use Rattle.host_desk.specs.Desk.{SaysAll}
+use Rattle.host_desk.specs.Seen.{Seen, Writes}
 use Rattle.dgn_files.specs.Ends.{Ends, status_said, status_of}
 use Rattle.dgn_files.specs.Request.{Request}
 use Rattle.dgn_tool.specs.RunInBytes.{FilesInBytes}

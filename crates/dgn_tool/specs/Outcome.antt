@@ -3,7 +3,7 @@
 use Rattle.std.specs.Prelude.{ℕ, List, codes, Option, Some, None}
 use Rattle.std.specs.Prelude.{IsSome, IfSome, ⊤}
 use Rattle.std.specs.FinMap as maps
-use Rattle.dgn_desk.specs.Content.{Files, Content, bytes_of}
+use Rattle.host_desk.specs.Content.{Files, Content, bytes_of}
 use Rattle.dgn_session.specs.State.{State}
 use Rattle.elem_index.specs.Opened.{Opened}
 use Rattle.dgn_drawing.specs.declared.command.Command.{Command}
@@ -19,7 +19,7 @@ use Rattle.dgn_answers.specs.Given.{Given, texts_of, refused_count}
 use Rattle.dgn_files.specs.declared.status.Status.{Status}
 use Rattle.dgn_files.specs.declared.status.Status.TheVariants as statuses
 use Rattle.std.specs.Prelude.{ℕ, List, codes, IsSome, ⊤}
-use Rattle.dgn_desk.specs.Content.{Files, bytes_of}
+use Rattle.host_desk.specs.Content.{Files, bytes_of}
 use Rattle.dgn_answers.specs.Given.{Given, given_all}
 use Rattle.dgn_files.specs.Ended.{Outcome, ended}
 use Rattle.dgn_files.specs.InputOutcomes.{scripted, checked, input_outcome, HasBoth, HasAll}

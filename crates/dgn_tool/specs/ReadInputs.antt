@@ -1,6 +1,6 @@
 -- IN, SCRIPT and the second files of its imports: what a run goes on with once they are read.
 use Rattle.std.specs.Prelude.{ℕ, ◌≡◌, List}
-use Rattle.dgn_desk.specs.Content.{Files}
+use Rattle.host_desk.specs.Content.{Files}
 use Rattle.elem_index.specs.Opened.{Opened}
 use Rattle.dgn_files.specs.Ended.{Outcome}
 use Rattle.dgn_files.specs.Ends.{Reading}

@@ -1,11 +1,11 @@
 -- What a whole run ensures, said as one.
 use Rattle.std.specs.Prelude.{ℕ, ◌≡◌, List, [], Option, Result, Ok, Err, IfOk, IfSome, IsNone, IsTrue}
-use Rattle.dgn_desk.specs.declared.desk.Desk.{Ghosts}
-use Rattle.dgn_desk.specs.Content.{OnlyLeftDiffers}
-use Rattle.dgn_desk.specs.Desk.{Rose}
-use Rattle.dgn_desk.specs.Seen.{Seen, DeskWrites, seen}
-use Rattle.dgn_desk.specs.declared.stop.Stop.{Stop}
-use Rattle.dgn_desk.specs.declared.stop.Stop.TheVariants as stops
+use Rattle.host_desk.specs.declared.desk.Desk.{Ghosts}
+use Rattle.host_desk.specs.Content.{OnlyLeftDiffers}
+use Rattle.host_desk.specs.Desk.{Rose}
+use Rattle.host_desk.specs.Seen.{Seen, DeskWrites, seen}
+use Rattle.host_desk.specs.declared.stop.Stop.{Stop}
+use Rattle.host_desk.specs.declared.stop.Stop.TheVariants as stops
 use Rattle.dgn_files.specs.Request.{Request}
 use Rattle.dgn_tool.specs.RunInBytes.{FilesInBytes}
 use Rattle.dgn_tool.specs.Outcome.{outcome_of, IsEnding, EndsAs, StoppedAs, IsFaultless, HasFiles, Reads}

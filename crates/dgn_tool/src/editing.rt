@@ -15,12 +15,12 @@ ghost use Rattle.dgn_import.specs.Seconds.{waiting};
 use crate::commands::run_all;
 use crate::inputs::{Inputs, read_inputs};
 use crate::writing::write_drawing;
-use dgn_desk::{Desk, Stop};
 use dgn_files::{End, Ending};
 use dgn_import::Second;
 use dgn_session::Session;
 use edit_script::Command;
 use elem_index::Design;
+use host_desk::{Desk, Stop};
 use std::alloc::Global;
 use std::mem::ManuallyDrop;
 

@@ -9,13 +9,13 @@ ghost use Rattle.dgn_answers.specs.Given.{after_all};
 ghost use Rattle.dgn_tool.specs.Generation.{fixed_commands, fixed_steps, sizes_of, counts_of, summary, generated_from, drawing_of, generation};
 
 use dgn_answers::{Tally, run_unsaid};
-use dgn_desk::{Desk, Stop};
 use dgn_drawing::MOST_DESIGN;
 use dgn_files::{Ending, file_filled, filling_len};
 use dgn_generator::generate;
 use dgn_session::Session;
 use edit_script::{Command, ScriptFault, read_script};
 use elem_index::read_design;
+use host_desk::{Desk, Stop};
 use listing_texts::push_numbered;
 use std::alloc::{AllocError, Global};
 

@@ -9,8 +9,8 @@ ghost use Rattle.dgn_tool.specs.Runs.{DeskRuns, DeskExits, EndsFlushed, ExitsFlu
 ghost use Rattle.dgn_files.specs.Status.{number_of};
 
 use crate::top::run_words;
-use dgn_desk::{BufferedDesk, Desk};
 use dgn_files::{End, Status};
+use host_desk::{BufferedDesk, Desk};
 use std::alloc::Global;
 use std::io;
 use std::process::ExitCode;

@@ -12,11 +12,11 @@ ghost use Rattle.dgn_files.specs.InputOutcomes.{HasAll};
 ghost use Rattle.dgn_tool.specs.ReadInputs.{AreRead, inputs_in};
 ghost use Rattle.dgn_import.specs.Seconds.{waiting};
 
-use dgn_desk::Desk;
 use dgn_files::{End, open_design, read_commands, read_seconds};
 use dgn_import::Second;
 use edit_script::Command;
 use elem_index::Design;
+use host_desk::Desk;
 use std::alloc::Global;
 
 // What a script is run with.

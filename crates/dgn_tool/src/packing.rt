@@ -21,12 +21,12 @@ ghost use Rattle.dgn_import.specs.Seconds.{waiting};
 
 use crate::inputs::{Inputs, read_inputs};
 use dgn_answers::run_unsaid;
-use dgn_desk::{Desk, Stop};
 use dgn_files::{End, Ending, end_with, file_and_say};
 use dgn_import::Second;
 use dgn_session::Session;
 use edit_script::Command;
 use elem_index::Design;
+use host_desk::{Desk, Stop};
 use listing_texts::numbered_line;
 use patch_file::{MOST_PATCH, PatchEntry, patch_len, take_entry, write_patch};
 use std::alloc::{AllocError, Global};

@@ -1,6 +1,6 @@
 ghost use Rattle.std.specs.Prelude.{◌≡◌, map, string_bytes, IsNone, IfSome, IsTrue, None, Some};
-ghost use Rattle.dgn_desk.specs.Content.{OnlyLeftDiffers};
-ghost use Rattle.dgn_desk.specs.Desk.{Rose};
+ghost use Rattle.host_desk.specs.Content.{OnlyLeftDiffers};
+ghost use Rattle.host_desk.specs.Desk.{Rose};
 ghost use Rattle.dgn_files.specs.Ends.{DeskEnds};
 ghost use Rattle.dgn_tool.specs.RunInBytes.{FilesInBytes};
 ghost use Rattle.dgn_files.specs.Request.{request_of};
@@ -11,8 +11,8 @@ ghost use Rattle.dgn_tool.specs.Runs.{DeskRuns};
 use crate::editing::edit;
 use crate::generating::generate_file;
 use crate::packing::pack;
-use dgn_desk::{Desk, say_all};
 use dgn_files::{End, Request, Status, apply, check, read_words};
+use host_desk::{Desk, say_all};
 use std::alloc::Global;
 
 /// Runs the program with these words, those of the command line behind the program's name, over this

@@ -1,16 +1,16 @@
 // Writing the drawing of a session.
 
 ghost use Rattle.std.specs.Prelude.{◌≤◌};
-ghost use Rattle.dgn_desk.specs.Desk.{FilesAll};
-ghost use Rattle.dgn_desk.specs.Seen.{DeskWrites};
+ghost use Rattle.host_desk.specs.Desk.{FilesAll};
+ghost use Rattle.host_desk.specs.Seen.{DeskWrites};
 ghost use Rattle.dgn_drawing.specs.Spelling.{spelling};
 ghost use Rattle.dgn_session.specs.State.{state_of};
 ghost use Rattle.dgn_files.specs.Filling.{file_made};
 
-use dgn_desk::{Desk, Stop};
 use dgn_drawing::MOST_DESIGN;
 use dgn_files::write_filled;
 use dgn_session::Session;
+use host_desk::{Desk, Stop};
 
 // Writes the drawing of a session, whose elements had `before` bytes when it was opened, and what fills its last block.
 pub(crate) fn write_drawing<D: Desk>(

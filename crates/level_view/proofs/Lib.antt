@@ -7,6 +7,7 @@ pub mod ItemsBack
 pub mod TreeItems
 pub mod RootItems
 pub mod RootsOnward
+pub mod TakenRoots
 pub mod Places
 pub mod Rows
 pub mod KeptElements

@@ -1,6 +1,6 @@
 use Rattle.std.proofs.Common.{List, ℕ, refl, subst}
 use Rattle.patch_file.specs.declared.limits.TheConstants.{MOST_PATCH}
-use Rattle.dgn_desk.specs.Content.{Files, bytes_of}
+use Rattle.host_desk.specs.Content.{Files, bytes_of}
 use Rattle.dgn_files.specs.Applied.{body_patched, patched}
 use Rattle.dgn_files.specs.Ends.{DeskEnds, Has}
 use Rattle.dgn_files.specs.InBytes.{IsInBytes, InputInBytes}

@@ -1,7 +1,7 @@
 use Rattle.std.proofs.Common.{◌≡◌, ◌∙◌, length, Err, ap, sym, subst}
 use Rattle.std.specs.Prelude.{codes}
 use Rattle.std.proofs.lemmas.Result.{err_from_is_err_and}
-use Rattle.dgn_desk.specs.Seen.{seen}
+use Rattle.host_desk.specs.Seen.{seen}
 use Rattle.patch_file.specs.PatchView.{all_packed}
 use Rattle.dgn_files.specs.Applied.{Made, Differs, Overruns, put_from, entries_outcome, Puts}
 use Rattle.dgn_files.specs.Ended.{ended}

@@ -1,6 +1,6 @@
 use Rattle.std.proofs.Common.{◌≡◌, List, ℕ, length, Ok, Err, refl, ap, sym, subst, ◌∙◌}
 use Rattle.std.specs.Prelude.{codes}
-use Rattle.dgn_desk.specs.Content.{bytes_of}
+use Rattle.host_desk.specs.Content.{bytes_of}
 use Rattle.patch_file.specs.declared.patch_entry.PatchEntry.{PatchEntry}
 use Rattle.patch_file.specs.Answers.{Tells}
 use Rattle.patch_file.specs.PatchView.{all_packed}

@@ -1,7 +1,7 @@
 use Rattle.std.proofs.Common.{List, ℕ, refl, subst, ◌∙◌}
 use Rattle.std.specs.Prelude.{codes}
 use Rattle.dgn_drawing.specs.declared.limits.TheConstants.{MOST_DESIGN}
-use Rattle.dgn_desk.specs.Content.{bytes_of}
+use Rattle.host_desk.specs.Content.{bytes_of}
 use Rattle.elem_index.specs.Answers.{HasCount, TellsFault}
 use Rattle.elem_index.specs.Opened.{opening}
 use Rattle.dgn_files.specs.Ended.{ended}

@@ -1,6 +1,6 @@
 use Rattle.std.proofs.Common.{sym, subst}
 use Rattle.std.proofs.lemmas.Result.{err_from_is_err_and}
-use Rattle.dgn_desk.specs.Seen.{seen}
+use Rattle.host_desk.specs.Seen.{seen}
 use Rattle.dgn_files.specs.Ended.{ended}
 use Rattle.dgn_files.specs.InputOutcomes.{opened_outcome}
 use Rattle.dgn_files.specs.Readings.{FaultSays}

@@ -1,6 +1,6 @@
 use Rattle.std.proofs.Common.{◌≡◌, ◌<◌, length, refl, subst}
-use Rattle.dgn_desk.specs.Content.{bytes_of}
-use Rattle.dgn_desk.specs.Seen.{seen}
+use Rattle.host_desk.specs.Content.{bytes_of}
+use Rattle.host_desk.specs.Seen.{seen}
 use Rattle.dgn_drawing.specs.WellFormed.{IsBytes}
 use Rattle.dgn_files.specs.Ends.{Has, ReadTo}
 use Rattle.dgn_files.specs.Ended.{ended}

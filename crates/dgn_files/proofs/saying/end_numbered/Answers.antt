@@ -1,6 +1,6 @@
 use Rattle.std.proofs.Common.{◌∙◌, ap, sym}
 use Rattle.std.proofs.lemmas.Result.{err_from_is_err_and}
-use Rattle.dgn_desk.specs.Seen.{seen}
+use Rattle.host_desk.specs.Seen.{seen}
 use Rattle.dgn_files.specs.Ended.{ended}
 use Rattle.dgn_files.specs.Ends.{status_said}
 use Rattle.listing_texts.specs.NumberedLines.{numbered}

@@ -1,5 +1,5 @@
 use Rattle.std.proofs.lemmas.Result.{err_from_is_err_and}
-use Rattle.dgn_desk.specs.Seen.{seen}
+use Rattle.host_desk.specs.Seen.{seen}
 use Rattle.dgn_files.proofs.RunParts.{line_ends, line_stops}
 use Rattle.dgn_files.proofs.saying.end_with.Goals as goal
 

@@ -1,6 +1,6 @@
 use Rattle.std.proofs.Common.{◌≡◌, ◌∷◌, List, ℕ, [], sym, ap, subst, ◌∙◌}
 use Rattle.std.proofs.lemmas.Result.{err_from_is_err_and}
-use Rattle.dgn_desk.specs.Seen.{seen}
+use Rattle.host_desk.specs.Seen.{seen}
 use Rattle.dgn_files.specs.Ends.{DeskReads, DeskEndsEarly}
 use Rattle.dgn_files.specs.InBytes.{AreCutOff}
 use Rattle.dgn_files.specs.Readings.{ComeBehind, seconds_in}

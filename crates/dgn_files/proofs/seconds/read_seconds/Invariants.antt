@@ -1,6 +1,6 @@
 use Rattle.std.proofs.Common.{drop}
 use Rattle.std.specs.List.{AllByRecursion}
-use Rattle.dgn_desk.specs.Seen.{seen}
+use Rattle.host_desk.specs.Seen.{seen}
 use Rattle.dgn_import.specs.Seconds.{IsSound}
 use Rattle.dgn_files.specs.Ends.{ReadTo}
 use Rattle.dgn_files.proofs.SecondFiles.{IsReadSo}

@@ -1,6 +1,6 @@
 use Rattle.std.proofs.Common.{◌++◌}
 use Rattle.std.proofs.lemmas.Result.{err_from_is_err_and}
-use Rattle.dgn_desk.specs.Seen.{seen}
+use Rattle.host_desk.specs.Seen.{seen}
 use Rattle.dgn_files.proofs.FilesThenTexts.{file_then_ends, file_stops}
 use Rattle.dgn_files.proofs.writing.file_and_say.Goals as goal
 

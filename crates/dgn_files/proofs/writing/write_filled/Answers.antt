@@ -1,6 +1,6 @@
 use Rattle.std.proofs.Common.{List, ℕ, length, refl, subst}
-use Rattle.dgn_desk.specs.Desk.{FilesAll}
-use Rattle.dgn_desk.specs.Seen.{DeskWrites}
+use Rattle.host_desk.specs.Desk.{FilesAll}
+use Rattle.host_desk.specs.Seen.{DeskWrites}
 use Rattle.dgn_files.proofs.BlocksFilled.{filled_so}
 use Rattle.dgn_files.proofs.writing.write_filled.Goals as goal
 

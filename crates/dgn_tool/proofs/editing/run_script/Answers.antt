@@ -1,6 +1,6 @@
 use Rattle.std.proofs.Common.{List, ℕ, ap, sym, ◌∙◌}
 use Rattle.std.proofs.lemmas.Result.{err_from_is_err_and}
-use Rattle.dgn_desk.specs.Seen.{seen}
+use Rattle.host_desk.specs.Seen.{seen}
 use Rattle.elem_index.specs.Answers.{opened_of}
 use Rattle.dgn_session.specs.State.{State, state_of, SessionValue}
 use Rattle.dgn_answers.specs.Given.{given_all}

@@ -1,7 +1,7 @@
 use Rattle.std.proofs.Common.{List, refl, sym, subst}
 use Rattle.std.proofs.lemmas.Result.{err_from_is_err_and}
-use Rattle.dgn_desk.specs.Content.{bytes_of}
-use Rattle.dgn_desk.specs.Seen.{seen}
+use Rattle.host_desk.specs.Content.{bytes_of}
+use Rattle.host_desk.specs.Seen.{seen}
 use Rattle.dgn_drawing.specs.declared.command.Command.{Command}
 use Rattle.elem_index.specs.Answers.{opened_of}
 use Rattle.dgn_files.specs.Ends.{Has, ReadTo}

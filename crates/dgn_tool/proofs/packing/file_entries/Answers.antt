@@ -1,6 +1,6 @@
 use Rattle.std.proofs.Common.{◌∙◌}
 use Rattle.std.proofs.lemmas.Result.{err_from_is_err_and}
-use Rattle.dgn_desk.specs.Seen.{seen}
+use Rattle.host_desk.specs.Seen.{seen}
 use Rattle.patch_file.specs.PatchView.{all_packed}
 use Rattle.dgn_files.specs.Ends.{status_said}
 use Rattle.dgn_tool.specs.Packing.{filed_patch}

@@ -1,6 +1,6 @@
 use Rattle.std.proofs.Common.{◌≤◌, List, length, subst, sym, ap, ◌∙◌}
 use Rattle.std.proofs.lemmas.Result.{err_from_is_err_and}
-use Rattle.dgn_desk.specs.Seen.{seen}
+use Rattle.host_desk.specs.Seen.{seen}
 use Rattle.elem_index.specs.Answers.{opened_of}
 use Rattle.patch_file.specs.Spelling.{patch_spelling}
 use Rattle.patch_file.specs.PatchView.{all_packed}

@@ -1,4 +1,4 @@
-use Rattle.dgn_desk.specs.Seen.{seen}
+use Rattle.host_desk.specs.Seen.{seen}
 use Rattle.dgn_files.specs.RequestView as view
 use Rattle.dgn_tool.proofs.WholeRuns.{ran}
 use Rattle.dgn_tool.proofs.top.run_words.Goals as goal

@@ -1,5 +1,5 @@
 use Rattle.std.proofs.Common.{refl}
-use Rattle.dgn_desk.specs.Seen.{seen}
+use Rattle.host_desk.specs.Seen.{seen}
 use Rattle.dgn_tool.proofs.WholeRuns.{says_usage, stops_usage}
 use Rattle.dgn_tool.proofs.top.say_usage.Goals as goal
 

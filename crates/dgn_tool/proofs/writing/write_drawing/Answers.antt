@@ -1,6 +1,6 @@
 use Rattle.std.proofs.Common.{◌≡◌, List, ℕ, ap, ◌∙◌, subst}
-use Rattle.dgn_desk.specs.Desk.{FilesAll}
-use Rattle.dgn_desk.specs.Seen.{DeskWrites}
+use Rattle.host_desk.specs.Desk.{FilesAll}
+use Rattle.host_desk.specs.Seen.{DeskWrites}
 use Rattle.dgn_drawing.specs.Spelling.{spelling}
 use Rattle.dgn_session.specs.State.{state_of}
 use Rattle.dgn_files.specs.Filling.{file_made}

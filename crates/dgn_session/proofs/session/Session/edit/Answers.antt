@@ -5,7 +5,7 @@ use Rattle.edit_trees.specs.Applying.{apply}
 use Rattle.edit_ops.specs.Planned.{IsRefused}
 use Rattle.dgn_session.specs.State.{SessionValue, state_of, applied}
 use Rattle.dgn_session.specs.Laws.{IsSound}
-use Rattle.dgn_session.specs.CarryingOut.{plan_of}
+use Rattle.dgn_session.specs.SessionParts.{plan_of}
 use Rattle.dgn_session.proofs.EditCarriedOut.{IsEdited, plan_seen, edit_sound, edit_made}
 use Rattle.dgn_session.proofs.session.Session.edit.Goals as goal
 use Rattle.dgn_session.proofs.session.Session.edit.Goals.{In_ok-carry_out}

@@ -3,10 +3,10 @@ use Rattle.dgn_drawing.specs.Shown.{tree_shown}
 use Rattle.dgn_fence.specs.Taken.{takes}
 use Rattle.elem_index.specs.Design.{elements}
 use Rattle.elem_index.proofs.Places.{few_elements}
-use Rattle.dgn_import.proofs.TakenRoots.{chosen_few}
+use Rattle.level_view.proofs.TakenRoots.{chosen_few}
 use Rattle.dgn_session.specs.State.{SessionValue, state_of, selection}
 use Rattle.dgn_session.specs.Laws.{IsSound}
-use Rattle.dgn_session.specs.CarryingOut.{plan_of}
+use Rattle.dgn_session.specs.SessionParts.{plan_of}
 use Rattle.dgn_session.proofs.FenceEditCarriedOut.{IsFenceEdited, plan_seen, roots_seen, fence_sound, fence_made}
 use Rattle.dgn_session.proofs.session.Session.edit_fence.Goals as goal
 use Rattle.dgn_session.proofs.session.Session.edit_fence.Goals.{In_ok-carry_out}

@@ -1,5 +1,0 @@
-use Rattle.std.proofs.Common.{length}
-use Rattle.dgn_session.proofs.appended.count_members.Given as goal
-
-abbrev pub decreases-members : goal.decreases-members
-decreases-members l = length l.rest
