@@ -6,6 +6,9 @@ import subprocess
 import sys
 import tempfile
 import time
+from typing import Callable, List, Optional, Sequence, Tuple
+
+Point = Tuple[int, int]
 
 SIZE = 67108864
 ROUNDS = 5
@@ -14,16 +17,16 @@ END = b'\xff\xff'
 DATA = bytes([0, 0x80, 1, 0, 0, 0, 0, 0, 0, 0, 0, 0])  # attribute data: a linkage and a rest
 
 
-def long(value):
+def long(value: int) -> bytes:
     value &= 0xFFFFFFFF
     return struct.pack('<HH', value >> 16, value & 0xFFFF)
 
 
-def offset_long(value):
+def offset_long(value: int) -> bytes:
     return long(value + 0x80000000)
 
 
-def line(x, data=b''):
+def line(x: int, data: bytes = b'') -> bytes:
     """A line on level 1 from x,0 to x+100,50: 52 bytes, and attribute data behind them."""
     low = offset_long(x) + offset_long(0) + offset_long(0)
     high = offset_long(x + 100) + offset_long(50) + offset_long(0)
@@ -33,7 +36,7 @@ def line(x, data=b''):
     return head + low + high + words + bytes(2) + points + data
 
 
-def element(kind, corners, body, member=False):
+def element(kind: int, corners: Tuple[Point, Point], body: bytes, member: bool = False) -> bytes:
     """An element on level 1 with a display header: its type, the low and the high corner of its range, what stands
     behind the header, and whether it is a member."""
     (left, below), (right, above) = corners
@@ -43,11 +46,11 @@ def element(kind, corners, body, member=False):
     return bytes([0x81 if member else 1, kind]) + struct.pack('<H', len(rest) // 2) + rest
 
 
-def points(*pairs):
+def points(*pairs: Point) -> bytes:
     return b''.join(long(x) + long(y) for x, y in pairs)
 
 
-def trees(x):
+def trees(x: int) -> bytes:
     """A cell of two lines, a line, a line string, a shape and a text at x,0: 444 bytes, seven elements, five roots."""
     box = (x, 0), (x + 100, 50)
     member = element(3, box, points(*box), True)
@@ -60,7 +63,7 @@ def trees(x):
             + element(6, box, shape) + element(17, box, text))
 
 
-def write_drawing(path, pieces, count, tail, before=b''):
+def write_drawing(path: str, pieces: Sequence[bytes], count: int, tail: bytes, before: bytes = b'') -> None:
     """A TCB, what stands before the others, so many elements, which are these pieces again and again, and a tail."""
     chunk = b''.join(pieces)
     size = len(pieces[0])
@@ -71,7 +74,7 @@ def write_drawing(path, pieces, count, tail, before=b''):
         out.write(chunk[:size * (count % len(pieces))] + tail)
 
 
-def seconds(words, folder, made, said):
+def seconds(words: List[str], folder: str, made: Optional[int], said: Optional[int]) -> Tuple[float, float]:
     """How long a command takes, and its peak memory in MB. It has to make a file `out` of so many bytes,
     or none, and to say so many bytes, if that is given."""
     path = os.path.join(folder, 'out')
@@ -91,7 +94,7 @@ def seconds(words, folder, made, said):
     return end - start, usage.ru_maxrss / 1024
 
 
-def run_bench(bench, usage):
+def run_bench(bench: Callable[[str, str], None], usage: Optional[str]) -> None:
     """Runs a bench on the program and in the folder that the words name, or in a temporary folder."""
     if len(sys.argv) not in (2, 3):
         raise SystemExit(usage)

@@ -14,7 +14,7 @@ import time
 import urllib.error
 import urllib.request
 from pathlib import Path
-from typing import Any, Iterator, List, Optional, Sequence, Tuple
+from typing import Any, Dict, Iterator, List, Optional, Sequence, Tuple
 
 ELEMENT = 'element-6066-11e4-a52e-4f735466cecf'  # the key under which the driver names an element
 CHROMIUM = shutil.which('chromium') or shutil.which('chromium-browser')
@@ -138,12 +138,13 @@ class Browser:
 
     def pinch(self, *fingers: Tuple[Sequence[float], Sequence[float]]) -> None:
         """Puts fingers down at their first places at once, and moves each to its second one."""
-        acts = []
+        acts: List[Dict[str, object]] = []
         for number, (start, end) in enumerate(fingers):
             moves = [{'type': 'pointerMove', 'x': round(x), 'y': round(y), 'duration': 50} for x, y in (start, end)]
             down, up = {'type': 'pointerDown', 'button': 0}, {'type': 'pointerUp', 'button': 0}
-            finger = {'type': 'pointer', 'id': 'finger%d' % number, 'parameters': {'pointerType': 'touch'}}
-            acts.append({**finger, 'actions': [moves[0], down, moves[1], up]})
+            finger: Dict[str, object] = {'type': 'pointer', 'id': 'finger%d' % number}
+            finger['parameters'], finger['actions'] = {'pointerType': 'touch'}, [moves[0], down, moves[1], up]
+            acts.append(finger)
         self._ask('/actions', {'actions': acts})
 
     def hover(self, place: Sequence[float]) -> None:
