@@ -12,21 +12,40 @@ import sys
 import tempfile
 import unittest
 from pathlib import Path
+from typing import Any, Dict, Optional, Tuple, Union
 
 TOP = Path(__file__).resolve().parents[2]
 EXAMPLES = TOP / 'examples'
-for folder in (TOP / 'tools', TOP / 'dgnkit' / 'src'):
+for folder in (EXAMPLES, TOP / 'tools', TOP / 'dgnkit' / 'src'):
     sys.path.insert(0, str(folder))
 sys.dont_write_bytecode = True
 
 import drawings  # noqa: E402
-from dgnkit import Drawing, Program, Script, cli  # noqa: E402, F401
+import make_plan as plan  # noqa: E402
+from dgnkit import Drawing, Program, Script, cli  # noqa: E402
 
-plan = drawings.plan
+__all__ = [
+    'EXAMPLES',
+    'OGR',
+    'PROGRAM',
+    'TOP',
+    'Drawing',
+    'Json',
+    'Program',
+    'Script',
+    'WithProgram',
+    'cli',
+    'drawings',
+    'plan',
+    'vax_double',
+    'with_units',
+]
+
+Json = Dict[str, Any]  # an object that dgnkit says as JSON, or a part of one
 OGR = shutil.which('ogr2ogr') and shutil.which('ogrinfo')
 
 
-def program_path() -> str | None:
+def program_path() -> Optional[str]:
     """The program to test with: $DGNEDIT, or the one that is built here, or the one on the path."""
     built = TOP / 'crates' / 'dgnedit' / 'out' / 'dgnedit'
     return os.environ.get('DGNEDIT') or (str(built) if built.exists() else shutil.which('dgnedit'))
@@ -47,7 +66,7 @@ def vax_double(value: int) -> bytes:
     return struct.pack('<HHHH', *(bits >> shift & 0xFFFF for shift in (48, 32, 16, 0)))
 
 
-def with_units(file: bytes, subunits: int, resolution: int, names: tuple[str, str], origin: tuple[int, ...]) -> bytes:
+def with_units(file: bytes, subunits: int, resolution: int, names: Tuple[str, str], origin: Tuple[int, ...]) -> bytes:
     """The same drawing with these units and this global origin in its TCB."""
     made = bytearray(file)
     made[1112:1120] = plan.long(subunits) + plan.long(resolution)
@@ -67,7 +86,7 @@ class WithProgram(unittest.TestCase):
         self.addCleanup(shutil.rmtree, self.folder)
         self.program = Program(str(PROGRAM))
 
-    def put(self, name: str, content: bytes | str) -> str:
+    def put(self, name: str, content: Union[bytes, str]) -> str:
         """Writes a file, and gives its path."""
         path = self.folder / name
         path.write_bytes(content.encode('utf-8') if isinstance(content, str) else content)
@@ -87,7 +106,7 @@ class WithProgram(unittest.TestCase):
         self.assertEqual(ran.status, 0)
         return self.path(name)
 
-    def kit(self, *words: object) -> tuple[int, str, str]:
+    def kit(self, *words: object) -> Tuple[int, str, str]:
         """Runs dgnkit, and gives its status and what it said on standard output and on standard error."""
         out, err = io.StringIO(), io.StringIO()
         with contextlib.redirect_stdout(out), contextlib.redirect_stderr(err):

@@ -2,19 +2,22 @@
 
 import json
 import unittest
+from typing import Dict, List, Optional, Tuple
 
 import samples
 from samples import drawings, plan, with_units
 
 METRIC = (100, 1, ('m', 'cm'), (0, 0, 0))
+Change = Tuple[Optional[int], Optional[int], List[str]]
 
 
 class Diff(samples.WithProgram):
-    def found(self, before: bytes, after: bytes, status: int = 1) -> dict:
+    def found(self, before: bytes, after: bytes, status: int = 1) -> samples.Json:
         names = self.put('a.dgn', before), self.put('b.dgn', after)
-        return json.loads(self.said('diff', *names, '--json', status=status))
+        found: samples.Json = json.loads(self.said('diff', *names, '--json', status=status))
+        return found
 
-    def changes(self, before: bytes, after: bytes) -> dict:
+    def changes(self, before: bytes, after: bytes) -> Dict[Optional[int], samples.Json]:
         """The changes of each element that differs, by its number."""
         return {it['before']: it['changes'] for it in self.found(before, after)['elements']}
 
@@ -24,7 +27,7 @@ class Diff(samples.WithProgram):
         self.assertEqual([it.cause for it in answers if it.is_refused], [])
         return (self.folder / 'out.dgn').read_bytes()
 
-    def by_edit(self, file: bytes, *lines: str) -> dict:
+    def by_edit(self, file: bytes, *lines: str) -> Dict[Optional[int], samples.Json]:
         return self.changes(file, self.edited(file, *lines))
 
     valve = (samples.EXAMPLES / 'valve.dgn').read_bytes()
@@ -79,7 +82,7 @@ class Diff(samples.WithProgram):
         swapped = self.found(drawings.drawing(*lines), drawings.drawing(*lines[:2], *lines[3:]))['elements']
         self.assertEqual([(it['before'], it['after'], list(it['changes'])) for it in swapped], [(3, None, ['gone'])])
 
-    def numbers(self, before: list, after: list) -> list:
+    def numbers(self, before: List[bytes], after: List[bytes]) -> List[Change]:
         """Of the elements that differ the number in the first drawing, that in the second, and the changes."""
         found = self.found(drawings.drawing(*before), drawings.drawing(*after))['elements']
         return [(it['before'], it['after'], sorted(it['changes'])) for it in found]

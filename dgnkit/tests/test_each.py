@@ -6,6 +6,7 @@ import signal
 import subprocess
 import sys
 import time
+from typing import List
 
 import samples
 
@@ -18,7 +19,7 @@ class Each(samples.WithProgram):
         self.script = self.put('s', 'color 1 3\nmove 2 5 5\n')
         self.into = self.path('out')
 
-    def written(self) -> list:
+    def written(self) -> List[str]:
         return sorted(it.name for it in (self.folder / 'out').iterdir())
 
     def test_each_drawing_is_what_the_program_makes_of_it(self) -> None:
@@ -60,11 +61,12 @@ class Each(samples.WithProgram):
 
     def test_what_can_not_be_done_is_one_line_and_2(self) -> None:
         other = self.gen(1, 3, '0.dgn')
-        for words in [
+        wrong: List[List[object]] = [
             [self.path('none'), *self.names],
             [self.script, self.names[0], other],
             [self.script, *self.names, '--jobs', 0],
-        ]:
+        ]
+        for words in wrong:
             status, out, err = self.kit('each', *words, '--into', self.into)
             self.assertEqual((status, out, err.count('\n')), (2, '', 1), words)
         status, _, err = self.kit('each', self.script, self.names[0], '--into', self.path('in'), '--force')

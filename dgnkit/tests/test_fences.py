@@ -3,6 +3,7 @@
 import argparse
 import random
 import unittest
+from typing import List, Tuple
 
 import samples
 from dgnkit.cli import NUMBERS
@@ -21,7 +22,7 @@ class Fences(samples.WithProgram):
         add_conditions(self.parser)
         self.parser._negative_number_matcher = NUMBERS
 
-    def point(self) -> tuple:
+    def point(self) -> Tuple[int, int]:
         return self.dice.randrange(-3, 24), self.dice.randrange(-3, 24)
 
     def leaf(self, member: bool) -> bytes:
@@ -51,7 +52,7 @@ class Fences(samples.WithProgram):
         self.program.edit(made.path, script, self.path('fitted.dgn'))
         return samples.Drawing(self.path('fitted.dgn'), self.program)
 
-    def chosen(self, drawing: samples.Drawing, *words: str) -> list:
+    def chosen(self, drawing: samples.Drawing, *words: str) -> List[int]:
         """The chosen roots that draw something: the program takes no others."""
         shown = {drawing.nesting.roots[it.number] for it in drawing.items if it.kind != 'cell'}
         return [it for it in Conditions(drawing, self.parser.parse_args(words)).chosen() if it in shown]

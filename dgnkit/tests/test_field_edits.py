@@ -1,6 +1,7 @@
 """`relevel`, `retext`, `lock` and `unlock`: the bytes that their patch files change, and what they leave out."""
 
 import unittest
+from typing import Dict, List, Tuple
 
 import ogr
 import samples
@@ -8,7 +9,7 @@ from samples import drawings, plan
 
 
 class FieldEdits(samples.WithProgram):
-    def changed(self, word: str, file: bytes, *more: object) -> tuple[dict, str]:
+    def changed(self, word: str, file: bytes, *more: object) -> Tuple[Dict[int, Tuple[int, int]], str]:
         """The bytes that differ once the patch is put on, and what was said on standard error."""
         source, patch, out = self.put('in.dgn', file), self.path('p'), self.path('out.dgn')
         status, said, err = self.kit(word, source, patch, *more)
@@ -118,7 +119,7 @@ class FieldEdits(samples.WithProgram):
 
     def test_what_can_not_be_done_is_one_line_and_2(self) -> None:
         source = self.put('in.dgn', self.plan_file)
-        for words in [
+        wrong: List[List[object]] = [
             ['relevel', source, self.path('p'), '--to', 64, '--level', 3],
             ['relevel', source, self.path('p'), '--to', '3-4', '--level', 3],
             ['relevel', source, self.path('p'), '--to', 3],
@@ -128,7 +129,8 @@ class FieldEdits(samples.WithProgram):
             ['unlock', source, self.path('p')],
             ['retext', source, self.path('p'), '(', 'x', '--regex'],
             ['retext', source, self.path('p'), '', 'x'],
-        ]:
+        ]
+        for words in wrong:
             status, out, err = self.kit(*words)
             self.assertEqual((status, err.count('\n')), (2, 1), words)
         self.assertEqual(sorted(it.name for it in self.folder.iterdir()), ['in.dgn'])
@@ -141,8 +143,8 @@ class OfOgr(samples.WithProgram):
         source, out = ogr.made(self, ogr.roads() + ogr.labels()), self.path('out.dgn')
         self.said('relevel', source, self.path('p'), '--to', 13, '--level', 12)
         self.program.apply(source, self.path('p'), out)
-        after = ''.join(ogr.features_of(self, out))
-        self.assertEqual((after.count('Level (Integer) = 13'), after.count('Level (Integer) = 12')), (5, 0))
+        said = ''.join(ogr.features_of(self, out))
+        self.assertEqual((said.count('Level (Integer) = 13'), said.count('Level (Integer) = 12')), (5, 0))
         self.said('retext', source, self.path('p'), 'DN 150', 'DN 200')
         self.program.apply(source, self.path('p'), out)
         before, after = ogr.features_of(self, source), ogr.features_of(self, out)

@@ -2,6 +2,7 @@
 
 import json
 import unittest
+from typing import List, Tuple
 
 import ogr
 import samples
@@ -14,7 +15,7 @@ class Find(samples.WithProgram):
         super().setUp()
         self.plan = self.example('plan.dgn')
 
-    def numbers(self, *words: object, of: str = '') -> list:
+    def numbers(self, *words: object, of: str = '') -> List[int]:
         return [int(it) for it in self.said('find', of or self.plan, '--numbers', *words).split()]
 
     def test_levels_types_and_looks(self) -> None:
@@ -170,7 +171,7 @@ class Find(samples.WithProgram):
 
 
 class Scripts(samples.WithProgram):
-    def script(self, path: str, *words: str) -> tuple[str, str]:
+    def script(self, path: str, *words: str) -> Tuple[str, str]:
         status, out, err = self.kit('find', path, *words)
         self.assertEqual(status, 0, err)
         return out, err

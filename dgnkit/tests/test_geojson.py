@@ -3,6 +3,7 @@
 import json
 import re
 import unittest
+from typing import Dict
 
 import ogr
 import samples
@@ -10,7 +11,7 @@ from samples import drawings, plan, with_units
 
 
 class GeoJson(samples.WithProgram):
-    def features(self, file: bytes, *more: str) -> dict:
+    def features(self, file: bytes, *more: str) -> Dict[int, samples.Json]:
         made = json.loads(self.said('geojson', self.put('in.dgn', file), *more))
         self.assertEqual((made['type'], made['crs']), ('FeatureCollection', None))
         return {it['properties']['number']: it for it in made['features']}
@@ -124,7 +125,7 @@ class Scripts(samples.WithProgram):
 
 @unittest.skipUnless(samples.OGR, 'GDAL is not installed')
 class OfOgr(samples.WithProgram):
-    def places(self, name: str) -> dict:
+    def places(self, name: str) -> Dict[int, str]:
         """The geometry of each feature by its number, with its coordinates to six places."""
         made = {}
         for feature in ogr.features_of(self, name):

@@ -2,6 +2,7 @@
 
 import random
 import unittest
+from typing import List
 
 import samples
 from dgnkit.errors import BadScript
@@ -77,7 +78,7 @@ PIECES += ['4294967295', '-4294967295', '4294967296', '-0', 'all', 'x', '-5,3', 
 
 
 class Grammar(samples.WithProgram):
-    def is_bad(self, lines: list) -> bool:
+    def is_bad(self, lines: List[str]) -> bool:
         try:
             self.program.edit(samples.EXAMPLES / 'valve.dgn', samples.Script(it.encode('latin-1') for it in lines))
         except BadScript:

@@ -11,8 +11,10 @@ VALVE = (samples.EXAMPLES / 'valve.dgn').read_bytes()
 
 
 class Health(samples.WithProgram):
-    def facts(self, file: bytes, status: int = 1) -> dict:
-        return json.loads(self.said('health', '--json', self.put('in.dgn', file), status=status))[0]
+    def facts(self, file: bytes, status: int = 1) -> samples.Json:
+        said = self.said('health', '--json', self.put('in.dgn', file), status=status)
+        facts: samples.Json = json.loads(said)[0]
+        return facts
 
     def line(self, file: bytes, status: int = 1) -> str:
         return self.said('health', self.put('in.dgn', file), status=status)

@@ -16,8 +16,9 @@ def metric(*elements: bytes, axes: int = 2) -> bytes:
 
 
 class Info(samples.WithProgram):
-    def facts(self, file: bytes) -> dict:
-        return json.loads(self.said('info', '--json', self.put('in.dgn', file)))[0]
+    def facts(self, file: bytes) -> samples.Json:
+        facts: samples.Json = json.loads(self.said('info', '--json', self.put('in.dgn', file)))[0]
+        return facts
 
     def test_units_and_places_of_a_drawing_in_metres(self) -> None:
         facts = self.facts(metric(plan.line(12, (ORIGIN + 100, ORIGIN), (ORIGIN + 350, ORIGIN + 725))))
@@ -66,10 +67,9 @@ class Info(samples.WithProgram):
 
     def test_a_table_of_colours(self) -> None:
         table = bytes([1, 5]) + struct.pack('<H', 401) + bytes(32) + bytes(2) + bytes(range(256)) * 3
-        drawing = self.opened(drawings.drawing(table))
-        self.assertEqual(
-            (drawing.colours[255], drawing.colours[0], drawing.colours[84]), ((0, 1, 2), (3, 4, 5), (255, 0, 1))
-        )
+        colours = self.opened(drawings.drawing(table)).colours
+        assert colours is not None
+        self.assertEqual((colours[255], colours[0], colours[84]), ((0, 1, 2), (3, 4, 5), (255, 0, 1)))
 
     def test_files_that_are_no_drawings_are_told_by_name(self) -> None:
         for front, word in [

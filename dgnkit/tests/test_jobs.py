@@ -5,6 +5,7 @@ import json
 import re
 import shlex
 import unittest
+from typing import Dict
 
 import samples
 from samples import drawings, plan
@@ -31,7 +32,7 @@ class Jobs(samples.WithProgram):
     def result(self) -> samples.Drawing:
         return samples.Drawing(self.path('sheet-out.dgn'), self.program)
 
-    def changes(self) -> dict:
+    def changes(self) -> Dict[int, samples.Json]:
         """What became of each element that differs, by its number."""
         _, said, _ = self.kit('diff', self.town, self.path('sheet-out.dgn'), '--json')
         return {

@@ -1,6 +1,7 @@
 """Listings: each kind of line by itself, lines that aren't understood, and all kinds of the program's."""
 
 import unittest
+from typing import Callable, Iterator, List, Tuple
 
 import samples
 from dgnkit import ListingError
@@ -57,7 +58,7 @@ class Lines(unittest.TestCase):
         self.assertEqual(chosen_of(['2', '11']), [2, 11])
 
     def test_a_line_that_is_not_understood_is_an_error(self) -> None:
-        wrong = [
+        wrong: List[Tuple[Callable[[str], object], List[str]]] = [
             (lambda it: elements_of([it], b'', 2), ['1 2 3 4 5', '1 2 3 4 5 x-', 'levels 1 2', '']),
             (item_of, ['', '1 2 3', '1 0 3 1 0 0 0 arc 1,2', '1 0 3 1 0 0 0 path 1,2 3', '1 0 2 1 0 0 0 cell VLV 1,2']),
             (item_of, ['1 0 12 1 0 0 0 group 1,2', '1 0 27 1 0 0 0 box 1,2', '1 0 17 1 0 0 0 text 7,8']),
@@ -83,14 +84,15 @@ class Answers(unittest.TestCase):
         self.assertEqual(made[4].lines, ['0 0 1536 9 8 --', 'level 8 1', 'type 9 1'])
 
     def test_too_few_too_many_and_odd_answers_are_errors(self) -> None:
-        for names, said in [
+        wrong: List[Tuple[List[str], List[str]]] = [
             (['color'], []),
             (['color'], ['ok', 'ok']),
             (['color'], ['done']),
             (['tree'], ['7 0 3 1 leaf live']),
             (['tree'], ['7 0 3 1 leaf live', 'tree 2']),
             (['show'], ['shown x']),
-        ]:
+        ]
+        for names, said in wrong:
             with self.assertRaises(ListingError, msg=str(said)):
                 answers_of(names, said)
 
@@ -98,7 +100,7 @@ class Answers(unittest.TestCase):
 class OfTheProgram(samples.WithProgram):
     """All listings of all drawings are understood, and say of an element what its bytes say."""
 
-    def drawings(self):  # type: ignore[no-untyped-def]
+    def drawings(self) -> Iterator[Tuple[str, samples.Drawing]]:
         for name, file in samples.drawings.DRAWINGS.items():
             yield name, self.opened(file)
         for name in ('plan.dgn', 'valve.dgn'):
@@ -115,8 +117,11 @@ class OfTheProgram(samples.WithProgram):
                     self.assertEqual((item.type, item.level), (element.type, element.level))
                     self.assertEqual(item.characters, element.characters)
                     self.assertEqual(item.name, element.cell_name)
-                    expected = list(element.range) if item.kind == 'box' else element.points
-                    self.assertEqual(item.points, expected)
+                    if item.kind == 'box':
+                        assert element.range is not None
+                        self.assertEqual(item.points, list(element.range))
+                    else:
+                        self.assertEqual(item.points, element.points)
                     self.assertEqual(item.depth, drawing.nesting.depths[item.number])
 
     def test_trees_are_those_of_each_element_asked_by_itself(self) -> None:

@@ -1,6 +1,7 @@
 """`mend`: what it mends, byte by byte, what it leaves, and that no byte else changes."""
 
 import unittest
+from typing import Dict, List, Tuple
 
 import ogr
 import samples
@@ -16,7 +17,7 @@ def beside(made: bytes) -> bytes:
 
 
 class Mend(samples.WithProgram):
-    def mended(self, file: bytes) -> tuple[dict, str]:
+    def mended(self, file: bytes) -> Tuple[Dict[int, Tuple[int, int]], str]:
         """The bytes that differ once the patch is put on, by their places, and what was said on standard error."""
         source, patch, out = self.put('in.dgn', file), self.path('p'), self.path('out.dgn')
         status, _, err = self.kit('mend', source, patch)
@@ -26,7 +27,7 @@ class Mend(samples.WithProgram):
         self.assertEqual(len(made), len(file))
         return {place: (a, b) for place, (a, b) in enumerate(zip(file, made)) if a != b}, err
 
-    def broken(self, name: str = 'out.dgn') -> list:
+    def broken(self, name: str = 'out.dgn') -> List[int]:
         return samples.Drawing(self.path(name), self.program).nesting.broken
 
     def test_bit_c_of_a_chain_at_the_root(self) -> None:

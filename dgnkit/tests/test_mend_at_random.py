@@ -4,6 +4,7 @@ changes, no tree that was whole changes, what was mended needs no more, and all 
 import random
 import struct
 import unittest
+from typing import List
 
 import samples
 from dgnkit.mending import mending_of
@@ -67,7 +68,7 @@ class AtRandom(samples.WithProgram):
         self.assertGreater(counts[0], counts[1] + 50)
         self.assertGreater(counts[2], 50)
 
-    def strange_places(self, before: samples.Drawing, after: samples.Drawing) -> list:
+    def strange_places(self, before: samples.Drawing, after: samples.Drawing) -> List[int]:
         """The bytes that differ and are neither bit C nor the total of a header."""
         headers = [it.offset for it in before.elements if it.total is not None]
         allowed = {offset + place for offset in headers for place in (36, 37)}

@@ -1,6 +1,7 @@
 """`merge`: units, the displacement from the origins, what is left out, and where the drawings lie."""
 
 import unittest
+from typing import List, Tuple
 
 import ogr
 import samples
@@ -9,12 +10,12 @@ from samples import drawings, plan, with_units
 M = ('m', 'cm')
 
 
-def sheet(origin: tuple, *elements: bytes, units: tuple = (100, 10, M)) -> bytes:
+def sheet(origin: Tuple[int, ...], *elements: bytes, units: Tuple[int, int, Tuple[str, str]] = (100, 10, M)) -> bytes:
     return with_units(drawings.drawing(*elements), *units, origin)
 
 
 class Merge(samples.WithProgram):
-    def merged(self, first: bytes, other: bytes) -> tuple[samples.Drawing, str, str]:
+    def merged(self, first: bytes, other: bytes) -> Tuple[samples.Drawing, str, str]:
         """The drawing that the script makes, the script, and what was said."""
         a, b, script, out = self.put('a.dgn', first), self.put('b.dgn', other), self.path('s'), self.path('out.dgn')
         status, said, err = self.kit('merge', a, b, '-o', script)
@@ -105,7 +106,7 @@ class OfOgr(samples.WithProgram):
         self.said('merge', a, self.path('mended.dgn'), '-o', self.path('s'))
         self.program.edit(a, samples.Script.read(self.path('s')), self.path('out.dgn'))
 
-        def places(name: str) -> list:
+        def places(name: str) -> List[str]:
             return [
                 line
                 for it in ogr.features_of(self, name)

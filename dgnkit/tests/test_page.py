@@ -688,4 +688,4 @@ class Refusing(WithProgram):
 
 
 if __name__ == '__main__':
-    sys.exit(unittest.main())
+    unittest.main()

@@ -1,6 +1,7 @@
 """`place`: copies of a cell stand at the places of a CSV, by the cell's own origin."""
 
 import unittest
+from typing import List, Tuple
 
 import samples
 from samples import drawings, plan, with_units
@@ -11,7 +12,7 @@ class Place(samples.WithProgram):
         super().setUp()
         self.valve = self.example('valve.dgn')
 
-    def placed(self, drawing: str, cell: str, rows: str, *more: str) -> list:
+    def placed(self, drawing: str, cell: str, rows: str, *more: str) -> List[Tuple[int, ...]]:
         """The origins of all cells once the script has run."""
         script, out = self.path('s'), self.path('out.dgn')
         self.said('place', drawing, cell, self.put('p.csv', rows), '-o', script, *more)

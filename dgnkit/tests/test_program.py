@@ -2,11 +2,14 @@
 
 import os
 import unittest
+from typing import List, Tuple, Type, TypeVar, Union
 from unittest import mock
 
 import samples
 from dgnkit import errors
 from samples import Program, Script, drawings
+
+Kind = TypeVar('Kind', bound=errors.Ending)
 
 
 class Scripts(samples.WithProgram):
@@ -55,18 +58,21 @@ class Scripts(samples.WithProgram):
 
 
 class Endings(samples.WithProgram):
-    def ended(self, kind: type, *words: object) -> errors.Ending:
+    def ended(self, kind: Type[Kind], word: str, drawing: str, given: Union[str, bytes] = '', out: str = '') -> Kind:
+        """The ending of a run, to which a patch file is given by its path, or a script as bytes."""
         valve = self.folder / 'valve.dgn'
         if not valve.exists():
             self.example('valve.dgn')
         with self.assertRaises(kind) as caught:
-            if words[0] == 'apply':
-                self.program.apply(str(words[1]), str(words[2]), str(words[3]))
-            elif words[0] == 'check':
-                self.program.check(str(words[1]))
+            if word == 'apply':
+                assert isinstance(given, str)
+                self.program.apply(drawing, given, out)
+            elif word == 'check':
+                self.program.check(drawing)
             else:
-                self.program.edit(str(words[1]), Script.from_bytes(words[2]), str(words[3]))  # type: ignore[arg-type]
-        return caught.exception  # type: ignore[no-any-return]
+                assert isinstance(given, bytes)
+                self.program.edit(drawing, Script.from_bytes(given), out)
+        return caught.exception
 
     def test_each_ending_is_an_exception_with_what_it_says(self) -> None:
         valve = self.example('valve.dgn')
@@ -88,7 +94,8 @@ class Endings(samples.WithProgram):
         )
 
     def test_an_ending_that_is_not_understood(self) -> None:
-        for status, said in [(9, []), (3, ['bad line 3']), (0, []), (11, ['refused entry'])]:
+        odd: List[Tuple[int, List[str]]] = [(9, []), (3, ['bad line 3']), (0, []), (11, ['refused entry'])]
+        for status, said in odd:
             with self.assertRaises(errors.ListingError):
                 raise errors.ending_of(status, said)
 

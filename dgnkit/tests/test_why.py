@@ -3,6 +3,7 @@
 import json
 import os
 import unittest
+from typing import List
 
 import samples
 from samples import drawings
@@ -11,7 +12,7 @@ MEMBER_LOCKED = 'a cell of the line 2, which is locked'
 
 
 class Why(samples.WithProgram):
-    def why(self, file: bytes, *lines: str, status: int = 1) -> list:
+    def why(self, file: bytes, *lines: str, status: int = 1) -> List[str]:
         source, script = self.put('in.dgn', file), self.put('s', ''.join(it + '\n' for it in lines))
         told = json.loads(self.said('why', source, script, '--json', status=status))
         return [it['why'] for it in told['refused']]
