@@ -154,10 +154,7 @@ class Diff(samples.WithProgram):
             for place in range(4, element.size, 3):
                 made = bytearray(file)
                 made[element.offset + place] ^= 0x01
-                try:
-                    status, out, _ = self.kit('diff', self.put('a', file), self.put('b', bytes(made)), '--json')
-                except AssertionError:
-                    continue
+                status, out, _ = self.kit('diff', self.put('a', file), self.put('b', bytes(made)), '--json')
                 if status == 1:
                     self.assertIn(element.number, [it['before'] for it in json.loads(out)['elements']], place)
                 else:

@@ -60,9 +60,6 @@ class Scripts(samples.WithProgram):
 class Endings(samples.WithProgram):
     def ended(self, kind: Type[Kind], word: str, drawing: str, given: Union[str, bytes] = '', out: str = '') -> Kind:
         """The ending of a run, to which a patch file is given by its path, or a script as bytes."""
-        valve = self.folder / 'valve.dgn'
-        if not valve.exists():
-            self.example('valve.dgn')
         with self.assertRaises(kind) as caught:
             if word == 'apply':
                 assert isinstance(given, str)

@@ -53,7 +53,8 @@ def opened_before(program: Program, name: str, out: str) -> Optional[Drawing]:
         return None
     try:
         drawing = Drawing(name, program)
-        return drawing if drawing.nesting else None
+        drawing.nesting  # is kept once it is read
+        return drawing
     except Mistake:
         return None
 
