@@ -15,7 +15,7 @@ use Rattle.dgn_layout.specs.Spots.{spots_of, has_spots, HoldsPoints}
 use Rattle.dgn_drawing.specs.declared.edit.Edit.{Edit}
 use Rattle.dgn_drawing.specs.declared.edit.Edit.TheVariants as edit
 use Rattle.dgn_drawing.specs.Values.{Displacement, LookChange}
-use Rattle.dgn_drawing.specs.Element.{Parts, Line, Points, Text, Node, Cell, Header, Plain, Body, Silent, Shown, Element, form_of_body, form_of_parts}
+use Rattle.dgn_drawing.specs.Element.{Body, Silent, Shown, Element, form_of_body}
 use Rattle.dgn_drawing.specs.Forms.{form_of, form_in}
 use Rattle.dgn_drawing.specs.Spelling.{spell}
 use Rattle.dgn_drawing.specs.WellFormed.{IsDimension, IsWellFormed}
@@ -37,7 +37,7 @@ use Rattle.edit_trees.specs.Asking.{cause_in, MayBeAskedOf, locked_in}
 use Rattle.edit_trees.specs.Written.{live_puts, look_put, new_look}
 use Rattle.edit_parts.specs.Putting.{MayBePut}
 use Rattle.edit_trees.specs.Found.{IsFound}
-use Rattle.edit_trees.proofs.ReadableElements.{IsShown, is_shown, shown_long}
+use Rattle.edit_trees.proofs.ReadableElements.{IsShown, is_shown, shown_long, not_silent_form}
 use Rattle.elem_index.proofs.Places.{axes_of}
 use Rattle.edit_trees.proofs.DesignElements.{four_bytes}
 use Rattle.edit_trees.proofs.WiderRanges.{one_of}
@@ -59,16 +59,7 @@ plane_cause dim test by m o e b is there stays =
 -- the body of a silent class isn't locked
 unlocked : (class : Class) (kind : ℕ) (b : Body) → is_silent class ≡ true → form_in class kind ≡ form_of_body b → is_locked b ≡ false
 unlocked class kind (Silent rest) silent is = refl
-unlocked Class.Silent kind (Shown display parts rest) silent is = absurd (by_parts parts (let x = is in cc))
-  where
-    by_parts : (parts : Parts) → form_of_body (Silent []) ≡ form_of_parts parts → ⊥
-    by_parts (Line points) is = cc
-    by_parts (Points points) is = cc
-    by_parts (Text run origin spare chars) is = cc
-    by_parts (Node total run origin) is = cc
-    by_parts (Cell total name run origin) is = cc
-    by_parts (Header total number) is = cc
-    by_parts Plain is = cc
+unlocked Class.Silent kind (Shown display parts rest) silent is = absurd (not_silent_form parts (sym is))
 unlocked Class.Vertices kind (Shown display parts rest) silent is = absurd (let l = silent in cc)
 unlocked Class.Words kind (Shown display parts rest) silent is = absurd (let l = silent in cc)
 unlocked Class.Counted kind (Shown display parts rest) silent is = absurd (let l = silent in cc)

@@ -66,21 +66,22 @@ shown_long dim e good shown = by_body e.body shown.body good.parts refl
         let header : 32 ≤ length (body_bytes (Shown shown.display shown.parts shown.rest)) = header_within shown.display shown.parts shown.rest display in
         omega (arith, size-body e, bytes, header)
 
+-- what is shown has another form than what isn't
+pub not_silent_form : (parts : Parts) → form_of_parts parts ≡ form_of_body (Silent []) → ⊥
+not_silent_form (Line points) is = cc
+not_silent_form (Points points) is = cc
+not_silent_form (Text run origin spare chars) is = cc
+not_silent_form (Node total run origin) is = cc
+not_silent_form (Cell total name run origin) is = cc
+not_silent_form (Header total number) is = cc
+not_silent_form Plain is = cc
+
 -- a silent body is that of a silent class
 pub silent_class : (dim : ℕ) (e : Element) → IsWellFormed dim e → form_of_body e.body ≡ form_of_body (Silent []) → is_silent (class_of e.kind) ≡ true
 silent_class dim e good silent = by_class (is_silent (class_of e.kind)) refl
   where
-    by_parts : (parts : Parts) → form_of_parts parts ≡ form_of_body (Silent []) → ⊥
-    by_parts (Line points) is = cc
-    by_parts (Points points) is = cc
-    by_parts (Text run origin spare chars) is = cc
-    by_parts (Node total run origin) is = cc
-    by_parts (Cell total name run origin) is = cc
-    by_parts (Header total number) is = cc
-    by_parts Plain is = cc
-
     by_class : (s : Bool) → is_silent (class_of e.kind) ≡ s → is_silent (class_of e.kind) ≡ true
     by_class true is = is
     by_class false is =
         let shown = is_shown dim e good is in
-        absurd (by_parts shown.parts (ap form_of_body (sym shown.body) ∙ silent))
+        absurd (not_silent_form shown.parts (ap form_of_body (sym shown.body) ∙ silent))

@@ -46,14 +46,6 @@ impl PatchList {
         Ok(())
     }
 
-    /// Adds the patches of `other` at the end. Where there is no memory for them, the list stays as it was.
-    pub fn push_all(&mut self, other: &PatchList) -> Result<(), AllocError>
-        ensures ok { OnOk result (self.new ≡ self.old ++ other.now) }
-        ensures err { OnErr result (self.new ≡ self.old) }
-    {
-        self.kept.extend_from_slice(&other.kept)
-    }
-
     /// Puts `p` at `i`, in place of the patch that stood there. It takes no memory.
     pub fn set(&mut self, i: usize, p: Patch)
         requires { i < length self.old }

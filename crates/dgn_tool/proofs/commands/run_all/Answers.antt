@@ -1,4 +1,4 @@
-use Rattle.std.proofs.Common.{rules, ◌≡◌, ◌≤◌, ◌+◌, ℕ, drop, refl, ◌∙◌, sym, subst}
+use Rattle.std.proofs.Common.{rules, ◌≤◌, ◌+◌, ℕ, drop, refl, ◌∙◌, sym, subst}
 use Rattle.std.proofs.lemmas.List.{drop_all}
 use Rattle.std.proofs.lemmas.Result.{err_from_is_err_and}
 use Rattle.host_desk.specs.Seen.{seen}
