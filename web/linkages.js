@@ -1,0 +1,39 @@
+/* The linkages of an element (docs/FORMAT.md, Linkages). */
+
+/**
+ * @typedef {{ at: number, length: number, kind: 'dmrs' | 'user' | 'rest' }} Linkage `at` counts from the element's start
+ */
+
+/**
+ * The linkages of attribute data that begin at a place of an element.
+ * @param {Uint8Array} element
+ * @param {number} start
+ * @returns {Linkage[]}
+ */
+export function linkagesOf(element, start) {
+    const found = [];
+    for (let at = start; at < element.length;) {
+        const linkage = linkageAt(element, at);
+        found.push(linkage);
+        at += linkage.length;
+    }
+    return found;
+}
+
+/**
+ * @param {Uint8Array} element
+ * @param {number} at
+ * @returns {Linkage}
+ */
+function linkageAt(element, at) {
+    const left = element.length - at, [first, second] = element.subarray(at, at + 2);
+    if (left >= 4) {
+        if (first === 0 && (second === 0 || second === 128)) {
+            return left < 8 ? { at, length: left, kind: 'rest' } : { at, length: 8, kind: 'dmrs' };
+        }
+        if (second & 0x10 && 2 + 2 * first <= left) {
+            return { at, length: 2 + 2 * first, kind: 'user' };
+        }
+    }
+    return { at, length: left, kind: 'rest' };
+}

@@ -1,0 +1,152 @@
+/* How elements nest (docs/FORMAT.md, How elements nest). */
+
+import { CLASS, CLASS_OF, FLAG, TYPE } from './format.js';
+import { wordAt } from './numbers.js';
+
+const PARTS_OF_SPLINES = new Set([21, 25, 26, 28]);
+const BEFORE_TOTAL = 38;
+
+/**
+ * Of each element the flags of its place (group, run, loose, orphan), its depth, the number of the header right above
+ * it, -1 where it is a root, and the number behind the last that stands below it.
+ * @typedef {{ flags: Uint8Array, depth: Uint16Array, parent: Int32Array, end: Uint32Array }} Nesting
+ */
+
+/** Goes once through the elements from the first to the last, and keeps the lists that are open. */
+class Walk {
+    /**
+     * @param {Uint8Array} bytes
+     * @param {Uint32Array} offsets
+     * @param {boolean} hasTcb whether the first of them is the TCB
+     */
+    constructor(bytes, offsets, hasTcb) {
+        this.bytes = bytes;
+        this.offsets = offsets;
+        this.count = offsets.length - 1;
+        this.first = hasTcb ? 1 : 0;
+        this.flags = new Uint8Array(this.count);
+        this.depth = new Uint16Array(this.count);
+        this.parent = new Int32Array(this.count).fill(-1);
+        this.end = new Uint32Array(this.count);
+        this.runEnds = this.runEndsOf();
+    }
+
+    /** For each place the number of the first element from there on that has no bit C. */
+    runEndsOf() {
+        const ends = new Uint32Array(this.count + 1).fill(this.count);
+        for (let number = this.count - 1; number >= 0; number--) {
+            ends[number] = this.hasC(number) ? ends[number + 1] : number;
+        }
+        return ends;
+    }
+
+    /** @param {number} number */
+    hasC(number) {
+        return (this.bytes[this.offsets[number]] & 0x80) !== 0;
+    }
+
+    /** @param {number} number */
+    typeOf(number) {
+        return this.bytes[this.offsets[number] + 1] & 0x7F;
+    }
+
+    /** @returns {Nesting} */
+    nesting() {
+        /** @type {{ header: number, end: number, isParts: boolean }[]} */
+        const open = [];
+        if (this.first === 1) {
+            this.end[0] = 1;
+        }
+        for (let at = this.first; at < this.count; at++) {
+            while (open.length > 0 && open[open.length - 1].end === at) {
+                open.pop();
+            }
+            const list = open.length > 0 ? open[open.length - 1] : null;
+            this.parent[at] = list ? list.header : -1;
+            this.depth[at] = open.length;
+            const end = this.place(at, list);
+            this.end[at] = end;
+            if (end > at + 1) {
+                open.push({ header: at, end, isParts: CLASS_OF[this.typeOf(at)] === CLASS.run && !this.isDefinition(at) });
+            }
+        }
+        return { flags: this.flags, depth: this.depth, parent: this.parent, end: this.end };
+    }
+
+    /** @param {number} number */
+    isDefinition(number) {
+        return this.typeOf(number) === TYPE.definition;
+    }
+
+    /**
+     * Sets the flags of an element, and gives the number behind the last that stands below it.
+     * @param {number} at
+     * @param {{ header: number, end: number, isParts: boolean } | null} list the list that it stands in
+     */
+    place(at, list) {
+        const type = this.typeOf(at), listEnd = list ? list.end : this.count;
+        if (list === null && this.hasC(at)) {
+            this.flags[at] |= FLAG.orphan;
+        }
+        if (list !== null && list.isParts) {
+            return at + 1;
+        }
+        if (CLASS_OF[type] === CLASS.counted) {
+            const end = this.endOfCounted(at, listEnd);
+            this.flags[at] |= end === 0 ? FLAG.loose : FLAG.group;
+            return end || at + 1;
+        }
+        if (type === 24 || type === 27) {
+            this.flags[at] |= FLAG.run;
+            return this.endOfSpline(at, listEnd);
+        }
+        if (type === TYPE.definition && list === null) {
+            this.flags[at] |= FLAG.run;
+            return this.runEnds[at + 1];
+        }
+        return at + 1;
+    }
+
+    /**
+     * The number behind the last member of a counted header, or 0 where no number of members fits its total.
+     * @param {number} at
+     * @param {number} listEnd
+     */
+    endOfCounted(at, listEnd) {
+        const { offsets } = this;
+        const wanted = offsets[at] + BEFORE_TOTAL + 2 * wordAt(this.bytes, offsets[at] + 36);
+        let low = at + 1, high = Math.min(listEnd, this.runEnds[at + 1]);
+        while (low < high) {
+            const middle = low + high >> 1;
+            if (offsets[middle] < wanted) {
+                low = middle + 1;
+            } else {
+                high = middle;
+            }
+        }
+        return offsets[low] === wanted ? low : 0;
+    }
+
+    /**
+     * The number behind the last part of a B-spline.
+     * @param {number} at
+     * @param {number} listEnd
+     */
+    endOfSpline(at, listEnd) {
+        let end = at + 1;
+        while (end < listEnd && this.hasC(end) && PARTS_OF_SPLINES.has(this.typeOf(end))) {
+            end++;
+        }
+        return end;
+    }
+}
+
+/**
+ * @param {Uint8Array} bytes
+ * @param {Uint32Array} offsets where each element begins, and behind the last where they end
+ * @param {boolean} hasTcb whether the first of them is the TCB
+ * @returns {Nesting}
+ */
+export function nestingOf(bytes, offsets, hasTcb) {
+    return new Walk(bytes, offsets, hasTcb).nesting();
+}

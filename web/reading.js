@@ -1,0 +1,179 @@
+/* Reads elements out of their bytes into records. */
+
+import { CLASS, CLASS_OF, DRAWN, DRAWN_OF, FLAG, LOCKED, TYPE } from './format.js';
+import { longAt, rangeNumberAt, wordAt } from './numbers.js';
+import { cellName } from './radix50.js';
+import { readable } from './texts.js';
+
+/** What one of a text's multipliers stands for, in units of resolution. */
+export const TEXT_UNIT = 6 / 1000;
+
+/** @typedef {import('./records.js').Records} Records */
+/** @typedef {import('./records.js').TextLabel} TextLabel */
+
+/**
+ * Appends a record of the element that begins at a place.
+ * @param {Records} records
+ * @param {Uint8Array} bytes
+ * @param {number} at
+ * @param {number} number
+ * @param {number} flags of its place in its tree
+ * @returns {number} the record
+ */
+export function readElement(records, bytes, at, number, flags) {
+    const record = records.length++, type = bytes[at + 1] & 0x7F;
+    const isSilent = CLASS_OF[type] === CLASS.silent;
+    const isLocked = !isSilent && wordAt(bytes, at + 32) & LOCKED;
+    records.type[record] = type;
+    records.level[record] = bytes[at] & 0x3F;
+    records.size[record] = 4 + 2 * wordAt(bytes, at + 2);
+    records.number[record] = number;
+    records.flags[record] = flags | (bytes[at] & 0x80 ? FLAG.bitC : 0) | (bytes[at + 1] & 0x80 ? FLAG.deleted : 0)
+        | (isLocked ? FLAG.locked : 0);
+    records.label[record] = -1;
+    records.first[record] = records.pointCount;
+    records.points[record] = 0;
+    if (isSilent) {
+        records.colour[record] = records.weight[record] = records.style[record] = records.group[record] = 0;
+        records.box.fill(0, record * 4, record * 4 + 4);
+        return record;
+    }
+    records.colour[record] = bytes[at + 35];
+    records.weight[record] = bytes[at + 34] >> 3;
+    records.style[record] = bytes[at + 34] & 7;
+    records.group[record] = wordAt(bytes, at + 28);
+    readRange(records, bytes, at, record);
+    readPoints(records, bytes, at, record, type);
+    readLabel(records, bytes, at, record, type);
+    records.setBox(record);
+    return record;
+}
+
+/**
+ * @param {Records} records
+ * @param {Uint8Array} bytes
+ * @param {number} at
+ * @param {number} record
+ */
+function readRange(records, bytes, at, record) {
+    const { axes, range } = records, to = record * 2 * axes;
+    for (let axis = 0; axis < axes; axis++) {
+        range[to + axis] = rangeNumberAt(bytes, at + 4 + 4 * axis);
+        range[to + axes + axis] = rangeNumberAt(bytes, at + 16 + 4 * axis);
+    }
+}
+
+/**
+ * Where an element's points or its origin begin in it; 0 where none are read of its type.
+ * @param {number} type
+ * @param {number} axes
+ */
+export function pointsPlace(type, axes) {
+    switch (type) {
+        case 3: return 36;
+        case 4: case 6: case 11: return 38;
+        case 17: return axes === 2 ? 50 : 62;
+        case 7: return axes === 2 ? 62 : 74;
+        case 2: return axes === 2 ? 84 : 112;
+        default: return 0;
+    }
+}
+
+/**
+ * How many points an element has, or 1 for an origin.
+ * @param {Uint8Array} bytes
+ * @param {number} at
+ * @param {number} type
+ */
+export function pointsCount(bytes, at, type) {
+    if (DRAWN_OF[type] === DRAWN.path) {
+        return type === TYPE.line ? 2 : wordAt(bytes, at + 36);
+    }
+    return DRAWN_OF[type] === DRAWN.text || DRAWN_OF[type] === DRAWN.cell || DRAWN_OF[type] === DRAWN.node ? 1 : 0;
+}
+
+/**
+ * @param {Records} records
+ * @param {Uint8Array} bytes
+ * @param {number} at
+ * @param {number} record
+ * @param {number} type
+ */
+function readPoints(records, bytes, at, record, type) {
+    const { axes } = records, count = pointsCount(bytes, at, type);
+    records.reservePoints(count);
+    records.points[record] = count;
+    const { coordinates } = records;
+    let to = records.pointCount * axes, from = at + pointsPlace(type, axes);
+    for (const end = to + count * axes; to < end; to++, from += 4) {
+        coordinates[to] = longAt(bytes, from);
+    }
+    records.pointCount += count;
+}
+
+/**
+ * @param {Records} records
+ * @param {Uint8Array} bytes
+ * @param {number} at
+ * @param {number} record
+ * @param {number} type
+ */
+function readLabel(records, bytes, at, record, type) {
+    if (type === TYPE.text) {
+        records.label[record] = records.labels.push(textAt(bytes, at, records.axes)) - 1;
+    } else if (type === TYPE.cell) {
+        const name = cellName(wordAt(bytes, at + 38), wordAt(bytes, at + 40));
+        records.label[record] = records.labels.push(name) - 1;
+    }
+}
+
+/**
+ * Where a text's characters begin in it; the byte two before counts them.
+ * @param {number} axes
+ */
+export function textPlace(axes) {
+    return axes === 2 ? 60 : 76;
+}
+
+/**
+ * @param {Uint8Array} bytes
+ * @param {number} at
+ * @param {number} axes
+ */
+export function charactersAt(bytes, at, axes) {
+    const start = at + textPlace(axes);
+    return bytes.subarray(start, start + bytes[start - 2]);
+}
+
+/**
+ * @param {Uint8Array} bytes
+ * @param {number} at
+ * @param {number} axes
+ * @returns {TextLabel}
+ */
+function textAt(bytes, at, axes) {
+    const characters = readable(charactersAt(bytes, at, axes)), degrees = degreesAt(bytes, at, axes);
+    const wide = longAt(bytes, at + 38) * TEXT_UNIT;
+    return {
+        characters, wide, degrees,
+        height: longAt(bytes, at + 42) * TEXT_UNIT,
+        font: bytes[at + 36],
+        justification: bytes[at + 37],
+        width: [...characters].length * wide,
+        angle: degrees * Math.PI / 180,
+        natural: 0,
+    };
+}
+
+/**
+ * A text's angle in degrees, against the clock; in three axes its turn around z.
+ * @param {Uint8Array} bytes
+ * @param {number} at
+ * @param {number} axes
+ */
+function degreesAt(bytes, at, axes) {
+    if (axes === 2) {
+        return longAt(bytes, at + 46) / 360000;
+    }
+    return -2 * Math.atan2(longAt(bytes, at + 58), longAt(bytes, at + 46)) * 180 / Math.PI;
+}

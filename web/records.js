@@ -1,0 +1,215 @@
+/* The elements as columns, a row each; a row is called a record. */
+
+import { FLAG, TYPE } from './format.js';
+
+/**
+ * A typed array with the same values and at least so much room.
+ * @template {Uint8Array | Uint16Array | Uint32Array | Int32Array | Float64Array} T
+ * @param {T} array
+ * @param {number} length
+ * @returns {T}
+ */
+export function grown(array, length) {
+    if (array.length >= length) {
+        return array;
+    }
+    const Kind = /** @type {new (length: number) => T} */ (array.constructor);
+    const larger = new Kind(Math.max(length, 2 * array.length));
+    larger.set(array);
+    return larger;
+}
+
+const COLUMNS = Object.freeze({
+    type: Uint8Array, level: Uint8Array, colour: Uint8Array, weight: Uint8Array, style: Uint8Array,
+    flags: Uint8Array, size: Uint32Array, number: Uint32Array, first: Uint32Array, points: Uint32Array,
+    label: Int32Array, group: Uint16Array,
+});
+const COLUMN_NAMES = Object.freeze(Object.keys(COLUMNS));
+
+/**
+ * A text as it is drawn: its characters, how wide and high a sign is in units of resolution, its angle in degrees and
+ * in radians, font and justification, how wide all of it is, and how wide it came out when it was measured.
+ * @typedef {{ characters: string, wide: number, height: number, degrees: number, angle: number, font: number,
+ *     justification: number, width: number, natural: number }} TextLabel
+ */
+
+/**
+ * Records of elements in columns. A record has its element's head and look, its place in `coordinates` (`first`,
+ * counted in points, and how many `points`), its range, low corner and high corner, and the box that it is drawn in.
+ * `label` is the place of a text or of a cell's name in `labels`, or -1.
+ */
+export class Records {
+    /**
+     * @param {number} axes
+     * @param {number} room how many records there will be, as far as that is known
+     */
+    constructor(axes, room) {
+        this.axes = axes;
+        this.length = 0;
+        /** @type {(string | TextLabel)[]} */
+        this.labels = [];
+        this.coordinates = new Int32Array(room * 2 * axes);
+        this.pointCount = 0;
+        this.range = new Int32Array(room * 2 * axes);
+        this.box = new Float64Array(room * 4);
+        this.type = new Uint8Array(room);
+        this.level = new Uint8Array(room);
+        this.colour = new Uint8Array(room);
+        this.weight = new Uint8Array(room);
+        this.style = new Uint8Array(room);
+        this.flags = new Uint8Array(room);
+        this.size = new Uint32Array(room);
+        this.number = new Uint32Array(room);
+        this.first = new Uint32Array(room);
+        this.points = new Uint32Array(room);
+        this.label = new Int32Array(room);
+        this.group = new Uint16Array(room);
+    }
+
+    /**
+     * Makes room for so many more records.
+     * @param {number} records
+     */
+    reserve(records) {
+        const length = this.length + records;
+        if (length > this.type.length) {
+            for (const name of COLUMN_NAMES) {
+                this[name] = grown(this[name], length);
+            }
+            this.range = grown(this.range, length * 2 * this.axes);
+            this.box = grown(this.box, length * 4);
+        }
+    }
+
+    /**
+     * Makes room for so many more points.
+     * @param {number} points
+     */
+    reservePoints(points) {
+        this.coordinates = grown(this.coordinates, (this.pointCount + points) * this.axes);
+    }
+
+    /** Where all ends, so that what is appended can be forgotten again. */
+    ends() {
+        return { length: this.length, pointCount: this.pointCount, labels: this.labels.length };
+    }
+
+    /**
+     * Forgets all that was appended since.
+     * @param {{ length: number, pointCount: number, labels: number }} ends
+     */
+    cut(ends) {
+        this.length = ends.length;
+        this.pointCount = ends.pointCount;
+        this.labels.length = ends.labels;
+    }
+
+    /**
+     * The text or the name of a record, or none.
+     * @param {number} record
+     */
+    labelOf(record) {
+        return this.label[record] < 0 ? null : this.labels[this.label[record]];
+    }
+
+    /**
+     * The characters of a text or the name of a cell, or nothing.
+     * @param {number} record
+     */
+    wordsOf(record) {
+        const label = this.labelOf(record);
+        return label === null ? '' : typeof label === 'string' ? label : label.characters;
+    }
+
+    /**
+     * Whether a record has all of these flags.
+     * @param {number} record
+     * @param {number} flags
+     */
+    has(record, flags) {
+        return (this.flags[record] & flags) === flags;
+    }
+
+    /**
+     * The range of a record, low corner and high corner.
+     * @param {number} record
+     */
+    rangeOf(record) {
+        return this.range.subarray(record * 2 * this.axes, (record + 1) * 2 * this.axes);
+    }
+
+    /**
+     * A coordinate of a point of a record.
+     * @param {number} record
+     * @param {number} point
+     * @param {number} axis
+     */
+    coordinate(record, point, axis) {
+        return this.coordinates[(this.first[record] + point) * this.axes + axis];
+    }
+
+    /**
+     * Sets the box that a record is drawn in, of x and y: low x, low y, high x, high y.
+     * @param {number} record
+     */
+    setBox(record) {
+        const { box } = this;
+        const at = record * 4;
+        if (this.points[record] > 0) {
+            this.setBoxOfPoints(record, at);
+        } else {
+            const range = this.rangeOf(record);
+            box[at] = Math.min(range[0], range[this.axes]);
+            box[at + 1] = Math.min(range[1], range[this.axes + 1]);
+            box[at + 2] = Math.max(range[0], range[this.axes]);
+            box[at + 3] = Math.max(range[1], range[this.axes + 1]);
+        }
+        if (this.type[record] === TYPE.text) {
+            widenByText(box, at, /** @type {TextLabel} */ (this.labelOf(record)));
+        }
+    }
+
+    /**
+     * @param {number} record
+     * @param {number} at
+     */
+    setBoxOfPoints(record, at) {
+        const { box, coordinates, axes } = this;
+        let lowX = Infinity, lowY = Infinity, highX = -Infinity, highY = -Infinity;
+        const end = (this.first[record] + this.points[record]) * axes;
+        for (let place = this.first[record] * axes; place < end; place += axes) {
+            const x = coordinates[place], y = coordinates[place + 1];
+            lowX = x < lowX ? x : lowX;
+            highX = x > highX ? x : highX;
+            lowY = y < lowY ? y : lowY;
+            highY = y > highY ? y : highY;
+        }
+        box[at] = lowX;
+        box[at + 1] = lowY;
+        box[at + 2] = highX;
+        box[at + 3] = highY;
+    }
+
+    /** @param {number} record */
+    isDeleted(record) {
+        return (this.flags[record] & FLAG.deleted) !== 0;
+    }
+}
+
+/**
+ * Widens a text's box, which is its origin, by the corners of its characters.
+ * @param {Float64Array} box
+ * @param {number} at
+ * @param {TextLabel} text
+ */
+function widenByText(box, at, text) {
+    const x = box[at], y = box[at + 1];
+    const cosine = Math.cos(text.angle), sine = Math.sin(text.angle);
+    for (const [along, up] of [[text.width, 0], [0, text.height], [text.width, text.height]]) {
+        const cornerX = x + along * cosine - up * sine, cornerY = y + along * sine + up * cosine;
+        box[at] = Math.min(box[at], cornerX);
+        box[at + 1] = Math.min(box[at + 1], cornerY);
+        box[at + 2] = Math.max(box[at + 2], cornerX);
+        box[at + 3] = Math.max(box[at + 3], cornerY);
+    }
+}

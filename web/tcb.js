@@ -1,0 +1,67 @@
+/* What the front of a file says: what kind of file it is, and of a drawing its axes, units and origin. */
+
+import { longAt, vaxDoubleAt } from './numbers.js';
+
+/** What a file that is no drawing of version 7 is, in a sentence. */
+export const KIND_SAID = Object.freeze({
+    v8: 'a compound file, as MicroStation V8 writes (DGN version 8), and no drawing of version 7: save it as that',
+    library: 'a cell library of MicroStation, and no drawing: attach it there, and save its cells in a drawing',
+    empty: 'an empty file, and no drawing',
+    other: 'no design file of version 7: it does not begin as one',
+});
+
+const FRONTS = Object.freeze([
+    ['design', [0x08, 0x09, 0xFE, 0x02]], ['design', [0xC8, 0x09, 0xFE, 0x02]], ['v8', [0xD0, 0xCF, 0x11, 0xE0]],
+    ['library', [0x08, 0x05, 0x17, 0x00]],
+]);
+
+/**
+ * What a file's first bytes say that it is.
+ * @param {Uint8Array} bytes
+ * @returns {'design' | 'v8' | 'library' | 'empty' | 'other'}
+ */
+export function kindOf(bytes) {
+    const found = FRONTS.find(([, front]) => /** @type {number[]} */ (front).every((it, at) => bytes[at] === it));
+    return /** @type {any} */ (found ? found[0] : bytes.length > 0 ? 'other' : 'empty');
+}
+
+/**
+ * How many axes a drawing has.
+ * @param {Uint8Array} bytes
+ * @returns {number}
+ */
+export function axesOf(bytes) {
+    return bytes[1214] & 0x40 ? 3 : 2;
+}
+
+/**
+ * A name of two characters, which a zero byte ends.
+ * @param {Uint8Array} bytes
+ * @param {number} at
+ */
+function nameAt(bytes, at) {
+    const name = String.fromCharCode(bytes[at], bytes[at + 1]);
+    return name.split('\0')[0].trim();
+}
+
+/**
+ * The units of a drawing: so many subunits in a master unit, so many units of resolution in a subunit, both 0 where the
+ * drawing doesn't say; the names of the first two; and the global origin in units of resolution.
+ * @typedef {{ subunits: number, resolution: number, master: string, sub: string, origin: number[] }} Units
+ */
+
+/**
+ * @param {Uint8Array} bytes
+ * @returns {Units}
+ */
+export function unitsOf(bytes) {
+    const subunits = longAt(bytes, 1112), resolution = longAt(bytes, 1116);
+    const isKnown = subunits > 0 && resolution > 0;
+    return {
+        subunits: isKnown ? subunits : 0,
+        resolution: isKnown ? resolution : 0,
+        master: nameAt(bytes, 1120),
+        sub: nameAt(bytes, 1122),
+        origin: [1240, 1248, 1256].slice(0, axesOf(bytes)).map((at) => vaxDoubleAt(bytes, at)),
+    };
+}
