@@ -64,7 +64,8 @@ export class Drawing {
         this.madeBytes = new Uint8Array(0);
         /** @type {number[]} */
         this.madePlaces = [];
-        this.appendedFrom = 0;
+        /** Where in the file each of them begins. @type {number[]} */
+        this.madeFilePlaces = [];
     }
 
     /**
@@ -85,9 +86,10 @@ export class Drawing {
             record[number] = readElement(this.records, this.madeBytes, this.madePlaces[index], number,
                 this.records.flags[number] & PLACE_FLAGS);
         });
-        this.appendedFrom = this.madeBytes.length - appended.length;
+        const appendedFrom = this.madeBytes.length - appended.length;
         for (let index = 0; index < count; index++) {
-            this.madePlaces.push(this.appendedFrom + offsets[index]);
+            this.madePlaces.push(appendedFrom + offsets[index]);
+            this.madeFilePlaces.push(this.bodyLength + offsets[index]);
             record[this.count + index] = readElement(this.records, appended, offsets[index], this.count + index,
                 nesting.flags[index]);
         }
@@ -154,6 +156,7 @@ export class Drawing {
                 made.set(bytes.subarray(at + low - starts[it], at + high - starts[it]), to + low - start);
             }
             this.madePlaces.push(to);
+            this.madeFilePlaces.push(start);
             to += end - start;
         }
         made.set(appended, size);
@@ -175,9 +178,42 @@ export class Drawing {
      * @param {number} record
      */
     placeOf(record) {
-        const number = this.records.number[record];
-        return number < this.count ? this.offsets[number]
-            : this.bodyLength + this.madePlaces[record - this.count] - this.appendedFrom;
+        return record < this.count ? this.offsets[record] : this.madeFilePlaces[record - this.count];
+    }
+
+    /**
+     * The state of another drawing, with records of its own for what isn't as the element of that number here.
+     * @param {Drawing} other
+     * @param {Set<number>} told numbers of `other` that have records of their own in any case
+     * @returns {State}
+     */
+    beside(other, told) {
+        this.forget();
+        this.madeBytes = other.bytes;
+        const record = new Uint32Array(other.count);
+        for (let number = 0; number < other.count; number++) {
+            if (number < this.count && !told.has(number) && this.isSame(other, number)) {
+                record[number] = number;
+            } else {
+                this.records.reserve(1);
+                this.madePlaces.push(other.offsets[number]);
+                this.madeFilePlaces.push(other.offsets[number]);
+                record[number] = readElement(this.records, other.bytes, other.offsets[number], number,
+                    other.nesting.flags[number]);
+            }
+        }
+        return new State(this.records, record, other.nesting.parent, other.nesting.end);
+    }
+
+    /**
+     * Whether an element of another drawing has the same bytes and the same place in its tree.
+     * @param {Drawing} other
+     * @param {number} number
+     */
+    isSame(other, number) {
+        return this.nesting.depth[number] === other.nesting.depth[number]
+            && this.nesting.flags[number] === other.nesting.flags[number]
+            && isEqual(this.bytesOf(number), other.bytesOf(number));
     }
 
     /**
@@ -188,6 +224,15 @@ export class Drawing {
         const bytes = this.bytesOf(record);
         return linkagePlace(bytes) < bytes.length ? linkagesOf(bytes, linkagePlace(bytes)) : [];
     }
+}
+
+/**
+ * Whether two rows of bytes are the same.
+ * @param {Uint8Array} one
+ * @param {Uint8Array} other
+ */
+export function isEqual(one, other) {
+    return one.length === other.length && one.every((value, at) => value === other[at]);
 }
 
 /**

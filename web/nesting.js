@@ -3,8 +3,10 @@
 import { CLASS, CLASS_OF, FLAG, TYPE } from './format.js';
 import { wordAt } from './numbers.js';
 
-const PARTS_OF_SPLINES = new Set([21, 25, 26, 28]);
-const BEFORE_TOTAL = 38;
+/** Types of the parts of a B-spline. */
+export const PARTS_OF_SPLINES = new Set([21, 25, 26, 28]);
+/** Bytes of a header up to the end of its total. */
+export const BEFORE_TOTAL = 38;
 
 /**
  * Of each element the flags of its place (group, run, loose, orphan), its depth, the number of the header right above
@@ -13,7 +15,7 @@ const BEFORE_TOTAL = 38;
  */
 
 /** Goes once through the elements from the first to the last, and keeps the lists that are open. */
-class Walk {
+class NestingWalk {
     /**
      * @param {Uint8Array} bytes
      * @param {Uint32Array} offsets
@@ -148,5 +150,5 @@ class Walk {
  * @returns {Nesting}
  */
 export function nestingOf(bytes, offsets, hasTcb) {
-    return new Walk(bytes, offsets, hasTcb).nesting();
+    return new NestingWalk(bytes, offsets, hasTcb).nesting();
 }

@@ -1,0 +1,50 @@
+/* Small helpers for what stands beside the drawing. What a drawing holds is put there as text, never as markup. */
+
+/**
+ * The element of the page with this name.
+ * @param {string} id
+ * @returns {any} of the type that app.html gives it
+ */
+export function byId(id) {
+    return document.getElementById(id);
+}
+
+/** A new element with these attributes, and with text or other elements in it. */
+export function make(tag, attributes = {}, ...children) {
+    const element = document.createElement(tag);
+    for (const [name, value] of Object.entries(attributes)) {
+        if (value !== null) {
+            element.setAttribute(name, value);
+        }
+    }
+    element.append(...children);
+    return element;
+}
+
+/** Puts these children in the place of all that stand in an element. */
+export function fill(element, ...children) {
+    element.replaceChildren(...children);
+}
+
+export function setHidden(element, isHidden) {
+    element.hidden = isHidden;
+}
+
+/** A term and what is said of it, for a list of descriptions. */
+export function termed(term, ...said) {
+    return [make('dt', {}, term), make('dd', {}, ...said)];
+}
+
+/** A button that looks like a link within text, and does something. */
+export function linkTo(text, act) {
+    const button = make('button', { type: 'button', class: 'link' }, text);
+    button.addEventListener('click', act);
+    return button;
+}
+
+/** A square in a colour. */
+export function swatchOf(colour) {
+    const swatch = make('span', { class: 'swatch', 'aria-hidden': 'true' });
+    swatch.style.backgroundColor = colour;
+    return swatch;
+}

@@ -1,0 +1,204 @@
+/* Edits of what is chosen or of what a fence takes, and new elements. */
+
+import { counted } from './describing.js';
+import { byId, fill, make, setHidden } from './dom.js';
+import { newLine, probesOf } from './lines.js';
+import { TEXT_UNIT } from './reading.js';
+
+const EDITS = Object.freeze([['move', 'Move'], ['copy', 'Copy'], ['sym', 'Set look'], ['delete', 'Delete']]);
+const FIELDS = Object.freeze(['by-x', 'by-y', 'by-z', 'by-unit', 'new-color', 'new-weight', 'new-style']);
+const MOST_PROBED = 200;          // chosen trees of which is asked beforehand what would be refused
+const REST = 120;                 // milliseconds before it is asked
+const MAKING_NAMES = Object.freeze({ line: 'line', string: 'line string', shape: 'shape', text: 'text' });
+
+export class EditPanel {
+    constructor(app) {
+        this.app = app;
+        /** The cause against each edit of what is chosen, with its line. @type {Map<string, string>} */
+        this.causes = new Map();
+        this.probed = 0;
+        byId('edit-move').addEventListener('click', () => this.edit({ word: 'move', by: this.by() }));
+        byId('edit-copy').addEventListener('click', () => this.edit({ word: 'copy', by: this.by() }));
+        byId('edit-sym').addEventListener('click', () => this.edit({ word: 'sym', look: this.look() }));
+        byId('edit-delete').addEventListener('click', () => this.edit({ word: 'delete' }));
+        for (const id of FIELDS) {
+            byId(id).addEventListener('input', () => this.show());
+        }
+    }
+
+    /** Fits the fields to another drawing. */
+    take() {
+        const { words, drawing } = this.app;
+        const options = [make('option', { value: 'resolution', title: 'units of resolution' }, 'units')];
+        if (words.hasMaster) {
+            options.push(make('option', { value: 'master' }, words.master));
+        }
+        fill(byId('by-unit'), ...options.reverse());
+        byId('make-height-unit').textContent = words.hasMaster ? words.master : 'units';
+        for (const element of document.querySelectorAll('.axis-z')) {
+            setHidden(element, drawing.axes === 2);
+        }
+        this.causes.clear();
+    }
+
+    /* What the fields hold. */
+
+    /** The displacement, in units of resolution, or null where the fields hold none. */
+    by() {
+        const fields = ['by-x', 'by-y', 'by-z'].slice(0, this.app.drawing.axes);
+        const factor = byId('by-unit').value === 'master' ? this.app.words.unitsOfMaster : 1;
+        const values = fields.map((id) => unitsIn(byId(id).value, factor));
+        return values.includes(null) ? null : values;
+    }
+
+    /** Colour, weight and style, a dash for each that stays; null where a field holds no number. */
+    look() {
+        const values = ['new-color', 'new-weight', 'new-style'].map((id) => byId(id).value.trim() || '-');
+        return values.every((it) => /^(-|\d+)$/.test(it)) ? values : null;
+    }
+
+    get hasLook() {
+        const look = this.look();
+        return look !== null && look.some((it) => it !== '-');
+    }
+
+    /* Doing. */
+
+    /** Does an edit; what can't be is told by the program. */
+    edit(edit) {
+        const { app } = this, isMissing = edit.by === null || edit.look === null;
+        const hasAim = app.canEdit && (app.tools.fence.isSet || app.choice.numbers.length > 0);
+        if (hasAim && !isMissing) {
+            app.work.edit(edit);
+        }
+    }
+
+    /** Appends an element that was drawn by its points. */
+    async make(word, points) {
+        const { app } = this, z = new Array(app.drawing.axes - 2).fill(0);
+        const line = newLine(word, this.makingOf(), points.map((point) => [...point, ...z]));
+        await app.work.add([line]);
+    }
+
+    makingOf() {
+        const value = (name) => byId('make-' + name).value.trim();
+        const height = unitsIn(value('height'), (this.app.words.hasMaster ? this.app.words.unitsOfMaster : 1) / TEXT_UNIT);
+        return {
+            level: value('level'), colour: value('color'), weight: value('weight'), style: value('style'),
+            font: value('font'), size: String(height === null ? value('height') : height), words: byId('make-words').value,
+        };
+    }
+
+    /** Asks the program, once the choice rests, which edits of it would be refused. */
+    probe() {
+        const { app } = this, { numbers } = app.choice, probed = ++this.probed;
+        this.causes.clear();
+        if (!app.canEdit || numbers.length === 0 || numbers.length > MOST_PROBED) {
+            return;
+        }
+        setTimeout(async () => {
+            if (probed !== this.probed || app.work.engine.isBusy) {
+                return;
+            }
+            const answers = await app.work.ask(probesOf(numbers, app.drawing.axes));
+            if (answers !== null && probed === this.probed) {
+                this.takeProbes(answers, numbers.length);
+            }
+        }, REST);
+    }
+
+    takeProbes(answers, count) {
+        EDITS.forEach(([edit], index) => {
+            const refused = answers.slice(index * count, (index + 1) * count).filter((it) => it.cause !== null);
+            if (refused.length === count) {
+                this.causes.set(edit, refused[0].cause);
+            }
+        });
+        this.show();
+    }
+
+    /* Showing. */
+
+    show() {
+        const { app } = this, { fence } = app.tools;
+        if (app.work === null) {
+            return;
+        }
+        const isAimed = fence.isSet ? fence.chosen.length > 0 : app.choice.numbers.length > 0;
+        byId('edits').disabled = !app.canEdit;
+        byId('edits-legend').textContent = this.legend();
+        fence.show();
+        this.showButtons(isAimed, fence.isSet ? fence.causes : this.causes);
+        this.showMistakes();
+        this.showMaking();
+        const colour = Number(byId('new-color').value);
+        byId('new-color-swatch').style.backgroundColor = byId('new-color').value !== '' && app.colours[colour]
+            ? app.colours[colour] : 'transparent';
+    }
+
+    /** What can be done, and why not what can't. A fence whose edits are refused may still leave out what is. */
+    showButtons(isAimed, causes) {
+        const isFence = this.app.tools.fence.isSet, by = this.by();
+        for (const [edit] of EDITS) {
+            const isMissing = edit === 'sym' ? !this.hasLook : edit !== 'delete' && by === null;
+            byId('edit-' + edit).disabled = !isAimed || isMissing || (!isFence && causes.has(edit));
+        }
+        for (const edit of ['move', 'copy']) {
+            byId('drag-' + edit).disabled = !isAimed || isFence || causes.has(edit);
+        }
+        const said = new Map();
+        for (const [edit, name] of EDITS) {
+            if (isAimed && causes.has(edit)) {
+                const why = this.app.refusals.sentence(edit, causes.get(edit));
+                said.set(why, [...(said.get(why) || []), name]);
+            }
+        }
+        fill(byId('refusals'), ...[...said].map(([why, names]) => (
+            make('li', {}, names.join(', ') + ' would be refused: ' + why))));
+    }
+
+    legend() {
+        const { choice, scene, tools: { fence } } = this.app;
+        if (fence.isSet) {
+            return fence.isKnown ? 'Edit what the fence takes: ' + counted(fence.chosen.length, 'tree')
+                : 'The program is asked what the fence takes';
+        }
+        if (choice.numbers.length !== 1) {
+            return choice.numbers.length === 0 ? 'Edit: choose something first' : 'Edit ' + choice.numbers.length + ' trees';
+        }
+        const { state } = scene, count = state.end[choice.last] - choice.last;
+        const what = state.parent[choice.last] >= 0 ? 'member ' : count > 1 ? 'tree ' : 'element ';
+        return 'Edit ' + what + choice.last + (count > 1 ? ', ' + counted(count, 'element') : '');
+    }
+
+    showMistakes() {
+        const said = [];
+        if (this.by() === null) {
+            said.push(byId('by-unit').value === 'master' ? 'A displacement is a number, as -2.5.'
+                : 'A displacement is a whole number of units of resolution, as -250.');
+        }
+        if (this.look() === null) {
+            said.push('Colour, weight and style are whole numbers; an empty field stays as it is.');
+        }
+        fill(byId('mistakes'), ...said.map((text) => make('li', {}, text)));
+    }
+
+    /** The fields of a new element, while one is drawn. */
+    showMaking() {
+        const { tools } = this.app;
+        setHidden(byId('making'), !tools.isMaking);
+        if (tools.isMaking) {
+            byId('making-legend').textContent = 'New ' + MAKING_NAMES[tools.tool];
+            setHidden(byId('make-text-row'), tools.tool !== 'text');
+        }
+    }
+}
+
+/** A number that is written in a field, times a factor, as a whole number; null where it is none. */
+function unitsIn(text, factor) {
+    const trimmed = text.trim().replace('−', '-').replace(',', '.');
+    if (!(factor === 1 ? /^[-+]?\d+$/ : /^[-+]?(\d+\.?\d*|\.\d+)$/).test(trimmed)) {
+        return null;
+    }
+    return Math.round(Number(trimmed) * factor) || 0;
+}

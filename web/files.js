@@ -1,0 +1,43 @@
+/* Files that are opened: by a button, by dropping them, or with the page. */
+
+import { byId } from './dom.js';
+
+/**
+ * Asks for one file, and gives its name and its bytes, or null where none was chosen.
+ * @param {string} [accept] the endings that are offered first
+ * @returns {Promise<{ name: string, bytes: Uint8Array } | null>}
+ */
+export function chosenFile(accept = '') {
+    const field = /** @type {HTMLInputElement} */ (byId('second-file'));
+    field.accept = accept;
+    field.value = '';
+    return new Promise((resolve) => {
+        field.onchange = async () => resolve(field.files.length > 0 ? await readFile(field.files[0]) : null);
+        field.addEventListener('cancel', () => resolve(null), { once: true });
+        field.click();
+    });
+}
+
+/**
+ * @param {File} file
+ * @returns {Promise<{ name: string, bytes: Uint8Array }>}
+ */
+export async function readFile(file) {
+    return { name: file.name, bytes: new Uint8Array(await file.arrayBuffer()) };
+}
+
+/**
+ * Bytes that were packed by gzip, and stand in base64 in the page under a name; null where none do.
+ * @param {string} id
+ * @returns {Promise<Uint8Array | null>}
+ */
+export async function partOf(id) {
+    const part = document.getElementById(id);
+    if (part === null || part.textContent.trim() === '') {
+        return null;
+    }
+    const packed = Uint8Array.from(atob(part.textContent.trim()), (sign) => sign.charCodeAt(0));
+    // @ts-ignore: older lists of what a browser has leave it out
+    const stream = new Blob([packed]).stream().pipeThrough(new DecompressionStream('gzip'));
+    return new Uint8Array(await new Response(stream).arrayBuffer());
+}

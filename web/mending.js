@@ -1,0 +1,179 @@
+/* What of broken trees can be mended by a few bytes: bit C of a header at the root, whose members fit; and a total that
+   leaves out the header's own attribute data. Only where the header then holds exactly some number of the elements
+   behind it: anything else is told and left. */
+
+import { counted, described } from './describing.js';
+import { CLASS, CLASS_OF, FLAG, TYPE } from './format.js';
+import { PARTS_OF_SPLINES } from './nesting.js';
+import { Reach, runEndsOf } from './reach.js';
+
+const COMPLEX = new Set([12, 14, 18, 19]);
+
+/** @typedef {import('./drawing.js').Drawing} Drawing */
+
+/**
+ * What is mended of a header: the bytes by their places in the body, in words, and how many members it has then.
+ * @typedef {{ number: number, edits: Map<number, number>, words: string[], members: number }} Change
+ */
+/** @typedef {{ number: number, why: string }} Left a broken element that is left, and why */
+
+/** A walk through lists of elements, as nesting goes, with each header mended that can be. */
+class MendingWalk {
+    /** @param {Drawing} drawing */
+    constructor(drawing) {
+        this.drawing = drawing;
+        this.records = drawing.records;
+        this.runEnds = runEndsOf(drawing);
+        /** @type {Change[]} */
+        this.changes = [];
+        /** @type {Left[]} */
+        this.left = [];
+        /** The loose headers whose members the next roots with bit C may be. @type {number[]} */
+        this.loose = [];
+    }
+
+    /** @param {number} number */
+    hasC(number) {
+        return this.records.has(number, FLAG.bitC);
+    }
+
+    /**
+     * Walks a list of elements, from `start` to before `end`.
+     * @param {number} start
+     * @param {number} end
+     * @param {boolean} isRoot
+     */
+    members(start, end, isRoot) {
+        let at = start;
+        while (at < end) {
+            const type = this.records.type[at];
+            if (isRoot && !this.hasC(at)) {
+                this.loose = [];
+            }
+            if (CLASS_OF[type] === CLASS.counted) {
+                at = this.header(at, end, isRoot);
+            } else if (type === 24 || type === 27) {
+                this.orphan(at, isRoot);
+                at = this.behindSpline(at, end);
+            } else if (type === TYPE.definition && isRoot) {
+                this.orphan(at, isRoot);
+                at = this.definition(at, end);
+            } else {
+                this.orphan(at, isRoot);
+                at++;
+            }
+        }
+    }
+
+    /** Where the parts of a B-spline end. */
+    behindSpline(at, end) {
+        let behind = at + 1;
+        while (behind < end && this.hasC(behind) && PARTS_OF_SPLINES.has(this.records.type[behind])) {
+            behind++;
+        }
+        return behind;
+    }
+
+    /** Walks what a shared cell definition holds, and gives where it ends. */
+    definition(at, end) {
+        const behind = Math.min(this.runEnds[at + 1], end);
+        this.members(at + 1, behind, false);
+        return behind;
+    }
+
+    /** Tells of an orphan that is no header over counted members. */
+    orphan(number, isRoot) {
+        if (isRoot && this.hasC(number)) {
+            this.left.push({ number, why: 'orphan: no header before it takes it in, and it is no header itself' });
+        }
+    }
+
+    /** Mends a counted header where it can, walks its members, and gives where they end. */
+    header(number, end, isRoot) {
+        const reach = new Reach(this.drawing, this.runEnds, number, end);
+        const fitting = reach.countOf(reach.total) !== null ? reach.total : reach.fittingTotal();
+        const members = fitting === null ? null : reach.countOf(fitting);
+        if (members === null) {
+            return this.stayLoose(number, reach, isRoot);
+        }
+        const behind = number + members + 1;
+        this.mend(number, reach, fitting, behind, isRoot && this.hasC(number));
+        this.members(number + 1, behind, false);
+        return behind;
+    }
+
+    /** Makes the change of a header that wants one so that it holds the elements up to `behind`. What is locked stays,
+        and so does bit C of what may be a member of a loose header before it. */
+    mend(number, reach, total, behind, isOrphan) {
+        const offset = this.drawing.offsets[number];
+        const change = { number, edits: new Map(), words: [], members: behind - number - 1 };
+        if (total !== reach.total) {
+            change.edits.set(offset + 36, total & 0xFF).set(offset + 37, total >> 8);
+            change.words.push('its total ' + reach.total + ' becomes ' + total + ', with its own ' + 2 * reach.ownWords
+                + ' bytes of attribute data');
+        }
+        if (isOrphan && !this.mayBelong(number)) {
+            this.loose = [];
+            change.edits.set(offset, this.drawing.bytes[offset] & 0x7F);
+            change.words.push('bit C is cleared');
+        }
+        if (change.edits.size > 0 && this.records.has(number, FLAG.locked)) {
+            this.left.push({ number, why: 'it is locked, and so it stays as it is, with '
+                + counted(change.members, 'member') + ': unlock it first' });
+        } else if (change.edits.size > 0) {
+            change.words.push('it has ' + counted(change.members, 'member'));
+            this.changes.push(change);
+        }
+    }
+
+    /** Whether an orphan may be a member of a loose header before it, and then is left. A complex chain, shape, surface
+        or solid that doesn't lie in that header's range is none; GDAL sets bit C of each such at the root. */
+    mayBelong(number) {
+        if (this.loose.length === 0 || (COMPLEX.has(this.records.type[number])
+            && !this.loose.some((it) => this.holds(it, number)))) {
+            return false;
+        }
+        this.left.push({ number, why: 'orphan, though its members fit: it may be a member of the loose header '
+            + this.loose[this.loose.length - 1] + ' before it' });
+        return true;
+    }
+
+    /** Whether an element's stored range lies in that of a header. */
+    holds(header, number) {
+        const { axes } = this.records, outer = this.records.rangeOf(header), inner = this.records.rangeOf(number);
+        return outer.every((value, at) => (at < axes ? value <= inner[at] : value >= inner[at]));
+    }
+
+    /** Tells of a header that stays loose, and gives where to go on. */
+    stayLoose(number, reach, isRoot) {
+        this.left.push({ number, why: reach.whyLoose() });
+        const members = reach.wrapped();
+        if (members !== null) {
+            return number + members + 1;
+        }
+        if (isRoot) {
+            this.loose.push(number);
+        }
+        return number + 1;
+    }
+}
+
+/**
+ * What is mended of a drawing, and what is left.
+ * @param {Drawing} drawing
+ * @returns {{ changes: Change[], left: Left[] }}
+ */
+export function mendingOf(drawing) {
+    const walk = new MendingWalk(drawing);
+    walk.members(1, drawing.count, true);
+    return { changes: walk.changes, left: walk.left };
+}
+
+/**
+ * A change in words.
+ * @param {Drawing} drawing
+ * @param {Change} change
+ */
+export function changeSaid(drawing, { number, words }) {
+    return described(drawing, number) + ': ' + words.join(', ');
+}

@@ -1,0 +1,166 @@
+/* Opens a drawing: reads it, has the program check it, and offers the work that is kept for it. */
+
+import { byteString } from './byte_strings.js';
+import { byId, make, setHidden } from './dom.js';
+import { Drawing } from './drawing.js';
+import { readFile } from './files.js';
+import { keptOf } from './kept.js';
+import { Fault } from './opening.js';
+import { faultSaid } from './refusals.js';
+import { sha256 } from './saving.js';
+import { KIND_SAID, kindOf } from './tcb.js';
+
+/**
+ * Why bytes don't open, in a sentence.
+ * @param {Fault} fault
+ * @param {Uint8Array} bytes
+ */
+export function whyNotOpened({ word, at }, bytes) {
+    return word === 'not-design' ? 'It is ' + KIND_SAID[kindOf(bytes)] + '.' : sentenceOf(faultSaid(word, at)) + '.';
+}
+
+function sentenceOf(text) {
+    return text.charAt(0).toUpperCase() + text.slice(1);
+}
+
+export class Opener {
+    constructor(app) {
+        this.app = app;
+        this.name = '';
+        this.bytes = new Uint8Array(0);
+        const field = /** @type {HTMLInputElement} */ (byId('open-file'));
+        for (const id of ['open', 'start-open']) {
+            byId(id).addEventListener('click', () => field.click());
+        }
+        field.addEventListener('change', async () => {
+            if (field.files.length > 0) {
+                const { name, bytes } = await readFile(field.files[0]);
+                field.value = '';
+                await this.openAsked(name, bytes);
+            }
+        });
+        this.listenToDrops();
+        addEventListener('beforeunload', (event) => {
+            if (this.hasUnsaved) {
+                event.preventDefault();
+                event.returnValue = '';
+            }
+        });
+    }
+
+    listenToDrops() {
+        document.addEventListener('dragover', (event) => {
+            event.preventDefault();
+            document.body.classList.add('dropping');
+        });
+        document.addEventListener('dragleave', () => document.body.classList.remove('dropping'));
+        document.addEventListener('drop', async (event) => {
+            event.preventDefault();
+            document.body.classList.remove('dropping');
+            if (event.dataTransfer.files.length > 0) {
+                const { name, bytes } = await readFile(event.dataTransfer.files[0]);
+                await this.openAsked(name, bytes);
+            }
+        });
+    }
+
+    get hasUnsaved() {
+        const { work } = this.app;
+        return work !== null && work.session.hasWork && !work.session.isSaved;
+    }
+
+    /** Opens a drawing; what isn't saved is asked about before. */
+    async openAsked(name, bytes) {
+        if (this.hasUnsaved) {
+            const answer = await this.app.ask('Your work isn’t saved', [make('p', {}, 'Another drawing is opened in place of '
+                + this.app.drawing.name + '. Its script is kept in this browser, and offered when you open it again.')],
+            ['Open the other drawing', 'Stay']);
+            if (answer !== 'Open the other drawing') {
+                return;
+            }
+        }
+        await this.open(name, bytes);
+    }
+
+    /**
+     * Opens a drawing, and says whether it did.
+     * @param {string} name
+     * @param {Uint8Array} bytes
+     */
+    async open(name, bytes) {
+        const { app } = this, drawing = Drawing.open(name, bytes);
+        if (drawing instanceof Fault) {
+            this.tellFault(name + ' doesn’t open. ' + whyNotOpened(drawing, bytes));
+            return false;
+        }
+        setHidden(byId('start-fault'), true);
+        this.name = name;
+        this.bytes = bytes;
+        if (app.work === null) {
+            app.take(drawing);
+            return true;
+        }
+        app.work.begin();
+        app.take(drawing);
+        const isChecked = await this.check(name, bytes, drawing.bodyLength);
+        if (isChecked) {
+            app.work.hash = await sha256(bytes);
+            await this.offerKept();
+        }
+        return isChecked;
+    }
+
+    /** Has the program check the drawing. It decides; the reader only shows. */
+    async check(name, bytes, bodyLength) {
+        const { app } = this, checked = await app.work.trying(() => app.work.engine.open(bytes, bodyLength));
+        if (checked !== null && checked.status !== 0) {
+            const said = byteString(checked.text).trimEnd(), [, , word, , at] = said.split(' ');
+            this.tellFault(name + ' doesn’t open. ' + (checked.status === 4 ? whyNotOpened(new Fault(word, Number(at)), bytes)
+                : app.refusals.notRun(checked.status, said)));
+            return false;
+        }
+        return checked !== null;
+    }
+
+    tellFault(text) {
+        const { app } = this;
+        if (app.drawing === null) {
+            byId('start-fault').textContent = text;
+            setHidden(byId('start-fault'), false);
+        } else {
+            app.notice(text);
+        }
+    }
+
+    /** Offers the work that is kept for this drawing. */
+    async offerKept() {
+        const { app } = this, kept = keptOf(app.work.hash);
+        if (kept === null) {
+            return;
+        }
+        const count = kept.lines.length, when = new Date(kept.when).toLocaleString();
+        const said = 'A script of ' + count + (count === 1 ? ' line' : ' lines') + (kept.steps.length > 0 ? ', and what was '
+            + 'put on before it,' : '') + ' is kept for this drawing, of ' + when + '. It was not saved.';
+        const answer = await app.ask('Go on where you were?', [make('p', {}, said)], ['Go on', 'Not now', 'Throw it away']);
+        if (answer === 'Go on') {
+            await this.restore(kept);
+        } else if (answer === 'Throw it away') {
+            app.work.forgetKept();
+        }
+    }
+
+    /** Does again what is kept. */
+    async restore({ steps, lines }) {
+        const { app } = this;
+        for (const step of steps) {
+            const isDone = step.kind === 'patch' ? await app.menu.apply(step.name, step.bytes)
+                : await app.work.addTyped(step.lines);
+            if (!isDone) {
+                return;
+            }
+        }
+        if (lines.length > 0) {
+            await app.work.addTyped(lines);
+        }
+    }
+}

@@ -1,0 +1,164 @@
+/* What is drawn above the drawing: what is under the pointer, what is chosen, a fence, a displacement. */
+
+import { DASHES, widthOf } from './format.js';
+import { Painter } from './painter.js';
+
+const MOST_LIT = 20000;           // records that are lit one by one
+const MOST_FRAMES = 12;           // trees that are framed: of more the frames would hide the drawing
+
+/** Draws on a canvas of its own, in every frame that changes something of it. */
+export class Overlay {
+    constructor(canvas, app) {
+        this.canvas = canvas;
+        this.context = canvas.getContext('2d');
+        this.app = app;
+        this.ratio = 1;
+    }
+
+    resize(ratio) {
+        this.ratio = ratio;
+        this.canvas.width = Math.round(this.app.view.width * ratio);
+        this.canvas.height = Math.round(this.app.view.height * ratio);
+    }
+
+    draw() {
+        const { context, app } = this, { pens, choice, tools } = app;
+        context.setTransform(1, 0, 0, 1, 0, 0);
+        context.clearRect(0, 0, this.canvas.width, this.canvas.height);
+        this.painter = new Painter(app.scene.records, context);
+        this.painter.start(app.view, this.ratio);
+        if (choice.hovered >= 0) {
+            this.light(choice.hovered, pens.hover, 1.6);
+        }
+        this.lightParts(choice.numbers, pens.chosen);
+        this.lightParts(tools.fence.chosen, pens.fence);
+        this.painter.finish();
+        this.drawOutline();
+        this.drawBox();
+        this.drawDrag();
+        if (app.stage.showsCentre) {
+            this.drawCross(...app.stage.centre(), pens.hover);
+        }
+        if (app.place !== null) {
+            this.drawCross(app.view.toScreenX(app.place[0]), app.view.toScreenY(app.place[1]), pens.fence);
+        }
+    }
+
+    /** A cross: at the centre, where keys choose and set corners, or at a place that was asked for. */
+    drawCross(left, top, colour) {
+        this.painter.start(this.app.view, this.ratio);
+        this.painter.setPen(colour, 1.5, DASHES[0]);
+        this.painter.traceSegment(left - 14, top, left + 14, top);
+        this.painter.traceSegment(left, top - 14, left, top + 14);
+        this.painter.finish();
+    }
+
+    light(record, colour, more) {
+        const { records } = this.app.scene;
+        this.painter.draw(record, colour, widthOf(records.weight[record]) + more, DASHES[0]);
+    }
+
+    /** Lights the parts of elements, and frames them where they are few. */
+    lightParts(numbers, colour) {
+        let left = MOST_LIT;
+        for (const number of numbers) {
+            left = left > 0 ? this.lightPart(number, colour, left) : 0;
+        }
+        this.painter.finish();
+        if (numbers.length <= MOST_FRAMES) {
+            numbers.forEach((number) => this.frame(this.app.scene.boxOfPart(this.app.scene.state, number), colour));
+        }
+    }
+
+    /** Lights a part up to so many records, and gives how many are left. */
+    lightPart(number, colour, most) {
+        const { scene } = this.app, { state } = scene;
+        const end = Math.min(state.end[number], number + most);
+        for (let at = number; at < end; at++) {
+            if (scene.shown[state.record[at]]) {
+                this.light(state.record[at], colour, 1.4);
+            }
+        }
+        return most - (end - number);
+    }
+
+    /** A frame around a box of the drawing, a little away from it. */
+    frame(box, colour) {
+        if (box === null) {
+            return;
+        }
+        const { view } = this.app;
+        this.painter.setPen(colour, 1, DASHES[5]);
+        this.painter.traceBox(view.toScreenX(box[0]) - 6, view.toScreenY(box[3]) - 6, view.toScreenX(box[2]) + 6,
+            view.toScreenY(box[1]) + 6);
+        this.painter.finish();
+    }
+
+    /** The fence, or what is drawn by its points. */
+    drawOutline() {
+        const { outline, isOpen, isArea } = this.app.tools;
+        if (outline.length === 0) {
+            return;
+        }
+        const { context } = this, { view, pens } = this.app;
+        if (isArea) {
+            context.beginPath();
+            outline.forEach(([x, y]) => context.lineTo(view.toScreenX(x), view.toScreenY(y)));
+            context.globalAlpha = 0.12;
+            context.fillStyle = pens.fence;
+            context.fill();
+            context.globalAlpha = 1;
+        }
+        this.painter.start(view, this.ratio);
+        this.painter.setPen(pens.fence, 1.5, DASHES[0]);
+        this.drawCorners(outline, isOpen);
+    }
+
+    drawCorners(corners, isOpen) {
+        const { context } = this, { view, pens } = this.app;
+        const last = isOpen ? corners.length - 1 : corners.length;
+        for (let corner = 0; corner < last; corner++) {
+            const [x, y] = corners[corner], [nextX, nextY] = corners[(corner + 1) % corners.length];
+            this.painter.traceSegment(view.toScreenX(x), view.toScreenY(y), view.toScreenX(nextX),
+                view.toScreenY(nextY));
+        }
+        this.painter.finish();
+        context.fillStyle = pens.fence;
+        corners.forEach(([x, y]) => context.fillRect(view.toScreenX(x) - 3, view.toScreenY(y) - 3, 6, 6));
+    }
+
+    /** The box that is drawn to choose by. */
+    drawBox() {
+        const { box } = this.app.tools;
+        if (box === null) {
+            return;
+        }
+        const [[left, top], [right, bottom]] = box, { pens, view } = this.app;
+        this.painter.start(view, this.ratio);
+        this.painter.setPen(pens.chosen, 1.2, DASHES[right < left ? 5 : 0]);
+        this.painter.traceBox(left, top, right, bottom);
+        this.painter.finish();
+    }
+
+    /** While something is dragged: its lines at the new place, and an arrow there. */
+    drawDrag() {
+        const { tools: { drag }, choice, view, pens } = this.app;
+        if (drag === null || choice.numbers.length === 0) {
+            return;
+        }
+        const moved = view.copy();
+        moved.x -= drag.by[0];
+        moved.y -= drag.by[1];
+        this.painter.start(moved, this.ratio);
+        let left = MOST_LIT;
+        for (const number of choice.numbers) {
+            left = left > 0 ? this.lightPart(number, pens.changed, left) : 0;
+        }
+        this.painter.finish();
+        this.painter.start(view, this.ratio);
+        this.painter.setPen(pens.changed, 1, DASHES[0]);
+        this.painter.traceSegment(view.toScreenX(drag.from[0]), view.toScreenY(drag.from[1]),
+            view.toScreenX(drag.to[0]), view.toScreenY(drag.to[1]));
+        this.painter.finish();
+    }
+}

@@ -1,0 +1,194 @@
+/* Mouse, pen, fingers and keys on the drawing. */
+
+import { byId } from './dom.js';
+
+const CLICK = 4;                  // pixels that a click may move
+export const REACH = Object.freeze({ mouse: 7, pen: 9, touch: 16 });
+const STEP = 80;                  // pixels of an arrow key
+
+/** Takes what is done on the canvas to the app. */
+export class Pointer {
+    constructor(canvas, app) {
+        this.canvas = canvas;
+        this.app = app;
+        this.down = new Map();
+        this.pressed = null;
+        this.reach = REACH.mouse;
+        canvas.addEventListener('pointerdown', (event) => this.press(event));
+        canvas.addEventListener('pointermove', (event) => this.move(event));
+        canvas.addEventListener('pointerup', (event) => this.release(event));
+        canvas.addEventListener('pointercancel', (event) => this.leave(event));
+        canvas.addEventListener('pointerleave', () => app.choice.point(null));
+        canvas.addEventListener('dblclick', () => app.tools.close());
+        canvas.addEventListener('wheel', (event) => this.wheel(event), { passive: false });
+        canvas.addEventListener('keydown', (event) => this.key(event));
+        canvas.addEventListener('contextmenu', (event) => event.preventDefault());
+        document.addEventListener('keydown', (event) => this.keyAnywhere(event));
+    }
+
+    placeOf(event) {
+        const box = this.canvas.getBoundingClientRect();
+        return [event.clientX - box.left, event.clientY - box.top];
+    }
+
+    press(event) {
+        this.canvas.focus({ preventScroll: true });
+        this.canvas.setPointerCapture(event.pointerId);
+        this.reach = REACH[event.pointerType] || REACH.mouse;
+        this.down.set(event.pointerId, this.placeOf(event));
+        if (this.down.size === 1) {
+            const isMain = event.button === 0, isMore = event.shiftKey || event.ctrlKey || event.metaKey;
+            const isDrag = isMain && this.app.tools.isDragging;
+            const isBox = isMain && isMore && this.app.tools.tool === 'choose' && this.app.work !== null;
+            this.pressed = { at: this.placeOf(event), isDrag, isBox, isMore, hasMoved: false, isMain };
+        } else if (this.pressed) {
+            this.pressed.hasMoved = true;
+        }
+        event.preventDefault();
+    }
+
+    move(event) {
+        const place = this.placeOf(event), before = this.down.get(event.pointerId);
+        if (!before) {
+            this.app.choice.point(place);
+            return;
+        }
+        if (this.down.size === 2) {
+            this.pinch(event.pointerId, place);
+        } else if (this.isDragged(place)) {
+            this.drag(before, place);
+        } else {
+            return;
+        }
+        this.down.set(event.pointerId, place);
+    }
+
+    /** Whether what is pressed has moved further than a click may. */
+    isDragged(place) {
+        const { at, hasMoved } = this.pressed;
+        return hasMoved || Math.hypot(place[0] - at[0], place[1] - at[1]) > CLICK;
+    }
+
+    drag(before, place) {
+        const { app, pressed } = this;
+        if (pressed.isDrag) {
+            app.tools.dragTo(pressed.at, place);
+        } else if (pressed.isBox) {
+            app.tools.boxTo(pressed.at, place);
+        } else {
+            const start = pressed.hasMoved ? before : pressed.at;
+            app.view.pan(place[0] - start[0], place[1] - start[1]);
+            app.stage.moved();
+        }
+        pressed.hasMoved = true;
+        app.choice.point(place);
+    }
+
+    /** Two fingers: what is between them stays between them. */
+    pinch(moving, place) {
+        const { view } = this.app;
+        const before = this.down.get(moving);
+        const [, other] = [...this.down].find(([id]) => id !== moving);
+        const factor = Math.hypot(place[0] - other[0], place[1] - other[1])
+            / Math.max(Math.hypot(before[0] - other[0], before[1] - other[1]), 1);
+        view.pan((place[0] - before[0]) / 2, (place[1] - before[1]) / 2);
+        view.zoom(factor, (place[0] + other[0]) / 2, (place[1] + other[1]) / 2);
+        this.app.stage.moved();
+    }
+
+    release(event) {
+        const { app, pressed } = this;
+        const place = this.placeOf(event);
+        this.down.delete(event.pointerId);
+        if (this.down.size > 0 || pressed === null) {
+            return;
+        }
+        this.pressed = null;
+        if (pressed.isDrag && pressed.hasMoved) {
+            app.tools.drop();
+        } else if (pressed.isBox && pressed.hasMoved) {
+            app.tools.dropBox();
+        } else if (!pressed.hasMoved && pressed.isMain) {
+            app.tools.click(place, this.reach, pressed.isMore);
+        }
+        app.choice.point(event.pointerType === 'mouse' ? place : null);
+    }
+
+    leave(event) {
+        this.down.delete(event.pointerId);
+        this.pressed = null;
+        this.app.tools.cancelDrag();
+    }
+
+    wheel(event) {
+        event.preventDefault();
+        const lines = event.deltaMode === 1 ? 16 : 1;
+        const speed = event.ctrlKey ? 0.01 : 0.0016;
+        const amount = Math.min(Math.max(event.deltaY * lines, -400), 400);
+        const place = this.placeOf(event);
+        this.app.view.zoom(Math.exp(-amount * speed), place[0], place[1]);
+        this.app.stage.moved();
+        this.app.choice.point(place);
+    }
+
+    key(event) {
+        if (event.ctrlKey || event.metaKey || event.altKey) {
+            return;
+        }
+        const act = this.acts(event.shiftKey ? STEP / 8 : STEP)[event.key];
+        if (act) {
+            event.preventDefault();
+            act();
+        }
+    }
+
+    /** What each key does while the drawing has the focus. */
+    acts(step) {
+        const { app } = this;
+        const pan = (right, down) => () => {
+            app.stage.showsCentre = true;
+            app.view.pan(right, down);
+            app.stage.moved();
+        };
+        const { stage, tools, choice } = app;
+        return {
+            'ArrowLeft': pan(step, 0), 'ArrowRight': pan(-step, 0), 'ArrowUp': pan(0, step), 'ArrowDown': pan(0, -step),
+            '+': () => stage.zoom(1.5), '=': () => stage.zoom(1.5), '-': () => stage.zoom(1 / 1.5),
+            '0': () => stage.fit(), 'Home': () => stage.fit(), 'n': () => choice.step(1), 'p': () => choice.step(-1),
+            'f': () => (app.work ? tools.set('fence') : undefined), 'm': () => tools.set('measure'),
+            'Enter': () => (tools.draws ? tools.close() : choice.click(stage.centre(), REACH.touch, false)),
+            ' ': () => tools.click(stage.centre(), REACH.touch, false),
+            'Backspace': () => tools.dropPoint(), 'Delete': () => app.editPanel.edit({ word: 'delete' }),
+            'Escape': () => tools.letGo(),
+        };
+    }
+
+    /** Keys that hold wherever the focus is, but in a field. */
+    keyAnywhere(event) {
+        const isField = /^(INPUT|SELECT|TEXTAREA)$/.test(event.target.tagName) && event.target.type !== 'checkbox';
+        if (isField || event.altKey || this.app.isAsking) {
+            return;
+        }
+        if (event.ctrlKey || event.metaKey) {
+            this.keyWithControl(event);
+        } else if (event.key === 'o') {
+            byId('open').click();
+        } else if (this.app.drawing === null) {
+            return;
+        } else if (event.key === '/') {
+            event.preventDefault();
+            byId('search-field').focus();
+            byId('search-field').select();
+        } else if (event.key === 'g') {
+            this.app.stage.changeGround();
+        }
+    }
+
+    keyWithControl(event) {
+        const id = { z: event.shiftKey ? 'redo' : 'undo', y: 'redo', s: 'save' }[event.key.toLowerCase()];
+        if (id !== undefined) {
+            event.preventDefault();
+            byId(id).click();
+        }
+    }
+}

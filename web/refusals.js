@@ -1,0 +1,119 @@
+/* Why a line was refused or a script didn't run, in a sentence, and what one can do. */
+
+import { whyBroken } from './broken.js';
+import { described } from './describing.js';
+import { mendingOf } from './mending.js';
+
+const PLANE_SAID = 'the design plane, -2147483648 to 2147483647';
+const FAULTS = Object.freeze({
+    'not-design': 'it is no design file of version 7',
+    cut: 'the element that begins at byte K reaches past the end of the file: it was cut off',
+    short: 'the element that begins at byte K is shorter than its type wants',
+    attributes: 'the attribute data of the element that begins at byte K begin where they can’t',
+});
+
+/** Says of causes what they mean, of elements of the drawing as it was opened. */
+export class Refusals {
+    /** @param {import('./drawing.js').Drawing} drawing */
+    constructor(drawing) {
+        this.drawing = drawing;
+    }
+
+    /**
+     * Why a line was refused.
+     * @param {string} line
+     * @param {string} cause what the program says behind `refused`
+     */
+    sentence(line, cause) {
+        const [word, rest, ...more] = cause.split(' ');
+        const explain = this.explainers()[word];
+        return explain ? explain(rest, line.trim().split(/ +/), more) : 'the program says ' + cause + '.';
+    }
+
+    explainers() {
+        const { axes } = this.drawing;
+        return {
+            'unknown': (rest) => 'there is no element ' + rest + '.',
+            'broken': (rest) => this.broken(Number(rest)),
+            'deleted': (rest, words) => this.named(rest) + this.whose(rest, words) + ' is marked deleted.',
+            'locked': (rest, words) => this.named(rest) + this.whose(rest, words) + ' is locked.',
+            'dimension': () => 'the drawing has ' + axes + ' axes, and the line is given for ' + (5 - axes) + '.',
+            'floating': (rest, words) => this.named(rest) + this.whose(rest, words)
+                + ' has floating numbers for coordinates, which are not read, so it can not be moved.',
+            'opaque': (rest, words) => this.named(rest) + this.whose(rest, words)
+                + ' is of a type of which not all is read that the line would write.',
+            'off-plane': (rest, words) => this.named(rest) + this.whose(rest, words) + ' would leave ' + PLANE_SAID
+                + ': a smaller displacement stays on it.',
+            'too-long': () => 'the drawing would have more than 67108864 bytes, and no such is read.',
+            'nothing': () => 'no accepted edit before it is left to be taken back.',
+            'no-fence': () => 'no fence is set.',
+            'few': (rest, words) => 'a fence has at least 3 corners, and here are ' + (words.length - 1) + '.',
+            'many': (rest, words) => 'a fence has at most 256 corners, and here are ' + (words.length - 1) + '.',
+            'import': (rest, words, more) => this.imported(rest, words[1], more),
+        };
+    }
+
+    /** The element with a number, in words. */
+    named(number) {
+        return Number(number) < this.drawing.count ? described(this.drawing, Number(number))
+            : 'element ' + number + ', which the script appends,';
+    }
+
+    /** How the element of the cause stands to the one that the line names. */
+    whose(number, words) {
+        return words.length < 2 || words[1] === number || !/^\d+$/.test(words[1]) ? ''
+            : ', which goes along with element ' + words[1] + ' or stands above it,';
+    }
+
+    broken(number) {
+        if (number >= this.drawing.count) {
+            return 'the tree holds ' + this.named(number) + ' and is broken.';
+        }
+        const mending = mendingOf(this.drawing);
+        const isMended = mending.changes.some((it) => number >= it.number && number <= it.number + it.members)
+            && !mending.left.some((it) => it.number === number);
+        const advice = isMended ? '‘Mend’ puts it right.' : '‘Mend’ can not put it right: it says why.';
+        return 'its tree is broken at ' + this.named(number) + ' (' + whyBroken(this.drawing, number) + '). ' + advice;
+    }
+
+    /** Why a second drawing wasn't imported. */
+    imported(word, name, more) {
+        if (word in FAULTS) {
+            return name + ' does not open: ' + FAULTS[word].replace('K', more[1]) + '.';
+        }
+        if (word === 'dimension') {
+            return name + ', or the displacement, has other axes than the drawing, which has ' + this.drawing.axes + '.';
+        }
+        return 'of ' + name + ' the element ' + more[0] + ' can not be moved (' + word
+            + '). Without a displacement it would be taken as it is.';
+    }
+
+    /**
+     * Why a run ended before it was done, by its exit number and what it printed last.
+     * @param {number} status
+     * @param {string} said
+     */
+    notRun(status, said) {
+        const last = said.split('\n').pop(), number = /\d+$/.exec(last);
+        switch (status) {
+            case 3: return 'Line ' + number + ' is no command of a script: a wrong word or number, or a piece too few or'
+                + ' too many. Nothing was run.';
+            case 5: return 'A file that an import names isn’t there.';
+            case 7: return 'There was not enough memory.';
+            case 8: return last.charAt(0).toUpperCase() + last.slice(1) + ': it is larger than the program reads.';
+            case 10: return 'The file is no patch file, or was cut off: its first bad piece begins at byte ' + number + '.';
+            case 11: return 'The patch file doesn’t fit this drawing: entry ' + number + ' doesn’t find the bytes that it'
+                + ' was made for. Ask for one of the drawing as you have it.';
+            default: return 'The program ended with ' + status + (said === '' ? '.' : ': ' + last + '.');
+        }
+    }
+}
+
+/**
+ * What keeps a file from opening, in a sentence.
+ * @param {string} word
+ * @param {number} at
+ */
+export function faultSaid(word, at) {
+    return FAULTS[word].replace('K', String(at));
+}

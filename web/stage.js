@@ -1,0 +1,196 @@
+/* The drawing on the screen: its frames, its room, and how it is looked at. */
+
+import { PENS, coloursOn } from './colours.js';
+import { byId, setHidden } from './dom.js';
+import { Overlay } from './overlay.js';
+import { Renderer } from './renderer.js';
+import { GREATEST_SCALE } from './view.js';
+
+export class Stage {
+    constructor(app) {
+        this.app = app;
+        this.showsCentre = false;
+        this.isWaiting = false;
+        this.renderer = new Renderer(byId('drawing'), app.scene, app.view);
+        this.overlay = new Overlay(byId('marks'), app);
+        this.setGround(matchMedia('(prefers-color-scheme: light)').matches ? 'light' : 'dark');
+        byId('zoom-in').addEventListener('click', () => this.zoom(1.5));
+        byId('zoom-out').addEventListener('click', () => this.zoom(1 / 1.5));
+        byId('fit').addEventListener('click', () => this.fit());
+        byId('ground').addEventListener('click', () => this.changeGround());
+        new ResizeObserver(() => this.resize()).observe(byId('stage'));
+        byId('marks').addEventListener('blur', () => {
+            this.showsCentre = false;
+            this.request();
+        });
+    }
+
+    /* Frames. */
+
+    request() {
+        if (!this.isWaiting && this.app.drawing !== null) {
+            this.isWaiting = true;
+            requestAnimationFrame(() => {
+                this.isWaiting = false;
+                this.frame();
+            });
+        }
+    }
+
+    frame() {
+        this.app.choice.hover();
+        const isMore = this.renderer.frame();
+        this.overlay.draw();
+        if (isMore) {
+            this.request();
+        } else if (!document.documentElement.dataset.ready) {
+            document.documentElement.dataset.ready = String(Math.round(performance.now()));
+        }
+    }
+
+    /** The view has changed. */
+    moved() {
+        this.showScale();
+        this.request();
+    }
+
+    /** Another drawing is shown. */
+    changed() {
+        this.renderer.take(this.app.scene);
+        this.setGround(this.ground);
+        this.takeRoom();
+        this.fit();
+    }
+
+    /** Fits the canvases to the room that they have, and says whether it has changed; they then show nothing. */
+    takeRoom() {
+        const { view } = this.app;
+        const box = byId('stage').getBoundingClientRect();
+        const width = Math.max(Math.round(box.width), 50), height = Math.max(Math.round(box.height), 50);
+        const ratio = Math.min(window.devicePixelRatio || 1, 3);
+        if (width === view.width && height === view.height && ratio === this.renderer.ratio) {
+            return false;
+        }
+        view.width = width;
+        view.height = height;
+        this.renderer.resize(ratio);
+        this.overlay.resize(ratio);
+        return true;
+    }
+
+    resize() {
+        if (this.app.drawing !== null && this.takeRoom()) {
+            this.showScale();
+            this.frame();
+        }
+    }
+
+    /* The view. */
+
+    /** Shows all that is drawn, and says where origins of cells lie outside of it. */
+    fit() {
+        const { box, outside } = this.app.scene.extent();
+        this.app.view.fit(box);
+        if (outside > 0) {
+            this.app.say(outside === 1 ? 'The origin of 1 cell lies outside what is shown.'
+                : 'The origins of ' + outside + ' cells lie outside what is shown.');
+        }
+        this.moved();
+    }
+
+    zoom(factor) {
+        this.app.view.zoom(factor);
+        this.moved();
+    }
+
+    centre() {
+        return [this.app.view.width / 2, this.app.view.height / 2];
+    }
+
+    goToBox(box) {
+        const { view } = this.app;
+        if (box === null) {
+            this.app.say('It has no place in the drawing.');
+            return;
+        }
+        const side = Math.max(box[2] - box[0], box[3] - box[1]) * view.scale;
+        if (side >= 24 && side <= 0.8 * Math.min(view.width, view.height)) {
+            view.x = (box[0] + box[2]) / 2;
+            view.y = (box[1] + box[3]) / 2;
+        } else {
+            const most = box[0] === box[2] && box[1] === box[3] ? Math.max(view.scale, 1) : GREATEST_SCALE;
+            view.fit(box, most, 0.3 * Math.min(view.width, view.height));
+        }
+        this.moved();
+    }
+
+    /** Goes to a place and marks it; what was chosen elsewhere isn't any more. */
+    goToPlace([x, y]) {
+        const { view, scene, words } = this.app;
+        const [lowX, lowY, highX, highY] = scene.extent().box;
+        this.app.choice.choose([]);
+        view.x = x;
+        view.y = y;
+        view.scale = Math.max(view.scale, 2 * view.width / Math.max(highX - lowX, highY - lowY, 1));
+        this.app.place = [x, y];
+        this.app.say('Marked: ' + words.placeOf([x, y]));
+        this.moved();
+    }
+
+    /** Whether something of a box is seen. */
+    isSeen([lowX, lowY, highX, highY]) {
+        const [left, bottom, right, top] = this.app.view.rectangle();
+        return lowX <= right && highX >= left && lowY <= top && highY >= bottom;
+    }
+
+    showScale() {
+        const { words, view } = this.app;
+        const unit = words.hasMaster ? words.unitsOfMaster : 1;
+        const most = 150 / view.scale / unit;
+        const power = 10 ** Math.floor(Math.log10(most));
+        const length = power * ([5, 2, 1].find((it) => it * power <= most) || 1);
+        byId('scale-bar').style.width = Math.round(length * unit * view.scale) + 'px';
+        const name = words.hasMaster ? words.master : 'units';
+        byId('scale-text').textContent = Number(length.toPrecision(3)) + ' ' + name;
+    }
+
+    setGround(ground) {
+        const { app } = this;
+        this.ground = ground;
+        document.documentElement.dataset.ground = ground;
+        byId('ground').textContent = ground === 'dark' ? 'Light' : 'Dark';
+        app.pens = PENS[ground];
+        app.colours = coloursOn(ground, app.drawing ? app.drawing.colours.table : []);
+        if (app.drawing) {
+            this.renderer.setColours(app.colours, app.pens);
+        }
+    }
+
+    changeGround() {
+        this.setGround(this.ground === 'dark' ? 'light' : 'dark');
+        this.app.show();
+        this.request();
+    }
+
+    /** Says where nothing is to be seen. */
+    showNothing() {
+        setHidden(byId('nothing'), this.app.scene.order.length > 0);
+    }
+
+    /** Prints what is seen, on a light ground. */
+    print() {
+        const { ground } = this;
+        this.setGround('light');
+        this.app.scene.version++;
+        const draw = () => {
+            if (this.renderer.frame()) {
+                requestAnimationFrame(draw);
+            } else {
+                window.print();
+                this.setGround(ground);
+                this.request();
+            }
+        };
+        draw();
+    }
+}

@@ -1,0 +1,114 @@
+/* What is said of elements and places, in words. */
+
+import { counted } from './describing.js';
+import { typeName } from './types.js';
+
+/** Numbers, places and names of a drawing as a person reads them. */
+export class Words {
+    constructor(drawing, scene) {
+        this.drawing = drawing;
+        this.scene = scene;
+        const { subunits, resolution } = drawing.units;
+        this.unitsOfMaster = subunits * resolution;
+        this.digits = Math.min(Math.max(Math.ceil(Math.log10(this.unitsOfMaster || 1)), 0), 9);
+    }
+
+    /** The drawing in a line. */
+    summary() {
+        const { drawing } = this;
+        const parts = [counted(drawing.count, 'element'), drawing.axes + ' dimensions'];
+        if (this.hasMaster) {
+            parts.push('1 ' + this.master + ' = ' + this.unitsOfMaster + ' units');
+        }
+        if (drawing.colours.isOwn) {
+            parts.push('its own colours');
+        }
+        return parts.join(' · ');
+    }
+
+    /** Whether the drawing says what a master unit is. */
+    get hasMaster() {
+        return this.unitsOfMaster > 0;
+    }
+
+    get master() {
+        return this.drawing.units.master || 'master units';
+    }
+
+    toMaster(value, axis) {
+        return (value - this.drawing.units.origin[axis]) / this.unitsOfMaster;
+    }
+
+    /** A place in master units as one in units of resolution. */
+    fromMaster(values) {
+        return values.map((value, axis) => value * this.unitsOfMaster + this.drawing.units.origin[axis]);
+    }
+
+    /** A coordinate in master units, without their name. */
+    masterOf(value, axis) {
+        return this.toMaster(value, axis).toFixed(this.digits);
+    }
+
+    /** A length in master units with their name. */
+    lengthOf(units) {
+        return (units / this.unitsOfMaster).toFixed(this.digits) + ' ' + this.master;
+    }
+
+    /** A place in units of resolution, and in master units where these are known. */
+    placeOf(point) {
+        const plain = point.map((value) => String(Math.round(value))).join(',');
+        const master = point.map((value, axis) => this.masterOf(value, axis)).join(', ');
+        return this.hasMaster ? plain + '  =  ' + master + ' ' + this.master : plain;
+    }
+
+    typeOf(type) {
+        return typeName(type);
+    }
+
+    /** An element in a few words: its number, its type, its text or its cell's name. */
+    nameOf(record) {
+        const { records } = this.scene;
+        const label = records.labelOf(record);
+        const words = records.number[record] + ' ' + this.typeOf(records.type[record]);
+        if (label === null) {
+            return words;
+        }
+        return words + (typeof label === 'string' ? ' ' + label : ' “' + label.characters + '”');
+    }
+
+    /** What is said of what is under the pointer. */
+    hoverOf(record) {
+        const { records } = this.scene;
+        const parts = [this.nameOf(record), 'level ' + records.level[record], 'colour ' + records.colour[record]];
+        const cell = this.cellAbove(record);
+        if (cell !== null) {
+            parts.push('in ' + cell);
+        }
+        return parts.join(' · ');
+    }
+
+    /** The number and the name of the outermost header above a record, or null. */
+    cellAbove(record) {
+        const state = this.stateOf(record);
+        const headers = state.above(this.scene.records.number[record]);
+        if (headers.length === 0) {
+            return null;
+        }
+        return this.nameOf(state.record[headers[0]]);
+    }
+
+    /** The state that a record stands in. */
+    stateOf(record) {
+        const { before, after, records } = this.scene;
+        const number = records.number[record];
+        return after && number < after.count && after.record[number] === record ? after : before;
+    }
+
+    /** How long a row of places is, its last part and all of it. */
+    measured(points) {
+        const lengths = points.slice(1).map(([x, y], at) => Math.hypot(x - points[at][0], y - points[at][1]));
+        const said = (length) => (this.hasMaster ? this.lengthOf(length) + '  =  ' : '') + length.toFixed(1) + ' units';
+        const all = lengths.reduce((sum, length) => sum + length, 0);
+        return said(lengths[lengths.length - 1]) + (lengths.length > 1 ? ', together ' + said(all) : '');
+    }
+}
