@@ -7,8 +7,8 @@ from typing import List, Tuple
 
 import samples
 from dgnkit.cli import NUMBERS
-from dgnkit.conditions import Conditions, add_conditions
-from dgnkit.listings import chosen_of
+from dgnkit.drawing.conditions import Conditions, add_conditions
+from dgnkit.program.listings import chosen_of
 from samples import drawings, plan
 
 DRAWINGS, TREES, BOXES = 12, 30, 8

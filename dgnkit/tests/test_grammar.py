@@ -6,7 +6,7 @@ from typing import List
 
 import samples
 from dgnkit.errors import BadScript
-from dgnkit.grammar import FORMS, fault_of
+from dgnkit.program.grammar import FORMS, fault_of
 
 # the bad lines of docs/EDITING.md, and the word that tells why
 BAD = {

@@ -5,8 +5,8 @@ from typing import Callable, Iterator, List, Tuple
 
 import samples
 from dgnkit import ListingError
-from dgnkit.answers import answers_of
-from dgnkit.listings import (
+from dgnkit.program.answers import answers_of
+from dgnkit.program.listings import (
     chosen_of,
     counts_of,
     elements_of,

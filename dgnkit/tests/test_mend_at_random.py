@@ -7,8 +7,8 @@ import unittest
 from typing import List
 
 import samples
-from dgnkit.mending import mending_of
-from dgnkit.writing import patch_of
+from dgnkit.drawing.mending import mending_of
+from dgnkit.propose.writing import patch_of
 from samples import drawings
 
 DRAWINGS = 60

@@ -4,9 +4,9 @@ import unittest
 from fractions import Fraction
 
 import samples  # noqa: F401
-from dgnkit.numbers import long_at, long_bytes, longs_at, points_of, range_numbers_at, vax_double_at, word_at
-from dgnkit.radix50 import name_of
-from dgnkit.units import METRES, rounded, shortest
+from dgnkit.format.numbers import long_at, long_bytes, longs_at, points_of, range_numbers_at, vax_double_at, word_at
+from dgnkit.format.radix50 import name_of
+from dgnkit.format.units import METRES, rounded, shortest
 
 TABLE = {
     0: ('00000000', '00800000'),

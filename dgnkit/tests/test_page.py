@@ -17,7 +17,7 @@ from page_pictures import PICTURES
 from samples import EXAMPLES, PROGRAM, WithProgram, drawings, plan, with_units
 
 from dgnkit.page import sheet
-from dgnkit.page.colours import usual_colours
+from dgnkit.format.colours import usual_colours
 
 HOSTILE = '</script><script>document.title = "taken"</script><img src=x onerror=alert(1)>'
 

@@ -3,9 +3,9 @@ and patch files. It never writes a drawing: dgnedit alone does."""
 
 __version__ = '0.1.0'
 
-from .answers import Answer
-from .drawing import Drawing
-from .element import Element
+from .program.answers import Answer
+from .drawing.drawing import Drawing
+from .format.element import Element
 from .errors import (
     BadDesign,
     BadPatch,
@@ -21,13 +21,13 @@ from .errors import (
     TooLong,
     WriteFault,
 )
-from .listings import Finding, Item, Link, Node, Reference
-from .nesting import Nesting
-from .patch import Entry, Field, Patch
-from .program import Program
-from .script import Command, Script
-from .tcb import Tcb
-from .units import Units
+from .program.listings import Finding, Item, Link, Node, Reference
+from .drawing.nesting import Nesting
+from .format.patch import Entry, Field, Patch
+from .program.runs import Program
+from .program.script import Command, Script
+from .format.tcb import Tcb
+from .format.units import Units
 
 __all__ = [
     'Answer',

@@ -5,12 +5,12 @@ from __future__ import annotations
 import argparse
 from typing import TYPE_CHECKING, Callable, List, Sequence
 
-from ..conditions import Conditions, add_conditions, has_conditions
-from ..drawing import Drawing
+from ..drawing.conditions import Conditions, add_conditions, has_conditions
+from ..drawing.drawing import Drawing
 from ..errors import Mistake
-from ..field_edits import FieldEdits
+from ..propose.field_edits import FieldEdits
 from ..output import counted, printable, say
-from ..writing import note_left, propose_patch
+from ..propose.writing import note_left, propose_patch
 
 if TYPE_CHECKING:
     from ..cli import Parser, Subparsers

@@ -5,10 +5,10 @@ from __future__ import annotations
 import argparse
 from typing import TYPE_CHECKING, Any, Dict, List
 
-from ..comparing import Difference, differences
-from ..drawing import Drawing
+from ..explain.comparing import Difference, differences
+from ..drawing.drawing import Drawing
 from ..output import counted, printable, say, say_json
-from ..program import Program
+from ..program.runs import Program
 
 if TYPE_CHECKING:
     from ..cli import Subparsers

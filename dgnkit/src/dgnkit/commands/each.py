@@ -13,14 +13,14 @@ from pathlib import Path
 from types import FrameType
 from typing import TYPE_CHECKING, Any, Dict, List, Optional, Sequence
 
-from ..answers import answers_of
-from ..drawing import read_file
+from ..program.answers import answers_of
+from ..drawing.drawing import read_file
 from ..errors import Mistake, ending_of
 from ..output import counted, note, say, say_json, table
-from ..patch import MARK
-from ..program import Program, lines_of
-from ..running import run_all
-from ..script import Script
+from ..format.patch import MARK
+from ..program.runs import Program, lines_of
+from ..program.many import run_all
+from ..program.script import Script
 
 if TYPE_CHECKING:
     from ..cli import Subparsers

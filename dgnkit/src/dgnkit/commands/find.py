@@ -5,13 +5,13 @@ from __future__ import annotations
 import argparse
 from typing import TYPE_CHECKING, Any, Dict, List, Sequence
 
-from ..conditions import Conditions, add_conditions
-from ..drawing import Drawing
-from ..element import Element
+from ..drawing.conditions import Conditions, add_conditions
+from ..drawing.drawing import Drawing
+from ..format.element import Element
 from ..errors import Mistake
 from ..output import counted, note, say, say_json, table
-from ..scripting import give_proposal, propose
-from ..units import shortest
+from ..propose.scripting import give_proposal, propose
+from ..format.units import shortest
 
 if TYPE_CHECKING:
     from ..cli import Subparsers

@@ -8,11 +8,11 @@ import json
 import sys
 from typing import TYPE_CHECKING, TextIO
 
-from ..drawing import Drawing
-from ..features import Features
+from ..drawing.drawing import Drawing
+from ..drawing.features import Features
 from ..output import note
-from ..places import Scale
-from ..writing import write_file
+from ..format.places import Scale
+from ..propose.writing import write_file
 
 if TYPE_CHECKING:
     from ..cli import Subparsers

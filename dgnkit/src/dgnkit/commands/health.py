@@ -5,13 +5,13 @@ from __future__ import annotations
 import argparse
 from typing import TYPE_CHECKING, Any, Dict, List
 
-from ..broken import why_broken
-from ..damage import Stretch, bytes_behind, elements_of_nothing, runs_of_zeros
-from ..drawing import Drawing
-from ..element import described
+from ..drawing.broken import why_broken
+from ..drawing.damage import Stretch, bytes_behind, elements_of_nothing, runs_of_zeros
+from ..drawing.drawing import Drawing
+from ..format.element import described
 from ..errors import BadDesign, Mistake
 from ..output import counted, note, printable, say, say_json
-from ..program import Program
+from ..program.runs import Program
 
 if TYPE_CHECKING:
     from ..cli import Subparsers

@@ -5,18 +5,17 @@ from __future__ import annotations
 import argparse
 from typing import TYPE_CHECKING, Any, Dict, List, Optional, Tuple
 
-from ..classes import type_name
-from ..drawing import Drawing
+from ..format.classes import type_name
+from ..drawing.drawing import Drawing
 from ..errors import Mistake
-from ..numbers import Point
+from ..format.limits import PLANE_HIGH, PLANE_LOW
+from ..format.numbers import Point
 from ..output import counted, note, say, say_json, table
-from ..program import Program
-from ..units import Units, metres_of, shortest
+from ..program.runs import Program
+from ..format.units import Units, metres_of, shortest
 
 if TYPE_CHECKING:
     from ..cli import Subparsers
-
-PLANE = (-2147483648, 2147483647)
 
 
 def register(words: Subparsers) -> None:
@@ -60,7 +59,7 @@ def facts_of(drawing: Drawing) -> Dict[str, Any]:
         'dimension': drawing.axes,
         'units': units_facts(units),
         'origin': [float(it) for it in units.origin[: drawing.axes]],
-        'plane': [corner(units, PLANE[0], drawing.axes), corner(units, PLANE[1], drawing.axes)],
+        'plane': [corner(units, PLANE_LOW, drawing.axes), corner(units, PLANE_HIGH, drawing.axes)],
         'extent': None if extent is None else extent_facts(units, extent),
         'elements': len(elements),
         'deleted': sum(it.is_deleted for it in elements),

@@ -5,8 +5,8 @@ from __future__ import annotations
 import argparse
 from typing import TYPE_CHECKING, Sequence
 
-from ..drawing import Drawing
-from ..field_edits import FieldEdits, set_lock
+from ..drawing.drawing import Drawing
+from ..propose.field_edits import FieldEdits, set_lock
 from ._fields import register_edit
 
 if TYPE_CHECKING:

@@ -7,12 +7,12 @@ import os
 import tempfile
 from typing import TYPE_CHECKING, Sequence
 
-from ..changes import Change
-from ..drawing import Drawing
-from ..element import described
-from ..mending import mending_of
+from ..drawing.changes import Change
+from ..drawing.drawing import Drawing
+from ..format.element import described
+from ..drawing.mending import mending_of
 from ..output import counted, note, printable, say, say_json
-from ..writing import applied, patch_of, propose_patch, write_file
+from ..propose.writing import applied, patch_of, propose_patch, write_file
 
 if TYPE_CHECKING:
     from ..cli import Subparsers

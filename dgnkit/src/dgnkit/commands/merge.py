@@ -5,14 +5,14 @@ from __future__ import annotations
 import argparse
 from typing import TYPE_CHECKING, Callable
 
-from ..drawing import Drawing
-from ..element import described
+from ..drawing.drawing import Drawing
+from ..format.element import described
 from ..errors import Mistake
-from ..merging import Merge, left_of, merge_of, words_of
+from ..propose.merging import Merge, left_of, merge_of, words_of
 from ..output import note, printable, say
-from ..program import Program
-from ..script import Script
-from ..scripting import give_script
+from ..program.runs import Program
+from ..program.script import Script
+from ..propose.scripting import give_script
 
 if TYPE_CHECKING:
     from ..cli import Subparsers

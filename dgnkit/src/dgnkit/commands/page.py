@@ -8,17 +8,17 @@ import tempfile
 from pathlib import Path
 from typing import TYPE_CHECKING, Any, Dict, List, Optional, Sequence
 
-from ..answers import Answer
-from ..drawing import Drawing
+from ..program.answers import Answer
+from ..drawing.drawing import Drawing
 from ..errors import Ending, Mistake
-from ..explaining import why_ended
+from ..explain.explaining import why_ended
 from ..output import say
 from ..page.changes import changes_between
 from ..page.contents import compared, contents_of, title_of
 from ..page.sheet import MARK, page_of
-from ..refusals import Explainer
-from ..script import Script
-from ..writing import write_file
+from ..explain.refusals import Explainer
+from ..program.script import Script
+from ..propose.writing import write_file
 
 if TYPE_CHECKING:
     from ..cli import Subparsers

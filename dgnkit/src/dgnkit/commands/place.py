@@ -6,20 +6,20 @@ import argparse
 from dataclasses import dataclass
 from typing import TYPE_CHECKING, List, Optional, Sequence
 
-from ..drawing import Drawing
-from ..element import Element, described
+from ..drawing.drawing import Drawing
+from ..format import classes
+from ..format.element import Element, described
 from ..errors import Mistake
-from ..numbers import Point
+from ..format.limits import FARTHEST
+from ..format.numbers import Point
 from ..output import few, note
-from ..places import Scale
-from ..script import Script
-from ..scripting import REASONS, causes, give_script
-from ..tables import Row, columns_of, is_head, rows_of
+from ..format.places import Scale
+from ..program.script import Script
+from ..propose.scripting import REASONS, causes, give_script
+from ..propose.tables import Row, columns_of, is_head, rows_of
 
 if TYPE_CHECKING:
     from ..cli import Subparsers
-
-FARTHEST = 4294967295
 
 
 @dataclass(frozen=True)
@@ -57,7 +57,7 @@ def run(arguments: argparse.Namespace) -> int:
 
 def cell_of(drawing: Drawing, name: str, number: Optional[int]) -> Element:
     """The first cell of a name that can be copied, or the one with a number. It raises Mistake where there is none."""
-    cells = [it for it in drawing.elements if it.type == 2 and it.number not in drawing.dead]
+    cells = [it for it in drawing.elements if it.type == classes.CELL and it.number not in drawing.dead]
     named = [it for it in cells if (it.cell_name or '').upper() == name.strip().upper()]
     if not named:
         names = sorted({it.cell_name or '' for it in cells})

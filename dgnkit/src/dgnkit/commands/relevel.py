@@ -5,10 +5,11 @@ from __future__ import annotations
 import argparse
 from typing import TYPE_CHECKING, Sequence
 
-from ..conditions import numbers_of
-from ..drawing import Drawing
+from ..drawing.conditions import numbers_of
+from ..drawing.drawing import Drawing
 from ..errors import Mistake
-from ..field_edits import FieldEdits, relevel
+from ..format.limits import LEVEL_MOST
+from ..propose.field_edits import FieldEdits, relevel
 from ._fields import register_edit
 
 if TYPE_CHECKING:
@@ -21,7 +22,7 @@ def register(words: Subparsers) -> None:
 
 
 def edit(drawing: Drawing, numbers: Sequence[int], arguments: argparse.Namespace) -> FieldEdits:
-    levels = numbers_of('level', [arguments.to], 63)
+    levels = numbers_of('level', [arguments.to], LEVEL_MOST)
     if len(levels) != 1:
         raise Mistake('%r is not one level' % arguments.to)
     return relevel(drawing, numbers, min(levels))

@@ -5,9 +5,9 @@ from __future__ import annotations
 import argparse
 from typing import TYPE_CHECKING, Sequence
 
-from ..conditions import form_of, word_form
-from ..drawing import Drawing
-from ..field_edits import FieldEdits, Replacement, retext
+from ..drawing.conditions import form_of, word_form
+from ..drawing.drawing import Drawing
+from ..propose.field_edits import FieldEdits, Replacement, retext
 from ._fields import register_edit
 
 if TYPE_CHECKING:

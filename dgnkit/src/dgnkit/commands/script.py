@@ -5,13 +5,13 @@ from __future__ import annotations
 import argparse
 from typing import TYPE_CHECKING, List
 
-from ..drawing import Drawing
+from ..drawing.drawing import Drawing
 from ..errors import Mistake
-from ..grammar import fault_of
+from ..program.grammar import fault_of
 from ..output import few
-from ..script import Script
-from ..scripting import give_proposal, give_script, line_of, propose, template_of
-from ..tables import numbers_in
+from ..program.script import Script
+from ..propose.scripting import give_proposal, give_script, line_of, propose, template_of
+from ..propose.tables import numbers_in
 
 if TYPE_CHECKING:
     from ..cli import Subparsers

@@ -7,14 +7,14 @@ import os
 from pathlib import Path
 from typing import TYPE_CHECKING, List, Optional
 
-from ..drawing import Drawing
+from ..drawing.drawing import Drawing
 from ..errors import Ending, Mistake, ending_of
-from ..explaining import why_ended
+from ..explain.explaining import why_ended
 from ..output import printable, say, say_json
-from ..patch import MARK
-from ..program import NOWHERE, Program
-from ..refusals import Explainer, summary
-from ..script import Script
+from ..format.patch import MARK
+from ..program.runs import NOWHERE, Program
+from ..explain.refusals import Explainer, summary
+from ..program.script import Script
 
 if TYPE_CHECKING:
     from ..cli import Subparsers

@@ -4,11 +4,11 @@ from __future__ import annotations
 
 from typing import Any, Dict, Iterable, List, Optional, Sequence, Set, Tuple
 
-from .. import classes
-from ..broken import why_broken
-from ..drawing import Drawing
-from ..element import Element
-from ..nesting import Nesting
+from ..format import classes
+from ..drawing.broken import why_broken
+from ..drawing.drawing import Drawing
+from ..format.element import Element
+from ..drawing.nesting import Nesting
 
 Columns = Dict[str, Any]
 
@@ -74,11 +74,11 @@ class Writer:
         """Writes what an element that isn't silent has besides its row, and gives the flag of its range."""
         columns = self.columns
         points = element.points
-        if element.type in classes.VERTICES and element.type != 3:
+        if element.type in classes.VERTICES and element.type != classes.LINE:
             columns['counts'].append(len(points))
-        elif element.type == 17:
+        elif element.type == classes.TEXT:
             columns['texts'].append(text_row(element))
-        elif element.type == 2:
+        elif element.type == classes.CELL:
             columns['cells'].append(element.cell_name)
         if element.group:
             columns['groups'][element.number] = element.group

@@ -5,17 +5,16 @@ from __future__ import annotations
 import os
 from typing import Any, Dict, List, Optional, Set
 
-from .. import classes
-from ..drawing import Drawing
+from ..format import classes
+from ..drawing.drawing import Drawing
 from ..output import counted
 from .changes import Change, rows_of
-from .colours import colours_of
+from ..format.colours import spelled
 from .columns import Columns, Writer, signature
 
 
 def contents_of(drawing: Drawing) -> Dict[str, Any]:
     """The data of a page of one drawing."""
-    colours, is_own = colours_of(drawing)
     return {
         'name': os.path.basename(drawing.path),
         'path': drawing.path,
@@ -24,8 +23,8 @@ def contents_of(drawing: Drawing) -> Dict[str, Any]:
         'units': units_of(drawing),
         'origin': [float(value) for value in drawing.units.origin[: drawing.axes]],
         'types': {kind: classes.type_name(kind) for kind in drawing.type_counts},
-        'colours': colours,
-        'ownColours': is_own,
+        'colours': spelled(drawing.colours),
+        'ownColours': drawing.colours is not None,
         'before': Writer(drawing).write(range(len(drawing.elements))),
         'after': None,
     }

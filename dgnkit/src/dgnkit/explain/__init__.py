@@ -1,0 +1,1 @@
+"""What changed, what a script would do, and why something was refused, in words."""

@@ -1,0 +1,238 @@
+"""What became of each element between two drawings, in words."""
+
+from __future__ import annotations
+
+from dataclasses import dataclass, field
+from typing import Any, Callable, Dict, List, Optional, Sequence, Set
+
+from ..format import classes
+from .aligning import Pair, agree, aligned
+from ..drawing.drawing import Drawing
+from ..format.element import Element, described
+from ..format.fields import field_name, points_span
+from ..format.numbers import Point
+from ..output import counted
+from ..format.units import Units
+
+
+@dataclass
+class Difference:
+    """What became of an element: its number in the first drawing and in the second, none where it isn't there; what it
+    is; each change as a word, `moved`, `recoloured` .., with its facts; and all in words."""
+
+    before: Optional[int]
+    after: Optional[int]
+    described: str
+    changes: Dict[str, Any] = field(default_factory=dict)
+    words: List[str] = field(default_factory=list)
+
+    def add(self, name: str, facts: Any, words: str) -> None:
+        """Adds a change."""
+        self.changes[name] = facts
+        self.words.append(words)
+
+
+def differences(first: Drawing, second: Drawing) -> List[Difference]:
+    """The elements that differ, in the order of the first drawing, and then what the second has more."""
+    made = []
+    for before, after in pairs(first.elements, second.elements):
+        if before is None:
+            assert after is not None
+            made.append(_alone(second.elements[after], None, after, 'appended'))
+        elif after is None:
+            made.append(_alone(first.elements[before], before, None, 'gone'))
+        else:
+            old, new = first.elements[before], second.elements[after]
+            if old.content != new.content:
+                made.append(_Comparison(first.units, old, new).difference())
+    return made
+
+
+def _alone(element: Element, before: Optional[int], after: Optional[int], name: str) -> Difference:
+    made = Difference(before, after, described(element))
+    made.add(name, True, name)
+    return made
+
+
+def pairs(first: Sequence[Element], second: Sequence[Element]) -> Sequence[Pair]:
+    """Which element of the second drawing is which of the first. The editor keeps numbers, and appends behind the last:
+    so those of one number are one, where type and size agree and none is gone. Else elements came between or went, and
+    the longest runs that agree are found, from the first on that doesn't agree or from the front, whichever tells of
+    fewer elements."""
+    common = min(len(first), len(second))
+    same = next((it for it in range(common) if not agree(first[it], second[it])), common)
+    if same == len(first):
+        return [*((it, it) for it in range(same)), *((None, it) for it in range(same, len(second)))]
+    numbered: List[Pair] = [(it, it) for it in range(same)]
+    ways = [[*numbered, *aligned(first, second, same)], list(aligned(first, second, 0))]
+    return min(ways, key=lambda it: _told(first, second, it))
+
+
+def _told(first: Sequence[Element], second: Sequence[Element], found: Sequence[Pair]) -> int:
+    """Of how many elements a difference would be told."""
+    return sum(a is None or b is None or first[a].content != second[b].content for a, b in found)
+
+
+class _Comparison:
+    """What differs between two elements of one type and size."""
+
+    def __init__(self, units: Units, old: Element, new: Element) -> None:
+        self.units, self.old, self.new = units, old, new
+        self.made = Difference(old.number, new.number, described(old))
+        a, b = old.content, new.content
+        self.places: Set[int] = {it for it in range(len(a)) if a[it] != b[it]}
+
+    def difference(self) -> Difference:
+        """Each known change takes the bytes that it explains away; what is left is told as bytes."""
+        for step in STEPS:
+            if self.places:
+                step(self)
+        return self.made
+
+    def take(self, start: int, end: int) -> bool:
+        """Whether bytes from `start` to before `end` differ; they are explained."""
+        found = {it for it in self.places if start <= it < end}
+        self.places -= found
+        return bool(found)
+
+    def marks(self) -> None:
+        """Level, bit C, type, deleted, locked."""
+        old, new = self.old, self.new
+        if 1 in self.places and old.type == new.type:
+            self.places.discard(1)
+            word = 'deleted' if new.is_deleted else 'no longer deleted'
+            self.made.add('deleted', new.is_deleted, word)
+        if 0 in self.places and (self.old.content[0] ^ self.new.content[0]) & 0x40 == 0:
+            self.places.discard(0)
+            if old.level != new.level:
+                self.made.add('level', [old.level, new.level], 'level %d to %d' % (old.level, new.level))
+            if old.has_c != new.has_c:
+                self.made.add('bit_c', new.has_c, 'bit C %s' % ('set' if new.has_c else 'cleared'))
+        if 33 in self.places and not old.is_silent and (self.old.content[33] ^ self.new.content[33]) == 1:
+            self.places.discard(33)
+            self.made.add('locked', new.is_locked, 'locked' if new.is_locked else 'unlocked')
+
+    def looks(self) -> None:
+        """Colour, weight and style."""
+        if self.old.is_silent or not self.take(34, 36):
+            return
+        pairs = [
+            ('colour', self.old.colour, self.new.colour),
+            ('weight', self.old.weight, self.new.weight),
+            ('style', self.old.style, self.new.style),
+        ]
+        changed = {name: [old, new] for name, old, new in pairs if old != new}
+        words = ', '.join('%s %d to %d' % (name, old, new) for name, (old, new) in changed.items())
+        self.made.add('recoloured' if 'colour' in changed else 'looks', changed, words)
+
+    def characters(self) -> None:
+        """The characters of a text, and their number."""
+        if self.old.type != classes.TEXT or self.old.characters == self.new.characters:
+            return
+        self.take(self.old.text_place - 2, self.old.text_place - 1)
+        longest = max(len(self.old.characters or b''), len(self.new.characters or b''))
+        self.take(self.old.text_place, self.old.text_place + longest)
+        self.made.add('text', [self.old.text, self.new.text], 'text %r to %r' % (self.old.text, self.new.text))
+
+    def place(self) -> None:
+        """A displacement of all points, and of the range with them."""
+        start, end = points_span(self.old)
+        shift = shift_of(self.old.points, self.new.points)
+        ranges = shift_of(corners(self.old), corners(self.new))
+        if shift is None and not self.old.points and self.old.type in classes.LOUD:
+            shift = ranges
+        if shift is None or not any(shift):
+            return
+        self.take(start, end)
+        if ranges == shift:
+            self.take_range()
+        self.made.add('moved', self.shift_facts(shift), 'moved by ' + self.units.shift_said(shift))
+
+    def shift_facts(self, shift: Point) -> Dict[str, Any]:
+        """A displacement in all units that are known."""
+        facts: Dict[str, Any] = {'resolution': list(shift), 'master': None, 'metres': None}
+        if self.units.is_known:
+            facts['master'] = [it / self.units.in_master for it in shift]
+            metres = self.units.master_metres
+            facts['metres'] = None if metres is None else [float(it * metres / self.units.in_master) for it in shift]
+        return facts
+
+    def take_range(self) -> bool:
+        """Takes the range's fields of the axes that there are."""
+        axes = self.old.axes
+        low = self.take(4, 4 + 4 * axes)
+        return self.take(16, 16 + 4 * axes) or low
+
+    def range(self) -> None:
+        """The range, where it isn't the points' displacement."""
+        if self.old.is_silent or not self.take_range():
+            return
+        (low, high), (new_low, new_high) = corners(self.old), corners(self.new)
+        is_wider = all(a >= b for a, b in zip(low, new_low)) and all(a <= b for a, b in zip(high, new_high))
+        name = 'widened' if is_wider else 'range'
+        words = 'range widened' if is_wider else 'range set'
+        facts = {'from': [low, high], 'to': [new_low, new_high]}
+        self.made.add(name, facts, '%s from %s to %s' % (words, box_said(low, high), box_said(new_low, new_high)))
+
+    def points(self) -> None:
+        """Single points, where they have not all moved by the same."""
+        start, end = points_span(self.old)
+        olds, news = self.old.points, self.new.points
+        if len(olds) != len(news) or not self.take(start, end):
+            return
+        changed = [it for it in range(len(olds)) if olds[it] != news[it]]
+        facts = [{'point': it + 1, 'from': olds[it], 'to': news[it]} for it in changed]
+        first = changed[0]
+        words = 'point %d from %s to %s' % (first + 1, point_said(olds[first]), point_said(news[first]))
+        words += ' and %s more' % counted(len(changed) - 1, 'point') if len(changed) > 1 else ''
+        self.made.add('points', facts, words)
+
+    def total(self) -> None:
+        """The total of a header."""
+        if self.old.total is not None and self.take(36, 38):
+            totals = [self.old.total, self.new.total]
+            self.made.add('total', totals, 'total %s to %s' % (self.old.total, self.new.total))
+
+    def rest(self) -> None:
+        """Any other bytes, by their places in the element."""
+        places = sorted(self.places)
+        names = sorted({field_name(self.old, it) for it in places})
+        some = ', '.join(map(str, places[:8])) + (' ..' if len(places) > 8 else '')
+        words = 'other bytes at %s (%s: %s)' % (some, counted(len(places), 'byte'), ', '.join(names))
+        self.made.add('bytes', places, words)
+
+
+STEPS: List[Callable[[_Comparison], None]] = [
+    _Comparison.marks,
+    _Comparison.looks,
+    _Comparison.characters,
+    _Comparison.total,
+    _Comparison.place,
+    _Comparison.range,
+    _Comparison.points,
+    _Comparison.rest,
+]
+
+
+def corners(element: Element) -> List[Point]:
+    """The two corners of the stored range."""
+    stored = element.range
+    return [] if stored is None else list(stored)
+
+
+def shift_of(olds: Sequence[Point], news: Sequence[Point]) -> Optional[Point]:
+    """By what all points have moved, none where they haven't moved by the same."""
+    if not olds or len(olds) != len(news):
+        return None
+    shifts = {tuple(b - a for a, b in zip(old, new)) for old, new in zip(olds, news)}
+    return shifts.pop() if len(shifts) == 1 else None
+
+
+def point_said(point: Point) -> str:
+    """A point in words."""
+    return ','.join(map(str, point))
+
+
+def box_said(low: Point, high: Point) -> str:
+    """Two corners in words."""
+    return '%s %s' % (point_said(low), point_said(high))

@@ -1,0 +1,187 @@
+"""Why the program ended without doing what was asked: which file it is, and what of it."""
+
+from __future__ import annotations
+
+import os
+from pathlib import Path
+from typing import List, Sequence, Union
+
+from ..drawing.drawing import Drawing
+from ..format.element import described
+from ..errors import (
+    BadDesign,
+    BadPatch,
+    BadScript,
+    BadUsage,
+    Ending,
+    Mistake,
+    OutOfMemory,
+    PatchRefused,
+    ReadFault,
+    TooLong,
+    WriteFault,
+)
+from ..format.fields import field_name
+from ..format.limits import DRAWING_LONGEST, PATCH_LONGEST, SCRIPT_LONGEST
+from ..program.grammar import fault_of
+from ..format.patch import Entry, Field, Patch
+from ..program.runs import Program
+from ..program.script import Script
+from ..format.tcb import KIND_SAID, kind_of
+
+FAULTS = {
+    'not-design': 'it does not begin as a design file does',
+    'cut': 'the file ends within this element: it was cut, or bytes of it are damaged',
+    'short': 'this element has fewer bytes than its type and its counts ask for: bytes of it are damaged',
+    'attributes': 'the attribute data of this element do not begin within it: bytes of it are damaged',
+}
+LIMITS = {
+    'design': DRAWING_LONGEST,
+    'import': DRAWING_LONGEST,
+    'script': SCRIPT_LONGEST,
+    'patch': PATCH_LONGEST,
+}
+Name = Union[str, Path]
+
+
+def why_ended(program: Program, ending: Ending, drawing: str, script: str, out: str) -> str:
+    """Why an `edit` or an `apply` ended as it did; `script` is the script or the patch file."""
+    if isinstance(ending, BadUsage):
+        return why_usage(drawing, script, out)
+    if isinstance(ending, BadScript):
+        return why_bad_line(script, ending.line)
+    if isinstance(ending, BadDesign):
+        return why_bad_design(drawing, ending)
+    if isinstance(ending, ReadFault):
+        return why_not_read([drawing, script, *imports_of(script)])
+    if isinstance(ending, WriteFault):
+        return why_not_written(out)
+    if isinstance(ending, TooLong):
+        return why_too_long(ending.what, drawing, script)
+    if isinstance(ending, BadPatch):
+        return '%s is no patch file, or is damaged: the first piece that is wrong begins at byte %d of it' % (
+            script,
+            ending.offset,
+        )
+    if isinstance(ending, PatchRefused):
+        return why_refused(program, drawing, script, ending.entry)
+    if isinstance(ending, OutOfMemory):
+        return 'there was no memory for it'
+    return str(ending)
+
+
+def why_usage(drawing: str, script: str, out: str) -> str:
+    """Why the arguments were not taken."""
+    if drawing == out:
+        return (
+            '%s is named as the drawing that is read and as the file that is written: name another one to write' % out
+        )
+    return 'dgnedit does not take these arguments: %s %s %s' % (drawing, script, out)
+
+
+def why_bad_line(script: str, number: int) -> str:
+    """What makes the first bad line of a script bad."""
+    line = Script.read(script).lines[number - 1]
+    said = line.decode('latin-1')
+    return 'line %d of %s is bad, so nothing has run: %r: %s' % (
+        number,
+        script,
+        said,
+        fault_of(line) or 'it is no command',
+    )
+
+
+def why_bad_design(drawing: str, ending: BadDesign) -> str:
+    """Why a file is no design file."""
+    try:
+        kind = kind_of(Path(drawing).read_bytes()[:4])
+    except OSError:
+        kind = 'design'
+    if kind != 'design':
+        return '%s is %s' % (drawing, KIND_SAID[kind])
+    said = '%s does not open, with the fault %r at byte %d: %s'
+    return said % (drawing, ending.fault, ending.offset, FAULTS[ending.fault])
+
+
+def imports_of(script: str) -> List[str]:
+    """The files that a script imports."""
+    try:
+        commands = Script.read(script).commands
+    except Mistake:
+        return []
+    return [it.text.split()[1] for it in commands if it.name == 'import' and len(it.text.split()) > 1]
+
+
+def why_not_read(names: Sequence[str]) -> str:
+    """Which of these files can not be read, and why."""
+    for name in names:
+        try:
+            with open(name, 'rb') as file:
+                file.read(1)
+        except OSError as why:
+            return '%s can not be read: %s' % (name, (why.strerror or str(why)).lower())
+    return 'reading failed, though all of %s can be read now' % ', '.join(names)
+
+
+def why_not_written(out: str) -> str:
+    """Why a file could not be written."""
+    folder = os.path.dirname(os.path.abspath(out))
+    if not os.path.isdir(folder):
+        return '%s can not be written: there is no folder %s' % (out, folder)
+    if os.path.isdir(out):
+        return '%s can not be written: it is a folder' % out
+    if os.path.exists(out) and not os.access(out, os.W_OK):
+        return '%s can not be written: it may not be written to' % out
+    if not os.path.exists(out) and not os.access(folder, os.W_OK):
+        return '%s can not be written: the folder may not be written to' % out
+    return '%s could not be written whole, as on a full disk: look at what stands there' % out
+
+
+def why_too_long(what: str, drawing: str, script: str) -> str:
+    """Which file is too long."""
+    names = {'design': [drawing], 'import': imports_of(script)}.get(what, [script])
+    for name in names:
+        if os.path.exists(name) and os.path.getsize(name) > LIMITS[what]:
+            return '%s has %d bytes, and at most %d are read' % (name, os.path.getsize(name), LIMITS[what])
+    return 'the drawing would have more than %d bytes' % LIMITS[what]
+
+
+def why_refused(program: Program, name: str, patch_name: str, number: int) -> str:
+    """Why an entry of a patch file doesn't stand on a drawing: its length, or the first field with other bytes."""
+    patch, drawing = Patch.from_bytes(Path(patch_name).read_bytes()), Drawing(name, program)
+    body = bytearray(drawing.data[: drawing.body_length])
+    for entry in patch.entries[: number - 1]:
+        put_on(body, entry)
+    entry = patch.entries[number - 1]
+    front = 'entry %d of %d does not stand on %s, and nothing was written: ' % (number, len(patch.entries), name)
+    if entry.length != len(body):
+        return front + why_length(entry, len(body))
+    for field in entry.fields:
+        if body[field.place : field.place + len(field.old)] != field.old:
+            return front + why_bytes(drawing, body, field)
+    return front + 'the program says so'
+
+
+def put_on(body: bytearray, entry: Entry) -> None:
+    """Puts an entry on a body."""
+    for field in entry.fields:
+        body[field.place : field.place + len(field.new)] = field.new
+    body.extend(entry.appended)
+
+
+def why_length(entry: Entry, length: int) -> str:
+    """Why an entry does not stand on a body of another length."""
+    said = 'it was made for a drawing whose elements have %d bytes, and here they have %d, %d %s. '
+    said += 'It is another drawing, or elements were appended'
+    return said % (entry.length, length, abs(length - entry.length), 'more' if length > entry.length else 'fewer')
+
+
+def why_bytes(drawing: Drawing, body: bytearray, field: Field) -> str:
+    """Why an entry does not stand where a field has other bytes."""
+    there = bytes(body[field.place : field.place + len(field.old)])
+    said = 'at byte %d it wants %s, and there stands %s' % (field.place, field.old.hex(' '), there.hex(' '))
+    for element in drawing.elements:
+        if element.offset <= field.place < element.offset + element.size:
+            place = field.place - element.offset
+            said += ', which is byte %d of %s (%s)' % (place, described(element), field_name(element, place))
+    return said + '. That was changed since the patch file was made, or was put on already'

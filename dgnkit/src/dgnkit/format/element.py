@@ -1,0 +1,221 @@
+"""An element: its row of the listing `elements`, and what its bytes say that no listing does."""
+
+from __future__ import annotations
+
+import math
+import struct
+from dataclasses import dataclass
+from typing import List, Optional, Tuple
+
+from . import classes, radix50
+from .numbers import OFFSET, Point, long_at, longs_at, points_of, word_at
+
+LINKED = 0x0800
+LOCKED = 0x0100
+RANGE = struct.Struct('<12H')
+RANGE_XY = struct.Struct('<4H4x4H')
+Bounds = Tuple[int, int, int, int]
+ORIGINS = {classes.TEXT: (50, 62), classes.NODE: (62, 74), classes.CELL: (84, 112)}  # with two axes and with three
+TEXT_UNIT = 6.0 / 1000.0  # what one of a text's multipliers stands for, in units of resolution
+
+
+def decoded(characters: bytes) -> str:
+    """Characters of a text: as UTF-8 where they are that, else as Latin-1."""
+    try:
+        return characters.decode('utf-8')
+    except UnicodeDecodeError:
+        return characters.decode('latin-1')
+
+
+@dataclass
+class Element:
+    """An element by its number. `offset` is the byte at which it begins and `size` its bytes; `data` is the whole file
+    and `axes` how many it has. A silent element has no look, no range and is never locked, whatever its bytes are."""
+
+    __slots__ = ('number', 'offset', 'size', 'type', 'level', 'has_c', 'is_deleted', 'data', 'axes')
+
+    number: int
+    offset: int
+    size: int
+    type: int
+    level: int
+    has_c: bool
+    is_deleted: bool
+    data: bytes
+    axes: int
+
+    def __repr__(self) -> str:
+        return 'Element(%d, type %d, level %d, at %d)' % (self.number, self.type, self.level, self.offset)
+
+    @property
+    def content(self) -> bytes:
+        """All bytes of the element."""
+        return self.data[self.offset : self.offset + self.size]
+
+    @property
+    def is_silent(self) -> bool:
+        """Whether the type has no display header, so that of the bytes only the head is read."""
+        return self.type not in classes.LOUD
+
+    @property
+    def colour(self) -> int:
+        """The colour, 0 to 255. Only of an element that is not silent; so are weight and style."""
+        return self.data[self.offset + 35]
+
+    @property
+    def weight(self) -> int:
+        """The weight, 0 to 31."""
+        return self.data[self.offset + 34] >> 3
+
+    @property
+    def style(self) -> int:
+        """The style, 0 to 7."""
+        return self.data[self.offset + 34] & 7
+
+    @property
+    def properties(self) -> int:
+        """The word of properties, 0 of a silent element."""
+        return 0 if self.is_silent else word_at(self.data, self.offset + 32)
+
+    @property
+    def is_locked(self) -> bool:
+        """Whether the element is locked."""
+        return bool(self.properties & LOCKED)
+
+    @property
+    def group(self) -> int:
+        """The graphic group, 0 for none."""
+        return 0 if self.is_silent else word_at(self.data, self.offset + 28)
+
+    @property
+    def linkage_place(self) -> int:
+        """Where in the element its attribute data begin: its size where it has none."""
+        if not self.properties & LINKED:
+            return self.size
+        return 32 + 2 * word_at(self.data, self.offset + 30)
+
+    @property
+    def range(self) -> Optional[Tuple[Point, Point]]:
+        """The low and the high corner of the stored range, none of a silent element."""
+        if self.type not in classes.LOUD:
+            return None
+        words = RANGE.unpack_from(self.data, self.offset + 4)
+        low = words[0] * 65536 + words[1] - OFFSET, words[2] * 65536 + words[3] - OFFSET
+        high = words[6] * 65536 + words[7] - OFFSET, words[8] * 65536 + words[9] - OFFSET
+        if self.axes == 2:
+            return low, high
+        low_z, high_z = words[4] * 65536 + words[5] - OFFSET, words[10] * 65536 + words[11] - OFFSET
+        return (*low, low_z), (*high, high_z)
+
+    @property
+    def bounds(self) -> Bounds:
+        """The stored range on x and y, low and high. Only of an element that isn't silent."""
+        words = RANGE_XY.unpack_from(self.data, self.offset + 4)
+        low = words[0] * 65536 + words[1] - OFFSET, words[2] * 65536 + words[3] - OFFSET
+        return (*low, words[4] * 65536 + words[5] - OFFSET, words[6] * 65536 + words[7] - OFFSET)
+
+    @property
+    def has_points(self) -> bool:
+        """Whether a line, string, shape or curve has a point."""
+        return self.type == classes.LINE or self.data[self.offset + 36] > 0 or self.data[self.offset + 37] > 0
+
+    @property
+    def points(self) -> List[Point]:
+        """The points of a line, string, shape or curve; the origin of a text, a cell or a text node; else none."""
+        place = self.points_place
+        if place is None:
+            return []
+        at = self.offset + place
+        return points_of(longs_at(self.data, at, self.points_count * self.axes), self.axes)
+
+    @property
+    def points_count(self) -> int:
+        """How many points there are, or 1 for an origin."""
+        if self.type == classes.LINE:
+            return 2
+        if self.type in classes.VERTICES:
+            return word_at(self.data, self.offset + 36)
+        return 1 if self.points_place is not None else 0
+
+    @property
+    def points_place(self) -> Optional[int]:
+        """Where in the element its points or its origin begin, none where no such are read of its type."""
+        if self.type == classes.LINE:
+            return 36
+        if self.type in classes.VERTICES:
+            return 38
+        places = ORIGINS.get(self.type)
+        return None if places is None else places[self.axes - 2]
+
+    @property
+    def total(self) -> Optional[int]:
+        """The total of a counted header: the words behind it up to the end of the last member."""
+        return word_at(self.data, self.offset + 36) if self.type in classes.COUNTED else None
+
+    @property
+    def cell_name(self) -> Optional[str]:
+        """A cell's name as a person writes it."""
+        if self.type != classes.CELL:
+            return None
+        return radix50.name_of(word_at(self.data, self.offset + 38), word_at(self.data, self.offset + 40))
+
+    @property
+    def text_place(self) -> int:
+        """Where in a text its characters begin; the byte two before it counts them."""
+        return 60 if self.axes == 2 else 76
+
+    @property
+    def characters(self) -> Optional[bytes]:
+        """The bytes of a text's characters."""
+        if self.type != classes.TEXT:
+            return None
+        start = self.offset + self.text_place
+        return self.data[start : start + self.data[start - 2]]
+
+    @property
+    def text(self) -> Optional[str]:
+        """A text's characters: as UTF-8 where they are that, else as Latin-1."""
+        characters = self.characters
+        return None if characters is None else decoded(characters)
+
+    @property
+    def text_size(self) -> Optional[Tuple[float, float]]:
+        """How wide and how high a sign of a text is, in units of resolution, as its multipliers say."""
+        if self.type != classes.TEXT:
+            return None
+        return long_at(self.data, self.offset + 38) * TEXT_UNIT, long_at(self.data, self.offset + 42) * TEXT_UNIT
+
+    @property
+    def text_angle(self) -> Optional[float]:
+        """A text's angle in degrees, against the clock; in three axes its turn around z."""
+        if self.type != classes.TEXT:
+            return None
+        if self.axes == 2:
+            return long_at(self.data, self.offset + 46) / 360000.0
+        whole, _, _, around = longs_at(self.data, self.offset + 46, 4)
+        return math.degrees(-2 * math.atan2(around, whole))
+
+    @property
+    def font(self) -> Optional[int]:
+        """The font of a text."""
+        return self.data[self.offset + 36] if self.type == classes.TEXT else None
+
+    @property
+    def justification(self) -> Optional[int]:
+        """The justification of a text."""
+        return self.data[self.offset + 37] if self.type == classes.TEXT else None
+
+    @property
+    def type_name(self) -> str:
+        """The type in words."""
+        return classes.type_name(self.type)
+
+
+def described(element: Element) -> str:
+    """An element in words: its number, what it is, its name or its characters, its level."""
+    more = ''
+    if element.type == classes.CELL:
+        more = ' %s' % element.cell_name if element.cell_name else ''
+    elif element.type == classes.TEXT:
+        more = ' %r' % element.text
+    return '%s %d%s on level %d' % (element.type_name, element.number, more, element.level)

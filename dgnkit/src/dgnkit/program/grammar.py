@@ -1,0 +1,205 @@
+"""The language of scripts: what of a line is bad (docs/EDITING.md)."""
+
+from __future__ import annotations
+
+import re
+from dataclasses import dataclass
+from typing import Dict, List, Optional, Sequence
+
+from ..format.limits import (
+    BYTE_MOST,
+    COLOUR_MOST,
+    FARTHEST,
+    LEVEL_MOST,
+    MULTIPLIER_MOST,
+    NAME_LONGEST,
+    NUMBER_MOST,
+    PLANE_HIGH,
+    PLANE_LOW,
+    POINTS_MOST,
+    STYLE_MOST,
+    WEIGHT_MOST,
+)
+
+PLAIN = re.compile(r'0|[1-9]\d*')
+SIGNED = re.compile(r'0|-?[1-9]\d*')
+MODES = ('inside', 'overlap', 'void')
+
+
+@dataclass(frozen=True)
+class Kind:
+    """A place of a command: what it is, and the least and the greatest number there."""
+
+    what: str
+    low: int
+    high: int
+
+
+KINDS = {
+    'N': Kind('the number of an element', 0, NUMBER_MOST),
+    'C': Kind('a colour', 0, COLOUR_MOST),
+    'W': Kind('a weight', 0, WEIGHT_MOST),
+    'S': Kind('a style', 0, STYLE_MOST),
+    'D': Kind('a displacement', -FARTHEST, FARTHEST),
+    'LV': Kind('a level', 0, LEVEL_MOST),
+    'F': Kind('a font', 0, BYTE_MOST),
+    'J': Kind('a justification', 0, BYTE_MOST),
+    'M': Kind('a multiplier', 0, MULTIPLIER_MOST),
+    'P': Kind('a coordinate', PLANE_LOW, PLANE_HIGH),
+}
+
+
+@dataclass(frozen=True)
+class Form:
+    """What stands behind a command's name: kinds of pieces in their order, and then from `least` to `most` more of one
+    kind (where `most` is none, as many as one likes). Where the command lists, `end` is the word of the line that ends
+    what it lists."""
+
+    kinds: Sequence[str]
+    more: str = ''
+    least: int = 0
+    most: Optional[int] = 0
+    end: str = ''
+
+
+LOOK = ('LV', 'C', 'W', 'S')
+FORMS: Dict[str, Form] = {
+    'move': Form(('N',), 'D', 2, 3),
+    'copy': Form(('N',), 'D', 2, 3),
+    'color': Form(('N', 'C')),
+    'sym': Form(('N', 'C-', 'W-', 'S-')),
+    'delete': Form(('N',)),
+    'line': Form(LOOK, 'P', 2, 2),
+    'string': Form(LOOK, 'P', 2, POINTS_MOST),
+    'shape': Form(LOOK, 'P', 3, POINTS_MOST),
+    'fit': Form(('N',)),
+    'undo': Form(()),
+    'show': Form((), end='shown'),
+    'tree': Form(('N',), end='tree'),
+    'elements': Form((), end='elements'),
+    'refs': Form((), end='refs'),
+    'links': Form(('N',), end='links'),
+    'audit': Form((), end='audit'),
+    'fence': Form((), 'Q', 1, None),
+    'nofence': Form(()),
+    'select': Form(('MODE',), end='selected'),
+    'fmove': Form(('MODE',), 'D', 2, 3),
+    'fcopy': Form(('MODE',), 'D', 2, 3),
+    'fsym': Form(('MODE', 'C-', 'W-', 'S-')),
+    'fdelete': Form(('MODE',)),
+}
+OWN_FORMS = ('text', 'import', 'levels')  # commands whose pieces have rules of their own
+LISTS = {name: form.end for name, form in FORMS.items() if form.end}
+
+
+def fault_of(line: bytes) -> Optional[str]:
+    """What makes a line bad, in words, or none where it is a command, a comment or empty."""
+    bare = line.strip(b' ')
+    if not bare or bare.startswith(b'#'):
+        return None
+    words = [it.decode('latin-1') for it in bare.split(b' ') if it]
+    if '\t' in bare.decode('latin-1').split('\n')[0] and words[0] != 'text':
+        return 'it holds a tab, which is no blank'
+    if words[0] == 'text':
+        return _fault_of_text(line)
+    if words[0] == 'import':
+        return _fault_of_import(words[1:])
+    if words[0] == 'levels':
+        return _fault_of_levels(words[1:])
+    form = FORMS.get(words[0])
+    if form is None:
+        return _no_command(words[0])
+    return _fault_of_form(words[0], form, words[1:])
+
+
+def _no_command(word: str) -> str:
+    if word.lower() in FORMS or word.lower() in OWN_FORMS:
+        return '%r is no command: they are written in small letters' % word
+    return '%r is no command' % word
+
+
+def _fault_of_form(name: str, form: Form, words: List[str]) -> Optional[str]:
+    least, most = len(form.kinds) + form.least, None if form.most is None else len(form.kinds) + form.most
+    if len(words) < least or (most is not None and len(words) > most):
+        span = 'at least %d' % least if most is None else str(least) if least == most else '%d to %d' % (least, most)
+        what = 'piece' if span == '1' else 'pieces'
+        return '%s has %s %s behind it, and here are %d' % (name, span, what, len(words))
+    kinds = [*form.kinds, *[form.more] * (len(words) - len(form.kinds))]
+    for word, kind in zip(words, kinds):
+        fault = _fault_of_piece(word, kind)
+        if fault:
+            return fault
+    return _fault_of_axes([word for word, kind in zip(words, kinds) if kind == 'P'])
+
+
+def _fault_of_piece(word: str, kind: str) -> Optional[str]:
+    if kind == 'MODE':
+        return None if word in MODES else '%r is no mode: inside, overlap or void' % word
+    if kind == 'P':
+        return _fault_of_point(word, (2, 3))
+    if kind == 'Q':
+        return _fault_of_point(word, (2,))
+    if kind.endswith('-') and word == '-':
+        return None
+    return _fault_of_number(word, KINDS[kind.rstrip('-')])
+
+
+def _fault_of_number(word: str, kind: Kind) -> Optional[str]:
+    if not (SIGNED if kind.low < 0 else PLAIN).fullmatch(word):
+        why = ' (a number does not begin with 0 or +, and there is no -0)' if re.fullmatch(r'[-+]?\d+', word) else ''
+        return '%r is not %s from %d to %d%s' % (word, kind.what, kind.low, kind.high, why)
+    if not kind.low <= int(word) <= kind.high:
+        return '%s is not from %d to %d, as %s is' % (word, kind.low, kind.high, kind.what)
+    return None
+
+
+def _fault_of_point(word: str, axes: Sequence[int]) -> Optional[str]:
+    numbers = word.split(',')
+    if len(numbers) not in axes:
+        return '%r is no point: it is written x,y%s, without blanks' % (word, ' or x,y,z' if 3 in axes else '')
+    return next((it for it in (_fault_of_number(number, KINDS['P']) for number in numbers) if it), None)
+
+
+def _fault_of_axes(points: Sequence[str]) -> Optional[str]:
+    if len({it.count(',') for it in points}) > 1:
+        return 'its points have not all as many numbers'
+    return None
+
+
+def _fault_of_levels(words: List[str]) -> Optional[str]:
+    if not words:
+        return 'levels has at least one level behind it, or all, or none'
+    if words in (['all'], ['none']):
+        return None
+    for word in words:
+        low, dash, high = word.partition('-')
+        fault = _fault_of_number(low, KINDS['LV']) or (_fault_of_number(high, KINDS['LV']) if dash else None)
+        if fault:
+            return fault
+        if dash and int(low) > int(high):
+            return '%r is no span of levels: its first is greater than its last' % word
+    return None
+
+
+def _fault_of_import(words: List[str]) -> Optional[str]:
+    if len(words) not in (1, 3, 4):
+        return 'import has a name behind it, alone or with a displacement of two or three numbers'
+    name = words[0]
+    if len(name) > NAME_LONGEST or any(not '!' <= sign <= '~' for sign in name):
+        return 'a name has 1 to %d visible signs of ASCII' % NAME_LONGEST
+    return next((it for it in (_fault_of_number(word, KINDS['D']) for word in words[1:]) if it), None)
+
+
+def _fault_of_text(line: bytes) -> Optional[str]:
+    kinds = (*LOOK, 'F', 'J', 'M', 'M', 'P')
+    found = re.match(rb' *text' + rb' +([^ ]+)' * len(kinds), line)
+    if not found:
+        return 'text has %d pieces before its characters' % len(kinds)
+    for word, kind in zip(found.groups(), kinds):
+        fault = _fault_of_piece(word.decode('latin-1'), kind)
+        if fault:
+            return fault
+    characters = line[found.end() :]
+    if not characters.startswith(b' ') or not 2 <= len(characters) <= BYTE_MOST + 1:
+        return 'a text has 1 to %d characters, behind exactly one blank' % BYTE_MOST
+    return None

@@ -1,0 +1,105 @@
+"""The program dgnedit: where it is, and its runs. What is called here writes no drawing but where `out` says so."""
+
+from __future__ import annotations
+
+import os
+import shutil
+import subprocess
+import sys
+from dataclasses import dataclass
+from pathlib import Path
+from typing import List, Optional, Sequence, Union
+
+from .answers import Answer
+from ..errors import ListingError, MissingProgram, ending_of
+from .script import Script
+
+Name = Union[str, Path]
+NOWHERE = os.devnull
+
+
+@dataclass
+class Run:
+    """How the program ended, and the lines that it said."""
+
+    status: int
+    said: List[str]
+
+
+class Program:
+    """The built program at a place."""
+
+    def __init__(self, path: Name) -> None:
+        self.path = str(path)
+
+    @classmethod
+    def find(cls) -> Program:
+        """The program that $DGNEDIT names, or the one beside this command, or the one on the path. It raises
+        MissingProgram where there is none."""
+        named = os.environ.get('DGNEDIT')
+        if named:
+            place = shutil.which(named)
+            if not place:
+                raise MissingProgram('$DGNEDIT names %s, which is no program that can be run' % named)
+            return cls(os.path.abspath(place))
+        beside = Path(sys.argv[0]).resolve().parent / 'dgnedit'
+        if beside.is_file() and os.access(beside, os.X_OK):
+            return cls(beside)
+        found = shutil.which('dgnedit')
+        if not found:
+            raise MissingProgram('dgnedit is not to be found: neither by $DGNEDIT, nor beside dgnkit, nor on the path')
+        return cls(found)
+
+    def run(self, *words: Name, given: Optional[bytes] = None) -> Run:
+        """Runs it with these words, and with these bytes on its standard input."""
+        command = [self.path, *map(str, words)]
+        try:
+            ran = subprocess.run(command, input=b'' if given is None else given, stdout=subprocess.PIPE)
+        except OSError as why:
+            raise MissingProgram('%s can not be run: %s' % (self.path, why.strerror))
+        if ran.returncode < 0:
+            raise ListingError('dgnedit was ended by the signal %d' % -ran.returncode)
+        return Run(ran.returncode, lines_of(ran.stdout))
+
+    def edit(self, drawing: Name, script: Script, out: Name = NOWHERE) -> List[Answer]:
+        """Runs a script, and gives the answers to its commands. It raises an Ending where it wasn't run whole."""
+        ran = self.run('edit', drawing, '/dev/stdin', out, given=script.text)
+        if ran.status not in (0, 1):
+            raise ending_of(ran.status, ran.said, str(drawing))
+        return script.answers(ran.said)
+
+    def edit_all(self, drawing: Name, script: Script) -> List[Answer]:
+        """The same of a script of any length that only lists, cut in as many runs as it takes."""
+        return [answer for part in script.parts() for answer in self.edit(drawing, part)]
+
+    def check(self, drawing: Name) -> int:
+        """How many elements a drawing has. It raises an Ending where it doesn't open."""
+        return self._counted('elements', drawing, 'check', drawing)
+
+    def apply(self, drawing: Name, patch: Name, out: Name = NOWHERE) -> int:
+        """Puts a patch file on a drawing, and says how many entries it has. It raises an Ending where it doesn't."""
+        return self._counted('applied', drawing, 'apply', drawing, patch, out)
+
+    def _counted(self, word: str, drawing: Name, *words: Name) -> int:
+        ran = self.run(*words)
+        if ran.status != 0:
+            raise ending_of(ran.status, ran.said, str(drawing))
+        return counted(word, ran.said)
+
+
+def lines_of(said: bytes) -> List[str]:
+    """The lines that the program said. It raises ListingError where they are no lines of ASCII."""
+    try:
+        lines = said.decode('ascii').split('\n')
+    except UnicodeDecodeError:
+        raise ListingError('dgnedit said what is no ASCII')
+    if lines.pop() != '':
+        raise ListingError('dgnedit said a line without an end')
+    return lines
+
+
+def counted(word: str, said: Sequence[str]) -> int:
+    """The number in the one line that was said, behind this word."""
+    if len(said) != 1 or not said[0].startswith(word + ' ') or not said[0][len(word) + 1 :].isdigit():
+        raise ListingError('dgnedit said %r, which is not understood' % said)
+    return int(said[0][len(word) + 1 :])

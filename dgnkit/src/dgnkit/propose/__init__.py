@@ -1,0 +1,1 @@
+"""Scripts and patch files, and the tables that they come from."""
