@@ -5,9 +5,12 @@ import { byId, setHidden } from './dom.js';
 import { Engine, canRun } from './engine.js';
 import { partOf } from './files.js';
 import { Opener } from './opener.js';
+import { linesOf } from './session.js';
 
 const NO_PROGRAM = 'This browser can show drawings, but can’t run the program that edits them: it lacks Memory64 of '
     + 'WebAssembly, which Chrome and Edge have from 133 on, and Firefox from 134 on.';
+
+const NO_PART = 'This copy of the app shows drawings alone: the program that edits them isn’t in it.';
 
 /** The program in its worker, or null where it can't be run here. */
 async function engineOf() {
@@ -35,11 +38,11 @@ async function start() {
     Object.assign(window, { page: app });
     app.opener = new Opener(app);
     if (app.work === null) {
-        byId('start-fault').textContent = NO_PROGRAM;
+        byId('start-fault').textContent = canRun() ? NO_PART : NO_PROGRAM;
         setHidden(byId('start-fault'), false);
     }
     await openOwn(app);
-    if (app.work === null && app.drawing !== null) {
+    if (!canRun() && app.drawing !== null) {
         app.notice(NO_PROGRAM);
     }
     document.documentElement.dataset.started = 'true';
@@ -51,9 +54,13 @@ async function openOwn(app) {
     if (drawing === null || !await app.opener.open(byId('drawing-part').dataset.name, drawing)) {
         return;
     }
-    const other = await partOf('after-part');
+    const other = await partOf('after-part'), script = await partOf('script-part');
     if (other !== null) {
         app.menu.compareWith(byId('after-part').dataset.name, other);
+    }
+    if (script !== null && app.work !== null && await app.work.addTyped(linesOf(script))) {
+        app.modes.set('both');
+        app.tabs.show('script');
     }
 }
 

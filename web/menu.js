@@ -11,6 +11,7 @@ import { byteString, typed } from './byte_strings.js';
 import { namesOf, save, sha256 } from './saving.js';
 import { compared } from './comparing.js';
 import { whyNotOpened } from './opener.js';
+import { linesOf } from './session.js';
 
 const MOST_SAID = 300;            // lines of what is mended or left
 
@@ -111,11 +112,7 @@ export class Menu {
     async openScript() {
         const file = await chosenFile();
         if (file !== null) {
-            const text = byteString(file.bytes), lines = text.split('\n');
-            if (lines[lines.length - 1] === '') {
-                lines.pop();
-            }
-            await this.app.work.addTyped(lines);
+            await this.app.work.addTyped(linesOf(file.bytes));
         }
     }
 

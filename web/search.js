@@ -90,7 +90,7 @@ export class Search {
         const { app } = this;
         const near = app.picker.nearest(place, MOST_NEAR).map(({ record, distance }) => {
             const away = app.words.hasMaster ? app.words.lengthOf(distance) : Math.round(distance) + ' units';
-            return this.entryOf(app.records.number[record], ' · ' + away + ' away');
+            return this.entryOf(app.scene.records.number[record], ' · ' + away + ' away');
         });
         const text = 'Place ' + this.field.value.trim() + ' in ' + unit;
         return [{ text, go: () => app.stage.goToPlace(place) }, ...near];

@@ -162,3 +162,15 @@ export class Session {
 export function scriptOf(lines) {
     return bytesOf(lines.map((line) => line + '\n').join(''));
 }
+
+/**
+ * The lines of a script that is opened.
+ * @param {Uint8Array} bytes
+ */
+export function linesOf(bytes) {
+    const lines = byteString(bytes).split('\n');
+    if (lines[lines.length - 1] === '') {
+        lines.pop();
+    }
+    return lines;
+}

@@ -63,10 +63,19 @@ class Browser:
     def close(self) -> None:
         self._call('DELETE', self.session)
 
-    def open(self, path: str) -> None:
-        """Opens a page from disk, and waits until it has drawn everything once."""
+    def open(self, path: str, ready: str = 'document.documentElement.dataset.started') -> None:
+        """Opens a page from disk, and waits until it has begun, or until something else is true."""
         self._ask('/url', {'url': Path(path).resolve().as_uri()})
-        self.wait('document.documentElement.dataset.ready')
+        self.wait(ready)
+
+    def reload(self) -> None:
+        """Loads the page anew, whatever it asks about."""
+        self._ask('/refresh')
+        self.wait('document.documentElement.dataset.started')
+
+    def choose_file(self, css: str, path: str) -> None:
+        """Chooses a file from disk in a field for it."""
+        self._ask('/element/%s/value' % self.find(css), {'text': str(Path(path).resolve())})
 
     def wait(self, condition: str, seconds: float = 20) -> Any:
         """Waits until an expression is true, and gives its value."""
@@ -90,7 +99,7 @@ class Browser:
     def settle(self) -> None:
         """Waits until the page has drawn what has changed."""
         self.run_slowly('requestAnimationFrame(() => requestAnimationFrame(arguments[0]))')
-        self.wait('!page.isWaiting')
+        self.wait("!page.stage.isWaiting && document.documentElement.dataset.busy !== 'true'")
 
     @property
     def title(self) -> str:

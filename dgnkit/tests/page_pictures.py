@@ -3,21 +3,23 @@
 
     dgnkit/tests/page_pictures.py FOLDER
 
-Into FOLDER, docs for instance, it writes page-plan.png, the example plan with a script that is being written, and
-page-compare.png, what examples/plan.txt makes of it. It wants a browser, as the tests of the page do."""
+Into FOLDER, docs for instance, it writes page-plan.png, the example plan while it is edited, and page-compare.png,
+what examples/plan.txt makes of it beside what it was. It wants a browser, as the tests of the page do, and dist/dgnedit.wasm."""
 
 from __future__ import annotations
 
 import contextlib
 import io
 import os
+import subprocess
 import sys
 import tempfile
 from pathlib import Path
 from typing import List, Tuple
 
+from app import made_app
 from browser import MISSING, Browser, browser
-from samples import EXAMPLES, cli
+from samples import EXAMPLES, PROGRAM, cli
 
 SIZE = (1280, 960)
 FENCE = [(700, 800), (2700, 800), (2700, 2300), (700, 2300)]
@@ -48,7 +50,7 @@ def screen(seen: Browser, x: float, y: float) -> Tuple[float, float]:
 
 def open_on(seen: Browser, page: str, ground: str) -> None:
     seen.open(page)
-    if seen.run('return page.ground') != ground:
+    if seen.run('return page.stage.ground') != ground:
         seen.click('#ground')
     seen.settle()
 
@@ -60,10 +62,12 @@ def plan_picture(seen: Browser, folder: str) -> bytes:
     seen.type('#by-x', '1000')
     seen.type('#by-y', '75')
     seen.click('#edit-move')
-    seen.click('#fence-draw')
+    seen.settle()
+    seen.click('#tools [data-tool=fence]')
     for corner in FENCE:
         seen.drag(screen(seen, *corner))
     seen.key('Enter')
+    seen.settle()
     seen.run('document.activeElement.blur()')
     seen.hover(screen(seen, 3500, 525))
     seen.settle()
@@ -72,9 +76,12 @@ def plan_picture(seen: Browser, folder: str) -> bytes:
 
 def compare_picture(seen: Browser, folder: str) -> bytes:
     """What examples/plan.txt makes of the plan: the change of the valve is chosen."""
-    open_on(seen, make_page(folder, '--script', 'plan.txt'), 'dark')
+    after = os.path.join(folder, 'plan-out.dgn')
+    words = [str(PROGRAM), 'edit', str(EXAMPLES / 'plan.dgn'), str(EXAMPLES / 'plan.txt'), after]
+    subprocess.run(words, stdout=subprocess.DEVNULL, check=True)
+    open_on(seen, make_page(folder, '--after', after), 'dark')
     seen.click('#changes li:last-child .entry')
-    seen.run('document.activeElement.blur(); page.fit()')
+    seen.run('document.activeElement.blur(); page.stage.fit()')
     seen.settle()
     return seen.screenshot()
 
@@ -87,6 +94,7 @@ def main(words: List[str]) -> int:
         print(MISSING or __doc__, file=sys.stderr)
         return 2
     with tempfile.TemporaryDirectory(prefix='dgnkit-pictures-') as folder, browser(folder, *SIZE) as seen:
+        os.environ['DGNEDIT_APP'] = str(made_app(folder))
         for name, picture in PICTURES.items():
             Path(words[0], name).write_bytes(picture(seen, folder))
     return 0

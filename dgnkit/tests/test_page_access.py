@@ -5,8 +5,8 @@ from __future__ import annotations
 import unittest
 from typing import Any, Dict, List
 
+from app import HAS_PROGRAM, NO_PROGRAM, WithBrowser
 from samples import EXAMPLES
-from test_page import WithBrowser
 
 NAMED = {'button', 'checkbox', 'textbox', 'searchbox', 'combobox', 'radio', 'spinbutton', 'application', 'region'}
 # The contrast of each piece of text that is seen and can be used, with the text.
@@ -29,12 +29,13 @@ return seen;
 """
 
 
+@unittest.skipUnless(HAS_PROGRAM, NO_PROGRAM)
 class Access(WithBrowser):
-    """Both forms of the page."""
+    """The app with a drawing, with a script that was run, and with another drawing to compare."""
 
     def pages(self) -> List[List[str]]:
         script = self.put('edit.txt', 'move 6 1000 75\ndelete 9\ncopy 6 0 900\ncolor 1 4\n')
-        return [[], ['--script', script]]
+        return [[], ['--script', script], ['--after', str(EXAMPLES / 'valve.dgn')]]
 
     def nodes(self) -> List[Dict[str, Any]]:
         return list(self.seen.command('Accessibility.getFullAXTree')['nodes'])
@@ -43,8 +44,6 @@ class Access(WithBrowser):
         """A page with something chosen and written, so that all of its parts are there."""
         self.page(str(EXAMPLES / 'plan.dgn'), *words)
         self.click_at(980, 520)
-        if not words:
-            self.seen.click('#edit-color')
         self.seen.type('#search-field', 'v')
 
     def test_whatever_is_used_has_a_name(self) -> None:
@@ -60,7 +59,7 @@ class Access(WithBrowser):
         for words in self.pages():
             self.open_with_all(words)
             for ground in ('dark', 'light'):
-                self.seen.run('page.setGround(arguments[0])', ground)
+                self.seen.run('page.stage.setGround(arguments[0])', ground)
                 found = self.seen.run(CONTRASTS)
                 self.assertGreater(len(found), 30)
                 for contrast, text in found:

@@ -148,7 +148,8 @@ def edits(chance: random.Random, count: int, axes: int) -> List[str]:
     made = ['copy %d %s' % (chance.randrange(count), by) for _ in range(4)]
     made += ['move %d %s' % (chance.randrange(count), by) for _ in range(4)]
     made += ['color %d %d' % (chance.randrange(count), chance.randrange(256)) for _ in range(3)]
-    made += ['delete %d' % chance.randrange(count), 'line 9 1 2 3 %s %s' % (','.join(['4'] * axes), ','.join(['8'] * axes))]
+    points = tuple(','.join([it] * axes) for it in '48')
+    made += ['delete %d' % chance.randrange(count), 'line 9 1 2 3 %s %s' % points]
     chance.shuffle(made)
     return made
 

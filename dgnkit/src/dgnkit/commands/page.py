@@ -1,31 +1,23 @@
-"""`dgnkit page IN`: a drawing as one HTML file to look at, alone or beside what became of it."""
+"""`dgnkit page IN`: the app as one HTML file with a drawing in it, alone or beside what became of it."""
 
 from __future__ import annotations
 
 import argparse
 import os
-import tempfile
 from pathlib import Path
-from typing import TYPE_CHECKING, Any, Dict, List, Optional, Sequence
+from typing import TYPE_CHECKING, List, Optional
 
-from ..program.answers import Answer
-from ..drawing.drawing import Drawing
-from ..errors import Ending, Mistake
-from ..explain.explaining import why_ended
+from ..drawing.drawing import Drawing, read_file
+from ..errors import Mistake
 from ..output import say
-from ..page.changes import changes_between
-from ..page.contents import compared, contents_of, title_of
-from ..page.sheet import MARK, page_of
-from ..explain.refusals import Explainer
-from ..program.script import Script
+from ..page.app import PAGE_MARK, Part, page_of
 from ..propose.writing import write_file
 
 if TYPE_CHECKING:
     from ..cli import Subparsers
 
-MOST_TOLD = 200  # refused commands that the page explains
-ABOUT = """Writes one HTML file that any browser opens from disk: the drawing to look at, to find numbers in, and to
-write a script with. With --after or --script what changed is marked and told instead."""
+ABOUT = """Writes one HTML file that a browser opens from disk: the app dgnedit.html with the drawing in it, to look at,
+to edit and to save. With --after it shows what differs in another drawing; with --script it runs a script on it."""
 
 
 def register(words: Subparsers) -> None:
@@ -33,7 +25,7 @@ def register(words: Subparsers) -> None:
     parser.add_argument('drawing', metavar='IN', help='the drawing')
     other = parser.add_mutually_exclusive_group()
     other.add_argument('--after', metavar='OUT', help='what became of it, to be compared')
-    other.add_argument('--script', metavar='SCRIPT', help='a script that is run into a temporary file, to be compared')
+    other.add_argument('--script', metavar='SCRIPT', help='a script that the page runs when it is opened')
     parser.add_argument(
         '-o', '--output', metavar='PAGE', help="the page; otherwise IN's name with .html, in this folder"
     )
@@ -43,17 +35,26 @@ def register(words: Subparsers) -> None:
 def run(arguments: argparse.Namespace) -> int:
     """Writes the page, and says its name and how large it is."""
     place = page_place(arguments)
-    drawing = Drawing(arguments.drawing)
-    if arguments.after:
-        after = Drawing(arguments.after, drawing.program)
-        text = compare_page(drawing, after, {'against': os.path.basename(arguments.after)})
-    elif arguments.script:
-        text = script_page(drawing, arguments.script)
-    else:
-        text = page_of(contents_of(drawing), title_of(drawing, None))
-    write_file(place, text.encode('utf-8'))
+    write_file(place, page_text(arguments.drawing, arguments.after, arguments.script).encode('utf-8'))
     say('%s: %d bytes; open it in a browser' % (place, place.stat().st_size))
     return 0
+
+
+def page_text(name: str, after: Optional[str] = None, script: Optional[str] = None) -> str:
+    """The page of a drawing. It raises Mistake or BadDesign where one of the files isn't what it should be."""
+    drawing = Drawing(name)
+    count = drawing.program.check(name)
+    title = '%s – %d element%s' % (os.path.basename(name), count, '' if count == 1 else 's')
+    parts: List[Part] = [('drawing', os.path.basename(name), drawing.data)]
+    if after:
+        other = Drawing(after, drawing.program)
+        drawing.program.check(after)
+        if drawing.axes != other.axes:
+            raise Mistake('%s has %d axes, and %s has %d' % (name, drawing.axes, after, other.axes))
+        parts.append(('after', os.path.basename(after), other.data))
+    if script:
+        parts.append(('script', os.path.basename(script), read_file(script)))
+    return page_of(title, parts)
 
 
 def page_place(arguments: argparse.Namespace) -> Path:
@@ -76,36 +77,6 @@ def is_page(place: Path) -> bool:
     """Whether a file is a page that this command wrote."""
     try:
         with place.open('rb') as file:
-            return MARK.encode('ascii') in file.read(4096)
+            return PAGE_MARK.encode('ascii') in file.read(4096)
     except OSError:
         return False
-
-
-def compare_page(drawing: Drawing, after: Drawing, more: Dict[str, Any]) -> str:
-    if drawing.axes != after.axes:
-        raise Mistake('%s has %d axes, and %s has %d' % (drawing.path, drawing.axes, after.path, after.axes))
-    changes = changes_between(drawing, after)
-    return page_of({**compared(drawing, after, changes), **more}, title_of(drawing, changes))
-
-
-def script_page(drawing: Drawing, name: str) -> str:
-    """The page of what a script does. What it makes is written to a temporary folder, which is removed."""
-    script = Script.read(name)
-    with tempfile.TemporaryDirectory(prefix='dgnkit-page-') as folder:
-        made = os.path.join(folder, 'after.dgn')
-        try:
-            answers = drawing.program.edit(drawing.path, script, made)
-        except Ending as ending:
-            raise Mistake(why_ended(drawing.program, ending, drawing.path, name, made))
-        against = 'what %s makes of it' % os.path.basename(name)
-        more = {'answers': refusals_told(drawing, script, answers), 'against': against}
-        return compare_page(drawing, Drawing(made, drawing.program), more)
-
-
-def refusals_told(drawing: Drawing, script: Script, answers: Sequence[Answer]) -> Dict[str, Any]:
-    """How many commands there were, how many were refused, and of the first of these the line, the command, the cause
-    and a sentence on it."""
-    explainer = Explainer(drawing, script.commands, answers)
-    told = explainer.refused[:MOST_TOLD]
-    rows = [[it.command.line, it.command.text, it.cause, explainer.sentence(it)] for it in told]
-    return {'commands': len(answers), 'refused': len(explainer.refused), 'rows': rows}

@@ -1,4 +1,1 @@
-"""The page that `dgnkit page` writes: one HTML file with a drawing in it, to look at in any browser.
-
-Beside the modules stand the page's own files: `page.html`, its look `page.css`, and its program in `scripts`, of which
-`sheet` makes one file. `columns` makes the elements of a drawing to data for it."""
+"""The page that `dgnkit page` writes and `dgnkit open` opens: the app dgnedit.html with a drawing in it."""

@@ -1,0 +1,60 @@
+"""The app dgnedit.html with a drawing in it."""
+
+from __future__ import annotations
+
+import base64
+import gzip
+import html
+import os
+import sys
+from importlib import resources
+from pathlib import Path
+from typing import Iterator, List, Tuple
+
+from ..errors import Mistake
+
+NAME = 'dgnedit.html'
+APP_MARK = '<meta name="generator" content="dgnedit">'
+PAGE_MARK = '<meta name="generator" content="dgnkit page">'
+APP_TITLE = '<title>dgnedit</title>'
+SLOT = '<!-- a drawing stands here -->'
+LONGEST_LINE = 20000
+
+Part = Tuple[str, str, bytes]  # what it is for, as `drawing`, the name of its file, and its bytes
+
+
+def app_places() -> Iterator[Path]:
+    """Where the app may be: named by $DGNEDIT_APP, beside an installed dgnkit, or made by `make web` in the sources."""
+    named = os.environ.get('DGNEDIT_APP')
+    if named:
+        yield Path(named)
+        return
+    yield Path(sys.argv[0]).resolve().parent.parent / 'share' / 'dgnedit' / NAME
+    yield Path(__file__).resolve().parents[4] / 'dist' / NAME
+
+
+def app_text() -> str:
+    """The app. It raises Mistake where there is none."""
+    for place in app_places():
+        if place.is_file():
+            return place.read_text(encoding='utf-8')
+    own = resources.files('dgnkit.page') / NAME
+    if own.is_file():
+        return own.read_text(encoding='utf-8')
+    raise Mistake('%s is not found: name it by $DGNEDIT_APP, or make it by `make web`' % NAME)
+
+
+def page_of(title: str, parts: List[Part]) -> str:
+    """The app with these files in it. It raises Mistake where there is no app, or where it is none."""
+    text = app_text()
+    if not all(text.count(it) == 1 for it in (APP_MARK, APP_TITLE, SLOT)):
+        raise Mistake('%s is not the app that this dgnkit knows' % NAME)
+    text = text.replace(APP_MARK, PAGE_MARK).replace(APP_TITLE, '<title>%s</title>' % html.escape(title))
+    return text.replace(SLOT, ''.join(part_of(*it) for it in parts))
+
+
+def part_of(use: str, name: str, content: bytes) -> str:
+    """A file as a part of the page that is no program for the browser: base64 of its gzip, in lines."""
+    packed = base64.b64encode(gzip.compress(content, 6, mtime=0)).decode('ascii')
+    lines = '\n'.join(packed[at : at + LONGEST_LINE] for at in range(0, len(packed), LONGEST_LINE))
+    return '<script type="text/plain" id="%s-part" data-name="%s">%s</script>\n' % (use, html.escape(name), lines)

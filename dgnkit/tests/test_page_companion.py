@@ -1,0 +1,119 @@
+"""What the app does as the companion does, by code of its own: mending, and telling what differs. Run by Node, and left
+out where there is none."""
+
+from __future__ import annotations
+
+import base64
+import json
+import random
+import shutil
+import subprocess
+import sys
+import unittest
+from typing import Any, List
+
+from samples import EXAMPLES, PROGRAM, TOP, Drawing, WithProgram, drawings, plan
+from test_mend_at_random import AtRandom
+
+from dgnkit.drawing.mending import mending_of
+from dgnkit.explain.comparing import differences
+from dgnkit.propose.writing import patch_of
+
+NODE = shutil.which('node') or shutil.which('nodejs')
+
+
+def setUpModule() -> None:
+    if NODE is None:
+        print('mending and comparing of the page are not tested: node is not installed', file=sys.stderr)
+
+
+def asked(script: str, rows: List[Any]) -> List[Any]:
+    """What one of the scripts of web/tests answers to rows."""
+    path = str(TOP / 'web' / 'tests' / script)
+    ran = subprocess.run([str(NODE), path], input=json.dumps(rows).encode('utf-8'), stdout=subprocess.PIPE, check=True)
+    return list(json.loads(ran.stdout))
+
+
+@unittest.skipIf(NODE is None, 'node is not installed')
+class Mending(AtRandom):
+    """The app writes the patch file that `dgnkit mend` writes, and says the same of it."""
+
+    def test_trees_at_random(self) -> None:
+        paths = [str(EXAMPLES / ('%s.dgn' % name)) for name in ('plan', 'street', 'town', 'valve')]
+        for index in range(150):
+            trees = [self.tree(3, self.dice.random() < 0.3) for _ in range(self.dice.randrange(1, 7))]
+            if self.dice.random() < 0.2:
+                trees = [drawings.locked(it) for it in trees]
+            paths.append(self.put('random-%d.dgn' % index, drawings.drawing(*trees)))
+        mended = 0
+        for path, row in zip(paths, asked('mending.mjs', paths)):
+            drawing = Drawing(path, self.program)
+            mending = mending_of(drawing)
+            mended += len(mending.changes)
+            with self.subTest(path):
+                patch = patch_of(drawing, mending.changes).to_bytes()
+                self.assertEqual(base64.b64decode(row['patch']), patch)
+                self.assertEqual(row['mended'], [it.in_words() for it in mending.changes])
+                self.assertEqual(row['left'], [[it.element.number, it.why] for it in mending.left])
+        self.assertGreater(mended, 100)
+
+
+@unittest.skipIf(NODE is None, 'node is not installed')
+class Comparing(WithProgram):
+    """The app tells what `dgnkit diff` tells."""
+
+    def test_edits_and_other_changes(self) -> None:
+        dice = random.Random(12)
+        pairs = [[path, self.changed(dice, path, index)] for index, path in enumerate(self.samples() * 4)]
+        pairs += [[after, before] for before, after in pairs[:8]]
+        told = 0
+        for (before, after), rows in zip(pairs, asked('comparing.mjs', pairs)):
+            found = differences(Drawing(before, self.program), Drawing(after, self.program))
+            wanted = [[it.before, it.after, '; '.join(it.words)] for it in found]
+            told += len(wanted)
+            with self.subTest(before=before, after=after):
+                self.assertEqual(rows, wanted)
+        self.assertGreater(told, 100)
+
+    def samples(self) -> List[str]:
+        files = [it for it in drawings.DRAWINGS.values() if not it[1214] & 0x40]
+        joined = drawings.drawing(*[file[1536:-2] for file in files])
+        solid = drawings.DRAWINGS['a line of three axes']
+        made = [self.put('joined.dgn', joined), self.put('solid.dgn', solid)]
+        return made + [self.example(name + '.dgn') for name in ('plan', 'street', 'town', 'valve')]
+
+    def changed(self, dice: random.Random, path: str, index: int) -> str:
+        """A drawing with edits of the program, elements left out or put between, and single bytes changed."""
+        drawing = Drawing(path, self.program)
+        by = ' '.join(str(dice.randrange(-50, 50)) for _ in range(drawing.axes))
+        numbers = [dice.randrange(len(drawing.elements)) for _ in range(6)]
+        lines = ['move %d %s' % (numbers[0], by), 'copy %d %s' % (numbers[1], by), 'delete %d' % numbers[2]]
+        lines += ['sym %d %d 3 2' % (numbers[3], dice.randrange(256)), 'move %d %s' % (numbers[4], by)]
+        script = self.put('change.txt', ''.join(line + '\n' for line in lines))
+        out = self.path('changed-%d.dgn' % index)
+        subprocess.run([str(PROGRAM), 'edit', path, script, out], stdout=subprocess.DEVNULL, check=False)
+        elements = [it.content for it in Drawing(out, self.program).elements][1:]
+        front = bytes(drawing.data[:1536])
+        if dice.random() < 0.5 and len(elements) > 1:
+            del elements[dice.randrange(len(elements))]
+        if dice.random() < 0.5 and drawing.axes == 2:
+            elements.insert(dice.randrange(len(elements)), plan.text(3, (5, 6), b'between'))
+        for _ in range(dice.choice([0, 1, 2])):
+            at = dice.randrange(len(elements))
+            made = bytearray(elements[at])
+            place = dice.choice([0, 33, 34, 36, 40, 41, 44, len(made) - 1])
+            made[place % len(made)] ^= 1
+            if self.opens(front, [*elements[:at], bytes(made), *elements[at + 1 :]]):
+                elements[at] = bytes(made)
+        return self.put('changed-%d.dgn' % index, front + b''.join(elements) + b'\xff\xff')
+
+    def opens(self, front: bytes, elements: List[bytes]) -> bool:
+        path = self.put('try.dgn', front + b''.join(elements) + b'\xff\xff')
+        return self.program.run('check', path).status == 0
+
+
+del AtRandom
+
+
+if __name__ == '__main__':
+    unittest.main()
