@@ -1,5 +1,5 @@
-/* Which element of one drawing is which of another, where numbers don't say it: elements that are the same, byte by byte,
-   and stand once in each drawing are anchors; between two anchors elements are paired by type and size. */
+/* Which element of one drawing is which of another, where numbers don't say it: elements that are the same, byte by
+   byte, and stand once in each drawing are anchors; between two anchors elements are paired by type and size. */
 
 import { byteString } from './byte_strings.js';
 import { isEqual } from './drawing.js';

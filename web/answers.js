@@ -45,7 +45,7 @@ export function answersOf(lines, text) {
                 at++;
             }
         }
-        const said = printed[at++];
-        return { said, listed: printed.slice(start, at - 1), cause: said.startsWith('refused ') ? said.slice(8) : null };
+        const said = printed[at++], cause = said.startsWith('refused ') ? said.slice(8) : null;
+        return { said, listed: printed.slice(start, at - 1), cause };
     });
 }

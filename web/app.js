@@ -3,7 +3,6 @@
 import { ChangesPanel } from './changes_panel.js';
 import { Choice } from './choice.js';
 import { byId, setHidden, make, fill } from './dom.js';
-import { Drawing } from './drawing.js';
 import { EditPanel } from './edit_panel.js';
 import { ElementPanel } from './element_panel.js';
 import { GREATEST, LEAST } from './format.js';
@@ -26,7 +25,7 @@ import { Work } from './work.js';
 export class App {
     /** @param {import('./engine.js').Engine | null} engine the program, where the browser can run it */
     constructor(engine) {
-        /** @type {Drawing | null} */
+        /** @type {import('./drawing.js').Drawing | null} */
         this.drawing = null;
         /** @type {Scene} */
         this.scene = null;
@@ -66,7 +65,7 @@ export class App {
 
     /**
      * Shows a drawing from now on.
-     * @param {Drawing} drawing
+     * @param {import('./drawing.js').Drawing} drawing
      */
     take(drawing) {
         this.drawing = drawing;
@@ -156,18 +155,21 @@ export class App {
     readChanges(changes, after) {
         for (const { before, after: now, kind, words, more } of changes) {
             for (let place = 0; place <= more; place++) {
-                const change = { kind, words };
-                const old = before === null ? null : before + place, made = now === null ? null : now + place;
-                if (made !== null) {
-                    this.changes.set(after.record[made], change);
-                }
-                if (old !== null) {
-                    this.changes.set(old, change);
-                    if (old !== made) {
-                        this.became.set(old, made);
-                    }
-                }
+                this.readChange({ kind, words }, before === null ? null : before + place,
+                    now === null ? null : after.record[now + place], now === null ? null : now + place);
             }
+        }
+    }
+
+    readChange(change, old, record, made) {
+        if (record !== null) {
+            this.changes.set(record, change);
+        }
+        if (old !== null) {
+            this.changes.set(old, change);
+        }
+        if (old !== null && old !== made) {
+            this.became.set(old, made);
         }
     }
 

@@ -13,8 +13,8 @@ import { shiftSaid } from './units.js';
 /** @typedef {import('./drawing.js').Drawing} Drawing */
 
 /**
- * A change: the number before and after, null where there is none, 'changed', 'added' or 'deleted', what the element is,
- * how it changed, and of how many more elements behind it the same is said.
+ * A change: the number before and after, null where there is none, 'changed', 'added' or 'deleted', what the element
+ * is, how it changed, and of how many more elements behind it the same is said.
  * @typedef {{ before: number | null, after: number | null, kind: string, described: string, words: string,
  *     more: number, type: number }} Change `type` is the element's
  */
@@ -65,8 +65,8 @@ function changeOf(first, second, before, after) {
     return { ...front, kind: isDeleted ? 'deleted' : 'changed', words: words.join('; ') };
 }
 
-/** What differs between two elements of one type and size. Each known change takes the bytes that it explains away; what
-    is left is told as bytes. */
+/** What differs between two elements of one type and size. Each known change takes the bytes that it explains away;
+    what is left is told as bytes. */
 class Comparison {
     constructor(first, second, before, after) {
         this.units = first.units;

@@ -82,10 +82,11 @@ export class EditPanel {
 
     makingOf() {
         const value = (name) => byId('make-' + name).value.trim();
-        const height = unitsIn(value('height'), (this.app.words.hasMaster ? this.app.words.unitsOfMaster : 1) / TEXT_UNIT);
+        const { words } = this.app, unit = words.hasMaster ? words.unitsOfMaster : 1;
+        const size = unitsIn(value('height'), unit / TEXT_UNIT);
         return {
             level: value('level'), colour: value('color'), weight: value('weight'), style: value('style'),
-            font: value('font'), size: String(height === null ? value('height') : height), words: byId('make-words').value,
+            font: value('font'), size: String(size === null ? value('height') : size), words: byId('make-words').value,
         };
     }
 
@@ -164,7 +165,8 @@ export class EditPanel {
                 : 'The program is asked what the fence takes';
         }
         if (choice.numbers.length !== 1) {
-            return choice.numbers.length === 0 ? 'Edit: choose something first' : 'Edit ' + choice.numbers.length + ' trees';
+            return choice.numbers.length === 0 ? 'Edit: choose something first'
+                : 'Edit ' + choice.numbers.length + ' trees';
         }
         const { state } = scene, count = state.end[choice.last] - choice.last;
         const what = state.parent[choice.last] >= 0 ? 'member ' : count > 1 ? 'tree ' : 'element ';

@@ -67,8 +67,8 @@ export class LevelsPanel {
         const name = 'Show level ' + level + ' only';
         const only = make('button', { 'type': 'button', 'class': 'only', 'aria-label': name }, 'only');
         only.addEventListener('click', () => this.setOnly(level));
-        const choose = make('button', { 'type': 'button', 'class': 'only', 'aria-label': 'Choose all on level ' + level },
-            'choose');
+        const all = 'Choose all on level ' + level;
+        const choose = make('button', { 'type': 'button', 'class': 'only', 'aria-label': all }, 'choose');
         choose.addEventListener('click', () => this.chooseAll(level));
         return make('li', {}, make('label', {}, box, make('span', { class: 'level' }, String(level)),
             make('span', { class: 'count', title: counted(count, 'element') + ' shown by it' }, String(count))), only,

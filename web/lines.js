@@ -96,7 +96,7 @@ export function probesOfFence(mode, axes) {
 /**
  * The line that appends an element.
  * @param {'line' | 'string' | 'shape' | 'text'} word
- * @param {{ level: string, colour: string, weight: string, style: string, font: string, size: string, words: string }} of
+ * @param {Record<'level' | 'colour' | 'weight' | 'style' | 'font' | 'size' | 'words', string>} of
  * @param {number[][]} points
  */
 export function newLine(word, of, points) {

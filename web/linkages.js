@@ -1,7 +1,8 @@
 /* The linkages of an element (docs/FORMAT.md, Linkages). */
 
 /**
- * @typedef {{ at: number, length: number, kind: 'dmrs' | 'user' | 'rest' }} Linkage `at` counts from the element's start
+ * A linkage; its place counts from the element's start.
+ * @typedef {{ at: number, length: number, kind: 'dmrs' | 'user' | 'rest' }} Linkage
  */
 
 /**

@@ -34,15 +34,11 @@ export function matching(olds, news) {
 function longest(olds, places, [oldLow, oldHigh, newLow, newHigh]) {
     let best = [oldLow, newLow, 0], sizes = new Map();
     for (let old = oldLow; old < oldHigh; old++) {
-        const next = new Map();
-        for (const made of places.get(olds[old]) || []) {
-            if (made >= newLow && made < newHigh) {
-                const size = (sizes.get(made - 1) || 0) + 1;
-                next.set(made, size);
-                if (size > best[2]) {
-                    best = [old - size + 1, made - size + 1, size];
-                }
-            }
+        const next = new Map(), found = (places.get(olds[old]) || []).filter((it) => it >= newLow && it < newHigh);
+        for (const made of found) {
+            const size = (sizes.get(made - 1) || 0) + 1;
+            next.set(made, size);
+            best = size > best[2] ? [old - size + 1, made - size + 1, size] : best;
         }
         sizes = next;
     }

@@ -1,7 +1,7 @@
 /* What is done with files: save, import, apply, mend, compare, print. */
 
 import { mendingOf, changeSaid } from './mending.js';
-import { described } from './describing.js';
+import { counted, described } from './describing.js';
 import { byId, make } from './dom.js';
 import { Drawing } from './drawing.js';
 import { chosenFile } from './files.js';
@@ -98,8 +98,8 @@ export class Menu {
 
     async throwAway() {
         const { app } = this, { work } = app;
-        const answer = await app.ask('Throw the work away?', [make('p', {}, 'The drawing is then as it was opened. What you '
-            + 'have saved stays.')], ['Throw it away', 'Keep it']);
+        const said = 'The drawing is then as it was opened. What you have saved stays.';
+        const answer = await app.ask('Throw the work away?', [make('p', {}, said)], ['Throw it away', 'Keep it']);
         if (answer === 'Throw it away') {
             work.session.isSaved = true;
             work.forgetKept();
@@ -142,7 +142,8 @@ export class Menu {
             return false;
         }
         if (applied.file === null) {
-            app.notice(name + ' isn’t put on. ' + app.refusals.notRun(applied.status, byteString(applied.text).trimEnd()));
+            const why = app.refusals.notRun(applied.status, byteString(applied.text).trimEnd());
+            app.notice(name + ' isn’t put on. ' + why);
             return false;
         }
         const made = Drawing.open(app.drawing.name, applied.file);
@@ -181,7 +182,7 @@ export class Menu {
             app.say('Saved as ' + mend + '.');
         } else if (answer === 'Mend' && await this.apply(mend, patchOf(drawing, changes))) {
             app.stage.fit();
-            app.say(changes.length + (changes.length === 1 ? ' tree is mended' : ' trees are mended') + ' by ' + mend + '.');
+            app.say(counted(changes.length, 'header is', 'headers are') + ' mended by ' + mend + '.');
         }
         return work;
     }

@@ -69,7 +69,8 @@ class NestingWalk {
             const end = this.place(at, list);
             this.end[at] = end;
             if (end > at + 1) {
-                open.push({ header: at, end, isParts: CLASS_OF[this.typeOf(at)] === CLASS.run && !this.isDefinition(at) });
+                const isParts = CLASS_OF[this.typeOf(at)] === CLASS.run && !this.isDefinition(at);
+                open.push({ header: at, end, isParts });
             }
         }
         return { flags: this.flags, depth: this.depth, parent: this.parent, end: this.end };

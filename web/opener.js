@@ -1,6 +1,7 @@
 /* Opens a drawing: reads it, has the program check it, and offers the work that is kept for it. */
 
 import { byteString } from './byte_strings.js';
+import { counted } from './describing.js';
 import { byId, make, setHidden } from './dom.js';
 import { Drawing } from './drawing.js';
 import { readFile } from './files.js';
@@ -72,9 +73,10 @@ export class Opener {
     /** Opens a drawing; what isn't saved is asked about before. */
     async openAsked(name, bytes) {
         if (this.hasUnsaved) {
-            const answer = await this.app.ask('Your work isn’t saved', [make('p', {}, 'Another drawing is opened in place of '
-                + this.app.drawing.name + '. Its script is kept in this browser, and offered when you open it again.')],
-            ['Open the other drawing', 'Stay']);
+            const said = 'Another drawing is opened in place of ' + this.app.drawing.name
+                + '. Its script is kept in this browser, and offered when you open it again.';
+            const answer = await this.app.ask('Your work isn’t saved', [make('p', {}, said)],
+                ['Open the other drawing', 'Stay']);
             if (answer !== 'Open the other drawing') {
                 return;
             }
@@ -115,8 +117,9 @@ export class Opener {
         const { app } = this, checked = await app.work.trying(() => app.work.engine.open(bytes, bodyLength));
         if (checked !== null && checked.status !== 0) {
             const said = byteString(checked.text).trimEnd(), [, , word, , at] = said.split(' ');
-            this.tellFault(name + ' doesn’t open. ' + (checked.status === 4 ? whyNotOpened(new Fault(word, Number(at)), bytes)
-                : app.refusals.notRun(checked.status, said)));
+            const why = checked.status === 4 ? whyNotOpened(new Fault(word, Number(at)), bytes)
+                : app.refusals.notRun(checked.status, said);
+            this.tellFault(name + ' doesn’t open. ' + why);
             return false;
         }
         return checked !== null;
@@ -138,10 +141,11 @@ export class Opener {
         if (kept === null) {
             return;
         }
-        const count = kept.lines.length, when = new Date(kept.when).toLocaleString();
-        const said = 'A script of ' + count + (count === 1 ? ' line' : ' lines') + (kept.steps.length > 0 ? ', and what was '
-            + 'put on before it,' : '') + ' is kept for this drawing, of ' + when + '. It was not saved.';
-        const answer = await app.ask('Go on where you were?', [make('p', {}, said)], ['Go on', 'Not now', 'Throw it away']);
+        const before = kept.steps.length > 0 ? ', and what was done before it,' : '';
+        const said = 'A script of ' + counted(kept.lines.length, 'line') + before + ' is kept for this drawing, of '
+            + new Date(kept.when).toLocaleString() + '. It was not saved.';
+        const answer = await app.ask('Go on where you were?', [make('p', {}, said)],
+            ['Go on', 'Not now', 'Throw it away']);
         if (answer === 'Go on') {
             await this.restore(kept);
         } else if (answer === 'Throw it away') {

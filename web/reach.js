@@ -97,7 +97,7 @@ export class Reach {
         return null;
     }
 
-    /** The nearest totals that would fit, below and above the one that stands there, each with its members, in words. */
+    /** The nearest totals that would fit, below and above the one that stands there, each with its members. */
     nearTotals() {
         const at = this.firstFrom(this.start + bytesOfTotal(this.total));
         return [at - 1, at].filter((it) => it > this.header && it <= this.end)

@@ -82,7 +82,8 @@ export class Refusals {
             return name + ' does not open: ' + FAULTS[word].replace('K', more[1]) + '.';
         }
         if (word === 'dimension') {
-            return name + ', or the displacement, has other axes than the drawing, which has ' + this.drawing.axes + '.';
+            return name + ', or the displacement, has other axes than the drawing, which has ' + this.drawing.axes
+                + '.';
         }
         return 'of ' + name + ' the element ' + more[0] + ' can not be moved (' + word
             + '). Without a displacement it would be taken as it is.';
@@ -96,14 +97,15 @@ export class Refusals {
     notRun(status, said) {
         const last = said.split('\n').pop(), number = /\d+$/.exec(last);
         switch (status) {
-            case 3: return 'Line ' + number + ' is no command of a script: a wrong word or number, or a piece too few or'
-                + ' too many. Nothing was run.';
+            case 3: return 'Line ' + number + ' is no command of a script: a wrong word or number, or a piece too few'
+                + ' or too many. Nothing was run.';
             case 5: return 'A file that an import names isn’t there.';
             case 7: return 'There was not enough memory.';
-            case 8: return last.charAt(0).toUpperCase() + last.slice(1) + ': it is larger than the program reads.';
-            case 10: return 'The file is no patch file, or was cut off: its first bad piece begins at byte ' + number + '.';
-            case 11: return 'The patch file doesn’t fit this drawing: entry ' + number + ' doesn’t find the bytes that it'
-                + ' was made for. Ask for one of the drawing as you have it.';
+            case 8: return 'The program says ‘' + last + '’: it is larger than the program reads.';
+            case 10: return 'The file is no patch file, or was cut off: its first bad piece begins at byte ' + number
+                + '.';
+            case 11: return 'The patch file doesn’t fit this drawing: entry ' + number + ' doesn’t find the bytes that'
+                + ' it was made for. Ask for one of the drawing as you have it.';
             default: return 'The program ended with ' + status + (said === '' ? '.' : ': ' + last + '.');
         }
     }

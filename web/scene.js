@@ -33,9 +33,8 @@ export class Scene {
     }
 
     /**
-     * Takes another state to compare with, or none; its own records stand behind those of the drawing. `changes` are
-     * rows of a number before, a number after, a kind, words, and how many more there are behind these numbers; without
-     * them elements of one number are compared.
+     * Takes another state to compare with, or none; its own records stand behind those of the drawing. Without changes
+     * that are told elements of one number are compared.
      */
     setAfter(after, changes = null) {
         this.after = after;
@@ -55,7 +54,7 @@ export class Scene {
         return this.mode === 'both' ? this.marks[record] : MARK.none;
     }
 
-    markChange([before, after, kind, , more]) {
+    markChange({ before, after, kind, more }) {
         for (let place = 0; place <= more; place++) {
             if (before !== null) {
                 this.marks[this.before.record[before + place]] = kind === 'deleted' ? MARK.deleted : MARK.old;

@@ -60,9 +60,11 @@ export class ScriptPanel {
             return;
         }
         const commands = commandsOf(drawing.name, work.session);
-        const sums = [['as it was opened', work.hash], ['as it was saved', work.savedHash]].filter(([, hash]) => hash !== '');
+        const sums = [['as it was opened', work.hash], ['as it was saved', work.savedHash]]
+            .filter(([, hash]) => hash !== '');
         fill(byId('check'), make('h3', {}, 'Make it again'),
-            make('p', { class: 'note' }, 'The program makes the same drawing, byte for byte, of the files that are saved:'),
+            make('p', { class: 'note' },
+                'The program makes the same drawing, byte for byte, of the files that are saved:'),
             make('output', { 'class': 'command', 'id': 'command', 'aria-label': 'Commands' }, commands.join('\n')),
             make('p', { class: 'note' }, 'SHA-256 of the drawing'),
             make('dl', { class: 'sums' }, ...sums.flatMap(([what, hash]) => [make('dt', {}, what),

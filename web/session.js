@@ -94,7 +94,7 @@ export class Session {
     /** Takes the last doing back. */
     async undo() {
         const count = this.groups[this.groups.length - 1] || 0;
-        const kept = this.lines.slice(0, this.lines.length - count), taken = this.lines.slice(this.lines.length - count);
+        const end = this.lines.length - count, kept = this.lines.slice(0, end), taken = this.lines.slice(end);
         const ran = await this.run(kept);
         this.groups.pop();
         this.undone.push(taken);

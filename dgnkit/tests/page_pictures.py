@@ -4,7 +4,8 @@
     dgnkit/tests/page_pictures.py FOLDER
 
 Into FOLDER, docs for instance, it writes page-plan.png, the example plan while it is edited, and page-compare.png,
-what examples/plan.txt makes of it beside what it was. It wants a browser, as the tests of the page do, and dist/dgnedit.wasm."""
+what examples/plan.txt makes of it beside what it was. It wants dist/dgnedit.wasm, and a browser, as the tests of the
+page do."""
 
 from __future__ import annotations
 
@@ -49,6 +50,7 @@ def screen(seen: Browser, x: float, y: float) -> Tuple[float, float]:
 
 
 def open_on(seen: Browser, page: str, ground: str) -> None:
+    seen.run('if (window.page && page.work) { page.work.session.isSaved = true; localStorage.clear(); }')
     seen.open(page)
     if seen.run('return page.stage.ground') != ground:
         seen.click('#ground')

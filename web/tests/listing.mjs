@@ -56,7 +56,8 @@ function tree(it, state) {
     for (let root = 0; root < state.count; root = state.end[root]) {
         for (let number = root; number < state.end[root]; number++) {
             const record = state.record[number], flags = it.records.flags[record];
-            const knot = flags & FLAG.group ? 'group' : flags & FLAG.run ? 'run' : flags & FLAG.loose ? 'loose' : 'leaf';
+            const knot = flags & FLAG.group ? 'group' : flags & FLAG.run ? 'run' : flags & FLAG.loose ? 'loose'
+                : 'leaf';
             said.push([number, state.above(number).length, it.records.type[record], it.records.level[record], knot,
                 flags & FLAG.deleted ? 'deleted' : 'live', ...(flags & FLAG.orphan ? ['orphan'] : [])].join(' '));
         }

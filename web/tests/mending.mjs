@@ -1,5 +1,5 @@
-/* What the app would mend of drawings, and how: standard input has their paths in JSON, and printed is a row for each of
-   the patch file in base64, what is mended in words, and what is left with its number. */
+/* What the app would mend of drawings, and how: standard input has their paths in JSON, and printed is a row for each
+   of the patch file in base64, what is mended in words, and what is left with its number. */
 
 import fs from 'node:fs';
 
