@@ -92,7 +92,7 @@ export class App {
     /** Shows the state that a script leaves behind the drawing, or the drawing alone. */
     showAfter(after) {
         const { scene } = this;
-        if (!scene.after || !after) {
+        if (!after || scene.mode === 'before') {
             scene.mode = after ? 'after' : 'before';
         }
         scene.setAfter(after);

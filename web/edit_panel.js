@@ -75,6 +75,11 @@ export class EditPanel {
 
     /** Appends an element that was drawn by its points. */
     async make(word, points) {
+        if (word === 'text' && byId('make-words').value === '') {
+            this.app.notice('Type the words of the text first.');
+            byId('make-words').focus();
+            return;
+        }
         const { app } = this, z = new Array(app.drawing.axes - 2).fill(0);
         const line = newLine(word, this.makingOf(), points.map((point) => [...point, ...z]));
         await app.work.add([line]);

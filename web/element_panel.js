@@ -144,7 +144,7 @@ export class ElementPanel {
                 ...termed('angle', Number(text.degrees.toFixed(4)) + '°'),
                 ...termed('font', text.font + ', justification ' + text.justification));
         }
-        if (records.points[record] > 0) {
+        if (records.points[record] > 0 && DRAWN_OF[records.type[record]] !== DRAWN.box) {
             const first = Array.from({ length: axes }, (_, axis) => records.coordinate(record, 0, axis));
             const count = DRAWN_OF[records.type[record]] === DRAWN.path ? counted(records.points[record], 'point') : '';
             list.append(...termed(count ? 'from' : 'origin', this.placeSaid(first)));

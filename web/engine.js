@@ -93,6 +93,15 @@ export class Engine {
     }
 
     /**
+     * Asks of a file whether it is a drawing.
+     * @param {Uint8Array} bytes
+     * @returns {Promise<{ status: number, text: Uint8Array }>}
+     */
+    check(bytes) {
+        return this.send('check', { bytes });
+    }
+
+    /**
      * @param {Uint8Array} script
      * @param {Map<string, Uint8Array>} files
      * @returns {Promise<Edited>}

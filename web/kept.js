@@ -15,6 +15,9 @@ const FRONT = 'dgnedit ';
  * @returns {string}
  */
 export function keep(hash, { name, lines, steps }) {
+    if (hash === '') {
+        return 'The browser keeps no scripts for this page: save it before you leave.';
+    }
     const held = steps.map((step) => (step.kind === 'patch' ? { ...step, bytes: base64Of(step.bytes) } : step));
     const text = JSON.stringify({ name, lines, steps: held, when: new Date().toISOString() });
     if (text.length > KEPT_MOST) {

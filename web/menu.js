@@ -7,7 +7,7 @@ import { Drawing } from './drawing.js';
 import { chosenFile } from './files.js';
 import { Fault } from './opening.js';
 import { patchOf } from './patch.js';
-import { byteString, typed } from './byte_strings.js';
+import { byteString } from './byte_strings.js';
 import { namesOf, save, sha256 } from './saving.js';
 import { compared } from './comparing.js';
 import { whyNotOpened } from './opener.js';
@@ -121,10 +121,8 @@ export class Menu {
         if (file === null) {
             return;
         }
-        const name = typed(file.name.replace(/[^!-~]/g, '_')).slice(0, 255), by = app.editPanel.by();
-        const moved = by !== null && by.some((it) => it !== 0) ? ' ' + by.join(' ') : '';
-        app.work.session.files.set(name, file.bytes);
-        await app.work.add(['import ' + name + moved]);
+        const by = app.editPanel.by(), moved = by !== null && by.some((it) => it !== 0) ? ' ' + by.join(' ') : '';
+        await app.work.add(['import ' + app.work.session.takeFile(file.name, file.bytes) + moved]);
     }
 
     async applyFile() {

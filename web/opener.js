@@ -24,6 +24,12 @@ function sentenceOf(text) {
     return text.charAt(0).toUpperCase() + text.slice(1);
 }
 
+/** The fault that the program prints, `bad design cut at 1680`, in a sentence. */
+function saidFault(text, bytes) {
+    const [, , word, , at] = byteString(text).trimEnd().split(' ');
+    return whyNotOpened(new Fault(word, Number(at)), bytes);
+}
+
 export class Opener {
     constructor(app) {
         this.app = app;
@@ -92,7 +98,7 @@ export class Opener {
     async open(name, bytes) {
         const { app } = this, drawing = Drawing.open(name, bytes);
         if (drawing instanceof Fault) {
-            this.tellFault(name + ' doesn’t open. ' + whyNotOpened(drawing, bytes));
+            this.tellFault(name + ' doesn’t open. ' + await this.faultOf(drawing, bytes));
             return false;
         }
         setHidden(byId('start-fault'), true);
@@ -104,21 +110,26 @@ export class Opener {
         }
         app.work.begin();
         app.take(drawing);
+        app.work.hash = await sha256(bytes);
         const isChecked = await this.check(name, bytes, drawing.bodyLength);
         if (isChecked) {
-            app.work.hash = await sha256(bytes);
             await this.offerKept();
         }
         return isChecked;
+    }
+
+    /** Why a file doesn't open: the program is asked; where it can't be, the reader's own fault is told. */
+    async faultOf(fault, bytes) {
+        const { work } = this.app, checked = work === null ? null : await work.trying(() => work.engine.check(bytes));
+        return checked !== null && checked.status === 4 ? saidFault(checked.text, bytes) : whyNotOpened(fault, bytes);
     }
 
     /** Has the program check the drawing. It decides; the reader only shows. */
     async check(name, bytes, bodyLength) {
         const { app } = this, checked = await app.work.trying(() => app.work.engine.open(bytes, bodyLength));
         if (checked !== null && checked.status !== 0) {
-            const said = byteString(checked.text).trimEnd(), [, , word, , at] = said.split(' ');
-            const why = checked.status === 4 ? whyNotOpened(new Fault(word, Number(at)), bytes)
-                : app.refusals.notRun(checked.status, said);
+            const why = checked.status === 4 ? saidFault(checked.text, bytes)
+                : app.refusals.notRun(checked.status, byteString(checked.text).trimEnd());
             this.tellFault(name + ' doesn’t open. ' + why);
             return false;
         }

@@ -27,6 +27,7 @@ export class Overlay {
         context.clearRect(0, 0, this.canvas.width, this.canvas.height);
         this.painter = new Painter(app.scene.records, context);
         this.painter.start(app.view, this.ratio);
+        this.drawMade();
         if (choice.hovered >= 0) {
             this.light(choice.hovered, pens.hover, 1.6);
         }
@@ -41,6 +42,19 @@ export class Overlay {
         }
         if (app.place !== null) {
             this.drawCross(app.view.toScreenX(app.place[0]), app.view.toScreenY(app.place[1]), pens.fence);
+        }
+    }
+
+    /** What edits made, until the picture of the whole drawing has it. */
+    drawMade() {
+        const { scene, stage, colours } = this.app, { records } = scene;
+        if (scene.after === null || stage.renderer.isFresh(stage.renderer.whole)) {
+            return;
+        }
+        for (let record = scene.base; record < Math.min(records.length, scene.base + MOST_LIT); record++) {
+            if (scene.shown[record]) {
+                this.painter.draw(record, colours[records.colour[record]], widthOf(records.weight[record]), DASHES[0]);
+            }
         }
     }
 

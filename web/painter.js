@@ -92,7 +92,7 @@ export class Painter {
         const drawn = DRAWN_OF[records.type[record]];
         if (right - left < 1.2 && bottom - top < 1.2 && drawn !== DRAWN.cell && drawn !== DRAWN.node) {
             this.drawDot(left, top, colour, width);
-        } else if (drawn === DRAWN.path) {
+        } else if (drawn === DRAWN.path || (drawn === DRAWN.box && records.points[record] > 0)) {
             this.drawPath(record, colour, width, dash, left < -FAR || top < -FAR || right > FAR || bottom > FAR);
         } else if (drawn === DRAWN.text) {
             this.drawText(record, colour);

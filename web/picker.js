@@ -62,7 +62,8 @@ export class Picker {
         switch (DRAWN_OF[records.type[record]]) {
             case DRAWN.path: return this.squareFromPath(record, x, y);
             case DRAWN.text: return this.squareFromText(record, x, y, within);
-            case DRAWN.box: return this.squareFromBox(record, x, y);
+            case DRAWN.box: return records.points[record] > 0 ? this.squareFromPath(record, x, y)
+                : this.squareFromBox(record, x, y);
             default: {
                 const offX = x - records.coordinate(record, 0, 0), offY = y - records.coordinate(record, 0, 1);
                 return (offX * offX + offY * offY) * 4 + within * within / 64;

@@ -1,5 +1,6 @@
 /* Reads elements out of their bytes into records. */
 
+import { arcPoints } from './arcs.js';
 import { CLASS, CLASS_OF, DRAWN, DRAWN_OF, FLAG, LOCKED, TYPE } from './format.js';
 import { longAt, rangeNumberAt, wordAt } from './numbers.js';
 import { cellName } from './radix50.js';
@@ -44,6 +45,9 @@ export function readElement(records, bytes, at, number, flags) {
     records.group[record] = wordAt(bytes, at + 28);
     readRange(records, bytes, at, record);
     readPoints(records, bytes, at, record, type);
+    if (records.axes === 2 && CLASS_OF[type] === CLASS.floating) {
+        readArc(records, bytes, at, record, type);
+    }
     readLabel(records, bytes, at, record, type);
     records.setBox(record);
     return record;
@@ -109,6 +113,22 @@ function readPoints(records, bytes, at, record, type) {
         coordinates[to] = longAt(bytes, from);
     }
     records.pointCount += count;
+}
+
+/**
+ * Reads an arc or an ellipse as the points that it is drawn by.
+ * @param {Records} records
+ * @param {Uint8Array} bytes
+ * @param {number} at
+ * @param {number} record
+ * @param {number} type
+ */
+function readArc(records, bytes, at, record, type) {
+    const points = arcPoints(bytes, at, type, records.size[record], records.rangeOf(record));
+    records.reservePoints(points.length / 2);
+    records.coordinates.set(points, records.pointCount * 2);
+    records.points[record] = points.length / 2;
+    records.pointCount += points.length / 2;
 }
 
 /**

@@ -1,7 +1,8 @@
 /* The work on a drawing: the script as it stands, what it answers, and what was done before it. */
 
-import { answersOf } from './answers.js';
+import { answersOf, wordOf } from './answers.js';
 import { byteString, bytesOf } from './byte_strings.js';
+import { isEqual } from './drawing.js';
 import { LISTED_MOST } from './limits.js';
 
 /** @typedef {import('./answers.js').Answer} Answer */
@@ -89,6 +90,29 @@ export class Session {
         this.groups.push(added.length);
         this.undone = [];
         return ran;
+    }
+
+    /**
+     * Takes a second file, and gives the name that it has in the script: one without blanks that no other file has.
+     * @param {string} name
+     * @param {Uint8Array} bytes
+     */
+    takeFile(name, bytes) {
+        let held = name.replace(/[^!-~]/g, '_').slice(-200);
+        while (this.files.has(held) && !isEqual(this.files.get(held), bytes)) {
+            held = 'other-' + held;
+        }
+        this.files.set(held, bytes);
+        return held;
+    }
+
+    /**
+     * The names of second files that lines import and that aren't there.
+     * @param {string[]} lines
+     */
+    missing(lines) {
+        const names = lines.filter((line) => wordOf(line) === 'import').map((line) => line.trim().split(/ +/)[1]);
+        return [...new Set(names)].filter((name) => name !== undefined && !this.files.has(name));
     }
 
     /** Takes the last doing back. */

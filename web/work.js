@@ -1,8 +1,9 @@
 /* What is done to the drawing: lines go to the program, and what it makes is shown. */
 
 import { bytesOf } from './byte_strings.js';
-import { byId, setHidden } from './dom.js';
+import { byId, make, setHidden } from './dom.js';
 import { Stopped } from './engine.js';
+import { chosenFile } from './files.js';
 import { forget, keep } from './kept.js';
 import { editLine, fenceEditLine, fenceLines } from './lines.js';
 import { readable } from './texts.js';
@@ -160,6 +161,9 @@ export class Work {
 
     /** Adds lines that were typed or opened: what is refused stays, with its answer. */
     async addTyped(lines) {
+        if (!await this.askForFiles(lines)) {
+            return false;
+        }
         const ran = await this.trying(() => this.session.add(lines));
         if (ran !== null) {
             this.show(ran.changes);
@@ -169,6 +173,20 @@ export class Work {
                 + ' refused');
         }
         return ran !== null;
+    }
+
+    /** Asks for the second files that lines import and that aren't there; says whether all are there then. */
+    async askForFiles(lines) {
+        for (const name of this.session.missing(lines)) {
+            const answer = await this.app.ask('A second drawing is wanted', [make('p', {}, 'The script imports ' + name
+                + ', which the page doesn’t have.')], ['Choose it', 'Leave it']);
+            const file = answer === 'Choose it' ? await chosenFile('.dgn') : null;
+            if (file === null) {
+                return false;
+            }
+            this.session.files.set(name, file.bytes);
+        }
+        return true;
     }
 
     async undo() {

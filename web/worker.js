@@ -42,6 +42,13 @@ const DOES = {
         return { status, text };
     },
 
+    /** Tells of a file whether it is a drawing, and keeps nothing.
+        @param {{ bytes: Uint8Array }} asked */
+    check({ bytes }) {
+        const { status, text } = ran(['check', 'IN'], withFiles(undefined, bytes));
+        return { status, text };
+    },
+
     /** Runs a script on the drawing, keeps what it makes, and tells what of it has changed.
         @param {{ script: Uint8Array, files: Map<string, Uint8Array> }} asked */
     edit({ script, files }) {

@@ -10,7 +10,7 @@ import unittest
 from pathlib import Path
 
 from app import HOSTILE, MISSING, WithBrowser, made_app
-from samples import EXAMPLES, WithProgram, drawings, plan, with_units
+from samples import EXAMPLES, WithProgram, drawings, plan, vax_double, with_units
 
 from dgnkit.format.colours import usual_colours
 
@@ -201,6 +201,19 @@ class Looking(WithBrowser):
             '  if (was !== null && was !== is) changes++; was = is; } return changes;'
         )
         self.assertGreater(row, 20)
+
+
+    def test_an_arc_is_drawn_round_where_its_fields_fit_its_range(self) -> None:
+        # a quarter of a circle of 1000 around 0,0 from 0 to 90 degrees, and the same with another range
+        body = plan.long(0) + plan.long(90 * 360000) + vax_double(1000) * 2 + plan.long(0) + vax_double(0) * 2
+        arc = plan.display(16, 1, (0, 0), (1000, 1000), body)
+        other = plan.display(16, 1, (2000, 0), (3000, 1000), body)
+        self.page(self.put('arc.dgn', drawings.drawing(arc, other)))
+        self.assertGreater(self.dot(707, 707)[3], 60)
+        self.assertEqual(self.dot(300, 0)[3], 0, 'no box is drawn around it')
+        self.assertEqual(self.dot(2707, 707)[3], 0)
+        self.click_at(707, 707)
+        self.assertEqual(self.number(), 'element 1')
 
 
 class Reading(WithBrowser):
