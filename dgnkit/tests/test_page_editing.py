@@ -10,8 +10,9 @@ import unittest
 from pathlib import Path
 from typing import List, Sequence, Tuple
 
+import ogr
 from app import HAS_PROGRAM, HOSTILE, MISSING, NO_PROGRAM, WithBrowser
-from samples import EXAMPLES, PROGRAM, drawings, plan, with_units
+from samples import EXAMPLES, OGR, PROGRAM, drawings, plan, with_units
 
 
 def setUpModule() -> None:
@@ -177,6 +178,25 @@ class Editing(WithEditor):
         self.assertIn('is a number', self.seen.text('#mistakes'))
         self.assertTrue(self.seen.run("return document.getElementById('edit-move').disabled"))
         self.compare(made, ['move 2 -250 0'])
+
+    def test_what_lies_out_of_sight_is_told_and_gone_to(self) -> None:
+        self.open(str(EXAMPLES / 'plan.dgn'))
+        self.click_at(980, 520)
+        self.seen.type('#by-x', '90000')
+        self.do('#edit-copy')
+        self.assertIn('What was added lies out of sight', self.notice())
+        self.seen.click('#notice button')
+        left, top = self.screen(91000, 500)
+        self.assertTrue(200 < left < 940 and 50 < top < 770)
+
+    def test_save_is_in_reach_on_a_low_screen(self) -> None:
+        self.open(str(EXAMPLES / 'plan.dgn'))
+        self.seen._size(1280, 620)
+        self.addCleanup(self.seen._size, 1280, 800)
+        self.click_at(980, 520)
+        self.do('#edit-delete')
+        bottom = self.seen.run("return document.getElementById('save').getBoundingClientRect().bottom")
+        self.assertLess(bottom, 620)
 
     def test_new_elements_are_drawn(self) -> None:
         made = self.put('units.dgn', with_units((EXAMPLES / 'valve.dgn').read_bytes(), 100, 1, ('m', 'cm'), (0, 0, 0)))
@@ -452,6 +472,68 @@ class Files(WithEditor):
         self.said_by('edit', self.path('mid.dgn'), self.put('move.txt', 'move 17 0 100\n'), self.path('end.dgn'))
         self.assertEqual(self.saved_drawing(made), Path(self.path('end.dgn')).read_bytes())
 
+    @unittest.skipUnless(OGR, 'ogr2ogr is not installed')
+    def test_a_drawing_of_gdal_is_mended_edited_and_saved(self) -> None:
+        made = ogr.made(self, ogr.parcels() + ogr.roads() + ogr.labels())
+        self.open(made)
+        self.more('mend')
+        self.dialog('Mend')
+        self.seen.wait('page.work.session.steps.length === 1')
+        self.seen.settle()
+        # the first corner of a parcel's ring, the member behind its cell, by the program's listing
+        self.said_by('apply', made, self.wanted_patch(made), self.path('mid.dgn'))
+        lines = subprocess.run(
+            [str(PROGRAM), 'edit', self.path('mid.dgn'), self.put('show.txt', 'show\n'), '/dev/null'],
+            stdout=subprocess.PIPE,
+            check=True,
+        )
+        items = [it.split() for it in lines.stdout.decode('latin-1').splitlines()]
+        cell = next(at for at, it in enumerate(items) if it[7:8] == ['cell'])
+        x, y = (int(it) for it in items[cell + 1][8].split(','))
+        left, right = self.screen(x, y)[0], self.screen(x + 80000, y)[0]
+        self.assertGreater(right - left, 20, 'the drawing is no dot, though the origins of cells lie elsewhere')
+        self.click_at(x, y)
+        self.assertIn('cell', self.seen.text('#headline'))
+        number = self.seen.run('return page.choice.last')
+        self.seen.type('#new-color', '4')
+        self.do('#edit-sym')
+        script = self.put('colour.txt', 'color %d 4\n' % number)
+        self.said_by('edit', self.path('mid.dgn'), script, self.path('end.dgn'))
+        self.assertEqual(self.saved_drawing(made), Path(self.path('end.dgn')).read_bytes())
+
+    def test_two_files_of_one_name_are_imported(self) -> None:
+        made = self.example('plan.dgn')
+        self.open(made)
+        self.second('import', str(EXAMPLES / 'valve.dgn'))
+        other = Path(self.path('other'))
+        other.mkdir()
+        (other / 'valve.dgn').write_bytes(drawings.drawing(plan.line(1, (0, 0), (500, 900))))
+        self.second('import', str(other / 'valve.dgn'))
+        self.seen.wait('page.work.session.lines.length === 2')
+        lines = self.script_lines()
+        self.assertEqual(lines, ['import valve.dgn', 'import other-valve.dgn'])
+        here = os.getcwd()
+        os.chdir(self.folder)
+        self.addCleanup(os.chdir, here)
+        self.example('valve.dgn')
+        (other / 'valve.dgn').rename(self.path('other-valve.dgn'))
+        self.compare(made, lines)
+
+    def test_a_script_that_imports_asks_for_the_file(self) -> None:
+        made = self.example('plan.dgn')
+        self.open(made)
+        self.do('#tab-script')
+        self.seen.type('#typed', 'import valve.dgn')
+        self.seen.run("document.getElementById('second-file').click = () => {}")
+        self.seen.click('#typed-add')
+        self.assertIn('imports valve.dgn', self.dialog('Choose it'))
+        self.seen.choose_file('#second-file', str(EXAMPLES / 'valve.dgn'))
+        self.seen.wait('page.work.session.lines.length === 1')
+        here = os.getcwd()
+        os.chdir(EXAMPLES)
+        self.addCleanup(os.chdir, here)
+        self.compare(made, ['import valve.dgn'])
+
     def test_a_mending_patch_file_is_saved(self) -> None:
         made = self.example('street.dgn')
         self.open(made)
@@ -473,6 +555,11 @@ class Files(WithEditor):
             subprocess.run(['sha256sum', it], stdout=subprocess.PIPE, check=True).stdout[:64] for it in (made, out)
         ]
         self.assertEqual(sums, [it.decode('ascii') for it in wanted])
+
+    def wanted_patch(self, drawing: str) -> str:
+        """The patch file that the companion mends a drawing by."""
+        self.said('mend', drawing, self.path('wanted.patch'))
+        return self.path('wanted.patch')
 
     def said_by(self, *words: str) -> None:
         subprocess.run([str(PROGRAM), *words], stdout=subprocess.DEVNULL, check=True)
