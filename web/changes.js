@@ -1,6 +1,6 @@
 /* Which bytes of a drawing a run of the program has changed. */
 
-const NEAR = 32;                  // words that are the same and still belong to one piece
+const NEAR = 16;                  // units of four bytes that are the same and still belong to one piece
 
 /** @typedef {import('./drawing.js').Changes} Changes */
 
@@ -43,19 +43,19 @@ function appendedEnd(bytes, start) {
 }
 
 /**
- * The pieces of the first `length` bytes that differ, each from its first byte to behind its last.
+ * The pieces of the first `length` bytes that differ, each from about its first byte to about behind its last.
  * @param {Uint8Array} before
  * @param {Uint8Array} after
  * @param {number} length
  * @returns {Generator<[number, number]>}
  */
 function* pieces(before, after, length) {
-    const olds = wordsOf(before, length), news = wordsOf(after, length), count = olds.length;
+    const olds = unitsOf(before, length), news = unitsOf(after, length), count = olds.length;
     let start = -1, last = -1;
     for (let at = 0; at < count; at++) {
         if (olds[at] !== news[at]) {
             if (start >= 0 && at - last > NEAR) {
-                yield [2 * start, 2 * last + 2];
+                yield [4 * start, 4 * last + 4];
                 start = -1;
             }
             start = start < 0 ? at : start;
@@ -63,16 +63,20 @@ function* pieces(before, after, length) {
         }
     }
     if (start >= 0) {
-        yield [2 * start, 2 * last + 2];
+        yield [4 * start, 4 * last + 4];
+    }
+    const rest = 4 * count;
+    if (rest < length && (before[rest] !== after[rest] || before[rest + 1] !== after[rest + 1])) {
+        yield [rest, length];
     }
 }
 
 /**
- * Bytes as words; all elements have an even number of bytes.
+ * Bytes as units of four, as many as there are whole ones.
  * @param {Uint8Array} bytes
  * @param {number} length
  */
-function wordsOf(bytes, length) {
-    const even = bytes.byteOffset % 2 === 0 ? bytes : bytes.slice();
-    return new Uint16Array(even.buffer, even.byteOffset, length >> 1);
+function unitsOf(bytes, length) {
+    const aligned = bytes.byteOffset % 4 === 0 ? bytes : bytes.slice();
+    return new Uint32Array(aligned.buffer, aligned.byteOffset, length >> 2);
 }

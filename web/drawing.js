@@ -11,6 +11,8 @@ import { readElement } from './reading.js';
 import { State } from './state.js';
 import { axesOf, unitsOf } from './tcb.js';
 
+/** Records for what edits make, before the columns have to grow. */
+const ROOM = 4096;
 const PLACE_FLAGS = FLAG.orphan | FLAG.loose | FLAG.group | FLAG.run;
 
 /**
@@ -45,7 +47,7 @@ export class Drawing {
         this.bodyLength = offsets[this.count];
         this.axes = axesOf(bytes);
         this.units = unitsOf(bytes);
-        this.records = new Records(this.axes, this.count);
+        this.records = new Records(this.axes, this.count + ROOM);
         this.nesting = nestingOf(bytes, offsets, true);
         for (let number = 0; number < this.count; number++) {
             readElement(this.records, bytes, offsets[number], number, this.nesting.flags[number]);
@@ -75,13 +77,12 @@ export class Drawing {
      */
     after(changes) {
         this.forget();
-        const numbers = this.touched(changes), { appended } = changes;
+        const { appended } = changes, numbers = this.takeBytes(this.touched(changes), changes);
         const offsets = appended.length > 0 ? appendedOffsets(appended) : new Uint32Array([0]);
         const count = offsets.length - 1, nesting = nestingOf(appended, offsets, false);
         const record = new Uint32Array(this.count + count);
         record.set(this.before.record);
         this.records.reserve(numbers.length + count);
-        this.takeBytes(numbers, changes);
         numbers.forEach((number, index) => {
             record[number] = readElement(this.records, this.madeBytes, this.madePlaces[index], number,
                 this.records.flags[number] & PLACE_FLAGS);
@@ -104,7 +105,7 @@ export class Drawing {
     }
 
     /**
-     * The numbers of the elements that hold a changed byte.
+     * The numbers of the elements that a piece of what has changed reaches into.
      * @param {Changes} changes
      */
     touched({ starts, lengths }) {
@@ -137,7 +138,8 @@ export class Drawing {
     }
 
     /**
-     * Puts the bytes of these elements, as they were left, one behind the other, and behind them what is appended.
+     * Puts the bytes of these elements, as they were left, one behind the other, and behind them what is appended;
+     * gives the numbers of those that have changed indeed.
      * @param {number[]} numbers
      * @param {Changes} changes
      */
@@ -145,7 +147,7 @@ export class Drawing {
         const size = numbers.reduce((sum, number) => sum + this.offsets[number + 1] - this.offsets[number], 0);
         const made = new Uint8Array(size + appended.length);
         let to = 0, piece = 0, from = 0;
-        for (const number of numbers) {
+        const changed = numbers.filter((number) => {
             const start = this.offsets[number], end = this.offsets[number + 1];
             made.set(this.bytes.subarray(start, end), to);
             while (piece < starts.length && starts[piece] + lengths[piece] <= start) {
@@ -155,12 +157,17 @@ export class Drawing {
                 const low = Math.max(starts[it], start), high = Math.min(starts[it] + lengths[it], end);
                 made.set(bytes.subarray(at + low - starts[it], at + high - starts[it]), to + low - start);
             }
+            if (isEqual(made.subarray(to, to + end - start), this.bytes.subarray(start, end))) {
+                return false;
+            }
             this.madePlaces.push(to);
             this.madeFilePlaces.push(start);
             to += end - start;
-        }
-        made.set(appended, size);
-        this.madeBytes = made;
+            return true;
+        });
+        made.set(appended, to);
+        this.madeBytes = made.subarray(0, to + appended.length);
+        return changed;
     }
 
     /**
@@ -232,7 +239,11 @@ export class Drawing {
  * @param {Uint8Array} other
  */
 export function isEqual(one, other) {
-    return one.length === other.length && one.every((value, at) => value === other[at]);
+    let at = one.length === other.length ? 0 : -1;
+    while (at >= 0 && at < one.length && one[at] === other[at]) {
+        at++;
+    }
+    return at === one.length && at === other.length;
 }
 
 /**

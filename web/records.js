@@ -14,7 +14,7 @@ export function grown(array, length) {
         return array;
     }
     const Kind = /** @type {new (length: number) => T} */ (array.constructor);
-    const larger = new Kind(Math.max(length, 2 * array.length));
+    const larger = new Kind(Math.max(length, Math.ceil(1.25 * array.length)));
     larger.set(array);
     return larger;
 }

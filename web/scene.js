@@ -100,24 +100,26 @@ export class Scene {
         if (this.after && this.mode !== 'before') {
             this.after.show(this.shown, this.levels, this.withDeleted);
         }
-        const visible = this.visible();
-        const marked = visible.filter((record) => this.isAbove(record));
-        this.order = new Uint32Array(visible.length);
-        this.order.set(visible.filter((record) => !this.isAbove(record)));
-        this.order.set(marked, visible.length - marked.length);
+        this.order = this.visible();
         this.version++;
     }
 
     /** The records that are drawn, in their order. */
     visible() {
-        const found = new Uint32Array(this.records.length);
+        const { records: { length, type }, shown } = this, marks = this.mode === 'both' ? this.marks : null;
+        const found = new Uint32Array(length), marked = [];
         let count = 0;
-        for (let record = 0; record < this.records.length; record++) {
-            if (this.isDrawn(record)) {
-                found[count++] = record;
+        for (let record = 0; record < length; record++) {
+            if (shown[record] === 1 && DRAWN_OF[type[record]] !== DRAWN.group) {
+                if (marks !== null && marks[record] !== MARK.none) {
+                    marked.push(record);
+                } else {
+                    found[count++] = record;
+                }
             }
         }
-        return found.subarray(0, count);
+        found.set(marked, count);
+        return found.subarray(0, count + marked.length);
     }
 
     /** Whether something of a record itself is seen; of a group it is its members. */

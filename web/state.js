@@ -108,29 +108,19 @@ export class State {
      * @param {boolean} withDeleted
      */
     show(shown, levels, withDeleted) {
-        const hidden = this.hiddenByHeaders(withDeleted);
-        const filled = new Uint8Array(this.count);
+        const hidden = this.hiddenByHeaders(withDeleted), { record: recordOf, parent } = this;
+        const filled = new Uint8Array(this.count), { type, flags, level } = this.records;
         for (let number = this.count - 1; number >= 0; number--) {
-            if (!hidden[number] && this.isItem(number, levels, filled[number])) {
-                shown[this.record[number]] = 1;
-                if (this.parent[number] >= 0) {
-                    filled[this.parent[number]] = 1;
+            const record = recordOf[number], flag = flags[record];
+            const isShown = !hidden[number] && DRAWN_OF[type[record]] !== DRAWN.nothing && !(flag & FLAG.loose)
+                && (flag & FLAG.group ? filled[number] : levels[level[record]]) === 1;
+            if (isShown) {
+                shown[record] = 1;
+                if (parent[number] >= 0) {
+                    filled[parent[number]] = 1;
                 }
             }
         }
-    }
-
-    /**
-     * @param {number} number
-     * @param {Uint8Array} levels
-     * @param {number} isFilled
-     */
-    isItem(number, levels, isFilled) {
-        const record = this.record[number], type = this.records.type[record];
-        if (DRAWN_OF[type] === DRAWN.nothing || this.records.flags[record] & FLAG.loose) {
-            return false;
-        }
-        return this.records.flags[record] & FLAG.group ? isFilled === 1 : levels[this.records.level[record]] === 1;
     }
 
     /**
@@ -138,12 +128,12 @@ export class State {
      * @param {boolean} withDeleted
      */
     hiddenByHeaders(withDeleted) {
-        const hidden = new Uint8Array(this.count);
+        const hidden = new Uint8Array(this.count), { record, parent: parentOf } = this, { flags } = this.records;
+        const own = withDeleted ? 0 : FLAG.deleted;
         for (let number = 0; number < this.count; number++) {
-            const parent = this.parent[number];
-            const isPart = parent >= 0 && (hidden[parent] || this.flagsOf(parent) & FLAG.run);
-            const isDeleted = !withDeleted && this.flagsOf(number) & FLAG.deleted;
-            hidden[number] = isPart || isDeleted ? 1 : 0;
+            const parent = parentOf[number];
+            const isPart = parent >= 0 && (hidden[parent] || flags[record[parent]] & FLAG.run);
+            hidden[number] = isPart || flags[record[number]] & own ? 1 : 0;
         }
         return hidden;
     }
