@@ -29,6 +29,10 @@ export class App {
         this.drawing = null;
         /** @type {Scene} */
         this.scene = null;
+        /** The colours of the table as they are drawn on the ground. @type {string[]} */
+        this.colours = [];
+        /** @type {Record<string, string>} */
+        this.pens = {};
         /** @type {any} */
         this.opener = null;
         this.place = null;
@@ -175,6 +179,7 @@ export class App {
 
     /* Places. */
 
+    /** @param {number[]} place */
     drawingPlace([left, top]) {
         return [this.view.toDrawingX(left), this.view.toDrawingY(top)];
     }

@@ -7,6 +7,7 @@ import { joined } from './choice.js';
 const MOST_LISTED = 500;
 
 export class ChangesPanel {
+    /** @param {import('./app.js').App} app */
     constructor(app) {
         this.app = app;
         /** The drawing that is compared with, or null. */

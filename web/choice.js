@@ -8,6 +8,7 @@ import { REACH } from './pointer.js';
  * panel speaks of.
  */
 export class Choice {
+    /** @param {import('./app.js').App} app */
     constructor(app) {
         this.app = app;
         /** The record under the pointer, or -1. */

@@ -12,6 +12,7 @@ const REST = 120;                 // milliseconds before it is asked
 const MAKING_NAMES = Object.freeze({ line: 'line', string: 'line string', shape: 'shape', text: 'text' });
 
 export class EditPanel {
+    /** @param {import('./app.js').App} app */
     constructor(app) {
         this.app = app;
         /** The cause against each edit of what is chosen, with its line. @type {Map<string, string>} */

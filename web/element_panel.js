@@ -8,6 +8,7 @@ import { CLASS, CLASS_OF, DRAWN, DRAWN_OF, FLAG, STYLE_NAMES, TYPE } from './for
 const MOST_MEMBERS = 200;
 
 export class ElementPanel {
+    /** @param {import('./app.js').App} app */
     constructor(app) {
         this.app = app;
         byId('go').addEventListener('click', () => app.choice.goToAll());

@@ -4,6 +4,7 @@ import { byId, setHidden } from './dom.js';
 import { fenceLines, probesOfFence } from './lines.js';
 
 export class Fence {
+    /** @param {import('./app.js').App} app */
     constructor(app) {
         this.app = app;
         this.clear();

@@ -5,6 +5,7 @@ import { byId, fill, make, termed } from './dom.js';
 import { DRAWN, DRAWN_OF, FLAG } from './format.js';
 
 export class LevelsPanel {
+    /** @param {import('./app.js').App} app */
     constructor(app) {
         this.app = app;
         this.boxes = new Map();

@@ -16,6 +16,7 @@ import { linesOf } from './session.js';
 const MOST_SAID = 300;            // lines of what is mended or left
 
 export class Menu {
+    /** @param {import('./app.js').App} app */
     constructor(app) {
         this.app = app;
         const does = {
@@ -162,7 +163,7 @@ export class Menu {
 
     /** Says what can be mended, and puts it on. */
     async mend() {
-        const { app } = this, { work } = app;
+        const { app } = this;
         const drawing = await this.drawingNow();
         if (drawing === null) {
             return;
@@ -182,7 +183,6 @@ export class Menu {
             app.stage.fit();
             app.say(counted(changes.length, 'header is', 'headers are') + ' mended by ' + mend + '.');
         }
-        return work;
     }
 
     /** The drawing as the script has left it. */

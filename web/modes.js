@@ -3,6 +3,7 @@
 import { byId, setHidden } from './dom.js';
 
 export class Modes {
+    /** @param {import('./app.js').App} app */
     constructor(app) {
         this.app = app;
         for (const button of byId('modes').children) {

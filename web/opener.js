@@ -31,6 +31,7 @@ function saidFault(text, bytes) {
 }
 
 export class Opener {
+    /** @param {import('./app.js').App} app */
     constructor(app) {
         this.app = app;
         this.name = '';

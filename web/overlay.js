@@ -8,6 +8,10 @@ const MOST_FRAMES = 12;           // trees that are framed: of more the frames w
 
 /** Draws on a canvas of its own, in every frame that changes something of it. */
 export class Overlay {
+    /**
+     * @param {HTMLCanvasElement} canvas
+     * @param {import('./app.js').App} app
+     */
     constructor(canvas, app) {
         this.canvas = canvas;
         this.context = canvas.getContext('2d');

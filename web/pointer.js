@@ -8,6 +8,10 @@ const STEP = 80;                  // pixels of an arrow key
 
 /** Takes what is done on the canvas to the app. */
 export class Pointer {
+    /**
+     * @param {HTMLCanvasElement} canvas
+     * @param {import('./app.js').App} app
+     */
     constructor(canvas, app) {
         this.canvas = canvas;
         this.app = app;

@@ -8,6 +8,7 @@ import { namesOf } from './saving.js';
 import { shellWord } from './lines.js';
 
 export class ScriptPanel {
+    /** @param {import('./app.js').App} app */
     constructor(app) {
         this.app = app;
         byId('typing').addEventListener('submit', (event) => {

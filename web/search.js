@@ -6,6 +6,7 @@ const MOST_FOUND = 100;
 const MOST_NEAR = 8;
 
 export class Search {
+    /** @param {import('./app.js').App} app */
     constructor(app) {
         this.app = app;
         this.field = byId('search-field');

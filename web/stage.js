@@ -7,6 +7,7 @@ import { Renderer } from './renderer.js';
 import { GREATEST_SCALE } from './view.js';
 
 export class Stage {
+    /** @param {import('./app.js').App} app */
     constructor(app) {
         this.app = app;
         this.showsCentre = false;
@@ -107,6 +108,7 @@ export class Stage {
         return [this.app.view.width / 2, this.app.view.height / 2];
     }
 
+    /** @param {number[] | null} box low x, low y, high x, high y */
     goToBox(box) {
         const { view } = this.app;
         if (box === null) {
@@ -137,7 +139,10 @@ export class Stage {
         this.moved();
     }
 
-    /** Whether something of a box is seen. */
+    /**
+     * Whether something of a box is seen.
+     * @param {number[]} box
+     */
     isSeen([lowX, lowY, highX, highY]) {
         const [left, bottom, right, top] = this.app.view.rectangle();
         return lowX <= right && highX >= left && lowY <= top && highY >= bottom;

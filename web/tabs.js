@@ -5,6 +5,7 @@ import { byId, setHidden } from './dom.js';
 const NAMES = Object.freeze(['edit', 'script', 'changes']);
 
 export class Tabs {
+    /** @param {import('./app.js').App} app */
     constructor(app) {
         this.app = app;
         for (const name of NAMES) {

@@ -15,6 +15,7 @@ const DRAWS = Object.freeze({
 const MAKES = new Set(['line', 'string', 'shape', 'text']);
 
 export class Tools {
+    /** @param {import('./app.js').App} app */
     constructor(app) {
         this.app = app;
         this.tool = 'choose';

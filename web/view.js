@@ -61,7 +61,10 @@ export class View {
         this.keepOnPlane();
     }
 
-    /** Shows a box in the middle of the screen. `most` is the greatest scale to show it in. */
+    /**
+     * Shows a box in the middle of the screen. `most` is the greatest scale to show it in.
+     * @param {number[]} box
+     */
     fit([lowX, lowY, highX, highY], most = GREATEST_SCALE, margin = 32) {
         const wide = Math.max(this.width - 2 * margin, 40) / Math.max(highX - lowX, 1e-9);
         const high = Math.max(this.height - 2 * margin, 40) / Math.max(highY - lowY, 1e-9);

@@ -15,7 +15,7 @@ import { joined } from './choice.js';
 
 export class Work {
     /**
-     * @param {any} app
+     * @param {import('./app.js').App} app
      * @param {import('./engine.js').Engine} engine
      */
     constructor(app, engine) {
@@ -266,8 +266,9 @@ export class Work {
     tellRefusal(line, answer, leaveOut = null) {
         const { app } = this;
         const sentence = app.refusals.sentence(line, answer.cause);
-        app.notice(this.said(line) + ' is refused: ' + sentence,
-            ...(leaveOut ? [['Leave out what can’t be edited', leaveOut]] : []));
+        /** @type {[string, () => void][]} */
+        const acts = leaveOut ? [['Leave out what can’t be edited', leaveOut]] : [];
+        app.notice(this.said(line) + ' is refused: ' + sentence, ...acts);
     }
 
     /** Says why something wasn't done. */

@@ -2,6 +2,7 @@
 
 from __future__ import annotations
 
+import base64
 import os
 import shutil
 import sys
@@ -202,7 +203,6 @@ class Looking(WithBrowser):
         )
         self.assertGreater(row, 20)
 
-
     def test_an_arc_is_drawn_round_where_its_fields_fit_its_range(self) -> None:
         # a quarter of a circle of 1000 around 0,0 from 0 to 90 degrees, and the same with another range
         body = plan.long(0) + plan.long(90 * 360000) + vax_double(1000) * 2 + plan.long(0) + vax_double(0) * 2
@@ -317,6 +317,29 @@ class Opening(WithBrowser):
         self.choose(str(EXAMPLES / 'plan.dgn'))
         self.assertEqual(self.seen.title, 'plan.dgn – 12 elements')
         self.assertGreater(self.dot(0, 1500)[3], 100)
+
+    def test_a_drawing_is_dropped(self) -> None:
+        self.leave()
+        self.seen.open(str(self.app))
+        content = base64.b64encode((EXAMPLES / 'valve.dgn').read_bytes()).decode('ascii')
+        self.seen.run(
+            'const bytes = Uint8Array.from(atob(arguments[0]), (it) => it.charCodeAt(0)), held = new DataTransfer();'
+            "held.items.add(new File([bytes], 'dropped.dgn'));"
+            "document.dispatchEvent(new DragEvent('drop', { dataTransfer: held, cancelable: true }));",
+            content,
+        )
+        self.seen.wait('page.drawing !== null')
+        self.seen.settle()
+        self.assertEqual(self.seen.title, 'dropped.dgn – 5 elements')
+        self.assertGreater(self.dot(250, 0)[3], 100)
+
+    def test_it_is_printed_on_a_light_ground(self) -> None:
+        self.page(str(EXAMPLES / 'plan.dgn'))
+        self.seen.run("page.stage.setGround('dark'); window.print = () => { window.printed = page.stage.ground; }")
+        self.seen.run("document.getElementById('print').click()")
+        self.seen.wait("window.printed === 'light'")
+        self.seen.settle()
+        self.assertEqual(self.seen.run('return page.stage.ground'), 'dark')
 
     def test_what_is_no_drawing_is_told_by_name(self) -> None:
         self.assertIn('DGN version 8', self.fault('new.dgn', bytes.fromhex('d0cf11e0a1b11ae1') + bytes(2000)))
