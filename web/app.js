@@ -29,7 +29,10 @@ export class App {
         this.drawing = null;
         /** @type {Scene} */
         this.scene = null;
-        /** The colours of the table as they are drawn on the ground. @type {string[]} */
+        /**
+         * The colours of the table as they are drawn on the ground.
+         * @type {string[]}
+         */
         this.colours = [];
         /** @type {Record<string, string>} */
         this.pens = {};

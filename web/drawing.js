@@ -66,7 +66,10 @@ export class Drawing {
         this.madeBytes = new Uint8Array(0);
         /** @type {number[]} */
         this.madePlaces = [];
-        /** Where in the file each of them begins. @type {number[]} */
+        /**
+         * Where in the file each of them begins.
+         * @type {number[]}
+         */
         this.madeFilePlaces = [];
     }
 

@@ -15,7 +15,10 @@ export class EditPanel {
     /** @param {import('./app.js').App} app */
     constructor(app) {
         this.app = app;
-        /** The cause against each edit of what is chosen, with its line. @type {Map<string, string>} */
+        /**
+         * The cause against each edit of what is chosen, with its line.
+         * @type {Map<string, string>}
+         */
         this.causes = new Map();
         this.probed = 0;
         byId('edit-move').addEventListener('click', () => this.edit({ word: 'move', by: this.by() }));
@@ -69,7 +72,9 @@ export class EditPanel {
     edit(edit) {
         const { app } = this, isMissing = edit.by === null || edit.look === null;
         const hasAim = app.canEdit && (app.tools.fence.isSet || app.choice.numbers.length > 0);
-        if (hasAim && !isMissing) {
+        if (hasAim && !isMissing && app.work.isDoing) {
+            app.say('The program still works on what was done last.');
+        } else if (hasAim && !isMissing) {
             app.work.edit(edit);
         }
     }

@@ -29,7 +29,10 @@ export class Engine {
         /** @type {Map<number, { resolve: (answer: any) => void, reject: (why: Error) => void }>} */
         this.waiting = new Map();
         this.number = 0;
-        /** What the worker has to be told again when it is begun anew. @type {object | null} */
+        /**
+         * What the worker has to be told again when it is begun anew.
+         * @type {object | null}
+         */
         this.opened = null;
         this.begin();
     }

@@ -18,7 +18,10 @@ export class Fence {
         this.corners = null;
         /** @type {number[]} */
         this.chosen = [];
-        /** The cause against each edit of the fence. @type {Map<string, string>} */
+        /**
+         * The cause against each edit of the fence.
+         * @type {Map<string, string>}
+         */
         this.causes = new Map();
         this.isKnown = false;
     }

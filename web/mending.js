@@ -28,7 +28,10 @@ class MendingWalk {
         this.changes = [];
         /** @type {Left[]} */
         this.left = [];
-        /** The loose headers whose members the next roots with bit C may be. @type {number[]} */
+        /**
+         * The loose headers whose members the next roots with bit C may be.
+         * @type {number[]}
+         */
         this.loose = [];
     }
 

@@ -51,7 +51,10 @@ export class Reach {
         return this.end - this.header - 1;
     }
 
-    /** The bytes of the header with so many members. @param {number} count */
+    /**
+     * The bytes of the header with so many members.
+     * @param {number} count
+     */
     size(count) {
         return this.offsets[this.header + count + 1] - this.start;
     }

@@ -39,11 +39,20 @@ export class Session {
         this.lines = [];
         /** @type {(Answer | null)[]} */
         this.answers = [];
-        /** How many lines each doing of the user added. @type {number[]} */
+        /**
+         * How many lines each doing of the user added.
+         * @type {number[]}
+         */
         this.groups = [];
-        /** Lines that were taken back, the last ones last. @type {string[][]} */
+        /**
+         * Lines that were taken back, the last ones last.
+         * @type {string[][]}
+         */
         this.undone = [];
-        /** The second files of imports, by the names that the script uses. @type {Map<string, Uint8Array>} */
+        /**
+         * The second files of imports, by the names that the script uses.
+         * @type {Map<string, Uint8Array>}
+         */
         this.files = new Map();
         /** @type {Step[]} */
         this.steps = [];

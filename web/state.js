@@ -62,7 +62,10 @@ export class State {
         return [...this.above(number), number].some((it) => this.flagsOf(it) & FLAG.deleted);
     }
 
-    /** The first broken element of a tree, or -1. @param {number} root */
+    /**
+     * The first broken element of a tree, or -1.
+     * @param {number} root
+     */
     brokenIn(root) {
         for (let at = root; at < this.end[root]; at++) {
             if (this.flagsOf(at) & (FLAG.orphan | FLAG.loose)) {

@@ -24,7 +24,10 @@ export class Tools {
         this.pointer = null;
         /** @type {{ from: number[], to: number[], by: number[] } | null} */
         this.drag = null;
-        /** The box on the screen that is drawn to choose by. @type {number[][] | null} */
+        /**
+         * The box on the screen that is drawn to choose by.
+         * @type {number[][] | null}
+         */
         this.box = null;
         this.fence = new Fence(app);
         for (const button of byId('tools').children) {

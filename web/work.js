@@ -26,6 +26,12 @@ export class Work {
         this.hash = '';
         /** That of the drawing as it was saved last. */
         this.savedHash = '';
+        /**
+         * What is done last, and how many things wait.
+         * @type {Promise<any>}
+         */
+        this.turn = Promise.resolve();
+        this.doings = 0;
         byId('stop').addEventListener('click', () => this.stop());
         byId('undo').addEventListener('click', () => this.undo());
         byId('redo').addEventListener('click', () => this.redo());
@@ -82,6 +88,26 @@ export class Work {
     /* Doing. */
 
     /**
+     * Does one thing after another: what is begun waits until all that was begun before has ended.
+     * @template T
+     * @param {() => Promise<T>} act
+     * @returns {Promise<T>}
+     */
+    inTurn(act) {
+        this.doings++;
+        const turn = this.turn.then(act).finally(() => {
+            this.doings--;
+        });
+        this.turn = turn.catch(() => {});
+        return turn;
+    }
+
+    /** Whether something is done, or waits for its turn. */
+    get isDoing() {
+        return this.doings > 0;
+    }
+
+    /**
      * Does an edit of what is chosen, or of the fence where one is drawn.
      * @param {Edit} edit
      */
@@ -112,7 +138,12 @@ export class Work {
      * @param {number[]} numbers
      * @param {(() => void) | null} leaveOut adds what goes of lines that were refused
      */
-    async add(lines, numbers = [], leaveOut = null) {
+    add(lines, numbers = [], leaveOut = null) {
+        return this.inTurn(() => this.addNow(lines, numbers, leaveOut));
+    }
+
+    /** @returns {Promise<boolean>} */
+    async addNow(lines, numbers, leaveOut) {
         const { session } = this, before = session.lines, count = this.app.scene.after
             ? this.app.scene.after.count : this.app.scene.before.count;
         const tried = await this.trying(() => session.add(lines));
@@ -160,10 +191,11 @@ export class Work {
     }
 
     /** Adds lines that were typed or opened: what is refused stays, with its answer. */
-    async addTyped(lines) {
-        if (!await this.askForFiles(lines)) {
-            return false;
-        }
+    addTyped(lines) {
+        return this.inTurn(async () => await this.askForFiles(lines) && await this.addTypedNow(lines));
+    }
+
+    async addTypedNow(lines) {
         const ran = await this.trying(() => this.session.add(lines));
         if (ran !== null) {
             this.show(ran.changes);
@@ -189,21 +221,30 @@ export class Work {
         return true;
     }
 
-    async undo() {
-        if (this.session.groups.length > 0) {
-            this.showIf(await this.trying(() => this.session.undo()), 'Taken back.');
-        }
+    undo() {
+        return this.inTurn(async () => {
+            if (this.session.groups.length > 0) {
+                this.showIf(await this.trying(() => this.session.undo()), 'Taken back.');
+            }
+        });
     }
 
-    async redo() {
-        if (this.session.undone.length > 0) {
-            this.showIf(await this.trying(() => this.session.redo()), 'Done again.');
-        }
+    redo() {
+        return this.inTurn(async () => {
+            if (this.session.undone.length > 0) {
+                this.showIf(await this.trying(() => this.session.redo()), 'Done again.');
+            }
+        });
     }
 
-    async remove(index) {
+    /** Takes one line out, unless it has gone meanwhile. */
+    remove(index) {
         const line = this.session.lines[index];
-        this.showIf(await this.trying(() => this.session.remove(index)), 'Taken out: ' + this.said(line));
+        return this.inTurn(async () => {
+            if (this.session.lines[index] === line) {
+                this.showIf(await this.trying(() => this.session.remove(index)), 'Taken out: ' + this.said(line));
+            }
+        });
     }
 
     showIf(ran, said) {
@@ -289,7 +330,11 @@ export class Work {
     }
 
     /** Runs the script as it stands once more, so that the worker holds what it makes. */
-    async again(isShown = false) {
+    again(isShown = false) {
+        return this.inTurn(() => this.againNow(isShown));
+    }
+
+    async againNow(isShown) {
         const { session } = this, { isSaved } = session;
         if (session.lines.length === 0) {
             return;

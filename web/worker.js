@@ -56,7 +56,7 @@ const DOES = {
         if (file === null) {
             return { status, text, changes: null };
         }
-        made = file;
+        made = file.byteLength === file.buffer.byteLength ? file : file.slice();
         return { status, text, changes: changesBetween(opened, bodyLength, made) };
     },
 

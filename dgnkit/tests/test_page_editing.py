@@ -107,6 +107,14 @@ class Editing(WithEditor):
         self.seen.click('#script li:nth-child(2) .remove')
         self.compare(made, ['color 6 4', 'color 6 7'])
 
+    def test_lines_that_come_at_once_are_run_one_after_another(self) -> None:
+        made = self.example('plan.dgn')
+        self.open(made)
+        lines = ['color 5 %d' % it for it in range(1, 6)] + ['color 1 4', 'move 6 5 5']
+        self.seen.run('arguments[0].forEach((it) => page.work.addTyped([it])); page.work.undo();', lines)
+        self.seen.wait('!page.work.isDoing')
+        self.compare(made, lines[:-1])
+
     def test_a_drag_moves_by_whole_units(self) -> None:
         made = self.example('plan.dgn')
         self.open(made)
