@@ -2,7 +2,7 @@
 
 import { counted } from './describing.js';
 import { CLASS, CLASS_OF, FLAG } from './format.js';
-import { Reach, runEndsOf } from './reach.js';
+import { Reach } from './reach.js';
 
 /**
  * Why an element is broken.
@@ -19,7 +19,7 @@ export function whyBroken(drawing, number) {
     }
     if (records.has(number, FLAG.loose)) {
         const parent = nesting.parent[number], end = parent < 0 ? drawing.count : nesting.end[parent];
-        pieces.push(new Reach(drawing, runEndsOf(drawing), number, end).whyLoose());
+        pieces.push(new Reach(drawing, number, end).whyLoose());
     }
     return pieces.join('; and ');
 }

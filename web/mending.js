@@ -5,7 +5,7 @@
 import { counted, described } from './describing.js';
 import { CLASS, CLASS_OF, FLAG, TYPE } from './format.js';
 import { PARTS_OF_SPLINES } from './nesting.js';
-import { Reach, runEndsOf } from './reach.js';
+import { Reach } from './reach.js';
 
 const COMPLEX = new Set([12, 14, 18, 19]);
 
@@ -23,7 +23,7 @@ class MendingWalk {
     constructor(drawing) {
         this.drawing = drawing;
         this.records = drawing.records;
-        this.runEnds = runEndsOf(drawing);
+        this.runEnds = drawing.nesting.runEnds;
         /** @type {Change[]} */
         this.changes = [];
         /** @type {Left[]} */
@@ -93,7 +93,7 @@ class MendingWalk {
 
     /** Mends a counted header where it can, walks its members, and gives where they end. */
     header(number, end, isRoot) {
-        const reach = new Reach(this.drawing, this.runEnds, number, end);
+        const reach = new Reach(this.drawing, number, end);
         const fitting = reach.countOf(reach.total) !== null ? reach.total : reach.fittingTotal();
         const members = fitting === null ? null : reach.countOf(fitting);
         if (members === null) {

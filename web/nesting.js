@@ -10,8 +10,10 @@ export const BEFORE_TOTAL = 38;
 
 /**
  * Of each element the flags of its place (group, run, loose, orphan), its depth, the number of the header right above
- * it, -1 where it is a root, and the number behind the last that stands below it.
- * @typedef {{ flags: Uint8Array, depth: Uint16Array, parent: Int32Array, end: Uint32Array }} Nesting
+ * it, -1 where it is a root, the number behind the last that stands below it, and the number of the first element from
+ * there on that has no bit C.
+ * @typedef {{ flags: Uint8Array, depth: Uint16Array, parent: Int32Array, end: Uint32Array,
+ *     runEnds: Uint32Array }} Nesting
  */
 
 /** Goes once through the elements from the first to the last, and keeps the lists that are open. */
@@ -73,7 +75,8 @@ class NestingWalk {
                 open.push({ header: at, end, isParts });
             }
         }
-        return { flags: this.flags, depth: this.depth, parent: this.parent, end: this.end };
+        const { flags, depth, parent, end, runEnds } = this;
+        return { flags, depth, parent, end, runEnds };
     }
 
     /** @param {number} number */

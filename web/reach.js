@@ -1,7 +1,6 @@
 /* How far a header can reach: the elements with bit C behind it, of which some number are its members. */
 
 import { counted } from './describing.js';
-import { FLAG } from './format.js';
 import { BEFORE_TOTAL } from './nesting.js';
 import { wordAt } from './numbers.js';
 import { linkagePlace } from './drawing.js';
@@ -19,28 +18,18 @@ function bytesOfTotal(total) {
     return BEFORE_TOTAL + 2 * total;
 }
 
-/** For each place the number of the first element from there on that has no bit C. */
-export function runEndsOf({ records, count }) {
-    const ends = new Uint32Array(count + 1).fill(count);
-    for (let number = count - 1; number >= 0; number--) {
-        ends[number] = records.flags[number] & FLAG.bitC ? ends[number + 1] : number;
-    }
-    return ends;
-}
-
 export class Reach {
     /**
      * @param {Drawing} drawing
-     * @param {Uint32Array} runEnds
      * @param {number} header
      * @param {number} end the number behind the last element of the list that the header stands in
      */
-    constructor(drawing, runEnds, header, end) {
+    constructor(drawing, header, end) {
         this.offsets = drawing.offsets;
         this.header = header;
         this.start = drawing.offsets[header];
         this.total = wordAt(drawing.bytes, this.start + 36);
-        this.end = Math.min(end, runEnds[header + 1]);
+        this.end = Math.min(end, drawing.nesting.runEnds[header + 1]);
         const content = drawing.bytesOf(header);
         /** Half the bytes of the header's own attribute data. */
         this.ownWords = (content.length - linkagePlace(content)) / 2;

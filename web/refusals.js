@@ -17,6 +17,14 @@ export class Refusals {
     /** @param {import('./drawing.js').Drawing} drawing */
     constructor(drawing) {
         this.drawing = drawing;
+        /** @type {ReturnType<typeof mendingOf> | null} */
+        this.held = null;
+    }
+
+    /** What can be mended of the drawing, which is found out once. */
+    get mending() {
+        this.held = this.held || mendingOf(this.drawing);
+        return this.held;
     }
 
     /**
@@ -69,7 +77,7 @@ export class Refusals {
         if (number >= this.drawing.count) {
             return 'the tree holds ' + this.named(number) + ' and is broken.';
         }
-        const mending = mendingOf(this.drawing);
+        const { mending } = this;
         const isMended = mending.changes.some((it) => number >= it.number && number <= it.number + it.members)
             && !mending.left.some((it) => it.number === number);
         const advice = isMended ? '‘Mend’ puts it right.' : '‘Mend’ can not put it right: it says why.';

@@ -11,6 +11,8 @@ export class ScriptPanel {
     /** @param {import('./app.js').App} app */
     constructor(app) {
         this.app = app;
+        /** What the panel shows, so that it is made anew only where that has changed. */
+        this.shown = [null];
         byId('typing').addEventListener('submit', (event) => {
             event.preventDefault();
             this.addTyped();
@@ -31,6 +33,11 @@ export class ScriptPanel {
             return;
         }
         const { lines, answers, steps } = work.session;
+        const shown = [lines, answers, steps.length, work.hash, work.savedHash, this.app.refusals];
+        if (this.shown.every((it, at) => it === shown[at])) {
+            return;
+        }
+        this.shown = shown;
         byId('script-count').textContent = lines.length === 0 ? '' : String(lines.length);
         byId('script-copy').disabled = lines.length === 0;
         const first = Math.max(lines.length - LINES_MOST, 0);
