@@ -5,7 +5,7 @@ import { longAt, vaxDoubleAt } from './numbers.js';
 const ELLIPSE = 15;
 const ARC = 16;
 const ARC_STEP = 5;                   // degrees from point to point
-const NEAR = 2;                   // units of resolution by which the stored range may differ
+const RANGE_NEAR = 2;                   // units of resolution by which the stored range may differ
 
 /** Where the fields of each type begin: both axes, the turn, the origin, and the element's end. */
 const PLACES = Object.freeze({
@@ -65,6 +65,6 @@ function spanOf(bytes, at) {
 function isInRange(points, range, radius) {
     const xs = points.filter((_, at) => at % 2 === 0), ys = points.filter((_, at) => at % 2 === 1);
     const box = [Math.min(...xs), Math.min(...ys), Math.max(...xs), Math.max(...ys)];
-    const near = NEAR + radius * (1 - Math.cos(ARC_STEP * Math.PI / 360));
+    const near = RANGE_NEAR + radius * (1 - Math.cos(ARC_STEP * Math.PI / 360));
     return box.every((value, side) => Math.abs(value - range[side]) <= near);
 }

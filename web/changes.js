@@ -50,7 +50,7 @@ function appendedEnd(bytes, start) {
  * @returns {Generator<[number, number]>}
  */
 function* pieces(before, after, length) {
-    const olds = unitsOf(before, length), news = unitsOf(after, length), count = olds.length;
+    const olds = quadsOf(before, length), news = quadsOf(after, length), count = olds.length;
     let start = -1, last = -1;
     for (let at = 0; at < count; at++) {
         if (olds[at] !== news[at]) {
@@ -72,11 +72,11 @@ function* pieces(before, after, length) {
 }
 
 /**
- * Bytes as units of four, as many as there are whole ones.
+ * Bytes as numbers of four bytes each, as many as there are whole ones.
  * @param {Uint8Array} bytes
  * @param {number} length
  */
-function unitsOf(bytes, length) {
+function quadsOf(bytes, length) {
     const aligned = bytes.byteOffset % 4 === 0 ? bytes : bytes.slice();
     return new Uint32Array(aligned.buffer, aligned.byteOffset, length >> 2);
 }

@@ -31,12 +31,13 @@ export class ChangesPanel {
     }
 
     /** Ends comparing, and shows the drawing as the script has left it. */
-    async end() {
+    end() {
         const { app } = this;
         app.endCompare();
-        app.showAfter(null);
         if (app.work) {
-            await app.work.again(true);
+            app.work.showAgain();
+        } else {
+            app.showAfter(null);
         }
     }
 

@@ -24,6 +24,12 @@ export class Choice {
         return this.numbers.length > 0 ? this.numbers[this.numbers.length - 1] : -1;
     }
 
+    /** Whether something of each that is chosen is shown. */
+    get isShown() {
+        const { state, shown } = this.app.scene;
+        return this.numbers.every((it) => it < state.count && state.isTreeShown(it, shown));
+    }
+
     /** Forgets all, for another drawing. */
     clear() {
         this.hovered = -1;

@@ -66,12 +66,18 @@ export class EditPanel {
         return look !== null && look.some((it) => it !== '-');
     }
 
+    /** Whether something is chosen that can be seen: what is hidden isn't edited by hand. */
+    get hasChoice() {
+        const { choice } = this.app;
+        return choice.numbers.length > 0 && choice.isShown;
+    }
+
     /* Doing. */
 
     /** Does an edit; what can't be is told by the program. */
     edit(edit) {
         const { app } = this, isMissing = edit.by === null || edit.look === null;
-        const hasAim = app.canEdit && (app.tools.fence.isSet || app.choice.numbers.length > 0);
+        const hasAim = app.canEdit && (app.tools.fence.isSet || this.hasChoice);
         if (hasAim && !isMissing && app.work.isDoing) {
             app.say('The program still works on what was done last.');
         } else if (hasAim && !isMissing) {
@@ -136,7 +142,7 @@ export class EditPanel {
         if (app.work === null) {
             return;
         }
-        const isAimed = fence.isSet ? fence.chosen.length > 0 : app.choice.numbers.length > 0;
+        const isAimed = fence.isSet ? fence.chosen.length > 0 : this.hasChoice;
         byId('edits').disabled = !app.canEdit;
         byId('edits-legend').textContent = this.legend();
         fence.show();
@@ -174,6 +180,9 @@ export class EditPanel {
         if (fence.isSet) {
             return fence.isKnown ? 'Edit what the fence takes: ' + counted(fence.chosen.length, 'tree')
                 : 'The program is asked what the fence takes';
+        }
+        if (!choice.isShown) {
+            return 'It isn’t shown, and so it isn’t edited here';
         }
         if (choice.numbers.length !== 1) {
             return choice.numbers.length === 0 ? 'Edit: choose something first'

@@ -1,4 +1,4 @@
-/* The program in its worker, as the page asks it: one thing after another, and all of it can be stopped. */
+/* The program, as the page asks it: one thing after another, each in a worker of its own. */
 
 /** The least module with a memory of 64-bit places: a browser that takes it can run the program. */
 const WITH_MEMORY64 = Uint8Array.of(0, 0x61, 0x73, 0x6D, 1, 0, 0, 0, 5, 3, 1, 4, 0);
@@ -7,15 +7,19 @@ const WITH_MEMORY64 = Uint8Array.of(0, 0x61, 0x73, 0x6D, 1, 0, 0, 0, 5, 3, 1, 4,
 export class Stopped extends Error {}
 
 /** @typedef {import('./drawing.js').Changes} Changes */
-/** @typedef {{ status: number, text: Uint8Array, changes: Changes | null }} Edited */
-/** @typedef {{ status: number, text: Uint8Array, file: Uint8Array | null }} Ran */
+/** @typedef {{ status: number, text: Uint8Array }} Said the exit number, and what was printed */
+/** @typedef {Said & { file: Uint8Array | null }} Ran */
+/** @typedef {Ran & { changes: Changes | null }} Edited */
 
 /** Whether this browser can run the program. */
 export function canRun() {
     return typeof WebAssembly === 'object' && WebAssembly.validate(WITH_MEMORY64);
 }
 
-/** Sends what is asked to the worker in its order, and gives the answers. */
+/**
+ * Keeps the drawing that was opened and what the last script made of it, and runs the program on them. The memory of a
+ * run goes with its worker; the next worker is begun meanwhile, so that it is ready when it is wanted.
+ */
 export class Engine {
     /**
      * @param {string} source the worker's script
@@ -26,137 +30,151 @@ export class Engine {
         this.place = URL.createObjectURL(new Blob([source], { type: 'text/javascript' }));
         this.program = program;
         this.tell = tell;
-        /** @type {Map<number, { resolve: (answer: any) => void, reject: (why: Error) => void }>} */
-        this.waiting = new Map();
-        this.number = 0;
-        /**
-         * What the worker has to be told again when it is begun anew.
-         * @type {object | null}
-         */
-        this.opened = null;
-        this.begin();
+        this.opened = new Uint8Array(0);
+        this.bodyLength = 0;
+        /** What the last script made. */
+        this.made = this.opened;
+        /** @type {Promise<any>} */
+        this.turn = Promise.resolve();
+        this.waiting = 0;
+        /** Counts how often all was stopped: what was asked before isn't begun any more. */
+        this.stops = 0;
+        /** @type {((why: Error) => void) | null} */
+        this.endRun = null;
+        this.ready = this.begun();
     }
 
-    begin() {
-        this.worker = new Worker(this.place);
-        this.worker.onmessage = ({ data }) => this.take(data);
-        this.worker.onerror = (event) => this.fail(event.message || 'the worker could not be begun');
-        this.send('program', { bytes: this.program });
+    /** A worker that has the program. */
+    begun() {
+        const worker = new Worker(this.place);
+        worker.postMessage({ does: 'begin', program: this.program });
+        return worker;
     }
 
-    /** @param {{ number: number, answer?: any, fault?: string }} data */
-    take({ number, answer, fault }) {
-        const asked = this.waiting.get(number);
-        this.waiting.delete(number);
-        if (this.waiting.size === 0) {
-            this.tell(false);
-        }
-        if (asked) {
-            if (fault === undefined) {
-                asked.resolve(answer);
-            } else {
-                asked.reject(new Error(fault));
-            }
-        }
-    }
-
-    /** @param {string} why */
-    fail(why) {
-        const asked = [...this.waiting.values()];
-        this.waiting.clear();
-        this.tell(false);
-        asked.forEach(({ reject }) => reject(new Error(why)));
+    get isBusy() {
+        return this.waiting > 0;
     }
 
     /**
-     * @param {string} does
-     * @param {object} words
-     * @param {Transferable[]} moved
-     * @returns {Promise<any>}
+     * Does something when all that was asked before is done.
+     * @template T
+     * @param {() => Promise<T>} act
+     * @returns {Promise<T>}
      */
-    send(does, words, moved = []) {
-        const number = ++this.number;
-        if (this.waiting.size === 0) {
+    inTurn(act) {
+        const { stops } = this;
+        this.waiting++;
+        if (this.waiting === 1) {
             this.tell(true);
         }
-        const answered = new Promise((resolve, reject) => this.waiting.set(number, { resolve, reject }));
-        this.worker.postMessage({ ...words, does, number }, moved);
-        return answered;
+        const turn = this.turn.then(() => (stops === this.stops ? act() : Promise.reject(new Stopped('stopped'))));
+        this.turn = turn.catch(() => {}).then(() => {
+            this.waiting--;
+            if (this.waiting === 0) {
+                this.tell(false);
+            }
+        });
+        return turn;
+    }
+
+    /**
+     * Has the worker that is ready do one thing, and lets it go.
+     * @param {string} does
+     * @param {object} words
+     * @returns {Promise<any>}
+     */
+    once(does, words) {
+        const worker = this.ready;
+        return new Promise((resolve, reject) => {
+            this.endRun = reject;
+            worker.onmessage = ({ data }) => {
+                if (data.fault !== undefined) {
+                    reject(new Error(data.fault));
+                } else if ('status' in data.answer) {
+                    resolve(data.answer);
+                }
+            };
+            worker.onerror = (event) => reject(new Error(event.message || 'the worker could not be begun'));
+            worker.postMessage({ ...words, does });
+        }).finally(() => {
+            this.endRun = null;
+            worker.terminate();
+            this.ready = this.begun();
+        });
     }
 
     /**
      * Opens a drawing, and answers as `check` does.
      * @param {Uint8Array} bytes
-     * @param {number} bodyLength
-     * @returns {Promise<{ status: number, text: Uint8Array }>}
+     * @param {number} bodyLength how many of the bytes are its elements
+     * @returns {Promise<Said>}
      */
     open(bytes, bodyLength) {
-        this.opened = { bytes, bodyLength };
-        return this.send('open', this.opened);
+        return this.inTurn(() => {
+            this.opened = this.made = bytes;
+            this.bodyLength = bodyLength;
+            return this.once('check', { bytes });
+        });
     }
 
     /**
      * Asks of a file whether it is a drawing.
      * @param {Uint8Array} bytes
-     * @returns {Promise<{ status: number, text: Uint8Array }>}
+     * @returns {Promise<Said>}
      */
     check(bytes) {
-        return this.send('check', { bytes });
+        return this.inTurn(() => this.once('check', { bytes }));
     }
 
     /**
+     * Runs a script on the drawing as it was opened, and keeps what it makes.
      * @param {Uint8Array} script
      * @param {Map<string, Uint8Array>} files
      * @returns {Promise<Edited>}
      */
     edit(script, files) {
-        return this.send('edit', { script, files });
+        return this.inTurn(async () => {
+            const { opened, bodyLength } = this;
+            const ran = await this.once('edit', { bytes: opened, bodyLength, script, files });
+            this.made = ran.file || this.made;
+            return ran;
+        });
     }
 
     /**
+     * Asks what a script would be answered behind the last one.
      * @param {Uint8Array} script
      * @param {Map<string, Uint8Array>} files
-     * @returns {Promise<{ status: number, text: Uint8Array }>}
+     * @returns {Promise<Said>}
      */
-    ask(script, files = new Map()) {
-        return this.send('ask', { script, files });
+    ask(script, files) {
+        return this.inTurn(() => this.once('ask', { bytes: this.made, script, files }));
     }
 
     /**
+     * Makes a patch file of a script.
      * @param {Uint8Array} script
      * @param {Map<string, Uint8Array>} files
      * @returns {Promise<Ran>}
      */
     pack(script, files) {
-        return this.send('pack', { script, files });
+        return this.inTurn(() => this.once('pack', { bytes: this.opened, script, files }));
     }
 
     /**
+     * Puts a patch file on what the last script made.
      * @param {Uint8Array} patch
      * @returns {Promise<Ran>}
      */
     apply(patch) {
-        return this.send('apply', { patch });
+        return this.inTurn(() => this.once('apply', { bytes: this.made, patch }));
     }
 
-    /** @returns {Promise<Uint8Array>} the bytes that the last script made */
-    async made() {
-        return (await this.send('made', {})).file;
-    }
-
-    get isBusy() {
-        return this.waiting.size > 0;
-    }
-
-    /** Ends whatever goes on. The worker is begun anew, with the drawing as it was opened. */
+    /** Ends whatever goes on, and whatever waits. */
     stop() {
-        this.worker.terminate();
-        const asked = [...this.waiting.values()];
-        this.waiting.clear();
-        this.begin();
-        if (this.opened) {
-            this.send('open', this.opened).catch(() => {});
+        this.stops++;
+        if (this.endRun !== null) {
+            this.endRun(new Stopped('stopped'));
         }
-        asked.forEach(({ reject }) => reject(new Stopped('stopped')));
     }
 }

@@ -61,10 +61,7 @@ export class Menu {
     /** Saves what one run of the whole script makes of the drawing. */
     async saveDrawing() {
         const { work, drawing } = this.app, { session } = work, { lines } = session;
-        const bytes = await work.trying(() => work.engine.made());
-        if (bytes === null) {
-            return;
-        }
+        const bytes = work.engine.made;
         work.savedHash = await sha256(bytes);
         const { out } = namesOf(drawing.name);
         save(out, bytes);
@@ -164,7 +161,7 @@ export class Menu {
     /** Says what can be mended, and puts it on. */
     async mend() {
         const { app } = this;
-        const drawing = await this.drawingNow();
+        const drawing = this.drawingNow();
         if (drawing === null) {
             return;
         }
@@ -186,13 +183,12 @@ export class Menu {
     }
 
     /** The drawing as the script has left it. */
-    async drawingNow() {
+    drawingNow() {
         const { app } = this, { work } = app;
         if (work.session.lines.length === 0) {
             return app.drawing;
         }
-        const bytes = await work.trying(() => work.engine.made());
-        const made = bytes === null ? null : Drawing.open(app.drawing.name, bytes);
+        const made = Drawing.open(app.drawing.name, work.engine.made);
         return made instanceof Fault ? null : made;
     }
 

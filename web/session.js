@@ -101,6 +101,13 @@ export class Session {
         return ran;
     }
 
+    /** Takes the last doing back, of which no line has written anything. */
+    drop() {
+        const end = this.lines.length - this.groups.pop();
+        this.lines = this.lines.slice(0, end);
+        this.answers = this.answers.slice(0, end);
+    }
+
     /**
      * Takes a second file, and gives the name that it has in the script: one without blanks that no other file has.
      * @param {string} name

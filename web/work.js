@@ -1,6 +1,8 @@
 /* What is done to the drawing: lines go to the program, and what it makes is shown. */
 
+import { wordOf } from './answers.js';
 import { bytesOf } from './byte_strings.js';
+import { changesBetween } from './changes.js';
 import { byId, make, setHidden } from './dom.js';
 import { Stopped } from './engine.js';
 import { chosenFile } from './files.js';
@@ -12,6 +14,9 @@ import { joined } from './choice.js';
 
 /** @typedef {import('./answers.js').Answer} Answer */
 /** @typedef {import('./lines.js').Edit} Edit */
+
+/** Commands that write nothing. */
+const SILENT = new Set(['levels', 'fence', 'nofence']);
 
 export class Work {
     /**
@@ -32,7 +37,7 @@ export class Work {
          */
         this.turn = Promise.resolve();
         this.doings = 0;
-        byId('stop').addEventListener('click', () => this.stop());
+        byId('stop').addEventListener('click', () => this.engine.stop());
         byId('undo').addEventListener('click', () => this.undo());
         byId('redo').addEventListener('click', () => this.redo());
     }
@@ -144,8 +149,8 @@ export class Work {
 
     /** @returns {Promise<boolean>} */
     async addNow(lines, numbers, leaveOut) {
-        const { session } = this, before = session.lines, count = this.app.scene.after
-            ? this.app.scene.after.count : this.app.scene.before.count;
+        const { session, app: { scene } } = this, { lines: before, isSaved, undone } = session;
+        const { count } = scene.after || scene.before;
         const tried = await this.trying(() => session.add(lines));
         if (tried === null) {
             return false;
@@ -158,19 +163,26 @@ export class Work {
             this.tellWhere(numbers, count);
             return true;
         }
-        await this.takeBack();
+        await this.takeBack(lines, answers, tried.changes, isSaved);
+        session.undone = undone;
         const others = lines.length > 1 && leaveOut === null ? () => this.addWhatGoes(lines, numbers) : leaveOut;
         this.tellRefusal(lines[refused], answers[refused], others);
         return false;
     }
 
-    /** Takes back lines that were refused, without a trace. */
-    async takeBack() {
+    /** Takes back lines of which one was refused, without a trace. Where none of them has written anything the script
+        isn't run anew. */
+    async takeBack(lines, answers, changes, isSaved) {
         const { session } = this;
-        const ran = await this.trying(() => session.undo());
-        session.undone.pop();
-        if (ran !== null) {
-            this.show(ran.changes);
+        const isEdit = (line, at) => !SILENT.has(wordOf(line)) && answers[at] !== null && answers[at].cause === null;
+        if (lines.some(isEdit)) {
+            const ran = await this.trying(() => session.undo());
+            session.isSaved = isSaved && ran !== null;
+            this.show(ran === null ? changes : ran.changes);
+        } else {
+            session.drop();
+            session.isSaved = isSaved;
+            this.keepWork();
         }
     }
 
@@ -323,26 +335,9 @@ export class Work {
         }
     }
 
-    /** Ends whatever the program does, and lets it make again what the script makes. */
-    async stop() {
-        this.engine.stop();
-        await this.again();
-    }
-
-    /** Runs the script as it stands once more, so that the worker holds what it makes. */
-    again(isShown = false) {
-        return this.inTurn(() => this.againNow(isShown));
-    }
-
-    async againNow(isShown) {
-        const { session } = this, { isSaved } = session;
-        if (session.lines.length === 0) {
-            return;
-        }
-        const ran = await this.trying(() => session.run(session.lines));
-        session.isSaved = isSaved;
-        if (ran !== null && isShown) {
-            this.show(ran.changes);
-        }
+    /** Shows again what the script makes, behind something else that was shown. */
+    showAgain() {
+        const { opened, made, bodyLength } = this.engine;
+        this.show(changesBetween(opened, bodyLength, made));
     }
 }

@@ -1,93 +1,70 @@
-/* The proved program, beside the page: each message asks for one thing, and one message answers it. */
+/* The proved program, beside the page: a worker does one thing for it, and is then let go with all its memory. */
 
 import { changesBetween } from './changes.js';
 import { run } from './module.js';
 
-/** @typedef {{ status: number, text: Uint8Array, file: Uint8Array | null }} Ran */
+/**
+ * The drawing, and the second files of imports.
+ * @typedef {{ bytes: Uint8Array, files?: Map<string, Uint8Array> }} Given
+ */
 
 /** @type {WebAssembly.Module} */
 let program;
-/** The drawing that scripts are run on, the bytes of its elements, and what the last script made of it. */
-let opened = new Uint8Array(0), bodyLength = 0, made = new Uint8Array(0);
 
 /**
+ * Runs the program on a drawing.
  * @param {string[]} words
- * @param {Map<string, Uint8Array>} files
- * @returns {Ran}
+ * @param {Given} given
+ * @param {[string, Uint8Array][]} more files beside the drawing and the second files
  */
-function ran(words, files) {
-    return run(program, words, files);
-}
-
-/**
- * @param {Map<string, Uint8Array>} [files]
- * @param {Uint8Array} [drawing]
- */
-function withFiles(files, drawing = opened) {
-    return new Map([...(files || []), ['IN', drawing]]);
+function ran(words, { bytes, files }, ...more) {
+    return run(program, words, new Map([...(files || []), ['IN', bytes], ...more]));
 }
 
 const DOES = {
-    /** @param {{ bytes: Uint8Array }} asked */
-    program({ bytes }) {
-        program = new WebAssembly.Module(/** @type {BufferSource} */ (bytes));
+    /** @param {{ program: Uint8Array }} asked */
+    begin(asked) {
+        program = new WebAssembly.Module(/** @type {BufferSource} */ (asked.program));
         return {};
     },
 
-    /** @param {{ bytes: Uint8Array, bodyLength: number }} asked */
-    open(asked) {
-        opened = made = asked.bytes;
-        bodyLength = asked.bodyLength;
-        const { status, text } = ran(['check', 'IN'], withFiles());
+    /** Tells whether a file is a drawing.
+        @param {Given} asked */
+    check(asked) {
+        const { status, text } = ran(['check', 'IN'], asked);
         return { status, text };
     },
 
-    /** Tells of a file whether it is a drawing, and keeps nothing.
-        @param {{ bytes: Uint8Array }} asked */
-    check({ bytes }) {
-        const { status, text } = ran(['check', 'IN'], withFiles(undefined, bytes));
+    /** Runs a script on a drawing, and tells what it makes and what of it has changed.
+        @param {Given & { bodyLength: number, script: Uint8Array }} asked */
+    edit(asked) {
+        const made = ran(['edit', 'IN', 'SCRIPT', 'OUT'], asked, ['SCRIPT', asked.script]);
+        return { ...made, changes: made.file && changesBetween(asked.bytes, asked.bodyLength, made.file) };
+    },
+
+    /** Runs a script on a drawing for its answers alone.
+        @param {Given & { script: Uint8Array }} asked */
+    ask(asked) {
+        const { status, text } = ran(['edit', 'IN', 'SCRIPT', 'OUT'], asked, ['SCRIPT', asked.script]);
         return { status, text };
     },
 
-    /** Runs a script on the drawing, keeps what it makes, and tells what of it has changed.
-        @param {{ script: Uint8Array, files: Map<string, Uint8Array> }} asked */
-    edit({ script, files }) {
-        const { status, text, file } = ran(['edit', 'IN', 'SCRIPT', 'OUT'], withFiles(files).set('SCRIPT', script));
-        if (file === null) {
-            return { status, text, changes: null };
-        }
-        made = file.byteLength === file.buffer.byteLength ? file : file.slice();
-        return { status, text, changes: changesBetween(opened, bodyLength, made) };
+    /** @param {Given & { script: Uint8Array }} asked */
+    pack(asked) {
+        return ran(['pack', 'IN', 'SCRIPT', 'PATCH'], asked, ['SCRIPT', asked.script]);
     },
 
-    /** Asks what a script would be answered behind the last one; what it makes is let go.
-        @param {{ script: Uint8Array, files: Map<string, Uint8Array> }} asked */
-    ask({ script, files }) {
-        const { status, text } = ran(['edit', 'IN', 'SCRIPT', 'OUT'], withFiles(files, made).set('SCRIPT', script));
-        return { status, text };
-    },
-
-    /** @param {{ script: Uint8Array, files: Map<string, Uint8Array> }} asked */
-    pack({ script, files }) {
-        return ran(['pack', 'IN', 'SCRIPT', 'PATCH'], withFiles(files).set('SCRIPT', script));
-    },
-
-    /** Puts a patch file on what the last script made.
-        @param {{ patch: Uint8Array }} asked */
-    apply({ patch }) {
-        return ran(['apply', 'IN', 'PATCH', 'OUT'], withFiles(undefined, made).set('PATCH', patch));
-    },
-
-    /** The bytes that the last script made. */
-    made() {
-        return { file: made.slice() };
+    /** @param {Given & { patch: Uint8Array }} asked */
+    apply(asked) {
+        return ran(['apply', 'IN', 'PATCH', 'OUT'], asked, ['PATCH', asked.patch]);
     },
 };
 
 self.onmessage = ({ data }) => {
     try {
-        self.postMessage({ number: data.number, answer: DOES[data.does](data) });
+        const answer = DOES[data.does](data);
+        postMessage({ answer }, answer.file ? { transfer: [answer.file.buffer] } : undefined);
     } catch (why) {
-        self.postMessage({ number: data.number, fault: String(why) });
+        postMessage({ fault: String(why) });
     }
 };

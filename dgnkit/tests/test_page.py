@@ -237,9 +237,9 @@ class Reading(WithBrowser):
         made = self.page(str(EXAMPLES / 'plan.dgn'))
         with open(made, encoding='utf-8') as file:
             text = file.read()
-        self.assertIn("default-src 'none'", text)
+        self.assertTrue("default-src 'none'" in text)
         for word in ('innerHTML', 'outerHTML', 'insertAdjacentHTML', 'document.write', 'eval(', 'http://', 'https://'):
-            self.assertNotIn(word, text)
+            self.assertFalse(word in text, word)
         self.assertEqual(self.seen.run('return performance.getEntriesByType("resource").length'), 0)
 
     def test_texts_of_both_codes_and_escapes(self) -> None:

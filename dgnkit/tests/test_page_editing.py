@@ -289,6 +289,20 @@ class Refused(WithEditor):
         self.do('#edit-copy')
         self.assertEqual(self.script_lines(), ['copy 1 0 0'])
 
+    def test_what_is_hidden_is_not_edited_by_hand(self) -> None:
+        self.open(str(EXAMPLES / 'plan.dgn'))
+        self.seen.click('#level-11')
+        self.seen.type('#search-field', '6')
+        self.seen.key('Enter')
+        self.seen.settle()
+        self.assertEqual(self.number(), 'element 6')
+        self.assertIn('isn’t shown', self.seen.text('#edits-legend'))
+        self.assertTrue(self.seen.run("return document.getElementById('edit-delete').disabled"))
+        self.focus()
+        self.seen.key('Delete')
+        self.seen.settle()
+        self.assertEqual(self.script_lines(), [])
+
     def test_a_refused_edit_leaves_no_line(self) -> None:
         made = self.example('plan.dgn')
         self.open(made)
