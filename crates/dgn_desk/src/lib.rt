@@ -4,6 +4,8 @@
 
 mod act;
 mod file_map;
+mod lent_desk;
+mod lent_file;
 mod mem_desk;
 mod sure_desk;
 
@@ -11,5 +13,7 @@ pub use act::Act;
 pub use host_desk::{
     BufferedDesk, Desk, HostDesk, MOST_HELD, ReadEnd, Stop, read_all, say_all, words, write_file,
 };
+pub use lent_desk::LentDesk;
+pub use lent_file::LentFile;
 pub use mem_desk::MemDesk;
 pub use sure_desk::SureDesk;
