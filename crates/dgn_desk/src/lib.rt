@@ -1,5 +1,6 @@
 //! The outside of the program, as a trait, with the desks that stand for it: that of the machine, which `host_desk` has, as it
-//! has the trait, and two of memory. The program doesn't stand on those of memory.
+//! has the trait, and three of memory. The program doesn't stand on those of memory; the library stands on the one over files
+//! that are lent.
 #![tactic(auto)]
 
 mod act;
