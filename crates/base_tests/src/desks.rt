@@ -180,3 +180,41 @@ fn calls_in_pieces(rt: HostRuntime) -> Result<(), Fail> {
     assert!(rt; calls(rt.alloc(), 2)? == [5, 7, 12]);
     Ok(())
 }
+
+// What is lent to a desk: two files of one name, and an empty one.
+const LENT: [LentFile<'static>; 3] = [
+    LentFile {
+        name: b"in",
+        bytes: b"bytes",
+    },
+    LentFile {
+        name: b"in",
+        bytes: b"others",
+    },
+    LentFile {
+        name: b"",
+        bytes: b"",
+    },
+];
+
+// Shows that a desk reads what is lent to it, fails where a file isn't there, and reads what was written before what is lent.
+fn reads_what_is_lent<R: Abort + Alloc<A = Global>, D: Desk>(rt: &R, desk: &mut D) {
+    let alloc = rt.alloc();
+    assert!(rt; reads(alloc, desk, "none", 9, Err(ReadEnd::Fault)));
+    assert!(rt; reads(alloc, desk, "in", 9, Ok(b"bytes")));
+    assert!(rt; reads(alloc, desk, "", 9, Ok(b"")));
+    assert!(rt; write(desk, "in", b"wri", b"tt", b"en") == Ok(()));
+    assert!(rt; reads(alloc, desk, "in", 9, Ok(b"written")));
+    assert!(rt; say(desk, b"said") == Ok(()));
+}
+
+#[test]
+fn lent_desk_over_three_files(rt: HostRuntime) -> Result<(), Fail> {
+    let mut desk = LentDesk::new(rt.alloc(), &LENT);
+    assert!(rt; desk.write(b"lost") == Ok(4));
+    reads_what_is_lent(&rt, &mut desk);
+    assert!(rt; desk.file("in") == Some(b"written".as_slice()));
+    assert!(rt; desk.file("none").is_none());
+    assert!(rt; desk.said() == b"said".as_slice());
+    Ok(())
+}

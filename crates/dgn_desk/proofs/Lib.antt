@@ -1,2 +1,3 @@
 pub mod FileMaps
 pub mod Numbered
+mod LentFiles

@@ -1,3 +1,4 @@
 pub mod FileMap
+pub mod LentDesk
 pub mod NumberedDesk
 pub mod PieceDesk

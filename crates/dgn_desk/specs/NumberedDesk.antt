@@ -1,7 +1,7 @@
 -- A desk of memory whose calls are numbered from 0 together, and of which some are to fail: what it
 -- holds, how many bytes a call moves at most, the numbers of the calls that are to fail, the calls so far, and its two counts
 -- of faults.
-use Rattle.std.specs.Prelude.{ℕ, ◌≡◌, ◌+◌, ◌-◌, ◌^◌, ◌==◌, min, nat_le, List, [], ◌∷◌, ◌++◌, length, is_some, Bool, true, false, not, if◌then◌else◌, Result}
+use Rattle.std.specs.Prelude.{ℕ, ◌≡◌, ◌-◌, ◌^◌, ◌==◌, min, nat_le, List, [], ◌∷◌, ◌++◌, length, is_some, Bool, true, false, not, if◌then◌else◌, Result}
 use Rattle.std.specs.Prelude.{Ok, Err, refl}
 use Rattle.std.specs.List.{list_any}
 use Rattle.std.specs.Coded.{Coded, code_by, coded×, coded_ℕ, coded_list}

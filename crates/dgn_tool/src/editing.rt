@@ -22,7 +22,6 @@ use edit_script::Command;
 use elem_index::Design;
 use host_desk::{Desk, Stop};
 use std::alloc::Global;
-use std::mem::ManuallyDrop;
 
 // Reads IN, SCRIPT and the second files of its imports, runs the commands, says what each of them says, and writes OUT.
 pub(crate) fn edit<D: Desk>(
@@ -42,12 +41,7 @@ pub(crate) fn edit<D: Desk>(
                 commands,
                 mut seconds,
             },
-        ) => {
-            let ended = run_script(alloc, desk, design, &commands, &mut seconds, output);
-            // As with the session below.
-            let _kept = ManuallyDrop::new(commands);
-            End::of(ended)
-        }
+        ) => End::of(run_script(alloc, desk, design, &commands, &mut seconds, output)),
         Err(end) => end,
     }
 }
@@ -68,11 +62,7 @@ fn run_script<D: Desk>(
         desk.old desk.new result }
 {
     let mut session = Session::start(alloc, design)?;
-    let ended = finish(alloc, desk, &mut session, commands, seconds, output);
-    // The program ends with its run, and the system then takes all memory at once: what is kept of each edit needn't be
-    // gone over once more.
-    let _kept = ManuallyDrop::new(session);
-    ended
+    finish(alloc, desk, &mut session, commands, seconds, output)
 }
 
 // Runs the commands and writes OUT.

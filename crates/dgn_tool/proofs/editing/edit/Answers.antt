@@ -16,7 +16,7 @@ returns-in-Ok g c =
     let d = opened_of inputs.design in
     let vs = waiting inputs.seconds.items in
     let o = c.args.output.now in
-    let ran = c.run_script-ended in
+    let ran = c.run_script in
     then_comes c.in-Ok.ensures.read (HasAll c.args.input.now c.args.script.now) (AllInBytes c.args.input.now c.args.script.now)
     (λ files. run_outcome c.args.input.now c.args.script.now files (λ x gs. edited x gs o)) (edited d (given_all inputs.commands.items vs) o)
     ran.result c.of.result

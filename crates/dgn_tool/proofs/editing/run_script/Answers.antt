@@ -20,7 +20,7 @@ returns g c =
     let d = opened_of c.args.design in
     let cs = given_all c.args.commands.now (waiting c.args.seconds.now.items) in
     let v = c.in_ok-session.session in
-    named_so (edited d cs c.args.output.now) (edited_from (state_of v) v.tail cs c.args.output.now) c.finish-ended.result _ _
+    named_so (edited d cs c.args.output.now) (edited_from (state_of v) v.tail cs c.args.output.now) c.finish.result _ _
     (ap (λ (s : State). edited_from s d.tail cs c.args.output.now) (sym c.in_ok-session.ensures.begun)
     ∙ ap (λ (t : List ℕ). edited_from (state_of v) t cs c.args.output.now) (sym (ap (λ (x : SessionValue). x.tail) c.in_ok-session.ensures.value)))
-    c.finish-ended.ensures
+    c.finish.ensures

@@ -1,0 +1,3 @@
+pub mod FilesWritten
+pub mod HandedOut
+pub mod TextWords

@@ -1,0 +1,71 @@
+ghost use Rattle.std.specs.Prelude.{◌≡◌, ◌≤◌, [], map, string_bytes, length, Some, None};
+ghost use Rattle.std.specs.Option.{option_copied};
+ghost use Rattle.dgn_desk.specs.LentDesk.{lent_files};
+ghost use Rattle.dgn_files.specs.Ended.{ended};
+ghost use Rattle.dgn_files.specs.Request.{request_of};
+ghost use Rattle.dgn_files.specs.declared.status.Status.TheVariants as statuses;
+ghost use Rattle.dgn_tool.specs.Outcome.{outcome, HasFiles};
+ghost use Rattle.dgnedit_lib.specs.Handing.{HandsOut, put_in};
+ghost use Rattle.dgnedit_lib.specs.Writing.{bytes_at, name_written, has_written, last_of_four};
+
+use crate::ended::Ended;
+use dgn_desk::{LentDesk, LentFile};
+use dgn_files::Status;
+use dgn_tool::run;
+use std::alloc::Global;
+
+// Runs the program with these words over these files.
+pub(crate) fn run_over(
+    alloc: Global,
+    words: &[String],
+    files: &[LentFile<'_>],
+    text: &mut [u8],
+    file: &mut [u8],
+) -> Ended
+    ensures outcome { ¬ (result.status ≡ 5) → ¬ (result.status ≡ 7)
+        → HandsOut (outcome (map string_bytes words.now) (lent_files files.now)) result
+        (record { text_before = text.old; text_after = text.new; file_before = file.old; file_after = file.new }) }
+    ensures missing { result.status ≡ 5 → HandsOut (ended statuses.ReadFault []) result
+        (record { text_before = text.old; text_after = text.new; file_before = file.old; file_after = file.new })
+        × ¬ HasFiles (request_of (map string_bytes words.now)) (lent_files files.now) }
+    ensures memory { result.status ≡ 7 → HandsOut (ended statuses.Memory []) result
+        (record { text_before = text.old; text_after = text.new; file_before = file.old; file_after = file.new }) }
+{
+    let mut desk = LentDesk::new(alloc, files);
+    let status = run(alloc, words, &mut desk);
+    if matches!(status, Status::ReadFault | Status::Memory) {
+        return Ended::with_text(status, 0);
+    }
+    let ended = Ended::with_text(status, put_in(text, desk.said()));
+    match written(words, status, &desk) {
+        Some(bytes) => Ended {
+            file_length: put_in(file, bytes),
+            file_written: true,
+            ..ended
+        },
+        None => ended,
+    }
+}
+
+// The file that a run with these words wrote which ended so: the one that the last of four words names.
+fn written<'a>(words: &[String], status: Status, desk: &'a LentDesk<'_>) -> Option<&'a [u8]>
+    ensures { option_copied result
+        ≡ bytes_at (name_written (has_written status) (last_of_four (map string_bytes words.now))) desk.now.content.files }
+{
+    match (words, status) {
+        ([_, _, _, output], Status::Done | Status::SomeRefused) => desk.file(output.as_str()),
+        _ => None,
+    }
+}
+
+// Puts bytes into the front of a buffer, where it has room for them; how many bytes there are.
+fn put_in(buffer: &mut [u8], bytes: &[u8]) -> usize
+    ensures count { result ≡ length bytes.now }
+    ensures put { buffer.new ≡ put_in bytes.now buffer.old }
+{
+    let length = bytes.len();
+    if length <= buffer.len() {
+        buffer[..length].copy_from_slice(bytes);
+    }
+    length
+}

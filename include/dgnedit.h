@@ -1,0 +1,57 @@
+/* dgnedit as a library: the program over files in memory. `make lib` makes dist/libdgnedit.a, which needs nothing but the C
+   library's malloc, realloc and free. docs/LIBRARY.md has an example, and says what is proved.
+
+   What a caller owes:
+   - Each pointer is valid for so many bytes or entries as the length beside it says, which is below 2^63; where that is 0,
+     the pointer may be any that isn't null.
+   - The two buffers overlap neither each other nor what is handed in, and nobody else writes to any of it during the call.
+   - The call isn't made from a signal handler. Calls on several threads are fine, each with buffers of its own.
+
+   Nothing that the bytes, words and names hold can break the call. It reads and writes no file and prints nothing. */
+
+#ifndef DGNEDIT_H
+#define DGNEDIT_H
+
+#include <stdbool.h>
+#include <stddef.h>
+#include <stdint.h>
+
+#ifdef __cplusplus
+extern "C" {
+#endif
+
+/* Bytes that are handed in. A text is its characters in UTF-8, without a zero at the end. */
+typedef struct dgnedit_bytes {
+    const uint8_t *at;
+    size_t length;
+} dgnedit_bytes;
+
+/* A file that is handed in, by the name that the words or the script's imports use. Of two of one name the first counts. */
+typedef struct dgnedit_file {
+    dgnedit_bytes name;
+    dgnedit_bytes bytes;
+} dgnedit_file;
+
+/* How a run ended. */
+typedef struct dgnedit_ended {
+    size_t text_length;     /* how many bytes the run says */
+    size_t file_length;     /* how many bytes the file has that it writes; 0 where it writes none */
+    uint32_t status;        /* the exit number of the program, as in docs/EDITING.md */
+    bool file_written;      /* whether it writes a file */
+} dgnedit_ended;
+
+/* Runs the program once with the words of its command line, as {"edit", "IN", "SCRIPT", "OUT"}, over the files that are
+   handed in. What it says stands in the front of `text` and the file that it writes, the one of the last word, in the front
+   of `file`, each where all of it has room there; a buffer that is too small stays as it was, the ending says how many bytes
+   there are, and a second call with more room gives them.
+
+   Status 5 says that a file isn't handed in that the run comes to read, and 7 that there is no memory; both then hand out
+   nothing. */
+dgnedit_ended dgnedit_run(const dgnedit_bytes *words, size_t word_count, const dgnedit_file *files, size_t file_count,
+                          uint8_t *text, size_t text_room, uint8_t *file, size_t file_room);
+
+#ifdef __cplusplus
+}
+#endif
+
+#endif
