@@ -19,7 +19,7 @@ BAD = {
     'sym 1 3 32 0': '31',
     'delete 1 2': '1 piece behind',
     'line 1 0 0 0 0,0 1,1,1': 'as many numbers',
-    'shape 1 0 0 0 0,0 1,1': '7 to 105',
+    'shape 1 0 0 0 0,0 1,1': '3 to 101 points, and here are 2',
     'levels': 'at least one level',
     'levels 7-5': 'first is greater',
     'undo 2': '0 pieces',

@@ -18,7 +18,7 @@ from ..page.contents import compared, contents_of, title_of
 from ..page.sheet import MARK, page_of
 from ..explain.refusals import Explainer
 from ..program.script import Script
-from ..propose.writing import write_file
+from ..files import write_file
 
 if TYPE_CHECKING:
     from ..cli import Subparsers

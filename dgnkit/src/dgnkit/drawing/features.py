@@ -5,7 +5,9 @@ from __future__ import annotations
 from typing import Any, Callable, Dict, Iterator, List, Optional, Sequence
 
 from ..format import classes
+from ..waiting import told
 from .drawing import Drawing
+from ..format.colours import spelled
 from ..format.element import Element
 from .geometry import Box
 from ..format.numbers import Point
@@ -24,13 +26,16 @@ class Features:
         self.place: Place = (lambda it: list(units.to_master(it))) if is_master else list
         self.broken_roots = drawing.nesting.broken_roots
         self.scale = 1 / units.in_master if is_master else 1.0
+        self.extent = drawing.extent
+        self.colours = spelled(drawing.colours)
 
     def all(self) -> Iterator[Dict[str, Any]]:
         """The features of all that is drawn, in file order."""
-        dead, covered = self.drawing.dead, -1
-        for element in self.drawing.elements:
+        dead, defined, covered = self.drawing.dead, self.drawing.defined, -1
+        elements = self.drawing.elements
+        for element in told('features', elements, len(elements)):
             number = element.number
-            if number in dead or number <= covered:
+            if number in dead or number in defined or number <= covered or element.is_silent:
                 continue
             geometry = self.geometry(element)
             if geometry is not None:
@@ -50,6 +55,7 @@ class Features:
             'type_name': element.type_name,
             'level': element.level,
             'colour': element.colour,
+            'rgb': self.colours[element.colour],
             'weight': element.weight,
             'style': element.style,
             'text': element.text,
@@ -70,13 +76,24 @@ class Features:
         if element.type in classes.JOINED:
             return self.joined(element)
         if element.type in classes.COUNTED:
-            is_group = self.drawing.nesting.knot(element.number) == 'group' and bool(element.points)
-            return {'type': 'Point', 'coordinates': self.place(element.points[0])} if is_group else None
+            return self.origin(element)
         stored = element.range if element.type in classes.BY_RANGE else None
         if stored is None:
             return None
         (low_x, low_y), (high_x, high_y) = stored[0][:2], stored[1][:2]
         return self.ring(Box(low_x, low_y, high_x, high_y).corners)
+
+    def origin(self, header: Element) -> Geometry:
+        """Where a cell or a text node is: its origin, or the middle of its range where that lies outside of all that is
+        drawn, as GDAL's cells have their origin."""
+        points, extent = header.points, self.extent
+        if self.drawing.nesting.knot(header.number) != 'group' or not points:
+            return None
+        point = points[0]
+        if extent is not None and not all(a <= it <= b for a, it, b in zip(extent[0], point, extent[1])):
+            low, high = header.range or extent
+            point = tuple((a + b) // 2 for a, b in zip(low, high))
+        return {'type': 'Point', 'coordinates': self.place(point)}
 
     def path(self, points: Sequence[Point], is_closed: bool) -> Geometry:
         """A line, or an outline; a point where there is one alone."""
@@ -97,10 +114,16 @@ class Features:
         """The members of a complex chain as lines, and those of a complex shape as one outline, where they meet; none
         where a member is no path."""
         nesting, dead = self.drawing.nesting, self.drawing.dead
-        members = [self.drawing.elements[it] for it in nesting.part(header.number)[1:] if it not in dead]
-        if not members or any(it.type not in classes.VERTICES or not it.points_count for it in members):
+        lines: List[List[Point]] = []
+        for number in nesting.part(header.number)[1:]:
+            member = self.drawing.elements[number]
+            if number in dead:
+                continue
+            if member.type not in classes.VERTICES or not member.points_count:
+                return None
+            lines.append(member.points)
+        if not lines:
             return None
-        lines = [it.points for it in members]
         if header.type == classes.COMPLEX_SHAPE and all(one[-1] == other[0] for one, other in zip(lines, lines[1:])):
             return self.path([*lines[0], *(it for line in lines[1:] for it in line[1:])], True)
         return {'type': 'MultiLineString', 'coordinates': [[self.place(it) for it in line] for line in lines]}

@@ -2,6 +2,7 @@
 
 from __future__ import annotations
 
+from functools import lru_cache
 from typing import List, Optional, Tuple
 
 Colour = Tuple[int, int, int]
@@ -41,6 +42,7 @@ def _octet(bright: int, orange: int, cyan: int) -> List[Colour]:
     ]
 
 
+@lru_cache(maxsize=None)
 def usual_colours() -> List[Colour]:
     """The usual table. Behind the first 16 colours each row of 16 is a row of eight twice, 15 darker than the row
     before it; its last colour is that of the next row already. The last two colours stand for themselves."""
@@ -54,3 +56,28 @@ def usual_colours() -> List[Colour]:
 def spelled(table: Optional[List[Colour]]) -> List[str]:
     """The colours 0 to 255 as `#rrggbb`: those of a drawing's own table, or the usual ones where it has none."""
     return ['#%02x%02x%02x' % colour for colour in table or usual_colours()]
+
+
+NAMES = {
+    (255, 255, 255): 'white',
+    (0, 0, 255): 'blue',
+    (0, 255, 0): 'green',
+    (255, 0, 0): 'red',
+    (255, 255, 0): 'yellow',
+    (255, 0, 255): 'magenta',
+    (255, 127, 0): 'orange',
+    (0, 255, 255): 'cyan',
+    (64, 64, 64): 'dark grey',
+    (192, 192, 192): 'light grey',
+}
+
+
+def name_of(table: Optional[List[Colour]], colour: int) -> str:
+    """What a colour is called, where it has a name: `red` for 3 in the usual table."""
+    return NAMES.get((table or usual_colours())[colour], '')
+
+
+def said(table: Optional[List[Colour]], colour: int) -> str:
+    """A colour in words: its number, its name and its red, green and blue, as `3 (red, #ff0000)`."""
+    name = name_of(table, colour)
+    return '%d (%s)' % (colour, ', '.join([*([name] if name else []), spelled(table)[colour]]))

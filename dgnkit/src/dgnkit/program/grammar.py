@@ -26,6 +26,22 @@ SIGNED = re.compile(r'0|-?[1-9]\d*')
 MODES = ('inside', 'overlap', 'void')
 
 
+# What people look for and the editor has no command for, and what there is for it.
+CAN_NOT = ': dgnedit and dgnkit can not %s'
+ADVICE = {
+    'rotate': CAN_NOT % 'rotate elements',
+    'scale': CAN_NOT % 'scale elements',
+    'mirror': CAN_NOT % 'mirror elements',
+    'rename': ': `dgnkit rename` gives cells another name',
+    'level': ': `dgnkit relevel` puts elements on another level',
+    'relevel': ': `dgnkit relevel` puts elements on another level',
+    'lock': ': `dgnkit lock` locks elements',
+    'unlock': ': `dgnkit unlock` unlocks elements',
+    'undelete': ': `dgnkit undelete` takes deletions back',
+    'retext': ': `dgnkit retext` changes the characters of texts',
+}
+
+
 @dataclass(frozen=True)
 class Kind:
     """A place of a command: what it is, and the least and the greatest number there."""
@@ -63,6 +79,8 @@ class Form:
 
 
 LOOK = ('LV', 'C', 'W', 'S')
+TEXT = Form((*LOOK, 'F', 'J', 'M', 'M', 'P'))  # and then its characters
+IMPORT = Form(('',), 'D', 0, 3)
 FORMS: Dict[str, Form] = {
     'move': Form(('N',), 'D', 2, 3),
     'copy': Form(('N',), 'D', 2, 3),
@@ -92,6 +110,16 @@ OWN_FORMS = ('text', 'import', 'levels')  # commands whose pieces have rules of 
 LISTS = {name: form.end for name, form in FORMS.items() if form.end}
 
 
+def kinds_of(words: Sequence[str]) -> List[str]:
+    """What each piece of a line is, the command's name first; nothing of a piece that is none of it, as the characters
+    of a text."""
+    if not words:
+        return []
+    form = TEXT if words[0] == 'text' else IMPORT if words[0] == 'import' else FORMS.get(words[0], Form(()))
+    kinds = ['', *form.kinds, *[form.more] * (len(words) - 1 - len(form.kinds))]
+    return kinds[: len(words)]
+
+
 def fault_of(line: bytes) -> Optional[str]:
     """What makes a line bad, in words, or none where it is a command, a comment or empty."""
     bare = line.strip(b' ')
@@ -115,12 +143,14 @@ def fault_of(line: bytes) -> Optional[str]:
 def _no_command(word: str) -> str:
     if word.lower() in FORMS or word.lower() in OWN_FORMS:
         return '%r is no command: they are written in small letters' % word
-    return '%r is no command' % word
+    return '%r is no command' % word + ADVICE.get(word.lower(), '')
 
 
 def _fault_of_form(name: str, form: Form, words: List[str]) -> Optional[str]:
     least, most = len(form.kinds) + form.least, None if form.most is None else len(form.kinds) + form.most
     if len(words) < least or (most is not None and len(words) > most):
+        if form.more == 'P' and len(words) >= len(form.kinds):
+            return _fault_of_count(name, form, len(words) - len(form.kinds))
         span = 'at least %d' % least if most is None else str(least) if least == most else '%d to %d' % (least, most)
         what = 'piece' if span == '1' else 'pieces'
         return '%s has %s %s behind it, and here are %d' % (name, span, what, len(words))
@@ -130,6 +160,11 @@ def _fault_of_form(name: str, form: Form, words: List[str]) -> Optional[str]:
         if fault:
             return fault
     return _fault_of_axes([word for word, kind in zip(words, kinds) if kind == 'P'])
+
+
+def _fault_of_count(name: str, form: Form, count: int) -> str:
+    span = str(form.least) if form.least == form.most else '%d to %d' % (form.least, form.most or 0)
+    return 'a %s has %s points, and here are %d' % ({'string': 'line string'}.get(name, name), span, count)
 
 
 def _fault_of_piece(word: str, kind: str) -> Optional[str]:
@@ -191,7 +226,7 @@ def _fault_of_import(words: List[str]) -> Optional[str]:
 
 
 def _fault_of_text(line: bytes) -> Optional[str]:
-    kinds = (*LOOK, 'F', 'J', 'M', 'M', 'P')
+    kinds = TEXT.kinds
     found = re.match(rb' *text' + rb' +([^ ]+)' * len(kinds), line)
     if not found:
         return 'text has %d pieces before its characters' % len(kinds)

@@ -8,6 +8,7 @@ from typing import Iterable, List, Optional, Sequence, Union
 
 from .answers import Answer, answers_of
 from ..errors import Mistake
+from ..files import read_file
 from ..format.limits import IMPORTS_MOST, NAME_LONGEST, SCRIPT_LONGEST
 
 Change = Optional[int]
@@ -54,10 +55,7 @@ class Script:
     @classmethod
     def read(cls, path: Union[str, Path]) -> Script:
         """The script in a file. It raises Mistake where that can't be read."""
-        try:
-            return cls.from_bytes(Path(path).read_bytes())
-        except OSError as why:
-            raise Mistake('%s: %s' % (path, why.strerror))
+        return cls.from_bytes(read_file(path, SCRIPT_LONGEST))
 
     @property
     def text(self) -> bytes:

@@ -1,0 +1,80 @@
+"""All elements of a drawing as columns of numbers, so that a million of them takes little room. An `Element` is made of
+them when it is asked for."""
+
+from __future__ import annotations
+
+from array import array
+from typing import Iterator, List, Sequence, Union, overload
+
+from .element import Element
+
+BIT_C, DELETED = 1, 2
+YES_NO = (False, True)
+
+
+class Elements(Sequence[Element]):
+    """The elements of a file, each at its number."""
+
+    def __init__(self, data: bytes, axes: int) -> None:
+        self.data, self.axes = data, axes
+        self.offsets, self.sizes = array('I'), array('I')
+        self.types, self.levels, self.marks = bytearray(), bytearray(), bytearray()
+
+    def append(self, offset: int, size: int, kind: int, level: int, has_c: bool, is_deleted: bool) -> None:
+        """Appends an element."""
+        self.offsets.append(offset)
+        self.sizes.append(size)
+        self.types.append(kind)
+        self.levels.append(level)
+        self.marks.append(BIT_C * has_c + DELETED * is_deleted)
+
+    def __len__(self) -> int:
+        return len(self.offsets)
+
+    @overload
+    def __getitem__(self, place: int) -> Element:
+        ...
+
+    @overload
+    def __getitem__(self, place: slice) -> List[Element]:
+        ...
+
+    def __getitem__(self, place: Union[int, slice]) -> Union[Element, List[Element]]:
+        if isinstance(place, slice):
+            return [self[it] for it in range(*place.indices(len(self)))]
+        at = place + len(self) if place < 0 else place
+        mark = self.marks[at]
+        return Element(
+            at,
+            self.offsets[at],
+            self.sizes[at],
+            self.types[at],
+            self.levels[at],
+            YES_NO[mark & BIT_C],
+            mark >= DELETED,
+            self.data,
+            self.axes,
+        )
+
+    def __iter__(self) -> Iterator[Element]:
+        data, axes = self.data, self.axes
+        rows = zip(self.offsets, self.sizes, self.types, self.levels, self.marks)
+        for number, (offset, size, kind, level, mark) in enumerate(rows):
+            yield Element(number, offset, size, kind, level, YES_NO[mark & BIT_C], mark >= DELETED, data, axes)
+
+    @property
+    def end(self) -> int:
+        """Where the last element ends."""
+        return self.offsets[-1] + self.sizes[-1]
+
+    def with_c(self) -> List[int]:
+        """The numbers of the elements with bit C, but for element 0."""
+        return [number for number, mark in enumerate(self.marks) if mark & BIT_C and number]
+
+    def deleted(self) -> List[int]:
+        """The numbers of the elements that are marked deleted themselves."""
+        return [number for number, mark in enumerate(self.marks) if mark & DELETED]
+
+    def of_types(self, kinds: frozenset[int]) -> Iterator[int]:
+        """The numbers of the elements of some types."""
+        return (number for number, kind in enumerate(self.types) if kind in kinds)
