@@ -33,6 +33,7 @@ ORDER = (
 ).split()
 ENDED = 2  # the status of what can't be done
 STOPPED = 130
+LONGEST = 700  # signs of a line that says why
 SIGNALS = ('SIGTERM', 'SIGHUP')
 
 
@@ -98,7 +99,7 @@ def ended(why: Exception) -> int:
         drop_output()
         return ENDED
     try:
-        note('dgnkit: ' + reason_of(why))
+        note('dgnkit: ' + shortened(reason_of(why)))
         if not isinstance(why, (Mistake, *EXPECTED)) and sys.stderr is not None:
             traceback.print_exception(type(why), why, why.__traceback__)
     except (OSError, ValueError):
@@ -106,6 +107,11 @@ def ended(why: Exception) -> int:
     if isinstance(why, OSError) and why.filename is None:
         drop_output()
     return ENDED
+
+
+def shortened(text: str) -> str:
+    """A line that isn't too long to be read: of a longer one the front and the end."""
+    return text if len(text) <= LONGEST else '%s .. %s' % (text[: LONGEST // 2], text[-LONGEST // 2 :])
 
 
 EXPECTED = (OSError, MemoryError, RecursionError, ValueError, OverflowError)

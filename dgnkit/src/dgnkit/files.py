@@ -8,7 +8,7 @@ import os
 import stat
 import tempfile
 from pathlib import Path
-from typing import IO, Dict, Set, Tuple, Union
+from typing import IO, Dict, Iterable, Set, Tuple, Union
 
 from .errors import Mistake
 from .format.limits import DRAWING_LONGEST
@@ -102,7 +102,7 @@ def write_files(contents: Dict[str, bytes]) -> None:
             if os.path.exists(name) and not os.path.isfile(name):
                 Path(name).write_bytes(content)  # a device, as /dev/stdout
             else:
-                made[name] = _beside(Path(name), content)
+                made[name] = _beside(Path(name), [content])
         for name in list(made):
             os.replace(made[name], name)
             del made[name]
@@ -113,12 +113,30 @@ def write_files(contents: Dict[str, bytes]) -> None:
             os.unlink(left)
 
 
-def _beside(place: Path, content: bytes) -> str:
+def write_pieces(path: Name, pieces: Iterable[bytes]) -> None:
+    """Writes a file of pieces as above, without all of them in memory at once."""
+    ask_target(path)
+    try:
+        if os.path.exists(path) and not os.path.isfile(path):
+            with open(path, 'wb') as file:
+                file.writelines(pieces)
+            return
+        made = _beside(Path(path), pieces)
+        try:
+            os.replace(made, path)
+        except BaseException:
+            os.unlink(made)
+            raise
+    except (OSError, ValueError) as why:
+        raise mistake_of(path, why)
+
+
+def _beside(place: Path, pieces: Iterable[bytes]) -> str:
     """Writes a file of another name beside a place, and gives that name."""
     handle, name = tempfile.mkstemp(prefix='.dgnkit-', dir=str(place.parent))
     try:
         with os.fdopen(handle, 'wb') as file:
-            file.write(content)
+            file.writelines(pieces)
         os.chmod(name, 0o666 & ~_mask())
     except BaseException:
         os.unlink(name)

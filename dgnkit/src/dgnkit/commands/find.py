@@ -9,7 +9,6 @@ from ..drawing.conditions import Conditions, add_conditions
 from ..drawing.drawing import Drawing
 from ..errors import Mistake
 from ..explain.members import parts_said
-from ..format.colours import name_of, spelled
 from ..format.element import Element
 from ..format.units import shortest
 from ..output import counted, note, say, say_csv, say_json, table
@@ -89,8 +88,8 @@ def row_of(conditions: Conditions, element: Element) -> Dict[str, Any]:
         'type_name': element.type_name,
         'level': element.level,
         'colour': colour,
-        'colour_name': None if colour is None else name_of(drawing.colours, colour),
-        'rgb': None if colour is None else spelled(drawing.colours)[colour],
+        'colour_name': None if colour is None else drawing.palette.names[colour],
+        'rgb': None if colour is None else drawing.palette.spelled[colour],
         'weight': None if element.is_silent else element.weight,
         'style': None if element.is_silent else element.style,
         'text': element.text,
@@ -139,7 +138,7 @@ def cells_of(conditions: Conditions, element: Element) -> List[object]:
     standing += ['broken'] if roots[number] in conditions.broken_roots else []
     looks: List[object] = [''] * 3
     if not element.is_silent:
-        colour = ('%d %s' % (element.colour, name_of(drawing.colours, element.colour))).rstrip()
+        colour = ('%d %s' % (element.colour, drawing.palette.names[element.colour])).rstrip()
         looks = [colour, element.weight, element.style]
     distance = []
     if conditions.nearness is not None:

@@ -3,16 +3,16 @@
 from __future__ import annotations
 
 import argparse
-import io
 import json
 import re
 import sys
-from typing import TYPE_CHECKING, Optional, TextIO
+from dataclasses import dataclass
+from typing import TYPE_CHECKING, Iterator, Optional
 
 from ..drawing.drawing import Drawing
 from ..drawing.features import Features
 from ..errors import Mistake
-from ..files import write_file
+from ..files import write_pieces
 from ..format.places import Scale
 from ..output import note
 
@@ -37,15 +37,15 @@ def run(arguments: argparse.Namespace) -> int:
     drawing = Drawing(arguments.drawing)
     scale = Scale(drawing.units, arguments.units)
     features = Features(drawing, scale.is_master, arguments.members)
+    count = Count()
+    lines = lines_of(features, system, count)
     if arguments.output:
-        made = io.StringIO()
-        count = write(features, system, made)
-        write_file(arguments.output, made.getvalue().encode('utf-8'))
+        write_pieces(arguments.output, (it.encode('ascii') for it in lines))
     elif sys.stdout is None:
         raise OSError('standard output is closed')
     else:
-        count = write(features, system, sys.stdout)
-    note('%d features in %s' % (count, scale.name))
+        sys.stdout.writelines(lines)
+    note('%d features in %s' % (count.features, scale.name))
     if system is None:
         note('no system of coordinates is named: a reader may take the places for degrees; name it by --crs EPSG:CODE')
     return 0
@@ -61,13 +61,19 @@ def system_of(word: Optional[str]) -> Optional[str]:
     return 'urn:ogc:def:crs:EPSG::' + found[2]
 
 
-def write(features: Features, system: Optional[str], out: TextIO) -> int:
-    """Writes a collection, a feature a line, and gives their number. Without a system it says that none is known."""
+@dataclass
+class Count:
+    """How many features were written."""
+
+    features: int = 0
+
+
+def lines_of(features: Features, system: Optional[str], count: Count) -> Iterator[str]:
+    """The lines of a collection, one for each feature. Without a system it says that none is known."""
     crs = None if system is None else {'type': 'name', 'properties': {'name': system}}
-    out.write('{"type": "FeatureCollection", "crs": %s, "features": [' % json.dumps(crs))
-    count = 0
+    yield '{"type": "FeatureCollection", "crs": %s, "features": [' % json.dumps(crs)
+    encode = json.JSONEncoder().encode
     for feature in features.all():
-        out.write(('\n' if count == 0 else ',\n') + json.dumps(feature))
-        count += 1
-    out.write('\n]}\n')
-    return count
+        yield ('\n' if count.features == 0 else ',\n') + encode(feature)
+        count.features += 1
+    yield '\n]}\n'

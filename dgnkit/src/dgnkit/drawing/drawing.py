@@ -10,7 +10,7 @@ from typing import Dict, Iterable, List, Optional, Set, Tuple
 from ..errors import BadDesign, ListingError, Mistake
 from ..files import mistake_of, read_drawing
 from ..format import classes
-from ..format.colours import Colour
+from ..format.colours import Colour, Palette
 from ..format.elements import Elements
 from ..format.limits import PLANE_HIGH, PLANE_LOW
 from ..format.numbers import Point
@@ -188,6 +188,11 @@ class Drawing:
                 colours = [(table[at], table[at + 1], table[at + 2]) for at in range(0, len(table), 3)]
                 return colours[1:] + colours[:1]
         return None
+
+    @cached_property
+    def palette(self) -> Palette:
+        """What each colour is and is called."""
+        return Palette(self.colours)
 
     @cached_property
     def dead(self) -> Set[int]:

@@ -7,7 +7,6 @@ from typing import Any, Callable, Dict, Iterator, List, Optional, Sequence
 from ..format import classes
 from ..waiting import told
 from .drawing import Drawing
-from ..format.colours import spelled
 from ..format.element import Element
 from .geometry import Box
 from ..format.numbers import Point
@@ -27,7 +26,7 @@ class Features:
         self.broken_roots = drawing.nesting.broken_roots
         self.scale = 1 / units.in_master if is_master else 1.0
         self.extent = drawing.extent
-        self.colours = spelled(drawing.colours)
+        self.colours = drawing.palette.spelled
 
     def all(self) -> Iterator[Dict[str, Any]]:
         """The features of all that is drawn, in file order."""

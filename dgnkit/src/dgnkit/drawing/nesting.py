@@ -14,7 +14,7 @@ from ..program.answers import Answer
 from ..program.listings import Node, nodes_of
 from ..program.script import Script
 
-FIRST = 1024  # so many trees of what has bit C are asked for at first
+FIRST = 8  # so many trees of what has bit C are asked for at first
 
 
 @dataclass
@@ -75,13 +75,13 @@ class Nesting:
         """What an element is in its tree: leaf, group, run or loose."""
         return self.knots.get(number, 'leaf')
 
-    @property
+    @cached_property
     def broken(self) -> List[int]:
         """The broken elements: loose headers and orphans."""
         loose = {number for number, knot in self.knots.items() if knot == 'loose'}
         return sorted(loose | self.orphans)
 
-    @property
+    @cached_property
     def broken_roots(self) -> Set[int]:
         """The roots whose trees hold a broken element; no edit of these trees is accepted."""
         return {self.roots[it] for it in self.broken}

@@ -6,7 +6,6 @@ from dataclasses import dataclass, field
 from typing import Any, Callable, Dict, List, Optional, Sequence, Set
 
 from ..format import classes
-from ..format.colours import said
 from .aligning import Pair, agree, aligned
 from ..drawing.drawing import Drawing
 from ..format.element import Element, described
@@ -77,7 +76,7 @@ class _Comparison:
     """What differs between two elements of one type and size."""
 
     def __init__(self, drawing: Drawing, old: Element, new: Element) -> None:
-        self.units, self.colours, self.old, self.new = drawing.units, drawing.colours, old, new
+        self.units, self.palette, self.old, self.new = drawing.units, drawing.palette, old, new
         self.made = Difference(old.number, new.number, described(old))
         a, b = old.content, new.content
         self.places: Set[int] = {it for it in range(len(a)) if a[it] != b[it]}
@@ -127,7 +126,7 @@ class _Comparison:
 
     def look_said(self, name: str, values: Sequence[int]) -> List[str]:
         """A look before and after, colours with their names."""
-        return [said(self.colours, it) if name == 'colour' else str(it) for it in values]
+        return [self.palette.said(it) if name == 'colour' else str(it) for it in values]
 
     def characters(self) -> None:
         """The characters of a text, and their number."""

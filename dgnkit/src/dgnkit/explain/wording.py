@@ -5,7 +5,6 @@ from __future__ import annotations
 from typing import Callable, Dict, List
 
 from ..drawing.drawing import Drawing
-from ..format.colours import said
 from ..format.element import described
 from ..output import counted, printable
 
@@ -39,12 +38,12 @@ def _copied(drawing: Drawing, words: Words) -> str:
 
 
 def _coloured(drawing: Drawing, words: Words) -> str:
-    return 'colour ' + said(drawing.colours, int(words[0]))
+    return 'colour ' + drawing.palette.said(int(words[0]))
 
 
 def _looks(drawing: Drawing, words: Words) -> str:
     looks = [it for it in zip(('colour', 'weight', 'style'), words) if it[1] != '-']
-    names = ['%s %s' % (name, said(drawing.colours, int(it)) if name == 'colour' else it) for name, it in looks]
+    names = ['%s %s' % (name, drawing.palette.said(int(it)) if name == 'colour' else it) for name, it in looks]
     return ', '.join(names) or 'nothing changes'
 
 

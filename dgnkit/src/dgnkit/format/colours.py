@@ -2,7 +2,6 @@
 
 from __future__ import annotations
 
-from functools import lru_cache
 from typing import List, Optional, Tuple
 
 Colour = Tuple[int, int, int]
@@ -42,7 +41,6 @@ def _octet(bright: int, orange: int, cyan: int) -> List[Colour]:
     ]
 
 
-@lru_cache(maxsize=None)
 def usual_colours() -> List[Colour]:
     """The usual table. Behind the first 16 colours each row of 16 is a row of eight twice, 15 darker than the row
     before it; its last colour is that of the next row already. The last two colours stand for themselves."""
@@ -51,11 +49,6 @@ def usual_colours() -> List[Colour]:
         bright, orange = 240 - 15 * row, 122 - 5 * row
         table += _octet(bright, orange, bright) + _octet(bright, orange, bright - 15)
     return table[: 256 - len(LAST)] + LAST
-
-
-def spelled(table: Optional[List[Colour]]) -> List[str]:
-    """The colours 0 to 255 as `#rrggbb`: those of a drawing's own table, or the usual ones where it has none."""
-    return ['#%02x%02x%02x' % colour for colour in table or usual_colours()]
 
 
 NAMES = {
@@ -72,12 +65,16 @@ NAMES = {
 }
 
 
-def name_of(table: Optional[List[Colour]], colour: int) -> str:
-    """What a colour is called, where it has a name: `red` for 3 in the usual table."""
-    return NAMES.get((table or usual_colours())[colour], '')
+class Palette:
+    """The colours 0 to 255 of a drawing: those of its own table, or the usual ones where it has none."""
 
+    def __init__(self, own: Optional[List[Colour]]) -> None:
+        table = own or usual_colours()
+        self.spelled = ['#%02x%02x%02x' % colour for colour in table]
+        self.names = [NAMES.get(colour, '') for colour in table]
 
-def said(table: Optional[List[Colour]], colour: int) -> str:
-    """A colour in words: its number, its name and its red, green and blue, as `3 (red, #ff0000)`."""
-    name = name_of(table, colour)
-    return '%d (%s)' % (colour, ', '.join([*([name] if name else []), spelled(table)[colour]]))
+    def said(self, colour: int) -> str:
+        """A colour in words: its number, its name where it has one, and its red, green and blue, as in
+        `3 (red, #ff0000)`."""
+        name = self.names[colour]
+        return '%d (%s)' % (colour, ', '.join([*([name] if name else []), self.spelled[colour]]))

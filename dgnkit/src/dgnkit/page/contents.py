@@ -9,7 +9,6 @@ from ..format import classes
 from ..drawing.drawing import Drawing
 from ..output import counted
 from .changes import Change, rows_of
-from ..format.colours import spelled
 from .columns import Columns, Writer, signature
 
 
@@ -23,7 +22,7 @@ def contents_of(drawing: Drawing) -> Dict[str, Any]:
         'units': units_of(drawing),
         'origin': [float(value) for value in drawing.units.origin[: drawing.axes]],
         'types': {kind: classes.type_name(kind) for kind in drawing.type_counts},
-        'colours': spelled(drawing.colours),
+        'colours': drawing.palette.spelled,
         'ownColours': drawing.colours is not None,
         'before': Writer(drawing).write(range(len(drawing.elements))),
         'after': None,

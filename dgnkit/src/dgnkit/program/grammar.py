@@ -23,6 +23,7 @@ from ..format.limits import (
 
 PLAIN = re.compile(r'0|[1-9]\d*')
 SIGNED = re.compile(r'0|-?[1-9]\d*')
+DIGITS_MOST = 20  # no number that may stand in a script has more
 MODES = ('inside', 'overlap', 'void')
 
 
@@ -183,7 +184,7 @@ def _fault_of_number(word: str, kind: Kind) -> Optional[str]:
     if not (SIGNED if kind.low < 0 else PLAIN).fullmatch(word):
         why = ' (a number does not begin with 0 or +, and there is no -0)' if re.fullmatch(r'[-+]?\d+', word) else ''
         return '%r is not %s from %d to %d%s' % (word, kind.what, kind.low, kind.high, why)
-    if not kind.low <= int(word) <= kind.high:
+    if len(word) > DIGITS_MOST or not kind.low <= int(word) <= kind.high:
         return '%s is not from %d to %d, as %s is' % (word, kind.low, kind.high, kind.what)
     return None
 
