@@ -82,7 +82,7 @@ class Merge(samples.WithProgram):
         self.assertIn('3 axes', self.refused(flat, solid))
         arc = sheet((5, 0, 0), drawings.element(16, 1, 72))
         self.assertIn('arc 1 on level 1 can not (floating)', self.refused(flat, arc))
-        self.assertIn('visible signs', self.refused(flat, sheet((0, 0, 0)), 'a b.dgn'))
+        self.assertIn('a_b.dgn', self.refused(flat, sheet((0, 0, 0)), 'a b.dgn'))
 
     def test_a_dry_run_writes_nothing(self) -> None:
         a, b = self.put('a.dgn', sheet((0, 0, 0), drawings.line())), self.put(

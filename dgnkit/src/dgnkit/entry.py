@@ -13,7 +13,9 @@ def command() -> NoReturn:
     try:
         open_streams()
         from .cli import main
+        from .waiting import watch
 
+        watch()
         status = main()
     except KeyboardInterrupt:
         pass

@@ -16,6 +16,7 @@ from .output import note
 Item = TypeVar('Item')
 
 QUIET = 2.0  # so many seconds nothing is said
+OFTEN = 10.0
 PATIENCE = 5.0  # so many seconds a search may take
 STEP = 4096
 
@@ -39,27 +40,35 @@ def stopped_after(what: str, seconds: float = PATIENCE) -> Iterator[None]:
         signal.signal(signal.SIGALRM, kept)
 
 
-class Progress:
-    """Says on standard error how far something is, from two seconds on, and then once in two seconds."""
+class Work:
+    """What a command is at, which `watch` says where it takes long."""
 
-    def __init__(self, what: str, count: int) -> None:
-        self.what, self.count = what, count
-        self.last = time.monotonic()
+    at = 'still at work'
 
-    def at(self, done: int) -> None:
-        """So many are done."""
-        now = time.monotonic()
-        if now - self.last >= QUIET:
-            self.last = now
-            note('%s: %d of %d' % (self.what, done, self.count))
+
+def doing(what: str) -> None:
+    """Keeps in mind what the command is at."""
+    Work.at = what
+
+
+def watch() -> None:
+    """Says on standard error what the command is at, from two seconds on, and then once in ten seconds."""
+    began = time.monotonic()
+
+    def look() -> None:
+        time.sleep(QUIET)
+        while True:
+            note('%s, for %d seconds now' % (Work.at, time.monotonic() - began))
+            time.sleep(OFTEN)
+
+    threading.Thread(target=look, daemon=True).start()
 
 
 def told(what: str, items: Iterable[Item], count: int) -> Iterator[Item]:
-    """The same items, with a word on progress where it takes long."""
-    progress = Progress(what, count)
+    """The same items; how far they are is kept in mind."""
     for done, item in enumerate(items):
-        if done % STEP == 0 and done:
-            progress.at(done)
+        if done % STEP == 0:
+            doing('%s: %d of %d' % (what, done, count))
         yield item
 
 

@@ -8,6 +8,7 @@ from typing import TYPE_CHECKING, Callable, List, Sequence
 
 from ..drawing.conditions import Conditions, add_conditions, has_conditions
 from ..drawing.drawing import Drawing
+from ..drawing.nothing import nothing_said
 from ..errors import Mistake
 from ..explain.members import parts_said
 from ..output import counted, few, note, printable, say
@@ -48,7 +49,11 @@ def run_edit(arguments: argparse.Namespace, word: Word) -> int:
     if word.asks and not has_conditions(arguments):
         raise Mistake('which elements? give at least one condition, as --level 12')
     drawing = Drawing(arguments.drawing)
-    made = word.edit(drawing, taken(Conditions(drawing, arguments), word.takes_parts), arguments)
+    conditions = Conditions(drawing, arguments)
+    numbers = taken(conditions, word.takes_parts)
+    if not numbers:
+        note(nothing_said(conditions))
+    made = word.edit(drawing, numbers, arguments)
     note_left(made.left)
     words = [printable(it.in_words()) for it in made.changes]
     said = 'would be changed' if arguments.dry_run else 'changed'

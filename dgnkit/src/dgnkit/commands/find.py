@@ -6,6 +6,7 @@ import argparse
 from typing import TYPE_CHECKING, Any, Dict, List, Sequence
 
 from ..drawing.conditions import Conditions, add_conditions
+from ..drawing.nothing import nothing_said
 from ..drawing.drawing import Drawing
 from ..errors import Mistake
 from ..explain.members import parts_said
@@ -57,6 +58,8 @@ def run(arguments: argparse.Namespace) -> int:
         for said in parts_said(drawing, chosen, TOLD):
             note(said)
     note('found %d of %s' % (len(chosen), counted(len(drawing.elements), 'element')))
+    if not chosen:
+        note(nothing_said(conditions))
     return 0
 
 

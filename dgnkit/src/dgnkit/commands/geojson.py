@@ -72,8 +72,7 @@ def lines_of(features: Features, system: Optional[str], count: Count) -> Iterato
     """The lines of a collection, one for each feature. Without a system it says that none is known."""
     crs = None if system is None else {'type': 'name', 'properties': {'name': system}}
     yield '{"type": "FeatureCollection", "crs": %s, "features": [' % json.dumps(crs)
-    encode = json.JSONEncoder().encode
     for feature in features.all():
-        yield ('\n' if count.features == 0 else ',\n') + encode(feature)
+        yield ('\n' if count.features == 0 else ',\n') + feature
         count.features += 1
     yield '\n]}\n'

@@ -92,7 +92,7 @@ def facts_of(name: str, program: Program, arguments: argparse.Namespace) -> Tupl
         'end_mark': bool(drawing.tail),
         'behind': bytes_behind(drawing),
         'deleted': len(elements.deleted()),
-        'locked': sum(it.is_locked for it in elements),
+        'locked': elements.locked_count(),
     }
     facts['found'] = bool(findings_said(facts))
     return facts, scale

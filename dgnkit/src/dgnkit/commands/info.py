@@ -73,7 +73,7 @@ def facts_of(drawing: Drawing, has_lengths: bool = False) -> Dict[str, Any]:
         'extent': None if extent is None else extent_facts(units, extent),
         'elements': len(elements),
         'deleted': len(elements.deleted()),
-        'locked': sum(it.is_locked for it in elements),
+        'locked': elements.locked_count(),
         'references': len(drawing.references),
         'reference_files': [
             {'element': it.number, 'deleted': it.is_deleted, 'names': names_in(elements[it.number])}

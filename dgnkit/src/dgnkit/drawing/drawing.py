@@ -12,7 +12,6 @@ from ..files import mistake_of, read_drawing
 from ..format import classes
 from ..format.colours import Colour, Palette
 from ..format.elements import Elements
-from ..format.limits import PLANE_HIGH, PLANE_LOW
 from ..format.numbers import Point
 from ..format.tcb import KIND_SAID
 from ..format.tcb import SIZE as TCB_SIZE
@@ -32,6 +31,8 @@ from ..program.listings import (
 )
 from ..program.runs import Name, Program
 from ..program.script import Script
+from ..waiting import doing
+from .extents import extent_of
 from .nesting import Nesting, read_nesting
 from .reach import Rows
 
@@ -93,6 +94,7 @@ class Drawing:
     def elements(self) -> Elements:
         """All elements, each at its number."""
         made = self.program.elements(self.path, self.data, self.axes)
+        doing('%s is read, which has %d elements' % (self.path, len(made)))
         self._ask_unchanged()
         return made
 
@@ -107,16 +109,21 @@ class Drawing:
         return [item_of(line) for line in self.listed(Script().show())[0].lines]
 
     @cached_property
+    def _asked(self) -> List[Answer]:
+        """What `audit` and `refs` list, asked in one run, since each run reads the whole file."""
+        return self.listed(Script().audit().refs())
+
+    @cached_property
     def findings(self) -> List[Finding]:
         """The elements whose stored range isn't what they hold."""
-        made = findings_of(self.listed(Script().audit())[0].lines)
+        made = findings_of(self._asked[0].lines)
         self._ask_numbers(it.number for it in made)
         return made
 
     @cached_property
     def references(self) -> List[Reference]:
         """The elements that may attach a reference file."""
-        made = references_of(self.listed(Script().refs())[0].lines)
+        made = references_of(self._asked[1].lines)
         self._ask_numbers(it.number for it in made)
         return made
 
@@ -214,19 +221,8 @@ class Drawing:
     def extent(self) -> Optional[Tuple[Point, Point]]:
         """The least box that holds what is drawn, none where nothing is: by the stored ranges of all live elements that
         are drawn by themselves, or their hulls where an audit finds that these are others."""
-        hulls = {it.number: (*it.hull_low, *it.hull_high) for it in self.findings}
-        dead, defined, axes = self.dead, self.defined, self.axes
-        lows, highs = [PLANE_HIGH + 1] * axes, [PLANE_LOW - 1] * axes
-        for element in self.elements:
-            number = element.number
-            if element.type not in classes.DRAWN or number in dead or number in defined:
-                continue
-            if element.type in classes.VERTICES and not element.has_points:
-                continue
-            corners = hulls.get(number) or element.corners
-            for axis in range(axes):
-                if corners[axis] < lows[axis]:
-                    lows[axis] = corners[axis]
-                if corners[axis + axes] > highs[axis]:
-                    highs[axis] = corners[axis + axes]
-        return (tuple(lows), tuple(highs)) if lows[0] <= PLANE_HIGH else None
+        hulls = {it.number: (it.hull_low, it.hull_high) for it in self.findings if self._is_drawn(it.number)}
+        return extent_of(self.elements, self.dead | self.defined, hulls)
+
+    def _is_drawn(self, number: int) -> bool:
+        return self.elements.types[number] in classes.DRAWN

@@ -9,10 +9,10 @@ from fractions import Fraction
 from typing import List, Optional, Tuple
 
 from . import classes, radix50
-from .numbers import OFFSET, Point, long_at, longs_at, points_of, word_at
+from .numbers import OFFSET, Point, long_at, longs_at, points_at, word_at
 
 LINKED = 0x0800
-LOCKED = 0x0100
+LOCK_BYTE = 33  # the high byte of the properties, whose lowest bit says locked
 RANGE = struct.Struct('<12H')
 RANGE_XY = struct.Struct('<4H4x4H')
 Bounds = Tuple[int, int, int, int]
@@ -81,7 +81,7 @@ class Element:
     @property
     def is_locked(self) -> bool:
         """Whether the element is locked."""
-        return bool(self.properties & LOCKED)
+        return self.type in classes.LOUD and bool(self.data[self.offset + LOCK_BYTE] & 1)
 
     @property
     def group(self) -> int:
@@ -133,8 +133,7 @@ class Element:
         place = self.points_place
         if place is None:
             return []
-        at = self.offset + place
-        return points_of(longs_at(self.data, at, self.points_count * self.axes), self.axes)
+        return points_at(self.data, self.offset + place, self.points_count, self.axes)
 
     @property
     def points_count(self) -> int:
@@ -202,7 +201,7 @@ class Element:
         if self.type != classes.TEXT:
             return None
         width, height = self.multipliers
-        return float(width * TEXT_UNIT), float(height * TEXT_UNIT)
+        return width * TEXT_UNIT.numerator / TEXT_UNIT.denominator, height * TEXT_UNIT.numerator / TEXT_UNIT.denominator
 
     @property
     def text_angle(self) -> Optional[float]:

@@ -4,9 +4,11 @@ them when it is asked for."""
 from __future__ import annotations
 
 from array import array
+from itertools import accumulate
 from typing import Iterator, List, Sequence, Union, overload
 
-from .element import Element
+from . import classes
+from .element import LOCK_BYTE, Element
 
 BIT_C, DELETED = 1, 2
 YES_NO = (False, True)
@@ -20,13 +22,13 @@ class Elements(Sequence[Element]):
         self.offsets, self.sizes = array('I'), array('I')
         self.types, self.levels, self.marks = bytearray(), bytearray(), bytearray()
 
-    def append(self, offset: int, size: int, kind: int, level: int, has_c: bool, is_deleted: bool) -> None:
-        """Appends an element."""
-        self.offsets.append(offset)
-        self.sizes.append(size)
-        self.types.append(kind)
-        self.levels.append(level)
-        self.marks.append(BIT_C * has_c + DELETED * is_deleted)
+    def extend(self, sizes: Sequence[int], types: bytes, levels: bytes, marks: bytes) -> None:
+        """Appends elements behind the last one; their marks are sums of BIT_C and DELETED."""
+        self.offsets.extend(accumulate(sizes[:-1], initial=self.end))
+        self.sizes.extend(sizes)
+        self.types += types
+        self.levels += levels
+        self.marks += marks
 
     def __len__(self) -> int:
         return len(self.offsets)
@@ -65,7 +67,7 @@ class Elements(Sequence[Element]):
     @property
     def end(self) -> int:
         """Where the last element ends."""
-        return self.offsets[-1] + self.sizes[-1]
+        return self.offsets[-1] + self.sizes[-1] if self.offsets else 0
 
     def with_c(self) -> List[int]:
         """The numbers of the elements with bit C, but for element 0."""
@@ -74,6 +76,12 @@ class Elements(Sequence[Element]):
     def deleted(self) -> List[int]:
         """The numbers of the elements that are marked deleted themselves."""
         return [number for number, mark in enumerate(self.marks) if mark & DELETED]
+
+    def locked_count(self) -> int:
+        """How many elements are locked."""
+        data = self.data
+        loud = bytes(kind in classes.LOUD for kind in range(256))
+        return sum(data[at + LOCK_BYTE] & 1 for at, kind in zip(self.offsets, self.types) if loud[kind])
 
     def of_types(self, kinds: frozenset[int]) -> Iterator[int]:
         """The numbers of the elements of some types."""

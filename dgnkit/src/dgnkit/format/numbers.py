@@ -46,6 +46,15 @@ def points_of(numbers: Sequence[int], axes: int) -> List[Point]:
     return list(zip(*(numbers[axis::axes] for axis in range(axes))))
 
 
+def points_at(data: bytes, place: int, count: int, axes: int) -> List[Point]:
+    """So many points of longs, one behind the other."""
+    if axes == 3:
+        return points_of(longs_at(data, place, 3 * count), 3)
+    words = struct.unpack_from('<' + 'hHhH' * count, data, place)
+    columns = words[0::4], words[1::4], words[2::4], words[3::4]
+    return [(a * 65536 + b, c * 65536 + d) for a, b, c, d in zip(*columns)]
+
+
 def vax_double_at(data: bytes, place: int) -> Fraction:
     """A VAX D double, exactly: four words, the most significant first, each with its low byte first; a sign, 8 bits of
     exponent in excess of 128, and a fraction from a half to 1 whose highest bit isn't kept."""

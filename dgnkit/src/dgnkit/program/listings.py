@@ -9,7 +9,7 @@ from typing import Callable, Dict, Iterable, List, Optional, Pattern, Sequence, 
 
 from ..format.classes import MOST as TYPE_MOST
 from ..format.element import decoded
-from ..format.elements import Elements
+from ..format.elements import BIT_C, DELETED, Elements
 from ..format.limits import LEVEL_MOST
 from ..errors import ListingError
 from ..format.numbers import Point
@@ -22,6 +22,7 @@ ROW = re.compile(rb'^\d{1,10} \d{1,10} \d{1,10} \d{1,3} \d{1,3} [c-][d-]\n', re.
 NO_ROW = re.compile(rb'^[^0-9]', re.M)
 COUNTS = re.compile(r'(level|type) (\d+) (\d+)')
 PIECE = 1 << 20
+MARKS = {b'--': 0, b'c-': BIT_C, b'-d': DELETED, b'cd': BIT_C + DELETED}
 END = b'\xff\xff'
 ITEM = re.compile(r'(\d+) (\d+) (\d+) (\d+) (\d+) (\d+) (\d+) (path|text|box|cell|node|group)(?: (.*))?', re.S)
 PATH = re.compile(r'%s(?: %s)*' % (POINT, POINT))
@@ -116,15 +117,20 @@ def elements_of(said: bytes, data: bytes, axes: int) -> Elements:
     for start in range(0, end, PIECE):
         piece = said[_line_end(said, start, end) : _line_end(said, start + PIECE, end)]
         ask_rows(piece)
-        words = piece.split()
-        numbers, offsets, sizes = (map(int, words[it::6]) for it in range(3))
-        kinds, levels, marks = map(int, words[3::6]), map(int, words[4::6]), words[5::6]
-        for number, offset, size, kind, level, mark in zip(numbers, offsets, sizes, kinds, levels, marks):
-            if number != len(made) or (made.end if number else 0) != offset or kind > TYPE_MOST or level > LEVEL_MOST:
-                raise ListingError('dgnedit listed element %d at byte %d, where it can not be' % (number, offset))
-            made.append(offset, size, kind, level, mark[:1] == b'c', mark[1:] == b'd')
+        take_rows(made, piece.split())
     ask_whole(made, said[end:].decode('latin-1').split('\n')[:-1])
     return made
+
+
+def take_rows(made: Elements, words: Sequence[bytes]) -> None:
+    """Takes the rows of these words in, six a row."""
+    numbers, offsets, sizes, types, levels = ([int(it) for it in words[at::6]] for at in range(5))
+    first = len(made)
+    if max(types, default=0) > TYPE_MOST or max(levels, default=0) > LEVEL_MOST:
+        raise ListingError('dgnedit listed a type or a level that there is not')
+    made.extend(sizes, bytes(types), bytes(levels), bytes([MARKS[it] for it in words[5::6]]))
+    if numbers != list(range(first, len(made))) or offsets != made.offsets[first:].tolist():
+        raise ListingError('dgnedit listed elements that do not stand one behind the other')
 
 
 def _line_end(said: bytes, start: int, end: int) -> int:

@@ -15,6 +15,7 @@ from .answers import Answer
 from .listings import elements_of
 from ..errors import ListingError, MissingProgram, ending_of
 from ..format.elements import Elements
+from ..waiting import doing
 from .script import Script
 
 Name = Union[str, Path]
@@ -61,6 +62,7 @@ class Program:
     def run(self, *words: Name, given: Optional[bytes] = None) -> Run:
         """Runs it with these words, and with these bytes on its standard input."""
         command = [self.path, *map(str, words)]
+        doing('dgnedit is at work on %s' % words[1] if len(words) > 1 else 'dgnedit is at work')
         try:
             ran = subprocess.run(command, input=b'' if given is None else given, stdout=subprocess.PIPE)
         except OSError as why:

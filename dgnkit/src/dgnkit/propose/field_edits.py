@@ -11,12 +11,11 @@ from typing import List, Optional, Sequence, Tuple
 from ..drawing.changes import Change
 from ..drawing.drawing import Drawing
 from ..format import classes
-from ..format.element import Element
+from ..format.element import LOCK_BYTE, Element
 from ..format.radix50 import name_of
 from ..errors import Mistake
 
 NAME_PLACE = 38  # where a cell's name stands
-LOCK_BYTE = 33  # the high byte of the properties, whose lowest bit says locked
 SILENT = 'their types have no level of a drawing and no lock'
 IS_LOCKED = 'they are locked (`dgnkit unlock` unlocks)'
 
