@@ -134,7 +134,7 @@ def tell_outside(drawing: Drawing, scale: Scale, spots: Sequence[Spot]) -> None:
     low, high = extent
     far = [it for it in spots if not all(a <= at <= b for a, at, b in zip(low, it.point[:2], high))]
     if far:
-        said = 'outside of what is drawn (%s to %s) are %d of %d places, in the rows %s: the first is %s'
+        said = 'outside of what is drawn (%s to %s): %d of %d places, rows %s, the first at %s'
         corners = scale.place_said(low, False), scale.place_said(high)
         rows = few([it.row.line for it in far])
         note(said % (*corners, len(far), len(spots), rows, scale.place_said(far[0].point)))
