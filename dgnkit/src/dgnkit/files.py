@@ -59,12 +59,14 @@ def note_read(facts: os.stat_result) -> None:
 
 
 def front_of(path: Name, count: int) -> bytes:
-    """The first bytes of a file, none where it can't be read."""
+    """The first bytes of a file, none where there is none that may be read. It raises Mistake where reading fails."""
     try:
         with open(path, 'rb') as file:
             return file.read(count)
-    except (OSError, ValueError):
+    except (FileNotFoundError, IsADirectoryError, NotADirectoryError, PermissionError, ValueError):
         return b''
+    except OSError as why:
+        raise mistake_of(path, why)
 
 
 def mistake_of(path: Name, why: Exception) -> Mistake:
@@ -81,7 +83,14 @@ def ask_target(path: Name) -> None:
         return
     if (facts.st_dev, facts.st_ino) in READ and stat.S_ISREG(facts.st_mode):
         raise Mistake('%s is read, and is not written over: name another file' % printable(str(path)))
-    if stat.S_ISREG(facts.st_mode) and kind_of(front_of(path, 4)) in ('design', 'v8', 'library'):
+    if not stat.S_ISREG(facts.st_mode):
+        return
+    try:
+        with open(path, 'rb') as file:
+            kind = kind_of(file.read(4))
+    except OSError as why:
+        raise mistake_of(path, why)
+    if kind in ('design', 'v8', 'library'):
         raise Mistake('%s is a drawing, and is not written over' % printable(str(path)))
 
 
