@@ -41,6 +41,11 @@ def long_bytes(value: int) -> bytes:
     return struct.pack('<HH', value >> 16, value & 0xFFFF)
 
 
+def range_bytes(value: int) -> bytes:
+    """The bytes of a range number."""
+    return long_bytes(value + OFFSET)
+
+
 def points_of(numbers: Sequence[int], axes: int) -> List[Point]:
     """Points of so many axes, out of their coordinates one behind the other."""
     return list(zip(*(numbers[axis::axes] for axis in range(axes))))

@@ -14,7 +14,7 @@ from ..drawing.drawing import Drawing
 from ..errors import Mistake
 from ..format.element import Element
 from ..format.limits import BYTE_MOST, POINTS_MOST, is_on_plane
-from ..format.numbers import OFFSET, Point, long_bytes
+from ..format.numbers import Point, long_bytes, range_bytes
 from ..format.patch import Patch
 from ..format.places import Scale, decimal_of
 from ..program.script import Script
@@ -151,7 +151,7 @@ def text_change(element: Element, wish: Wish) -> Change:
         raise wish.row.mistake('its text would reach beyond the design plane')
     edits: Dict[int, int] = {}
     for place, corner in ((LOW, low), (HIGH, high)):
-        put(edits, element, place, b''.join(long_bytes(it + OFFSET) for it in corner))
+        put(edits, element, place, b''.join(range_bytes(it) for it in corner))
     put(edits, element, ROTATION, rotation_bytes(element.axes, angle))
     return Change(element, edits, ['turned by %s degrees' % wish.angle])
 
