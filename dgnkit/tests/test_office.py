@@ -50,6 +50,33 @@ class Runs(samples.WithProgram):
             self.assertFalse(os.path.exists(out))
         self.assertEqual([it for it in self.folder.iterdir() if it.name.startswith('.')], [])
 
+    def test_a_number_with_a_point_is_said_in_units_of_resolution(self) -> None:
+        metric = (100, 10, ('m', 'cm'), (-1000, 500, 0))
+        path = self.put('in.dgn', with_units(drawings.drawing(drawings.line()), *metric))
+        for line, word in [
+            ('move 1 2.5 0', '2.5 m is 2500 here'),
+            ('line 1 0 0 0 1.5,2 3,4', '1.5,2 m is 500,2500 here'),
+            ('text 1 0 0 0 1 0 2.5 2.5 0,0 AB', 'a text of 2.5 m has the multiplier 416667'),
+        ]:
+            self.assertIn(word, self.said('why', path, self.put('s', line + '\n'), status=1))
+
+    def test_lists_as_csv(self) -> None:
+        valve, script = self.example('valve.dgn'), self.put('s', 'color 9 3\ncolor 1 3\n')
+        broken = self.put('b.dgn', drawings.DRAWINGS['a complex chain of the line 2, with bit C'])
+
+        def rows(*words: object, status: int = 0) -> List[Dict[str, str]]:
+            return list(csv.DictReader(io.StringIO(self.said(*words, '--csv', status=status))))
+
+        self.assertEqual([it['level'] for it in rows('info', valve)], ['8', '10', '11'])
+        self.assertEqual([it['broken_trees'] for it in rows('health', valve, broken, status=1)], ['0', '1'])
+        self.assertEqual([it['cause'] for it in rows('why', valve, script, status=1)], ['unknown 9'])
+        self.assertEqual([it['step'] for it in rows('run', valve, script, self.path('o.dgn'), status=1)], [script])
+        self.assertEqual([it['after'] for it in rows('diff', valve, self.path('o.dgn'), status=1)], ['1'])
+        self.assertEqual([it['becomes'] for it in rows('mend', broken, '--dry-run')], ['mended'])
+        self.assertEqual(
+            [it['status'] for it in rows('each', script, valve, '--into', self.path('n'), status=1)], ['1']
+        )
+
     def test_the_next_name_is_none_that_is_there(self) -> None:
         valve = self.example('valve.dgn')
         names = []

@@ -132,6 +132,19 @@ class AsAProcess(samples.WithProgram):
         self.assertEqual(sorted(it.name for it in self.folder.iterdir() if it.name.startswith('.')), [])
         return child.returncode
 
+    def test_what_takes_long_says_so(self) -> None:
+        slow = self.put('slow', '#!/bin/sh\nsleep 3\nexec %s "$@"\n' % samples.PROGRAM)
+        os.chmod(slow, 0o755)
+        valve = self.example('valve.dgn')
+        ran = subprocess.run(
+            self.words('find', valve, '--numbers', '--level', '10'),
+            env=self.place(DGNEDIT=slow),
+            stdout=subprocess.PIPE,
+            stderr=subprocess.PIPE,
+        )
+        self.assertEqual((ran.returncode, ran.stdout), (0, b'1\n2\n'))
+        self.assertIn('dgnedit is at work on %s, for 2 seconds now' % valve, ran.stderr.decode())
+
     def test_signals_leave_nothing(self) -> None:
         for number in (signal.SIGINT, signal.SIGTERM, signal.SIGHUP):
             self.assertEqual(self.stopped(number, 0), 130, number)

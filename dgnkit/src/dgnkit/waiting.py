@@ -44,6 +44,12 @@ class Work:
     """What a command is at, which `watch` says where it takes long."""
 
     at = 'still at work'
+    is_told = False  # whether the command says itself how far it is
+
+
+def tells_itself() -> None:
+    """Keeps in mind that the command says itself how far it is."""
+    Work.is_told = True
 
 
 def doing(what: str) -> None:
@@ -58,7 +64,9 @@ def watch() -> None:
     def look() -> None:
         time.sleep(QUIET)
         while True:
-            note('%s, for %d seconds now' % (Work.at, time.monotonic() - began))
+            if not Work.is_told:
+                with contextlib.suppress(OSError, ValueError):
+                    note('%s, for %d seconds now' % (Work.at, time.monotonic() - began))
             time.sleep(OFTEN)
 
     threading.Thread(target=look, daemon=True).start()

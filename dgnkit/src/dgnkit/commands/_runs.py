@@ -21,6 +21,7 @@ from ..program.runs import Program
 from ..program.script import Script
 
 Told = Dict[str, Any]
+HEAD = ['line', 'command', 'cause', 'why']  # what is told of a refused line
 
 
 def is_patch(name: str) -> bool:

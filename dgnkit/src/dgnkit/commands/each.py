@@ -21,7 +21,7 @@ from ..program.answers import answers_of
 from ..program.many import run_all
 from ..program.runs import Program, lines_of
 from ..program.script import Script
-from ..waiting import is_terminal
+from ..waiting import is_terminal, tells_itself
 from ._runs import is_patch, on_disk
 
 if TYPE_CHECKING:
@@ -58,6 +58,7 @@ def register(words: Subparsers) -> None:
 def run(arguments: argparse.Namespace) -> int:
     """The status is 1 where a drawing wasn't written, or a command was refused."""
     program = Program.find()
+    tells_itself()
     jobs = number_of(arguments.jobs, 'number of jobs', JOBS_MOST)
     if jobs < 1:
         raise Mistake('--jobs is at least 1')

@@ -13,7 +13,7 @@ from ..drawing.drawing import Drawing
 from ..format.element import described
 from ..drawing.mending import mending_of
 from ..errors import Mistake
-from ..output import counted, note, printable, say, say_json
+from ..output import counted, note, say, say_csv, say_json
 from ..files import write_file
 from ..propose.writing import applied, patch_of, propose_patch
 
@@ -26,7 +26,9 @@ def register(words: Subparsers) -> None:
     parser.add_argument('drawing', metavar='IN')
     parser.add_argument('patch', metavar='PATCH', nargs='?', default='', help='none is wanted with --dry-run')
     parser.add_argument('--dry-run', action='store_true', help='say what it would do, and write nothing')
-    parser.add_argument('--json', action='store_true', help='say it as JSON')
+    form = parser.add_mutually_exclusive_group()
+    form.add_argument('--json', action='store_true', help='say it as JSON')
+    form.add_argument('--csv', action='store_true', help='say it as CSV')
     parser.set_defaults(run=run)
 
 
@@ -35,19 +37,23 @@ def run(arguments: argparse.Namespace) -> int:
         raise Mistake('name the patch file that is to be written: dgnkit mend %s PATCH' % arguments.drawing)
     drawing = Drawing(arguments.drawing)
     mending = mending_of(drawing)
-    words = [printable(it.in_words()) for it in mending.changes]
+    words = [it.in_words() for it in mending.changes]
     after = broken_after(drawing, mending.changes)
+    before = len(drawing.nesting.broken_roots)
     if arguments.json:
         mended = [{'element': it.element.number, 'words': it.in_words()} for it in mending.changes]
         left = [{'element': it.element.number, 'why': it.why} for it in mending.left]
-        say_json({'mended': mended, 'left': left, 'before': len(drawing.nesting.broken_roots), 'after': after})
+        say_json({'mended': mended, 'left': left, 'before': before, 'after': after})
+    elif arguments.csv:
+        rows = [[it.element.number, 'mended', it.in_words()] for it in mending.changes]
+        say_csv(['element', 'becomes', 'words'], [*rows, *([it.element.number, 'left', it.why] for it in mending.left)])
     else:
         for line in words:
             say(line)
     for it in mending.left:
-        note(printable('left: %s: %s' % (described(it.element), it.why)))
-    if not arguments.json:
-        say('%s before, %d after' % (counted(len(drawing.nesting.broken_roots), 'broken tree'), after))
+        note('left: %s: %s' % (described(it.element), it.why))
+    if not arguments.json and not arguments.csv:
+        say('%s before, %d after' % (counted(before, 'broken tree'), after))
         propose_patch(drawing, mending.changes, [], arguments.patch, arguments.dry_run)
     elif not arguments.dry_run:
         patch = patch_of(drawing, mending.changes)

@@ -11,9 +11,9 @@ from typing import TYPE_CHECKING, List
 from ..drawing.drawing import Drawing
 from ..errors import Mistake
 from ..files import mistake_of, put_in_place
-from ..output import counted, say, say_json, say_raw
+from ..output import counted, say, say_csv, say_json, say_raw
 from ..program.runs import Program
-from ._runs import Step, on_disk
+from ._runs import HEAD, Step, on_disk
 
 if TYPE_CHECKING:
     from ..cli import Subparsers
@@ -27,7 +27,9 @@ def register(words: Subparsers) -> None:
     parser.add_argument('drawing', metavar='IN')
     parser.add_argument('steps', metavar='SCRIPT', nargs='+', help='scripts and patch files, in their order')
     parser.add_argument('out', metavar='OUT', help='the drawing that is written')
-    parser.add_argument('--json', action='store_true', help='say it as JSON')
+    form = parser.add_mutually_exclusive_group()
+    form.add_argument('--json', action='store_true', help='say it as JSON')
+    form.add_argument('--csv', action='store_true', help='say the refused lines as CSV')
     parser.set_defaults(run=run)
 
 
@@ -84,6 +86,12 @@ def deliver(made: str, out: str) -> None:
 def tell(arguments: argparse.Namespace, steps: List[Step]) -> None:
     if arguments.json:
         say_json([{'step': name, 'said': it.end, 'refused': it.refused} for name, it in zip(arguments.steps, steps)])
+        return
+    if arguments.csv:
+        rows = [
+            [name, *(it[word] for word in HEAD)] for name, step in zip(arguments.steps, steps) for it in step.refused
+        ]
+        say_csv(['step', *HEAD], rows)
         return
     for name, step in zip(arguments.steps, steps):
         for line in (line for answer in step.answers for line in answer.lines):

@@ -10,12 +10,10 @@ from ..drawing.drawing import Drawing
 from ..errors import Mistake
 from ..output import say, say_csv, say_json
 from ..program.runs import NOWHERE, Program
-from ._runs import Step, Told, on_disk
+from ._runs import HEAD, Step, Told, on_disk
 
 if TYPE_CHECKING:
     from ..cli import Subparsers
-
-HEAD = ['line', 'command', 'cause', 'why']
 
 
 def register(words: Subparsers) -> None:

@@ -23,6 +23,7 @@ from ..format.limits import (
 
 PLAIN = re.compile(r'0|[1-9]\d*')
 SIGNED = re.compile(r'0|-?[1-9]\d*')
+BYTE_ORDER_MARK = b'\xef\xbb\xbf'
 DIGITS_MOST = 20  # no number that may stand in a script has more
 MODES = ('inside', 'overlap', 'void')
 
@@ -126,6 +127,8 @@ def fault_of(line: bytes) -> Optional[str]:
     bare = line.strip(b' ')
     if not bare or bare.startswith(b'#'):
         return None
+    if line.startswith(BYTE_ORDER_MARK):
+        return 'it begins with a byte order mark, which is no part of a script: save it without one'
     words = [it.decode('latin-1') for it in bare.split(b' ') if it]
     if '\t' in bare.decode('latin-1').split('\n')[0] and words[0] != 'text':
         return 'it holds a tab, which is no blank'
