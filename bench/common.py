@@ -8,6 +8,11 @@ import tempfile
 import time
 from typing import Callable, List, Optional, Sequence, Tuple
 
+sys.path.insert(0, os.path.join(os.path.dirname(os.path.dirname(os.path.abspath(__file__))), 'dgnkit', 'src'))
+
+from dgnkit.format.numbers import long_bytes, range_bytes  # noqa: E402
+
+long, offset_long = long_bytes, range_bytes
 Point = Tuple[int, int]
 
 SIZE = 67108864
@@ -15,15 +20,6 @@ ROUNDS = 5
 TCB = bytes([8, 9, 0xFE, 2]) + bytes(1532)
 END = b'\xff\xff'
 DATA = bytes([0, 0x80, 1, 0, 0, 0, 0, 0, 0, 0, 0, 0])  # attribute data: a linkage and a rest
-
-
-def long(value: int) -> bytes:
-    value &= 0xFFFFFFFF
-    return struct.pack('<HH', value >> 16, value & 0xFFFF)
-
-
-def offset_long(value: int) -> bytes:
-    return long(value + 0x80000000)
 
 
 def line(x: int, data: bytes = b'') -> bytes:

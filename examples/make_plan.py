@@ -10,10 +10,19 @@ such valve on it (2, of the lines 3 and 4). docs/FORMAT.md has the rules."""
 from __future__ import annotations
 
 import os
+import shutil
 import struct
 import sys
 from collections.abc import Sequence
 
+# dgnkit stands beside this folder in the sources; the file that is installed of it is the package too
+sys.path.append(os.path.join(os.path.dirname(os.path.dirname(os.path.abspath(__file__))), 'dgnkit', 'src'))
+sys.path.append(shutil.which('dgnkit') or '.')
+
+from dgnkit.format.numbers import long_bytes, range_bytes  # noqa: E402
+from dgnkit.format.radix50 import words_of  # noqa: E402
+
+long, range_number = long_bytes, range_bytes
 Point = Sequence[int]
 
 BORDER = [(0, 0), (4000, 0), (4000, 3000), (0, 3000), (0, 0)]
@@ -21,17 +30,6 @@ WALLS = [(800, 900), (2600, 900), (2600, 1500), (2000, 1500), (2000, 2200), (800
 DOOR = [(1200, 900), (1500, 1200)]
 PIPE = [(0, 600), (1000, 500), (3000, 650), (4000, 400)]
 LOCKED = 0x0100
-
-
-def long(value: int) -> bytes:
-    """A long: the high word first, and in each word the low byte first."""
-    value &= 0xFFFFFFFF
-    return struct.pack('<HH', value >> 16, value & 0xFFFF)
-
-
-def range_number(value: int) -> bytes:
-    """The same order, without sign, of the number and 2147483648."""
-    return long(value + 0x80000000)
 
 
 def display(
@@ -68,19 +66,10 @@ def text(level: int, origin: Point, characters: bytes) -> bytes:
     return display(17, level, origin, origin, behind)
 
 
-def radix(signs: str) -> bytes:
-    """A word of three signs, each a capital letter or a blank."""
-    value = 0
-    for sign in signs:
-        value = value * 40 + (0 if sign == ' ' else ord(sign) - ord('A') + 1)
-    return struct.pack('<H', value)
-
-
 def cell(level: int, name: str, origin: Point, low: Point, high: Point, members: bytes) -> bytes:
     """A cell header of type 2 and its members, whose words from the total's end on it counts."""
-    name = name.ljust(6)
     total = (92 + len(members) - 38) // 2
-    behind = struct.pack('<H', total) + radix(name[:3]) + radix(name[3:]) + bytes(42)
+    behind = struct.pack('<3H', total, *words_of(name)) + bytes(42)
     return display(2, level, low, high, behind + long(origin[0]) + long(origin[1])) + members
 
 

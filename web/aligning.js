@@ -3,7 +3,7 @@
 
 import { byteString } from './byte_strings.js';
 import { isEqual } from './drawing.js';
-import { matching } from './matching.js';
+import { matching, matchingOfMany } from './matching.js';
 
 const MANY = 1000000;             // more pairs than that aren't compared one by one
 
@@ -127,12 +127,13 @@ function zip(olds, news) {
     return olds.map((old, at) => [old, news[at]]);
 }
 
-/** Pairs of elements of one type and size, by the longest rows of such; of very many they are paired in their order, up
-    to the first that doesn't agree. */
+/** Pairs of elements of one type and size, by the longest rows of such; of very many by the fewest that come and go,
+    or, where these are very many too, in their order up to the first that doesn't agree. */
 function byKind(first, second, olds, news) {
     const kinds = [[first, olds], [second, news]].map(([drawing, numbers]) => (
         numbers.map((it) => drawing.records.type[it] * 262144 + drawing.records.size[it])));
-    const pairs = olds.length * news.length > MANY ? agreeing(...kinds) : matching(kinds[0], kinds[1]);
+    const pairs = olds.length * news.length > MANY ? matchingOfMany(kinds[0], kinds[1]) || agreeing(kinds[0], kinds[1])
+        : matching(kinds[0], kinds[1]);
     const made = [];
     let old = 0, now = 0;
     for (const [oldAt, newAt] of [...pairs, [olds.length, news.length]]) {

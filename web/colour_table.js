@@ -54,6 +54,21 @@ function ownColours(bytes, offsets, records) {
     return null;
 }
 
+const COLOUR_NAMES = Object.freeze({
+    '#ffffff': 'white', '#0000ff': 'blue', '#00ff00': 'green', '#ff0000': 'red', '#ffff00': 'yellow',
+    '#ff00ff': 'magenta', '#ff7f00': 'orange', '#00ffff': 'cyan', '#404040': 'dark grey', '#c0c0c0': 'light grey',
+});
+
+/**
+ * A colour in words: its number, its name where it has one, and its red, green and blue, as in `3 (red, #ff0000)`.
+ * @param {string[]} table
+ * @param {number} colour
+ */
+export function colourSaid(table, colour) {
+    const spelled = table[colour], name = COLOUR_NAMES[spelled];
+    return colour + ' (' + (name ? name + ', ' : '') + spelled + ')';
+}
+
 /**
  * The colours 0 to 255 as `#rrggbb`, and whether they are the drawing's own.
  * @param {Uint8Array} bytes

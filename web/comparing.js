@@ -1,11 +1,13 @@
 /* What became of each element between two drawings, in words. */
 
 import { pairsOf } from './aligning.js';
+import { colourSaid } from './colour_table.js';
 import { counted, described, quoted } from './describing.js';
 import { isEqual } from './drawing.js';
 import { fieldName, pointsSpan } from './fields.js';
-import { CLASS, CLASS_OF, FLAG } from './format.js';
+import { CLASS, CLASS_OF, FLAG, TYPE } from './format.js';
 import { longAt, rangeNumberAt, wordAt } from './numbers.js';
+import { cellName } from './radix50.js';
 import { charactersAt, textPlace } from './reading.js';
 import { decoded } from './texts.js';
 import { shiftSaid } from './units.js';
@@ -70,6 +72,7 @@ function changeOf(first, second, before, after) {
 class Comparison {
     constructor(first, second, before, after) {
         this.units = first.units;
+        this.palette = first.colours.table;
         this.axes = first.axes;
         this.type = first.records.type[before];
         this.isSilent = CLASS_OF[this.type] === CLASS.silent;
@@ -87,7 +90,7 @@ class Comparison {
     }
 
     difference() {
-        for (const step of ['marks', 'looks', 'characters', 'total', 'place', 'range', 'points', 'rest']) {
+        for (const step of ['marks', 'looks', 'characters', 'name', 'total', 'place', 'range', 'points', 'rest']) {
             if (this.places.size > 0) {
                 this[step]();
             }
@@ -135,7 +138,8 @@ class Comparison {
         if (this.isSilent || !this.take(34, 36)) {
             return;
         }
-        const [olds, news] = [this.old, this.new].map((it) => [it[35], it[34] >> 3, it[34] & 7]);
+        const [olds, news] = [this.old, this.new].map((it) => (
+            [colourSaid(this.palette, it[35]), it[34] >> 3, it[34] & 7]));
         this.words.push(['colour', 'weight', 'style'].map((name, at) => name + ' ' + olds[at] + ' to ' + news[at])
             .filter((_, at) => olds[at] !== news[at]).join(', '));
     }
@@ -151,6 +155,14 @@ class Comparison {
             this.take(start - 2, start - 1);
             this.take(start, start + Math.max(one.length, other.length));
             this.words.push('text ' + quoted(decoded(one)) + ' to ' + quoted(decoded(other)));
+        }
+    }
+
+    /** The name of a cell. */
+    name() {
+        if (this.type === TYPE.cell && this.take(38, 42)) {
+            const [old, made] = [this.old, this.new].map((it) => cellName(wordAt(it, 38), wordAt(it, 40)));
+            this.words.push('name ' + old + ' to ' + made);
         }
     }
 

@@ -44,3 +44,62 @@ function longest(olds, places, [oldLow, oldHigh, newLow, newHigh]) {
     }
     return best;
 }
+
+/** So many keys may come and go on a shortest way. */
+const WAY_MOST = 1500;
+
+/**
+ * Pairs of places on a shortest way from one list to another, by what goes and what comes (E. W. Myers, An O(ND)
+ * Difference Algorithm): fast where little differs, however long the lists are. Null where very many come and go.
+ * @param {(string | number)[]} olds
+ * @param {(string | number)[]} news
+ * @returns {[number, number][] | null}
+ */
+export function matchingOfMany(olds, news) {
+    /** By the diagonal, how far the furthest way reaches in the first list. */
+    const ends = new Map([[1, 0]]), kept = [];
+    for (let count = 0; count <= Math.min(WAY_MOST, olds.length + news.length); count++) {
+        kept.push(new Map(ends));
+        for (let diagonal = -count; diagonal <= count; diagonal += 2) {
+            let at = wayStart(ends, diagonal, count);
+            while (at < olds.length && at - diagonal < news.length && olds[at] === news[at - diagonal]) {
+                at++;
+            }
+            ends.set(diagonal, at);
+            if (at >= olds.length && at - diagonal >= news.length) {
+                return walkedBack(kept, olds.length, news.length);
+            }
+        }
+    }
+    return null;
+}
+
+/** Whether the way on a diagonal comes from the one above it, by a key that comes, and not by one that goes. */
+function comesDown(ends, diagonal, count) {
+    return diagonal === -count || (diagonal !== count && ends.get(diagonal - 1) < ends.get(diagonal + 1));
+}
+
+/** Where a way begins on a diagonal: it comes from the one beside that reaches further. */
+function wayStart(ends, diagonal, count) {
+    return comesDown(ends, diagonal, count) ? ends.get(diagonal + 1) : ends.get(diagonal - 1) + 1;
+}
+
+/** The matches on the way to an end, from the ways that were kept of each step. */
+function walkedBack(kept, old, made) {
+    /** @type {[number, number][]} */
+    const pairs = [];
+    for (let count = kept.length - 1; count >= 0; count--) {
+        const ends = kept[count], diagonal = old - made, start = wayStart(ends, diagonal, count);
+        while (old > start && made > start - diagonal) {
+            old--;
+            made--;
+            pairs.push([old, made]);
+        }
+        if (count > 0) {
+            const before = comesDown(ends, diagonal, count) ? diagonal + 1 : diagonal - 1;
+            old = ends.get(before);
+            made = old - before;
+        }
+    }
+    return pairs.reverse();
+}

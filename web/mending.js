@@ -40,31 +40,43 @@ class MendingWalk {
         return this.records.has(number, FLAG.bitC);
     }
 
-    /**
-     * Walks a list of elements, from `start` to before `end`.
-     * @param {number} start
-     * @param {number} end
-     * @param {boolean} isRoot
-     */
-    members(start, end, isRoot) {
-        let at = start;
-        while (at < end) {
-            const type = this.records.type[at];
-            if (isRoot && !this.hasC(at)) {
-                this.loose = [];
+    /** Walks the list of all elements, and those of members, each from a place to before an end. */
+    all() {
+        /**
+         * Lists that are still to be walked, the next one last.
+         * @type {[number, number, boolean][]}
+         */
+        this.lists = [[1, this.drawing.count, true]];
+        while (this.lists.length > 0) {
+            const [at, end, isRoot] = this.lists.pop();
+            if (at < end) {
+                this.element(at, end, isRoot);
             }
-            if (CLASS_OF[type] === CLASS.counted) {
-                at = this.header(at, end, isRoot);
-            } else if (type === 24 || type === 27) {
-                this.orphan(at, isRoot);
-                at = this.behindSpline(at, end);
-            } else if (type === TYPE.definition && isRoot) {
-                this.orphan(at, isRoot);
-                at = this.definition(at, end);
-            } else {
-                this.orphan(at, isRoot);
-                at++;
-            }
+        }
+    }
+
+    /** Lets the walk go on with a list at a place; lists that are given later are walked first. */
+    goOn(at, end, isRoot) {
+        this.lists.push([at, end, isRoot]);
+    }
+
+    /** Walks an element of a list that ends at `end`. */
+    element(at, end, isRoot) {
+        const type = this.records.type[at];
+        if (isRoot && !this.hasC(at)) {
+            this.loose = [];
+        }
+        if (CLASS_OF[type] === CLASS.counted) {
+            this.header(at, end, isRoot);
+        } else if (type === 24 || type === 27) {
+            this.orphan(at, isRoot);
+            this.goOn(this.behindSpline(at, end), end, isRoot);
+        } else if (type === TYPE.definition && isRoot) {
+            this.orphan(at, isRoot);
+            this.definition(at, end);
+        } else {
+            this.orphan(at, isRoot);
+            this.goOn(at + 1, end, isRoot);
         }
     }
 
@@ -77,11 +89,11 @@ class MendingWalk {
         return behind;
     }
 
-    /** Walks what a shared cell definition holds, and gives where it ends. */
+    /** Walks what a shared cell definition holds, and then what stands behind it. */
     definition(at, end) {
         const behind = Math.min(this.runEnds[at + 1], end);
-        this.members(at + 1, behind, false);
-        return behind;
+        this.goOn(behind, end, true);
+        this.goOn(at + 1, behind, false);
     }
 
     /** Tells of an orphan that is no header over counted members. */
@@ -91,18 +103,19 @@ class MendingWalk {
         }
     }
 
-    /** Mends a counted header where it can, walks its members, and gives where they end. */
+    /** Mends a counted header where it can, walks its members, and then what stands behind them. */
     header(number, end, isRoot) {
         const reach = new Reach(this.drawing, number, end);
         const fitting = reach.countOf(reach.total) !== null ? reach.total : reach.fittingTotal();
         const members = fitting === null ? null : reach.countOf(fitting);
         if (members === null) {
-            return this.stayLoose(number, reach, isRoot);
+            this.goOn(this.stayLoose(number, reach, isRoot), end, isRoot);
+            return;
         }
         const behind = number + members + 1;
         this.mend(number, reach, fitting, behind, isRoot && this.hasC(number));
-        this.members(number + 1, behind, false);
-        return behind;
+        this.goOn(behind, end, isRoot);
+        this.goOn(number + 1, behind, false);
     }
 
     /** Makes the change of a header that wants one so that it holds the elements up to `behind`. What is locked stays,
@@ -168,7 +181,7 @@ class MendingWalk {
  */
 export function mendingOf(drawing) {
     const walk = new MendingWalk(drawing);
-    walk.members(1, drawing.count, true);
+    walk.all();
     return { changes: walk.changes, left: walk.left };
 }
 

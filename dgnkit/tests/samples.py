@@ -5,6 +5,7 @@ from __future__ import annotations
 import contextlib
 import io
 import os
+import shlex
 import shutil
 import struct
 import subprocess
@@ -121,6 +122,13 @@ class WithProgram(unittest.TestCase):
         ended, out, err = self.kit(*words)
         self.assertEqual(ended, status, out + err)
         return out
+
+    def then(self, said: str, status: int = 0) -> str:
+        """Runs the command that is to be run next, and gives the drawing that it writes."""
+        words = shlex.split(said.rstrip().split('next: ')[1])
+        self.assertEqual(words[:2], ['dgnkit', 'run'])
+        self.said(*words[1:], status=status)
+        return words[-1]
 
     def ogr(self, *words: object) -> str:
         """What one of GDAL's tools says."""

@@ -64,6 +64,8 @@ class Diff(samples.WithProgram):
         gone = self.edited(self.valve, 'delete 1')
         self.assertEqual(self.changes(self.valve, gone), {1: {'deleted': True}})
         self.assertEqual(self.changes(gone, self.valve), {1: {'deleted': False}})
+        names = self.put('a.dgn', gone), self.put('b.dgn', self.valve)
+        self.assertIn('1 element differs: 1 no longer deleted', self.said('diff', *names, status=1))
 
     def test_appended_and_gone(self) -> None:
         more = self.edited(self.valve, 'copy 2 0 100')

@@ -1,80 +1,71 @@
-"""Boxes of `find` beside the fences of the program, on drawings of small lines, strings, shapes, texts and cells."""
+"""Boxes of `find`: whole trees, as the fence of the program takes them (docs/EDITING.md, Fences)."""
 
-import argparse
-import random
 import unittest
-from typing import List, Tuple
+from typing import List
 
 import samples
-from dgnkit.cli import NUMBERS
-from dgnkit.drawing.conditions import Conditions, add_conditions
-from dgnkit.program.listings import chosen_of
-from samples import drawings, plan
+from samples import drawings, plan, with_units
 
-DRAWINGS, TREES, BOXES = 12, 30, 8
+BOX = ['0,0', '100,100']
 
 
 class Fences(samples.WithProgram):
     def setUp(self) -> None:
         super().setUp()
-        self.dice = random.Random(1)
-        self.parser = argparse.ArgumentParser()
-        add_conditions(self.parser)
-        self.parser._negative_number_matcher = NUMBERS
+        apart = plan.cell(
+            1, 'ABC', (0, 0), (10, 10), (500, 20), self.part((10, 10), (20, 20)) + self.part((400, 10), (500, 20))
+        )
+        self.made = drawings.drawing(
+            plan.line(1, (10, 10), (90, 90)),  # 1, inside
+            plan.line(1, (50, 50), (150, 50)),  # 2, across an edge
+            plan.line(1, (10, 10), (10, 100)),  # 3, to an edge and no further
+            plan.line(1, (200, 200), (300, 300)),  # 4, outside
+            plan.line(1, (-50, 40), (40, -50)),  # 5, past a corner: the bounds meet the box, and the line does not
+            apart,  # 6, of the lines 7, inside, and 8, outside
+            plan.text(1, (50, 50), b'inside'),  # 9
+            plan.path(6, 1, [(-10, -10), (110, -10), (110, 110), (-10, 110), (-10, -10)]),  # 10, around the box
+        )
+        self.path_of_it = self.put('in.dgn', self.made)
 
-    def point(self) -> Tuple[int, int]:
-        return self.dice.randrange(-3, 24), self.dice.randrange(-3, 24)
+    def part(self, start: plan.Point, end: plan.Point) -> bytes:
+        return plan.line(1, start, end, True)
 
-    def leaf(self, member: bool) -> bytes:
-        kind = self.dice.choice([3, 3, 4, 6, 17])
-        if kind == 3:
-            made = plan.line(1, self.point(), self.point())
-        elif kind == 17:
-            made = plan.text(1, self.point(), b'ab')
-        else:
-            made = plan.path(kind, 1, [self.point() for _ in range(self.dice.randrange(1, 5))])
-        made = drawings.with_bit_c(made) if member else made
-        return drawings.deleted(made) if self.dice.random() < 0.1 else made
+    def numbers(self, *words: str, of: str = '') -> List[int]:
+        return [int(it) for it in self.said('find', of or self.path_of_it, '--numbers', *words).split()]
 
-    def tree(self) -> bytes:
-        if self.dice.random() < 0.5:
-            return self.leaf(False)
-        members = b''.join(self.leaf(True) for _ in range(self.dice.randrange(1, 4)))
-        return plan.cell(1, 'ABC', self.point(), (0, 0), (20, 20), members)
+    def test_each_mode_takes_whole_trees(self) -> None:
+        self.assertEqual(self.numbers('--inside', *BOX), [1, 9])
+        self.assertEqual(self.numbers('--overlap', *BOX), [1, 2, 3, 6, 7, 8, 9])
+        self.assertEqual(self.numbers('--crossing', *BOX), [2, 3, 6, 7, 8])
+        self.assertEqual(self.numbers('--void', *BOX), [4, 5, 10])
+        self.assertEqual(self.numbers('--outside', *BOX), [4, 5, 10])
+        self.assertEqual(self.numbers('--inside', *reversed(BOX)), [1, 9])
 
-    def drawing(self) -> samples.Drawing:
-        """A drawing in which most ranges are right, and some aren't."""
-        made = self.opened(drawings.drawing(*(self.tree() for _ in range(TREES))))
-        script = samples.Script()
-        for root in made.roots[1:]:
-            if self.dice.random() < 0.8:
-                script.fit(root)
-        self.program.edit(made.path, script, self.path('fitted.dgn'))
-        return samples.Drawing(self.path('fitted.dgn'), self.program)
+    def test_other_conditions_hold_of_the_elements_of_these_trees(self) -> None:
+        self.assertEqual(self.numbers('--overlap', *BOX, '--type', 'cell'), [6])
+        self.assertEqual(self.numbers('--overlap', *BOX, '--type', 'line', '--trees'), [1, 2, 3, 6])
 
-    def chosen(self, drawing: samples.Drawing, *words: str) -> List[int]:
-        """The chosen roots that draw something: the program takes no others."""
-        shown = {drawing.nesting.roots[it.number] for it in drawing.items if it.kind != 'cell'}
-        return [it for it in Conditions(drawing, self.parser.parse_args(words)).chosen() if it in shown]
+    def test_a_script_has_a_line_for_each_tree(self) -> None:
+        said = self.said('find', self.path_of_it, '--crossing', *BOX, '--script', 'delete {n}')
+        self.assertEqual(said, 'delete 2\ndelete 3\ndelete 6\n')
 
-    def test_boxes_choose_what_fences_choose(self) -> None:
-        for _ in range(DRAWINGS):
-            drawing = self.drawing()
-            for _ in range(BOXES):
-                (x, right), (y, top) = (sorted(self.dice.sample(range(20), 2)) for _ in range(2))
-                if right - x < 3 or top - y < 3:
-                    continue
-                script = samples.Script().fence([(x, y), (right, y), (right, top), (x, top)])
-                for mode in ('overlap', 'void', 'inside'):
-                    script.select(mode)
-                overlap, void, inside = (chosen_of(it.lines) for it in self.program.edit(drawing.path, script)[1:])
-                box = '%d,%d' % (x, y), '%d,%d' % (right, top)
-                # inside of a fence is what touches no edge of it
-                within = '%d,%d' % (x + 1, y + 1), '%d,%d' % (right - 1, top - 1)
-                self.assertEqual(self.chosen(drawing, '--overlap', *box, '--trees'), overlap, box)
-                self.assertEqual(self.chosen(drawing, '--outside', *box, '--trees'), void, box)
-                roots = [it for it in self.chosen(drawing, '--inside', *within) if drawing.nesting.depths[it] == 0]
-                self.assertEqual(roots, inside, box)
+    def test_what_is_deleted_is_taken_as_if_it_were_not(self) -> None:
+        out = self.path('out.dgn')
+        self.program.edit(self.path_of_it, samples.Script().delete(1).delete(6).delete(4), out)
+        self.assertEqual(self.numbers('--inside', *BOX, of=out), [9])
+        self.assertEqual(self.numbers('--inside', *BOX, '--deleted', of=out), [1])
+        self.assertEqual(self.numbers('--crossing', *BOX, '--deleted', of=out), [6, 7, 8])
+
+    def test_places_are_in_master_units(self) -> None:
+        path = self.put('m.dgn', with_units(self.made, 10, 1, ('m', 'dm'), (20, 0, 0)))
+        # 0 to 100 units of resolution are -2 to 8 m along x, and 0 to 10 m along y
+        self.assertEqual(self.numbers('--inside', '-2,0', '8,10', of=path), [1, 9])
+        self.assertEqual(self.numbers('--void', '-2,0', '8,10', of=path), [4, 5, 10])
+
+    def test_a_box_beyond_the_design_plane(self) -> None:
+        self.assertEqual(
+            self.numbers('--inside', '-9999999999,-9999999999', '9999999999,9999999999'), list(range(1, 11))
+        )
 
 
 if __name__ == '__main__':

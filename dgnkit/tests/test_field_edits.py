@@ -22,9 +22,20 @@ class FieldEdits(samples.WithProgram):
     plan_file = (samples.EXAMPLES / 'plan.dgn').read_bytes()
 
     def test_relevel(self) -> None:
+        offsets = [it.offset for it in self.opened(self.plan_file).elements]
+        changed, err = self.changed('relevel', self.plan_file, '--to', 21, '--level', 10, '--members')
+        self.assertEqual(changed, {offsets[it]: (10, 21) for it in (5, 6, 9)})
+        self.assertIn('stay as they are: 4 elements below chosen headers, on level 11: 7, 8, 10, 11', err)
+        # the valves 6 and 9 take their lines along, which are on another level and have bit C
         changed, err = self.changed('relevel', self.plan_file, '--to', 21, '--level', 10)
-        offsets = [self.opened(self.plan_file).elements[it].offset for it in (5, 6, 9)]
-        self.assertEqual((changed, err), ({it: (10, 21) for it in offsets}, ''))
+        lines = {offsets[it]: (128 + 11, 128 + 21) for it in (7, 8, 10, 11)}
+        self.assertEqual(changed, {**{offsets[it]: (10, 21) for it in (5, 6, 9)}, **lines})
+        self.assertIn('go along: 4 elements below chosen headers, on level 11: 7, 8, 10, 11', err)
+
+    def test_what_of_a_tree_stays_is_told(self) -> None:
+        changed, err = self.changed('relevel', self.plan_file, '--to', 21, '--number', 7)
+        self.assertEqual(list(changed.values()), [(139, 149)])
+        self.assertIn('7 is a part of cell 6 VLV on level 10, and the rest of it stays (--trees takes it)', err)
 
     def test_bit_c_and_the_reserved_bit_stay(self) -> None:
         line = drawings.line(True)
@@ -113,7 +124,7 @@ class FieldEdits(samples.WithProgram):
         said = self.said('relevel', source, self.path('p'), '--to', 21, '--level', 3, '--dry-run')
         self.assertIn("text 4 'HOUSE 7' on level 3: level 3 becomes 21", said)
         self.assertTrue(
-            said.rstrip().endswith('dgnedit apply %s %s %s' % (source, self.path('p'), self.path('in-out.dgn')))
+            said.rstrip().endswith('dgnkit run %s %s %s' % (source, self.path('p'), self.path('in-out.dgn')))
         )
         self.assertFalse((self.folder / 'p').exists())
 

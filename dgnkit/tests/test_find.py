@@ -132,7 +132,7 @@ class Find(samples.WithProgram):
 
     def test_a_table_and_json(self) -> None:
         said = self.said('find', self.plan, '--level', '3')
-        self.assertEqual(said.split('\n')[1].split(), ['4', '4', 'text', '3', '0', '0', '0', 'HOUSE', '7'])
+        self.assertEqual(said.split('\n')[1].split(), ['4', '4', 'text', '3', '0', 'white', '0', '0', 'HOUSE', '7'])
         row = json.loads(self.said('find', self.plan, '--cell', 'VLV', '--json'))[0]
         self.assertEqual(
             (row['number'], row['root'], row['cell'], row['range']), (6, 6, 'VLV', [[920, 420], [1080, 580]])
@@ -188,9 +188,20 @@ class Scripts(samples.WithProgram):
 
     def test_members_of_a_chosen_header_are_moved_once(self) -> None:
         valve = self.example('valve.dgn')
-        out, err = self.script(valve, '--inside', '400,-100', '600,100', '--script', 'move {n} 0 7')
+        out, _ = self.script(valve, '--inside', '400,-100', '600,100', '--script', 'move {n} 0 7')
+        self.assertEqual(out, 'move 2 0 7\n')
+        out, err = self.script(valve, '--inside', '400,-100', '600,100', '--members', '--script', 'move {n} 0 7')
         self.assertEqual(out, 'move 2 0 7\n')
         self.assertIn('stand below another one that is chosen', err)
+
+    def test_a_chosen_member_takes_its_whole_tree_along_unless_members_are_asked_for(self) -> None:
+        valve = self.example('valve.dgn')
+        out, err = self.script(valve, '--level', '11', '--script', 'move {n} 0 7')
+        self.assertEqual(out, 'move 2 0 7\n')
+        self.assertIn('3 and 4 are parts of cell 2 VLV on level 10, which is taken whole', err)
+        out, err = self.script(valve, '--number', '3', '--members', '--script', 'move {n} 0 7')
+        self.assertEqual(out, 'move 3 0 7\n')
+        self.assertIn('3 is a part of cell 2 VLV on level 10, and the rest of it stays', err)
 
     def test_what_goes_along_is_told(self) -> None:
         out, err = self.script(self.example('valve.dgn'), '--level', '10', '--script', 'color {n} 3')
@@ -204,9 +215,7 @@ class Scripts(samples.WithProgram):
         )
         out, _ = self.script(path, '--level', '1', '--script', 'move {n} 250 0', '-o', self.path('s'), '--dry-run')
         self.assertIn('line 1 on level 1: moved by 2.5,0 m (250,0 units of resolution)', out)
-        self.assertTrue(
-            out.rstrip().endswith('dgnedit edit %s %s %s' % (path, self.path('s'), self.path('in-out.dgn')))
-        )
+        self.assertTrue(out.rstrip().endswith('dgnkit run %s %s %s' % (path, self.path('s'), self.path('in-out.dgn'))))
         self.assertFalse((self.folder / 's').exists())
 
     def test_lengths_in_master_units(self) -> None:
@@ -219,19 +228,17 @@ class Scripts(samples.WithProgram):
 
     def test_wrong_ranges_are_fitted(self) -> None:
         path = self.put('in.dgn', drawings.DRAWINGS['a cell of a line whose range is too small'])
-        self.assertEqual(self.script(path, '--wrong-range', '--script', 'fit {n}')[0], 'fit 2\n')
+        self.assertEqual(self.script(path, '--wrong-range', '--script', 'fit {n}')[0], 'fit 1\n')
 
     def test_as_many_files_as_the_limit_of_a_script_wants(self) -> None:
         path = self.gen(1, 100000)
-        out, _ = self.script(path, '--type', '3,4,6', '--script', 'sym {n} 1 2 3', '-o', self.path('s.txt'))
+        words = ['--type', '3,4,6', '--members', '--script', 'sym {n} 1 2 3', '-o', self.path('s.txt')]
+        out, _ = self.script(path, *words)
         names = sorted(it.name for it in self.folder.glob('s*.txt'))
         self.assertEqual(names, ['s-1.txt', 's-2.txt'])
         sizes = [it.stat().st_size for it in self.folder.glob('s*.txt')]
         self.assertLessEqual(max(sizes), 1048576)
-        commands = out.rstrip().split('next: ')[1].split(' && ')
-        self.assertEqual(len(commands), 2)
-        for command in commands:
-            self.assertEqual(self.program.run(*command.split()[1:]).status, 0)
+        self.then(out)
         changed = samples.Drawing(self.path('gen-out.dgn'), self.program)
         wanted = [it for it in changed.elements if it.type in (3, 4, 6)]
         self.assertEqual({(it.colour, it.weight, it.style) for it in wanted}, {(1, 2, 3)})

@@ -19,7 +19,7 @@ BAD = {
     'sym 1 3 32 0': '31',
     'delete 1 2': '1 piece behind',
     'line 1 0 0 0 0,0 1,1,1': 'as many numbers',
-    'shape 1 0 0 0 0,0 1,1': '7 to 105',
+    'shape 1 0 0 0 0,0 1,1': '3 to 101 points, and here are 2',
     'levels': 'at least one level',
     'levels 7-5': 'first is greater',
     'undo 2': '0 pieces',
@@ -32,6 +32,10 @@ BAD = {
     'fmove outside 1 1': 'no mode',
     'Show': 'small letters',
     'pipe 1': "'pipe' is no command",
+    '\ufeffshow': 'byte order mark',
+    'relevel 1 5': 'dgnkit relevel',
+    'string 1 0 0 0%s' % (' 1,1' * 102): '2 to 101 points, and here are 102',
+    'move 1 2.5 0': "'2.5' is not a displacement",
     'color 1\t3': 'tab',
     'text 1 0 0 0 1 0 9 9 0,0': 'characters',
     'text 1 0 0 0 1 0 9 9 0,0 ': 'characters',
@@ -80,7 +84,7 @@ PIECES += ['4294967295', '-4294967295', '4294967296', '-0', 'all', 'x', '-5,3', 
 class Grammar(samples.WithProgram):
     def is_bad(self, lines: List[str]) -> bool:
         try:
-            self.program.edit(samples.EXAMPLES / 'valve.dgn', samples.Script(it.encode('latin-1') for it in lines))
+            self.program.edit(samples.EXAMPLES / 'valve.dgn', samples.Script(it.encode('utf-8') for it in lines))
         except BadScript:
             return True
         return False

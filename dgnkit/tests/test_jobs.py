@@ -1,10 +1,12 @@
-"""Sixteen jobs of a survey office, each from its files to the result, on a drawing that ogr2ogr wrote. What dgnkit says
+"""Jobs of a survey office, each from its files to the result, on a drawing that ogr2ogr wrote. What dgnkit says
 is to be run next is run as it is said."""
 
+import csv
+import io
 import json
 import re
-import shlex
 import unittest
+from pathlib import Path
 from typing import Dict
 
 import samples
@@ -14,20 +16,15 @@ PIPE, BUILDING, VALVE = 45, 44, 51
 LONG_ROADS, PARCELS = (15, 25), (35, 38, 41)
 
 
-class Jobs(samples.WithProgram):
+class OnTheTown(samples.WithProgram):
+    """The drawing with its trees mended, and what a job makes of it."""
+
     def setUp(self) -> None:
         super().setUp()
         self.raw = self.example('town.dgn')
         self.then(self.said('mend', self.raw, self.path('mend.patch')))
         (self.folder / 'town-out.dgn').rename(self.folder / 'sheet.dgn')
         self.town = self.path('sheet.dgn')
-
-    def then(self, said: str, status: int = 0) -> None:
-        """Runs the command that is to be run next."""
-        for command in said.rstrip().split('next: ')[1].split(' && '):
-            words = shlex.split(command)
-            self.assertEqual(words[0], 'dgnedit')
-            self.assertEqual(self.program.run(*words[1:]).status, status, command)
 
     def result(self) -> samples.Drawing:
         return samples.Drawing(self.path('sheet-out.dgn'), self.program)
@@ -40,6 +37,8 @@ class Jobs(samples.WithProgram):
             for it in json.loads(said)['elements']
         }
 
+
+class Jobs(OnTheTown):
     def test_recolour_all_of_level_12(self) -> None:
         self.then(self.said('find', self.town, '--level', 12, '--script', 'color {n} 5', '-o', self.path('s')))
         drawing = self.result()
@@ -94,7 +93,7 @@ class Jobs(samples.WithProgram):
     def test_say_what_changed_to_a_colleague(self) -> None:
         self.then(self.said('find', self.town, '--number', PIPE, '--script', 'sym {n} 3 - 1', '-o', self.path('s')))
         said = self.said('diff', self.town, self.path('sheet-out.dgn'), status=1)
-        self.assertIn('line string 45 on level 30: colour 1 to 3, style 0 to 1', said)
+        self.assertIn('line string 45 on level 30: colour 1 (blue, #0000ff) to 3 (red, #ff0000), style 0 to 1', said)
 
     def test_a_patch_is_refused_on_another_drawing(self) -> None:
         self.said('relevel', self.town, self.path('p'), '--to', 31, '--level', 30)
@@ -169,6 +168,83 @@ class Jobs(samples.WithProgram):
         self.assertIn('`dgnkit mend` writes a patch file that mends it', said)
         said = self.said('why', self.raw, self.put('s', 'import %s\n' % self.path('none.dgn')), status=1)
         self.assertTrue(re.search(r'none\.dgn can not be read: no such file', said))
+
+
+class MoreJobs(OnTheTown):
+    """Thirteen more, each of at most three commands."""
+
+    def test_give_a_cell_another_name(self) -> None:
+        self.then(self.said('rename', self.town, self.path('p'), 'VLV', 'PUMP'))
+        self.assertEqual(self.changes(), {VALVE: {'name': ['VLV', 'PUMP']}})
+
+    def test_rotate_is_said_to_be_none_of_it(self) -> None:
+        said = self.said('why', self.town, self.put('s', 'rotate 45 30\n'), status=1)
+        self.assertIn("'rotate' is no command: dgnedit and dgnkit can not rotate elements", said)
+
+    def test_copy_by_a_fence(self) -> None:
+        words = ['--inside', '1135,2075', '1160,2095', '--script', 'copy {n} {20} {-5}']
+        self.then(self.said('find', self.town, *words, '-o', self.path('s')))
+        old, new = self.result().elements[BUILDING], self.result().elements[54]
+        self.assertEqual(new.points, [(x + 20000, y - 5000) for x, y in old.points])
+
+    def test_red_and_heavy(self) -> None:
+        words = ['--color', '1', '--weight', '>1', '--script', 'sym {n} 3 5 -']
+        self.then(self.said('find', self.town, *words, '-o', self.path('s')))
+        self.assertEqual(self.changes(), {PIPE: {'recoloured': {'colour': [1, 3], 'weight': [2, 5]}}})
+
+    def test_a_text_with_a_height(self) -> None:
+        self.then(self.said('text', self.town, '1100,2040', 'DN 200', '--height', '1.5', '-o', self.path('s')))
+        text = self.result().elements[54]
+        self.assertEqual((text.text, text.text_size), ('DN 200', (1500.0, 1500.0)))
+        self.assertEqual(text.range, ((100000, 40000), (109000, 41500)))
+
+    def test_texts_to_a_table(self) -> None:
+        said = self.said('find', self.town, '--type', 'text', '--csv')
+        rows = {it['number']: it for it in csv.DictReader(io.StringIO(said))}
+        self.assertEqual([rows['49'][it] for it in ('text', 'level', 'x', 'y')], ['OLD MILL', '41', '1145', '2095'])
+
+    def test_the_numbers_of_a_table_to_a_level(self) -> None:
+        table = self.put('done.csv', 'remark;number\nseen;44\nseen;45\n')
+        self.then(self.said('relevel', self.town, self.path('p'), '--to', 61, '--numbers', table))
+        self.assertEqual(self.changes(), {BUILDING: {'level': [5, 61]}, PIPE: {'level': [30, 61]}})
+
+    def test_lock_a_selection(self) -> None:
+        self.said('geojson', self.town, '-o', self.path('all.geojson'))
+        all_of_it = json.loads((self.folder / 'all.geojson').read_text())
+        all_of_it['features'] = [it for it in all_of_it['features'] if it['properties']['level'] == 20]
+        chosen = self.put('chosen.geojson', json.dumps(all_of_it))
+        self.then(self.said('lock', self.town, self.path('p'), '--numbers', chosen))
+        self.assertEqual(sorted(self.changes()), [it for root in PARCELS for it in range(root, root + 3)])
+
+    def test_elements_that_are_there_twice(self) -> None:
+        self.program.edit(self.town, samples.Script().copy(PIPE, 0, 0), self.path('twice.dgn'))
+        said = self.said('health', '-v', self.path('twice.dgn'), status=1)
+        self.assertIn('line string 45 on level 30 is there 2 times: 45 and 54', said)
+
+    def test_what_is_outside_of_a_frame(self) -> None:
+        said = json.loads(self.said('health', '--json', self.town, '--frame', '1000,2000', '1200,2055', status=1))
+        # the roads of level 12 reach the frame's edges or beyond, and so does the pipe
+        self.assertIn('shape 44 on level 5', said[0]['outside'])
+        self.assertNotIn('cell 51 VLV on level 10', said[0]['outside'])
+
+    def test_lengths_by_level(self) -> None:
+        facts = json.loads(self.said('info', '--lengths', '--json', self.town))[0]['lengths']
+        # three parcels of 30 m by 30 m with a hole of 10 m by 10 m, and a building of 15 m by 12 m
+        self.assertEqual((facts['20']['area'], facts['5']['area'], facts['5']['outline']), (2400, 180, 54))
+
+    def test_a_polygon_of_a_table(self) -> None:
+        table = self.put('plot.csv', 'x,y\n1020,2020\n1080,2020\n1080,2050\n1020,2050\n')
+        self.then(self.said('draw', self.town, table, '--as', 'shape', '--level', 6, '-o', self.path('s')))
+        drawing = self.result()
+        shape = drawing.elements[54]
+        corners = [(1020.0, 2020.0), (1080.0, 2020.0), (1080.0, 2050.0), (1020.0, 2050.0), (1020.0, 2020.0)]
+        self.assertEqual((shape.type, shape.level), (6, 6))
+        self.assertEqual([drawing.units.to_master(it) for it in shape.points], corners)
+
+    def test_take_a_deletion_back(self) -> None:
+        self.program.edit(self.town, samples.Script().delete(49).delete(VALVE), self.path('gone.dgn'))
+        out = self.then(self.said('undelete', self.path('gone.dgn'), self.path('p'), '--level', '1-63'))
+        self.assertEqual(Path(out).read_bytes(), (self.folder / 'sheet.dgn').read_bytes())
 
 
 if __name__ == '__main__':

@@ -18,13 +18,41 @@ from dgnkit.program.listings import (
 )
 
 
+def said(lines: List[str]) -> bytes:
+    """What the program says with these lines."""
+    return ''.join(it + '\n' for it in lines).encode('ascii')
+
+
 class Lines(unittest.TestCase):
     def test_elements_and_counts(self) -> None:
-        lines = ['0 0 1536 9 8 --', '1 1536 52 3 11 c-', '2 1588 92 2 10 cd', 'level 8 1', 'level 11 1', 'type 3 1']
-        made = elements_of(lines, b'', 2)
+        rows = ['0 0 1536 9 8 --', '1 1536 52 3 11 c-', '2 1588 92 2 10 cd']
+        counts = ['level 8 1', 'level 11 1', 'level 10 1', 'type 9 1', 'type 3 1', 'type 2 1']
+        made = elements_of(said([*rows, *counts, 'elements 3']), bytes(1680), 2)
         self.assertEqual([(it.number, it.offset, it.size, it.type, it.level) for it in made][1], (1, 1536, 52, 3, 11))
         self.assertEqual([(it.has_c, it.is_deleted) for it in made], [(False, False), (True, False), (True, True)])
-        self.assertEqual(counts_of(lines), ({8: 1, 11: 1}, {3: 1}))
+        self.assertEqual(counts_of(counts), ({8: 1, 11: 1, 10: 1}, {9: 1, 3: 1, 2: 1}))
+
+    def test_elements_that_can_not_be_the_drawing_s(self) -> None:
+        good = ['0 0 1536 9 8 --', '1 1536 52 3 11 --']
+        counts = ['level 8 1', 'level 11 1', 'type 9 1', 'type 3 1']
+        data = bytes(1588) + b'\xff\xff'
+        self.assertEqual(len(elements_of(said([*good, *counts, 'elements 2']), data, 2)), 2)
+        wrong = [
+            ([good[0], '1 1540 52 3 11 --', *counts, 'elements 2'], data),
+            ([good[0], '2 1536 52 3 11 --', *counts, 'elements 2'], data),
+            ([good[0], '1 1536 52 3 64 --', *counts, 'elements 2'], data),
+            ([good[1], good[0], *counts, 'elements 2'], data),
+            ([*good, *counts, 'elements 3'], data),
+            ([*good, *counts], data),
+            ([*good, *counts[:3], 'type 3 2', 'elements 2'], data),
+            ([*good, *counts, 'elements 2'], bytes(1700)),
+            ([*good, *counts, 'elements 2'], bytes(1500)),
+            (['elements 0'], b''),
+            (['refused few'], b''),
+        ]
+        for lines, content in wrong:
+            with self.assertRaises(ListingError, msg=lines):
+                elements_of(said(lines), content, 2)
 
     def test_items(self) -> None:
         path = item_of('3 1 3 11 5 2 7 path 480,-20 520,20')
@@ -59,7 +87,7 @@ class Lines(unittest.TestCase):
 
     def test_a_line_that_is_not_understood_is_an_error(self) -> None:
         wrong: List[Tuple[Callable[[str], object], List[str]]] = [
-            (lambda it: elements_of([it], b'', 2), ['1 2 3 4 5', '1 2 3 4 5 x-', 'levels 1 2', '']),
+            (lambda it: elements_of(said([it]), b'', 2), ['1 2 3 4 5', '1 2 3 4 5 x-', 'levels 1 2', '']),
             (item_of, ['', '1 2 3', '1 0 3 1 0 0 0 arc 1,2', '1 0 3 1 0 0 0 path 1,2 3', '1 0 2 1 0 0 0 cell VLV 1,2']),
             (item_of, ['1 0 12 1 0 0 0 group 1,2', '1 0 27 1 0 0 0 box 1,2', '1 0 17 1 0 0 0 text 7,8']),
             (lambda it: nodes_of([it]), ['1 0 12 1 twig live', '1 0 12 1 leaf live lost', 'tree 1']),
@@ -130,7 +158,7 @@ class OfTheProgram(samples.WithProgram):
                 script = samples.Script()
                 for element in drawing.elements:
                     script.tree(element.number)
-                asked = [nodes_of(it.lines) for it in self.program.edit_all(drawing.path, script)]
+                asked = [nodes_of(it.lines) for it in self.program.listed(drawing.path, script)]
                 self.assertEqual(asked, [drawing.tree(it.number) for it in drawing.elements])
 
     def test_findings_references_and_links(self) -> None:

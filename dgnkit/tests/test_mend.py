@@ -118,7 +118,7 @@ class Mend(samples.WithProgram):
         self.assertFalse((self.folder / 'p').exists())
         self.assertIn('complex chain 1 on level 1: bit C is cleared', said)
         self.assertTrue(
-            said.rstrip().endswith('dgnedit apply %s %s %s' % (source, self.path('p'), self.path('in-out.dgn')))
+            said.rstrip().endswith('dgnkit run %s %s %s' % (source, self.path('p'), self.path('in-out.dgn')))
         )
 
     def test_a_drawing_is_never_written_over(self) -> None:

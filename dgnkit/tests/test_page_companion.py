@@ -66,6 +66,7 @@ class Comparing(WithProgram):
         dice = random.Random(12)
         pairs = [[path, self.changed(dice, path, index)] for index, path in enumerate(self.samples() * 4)]
         pairs += [[after, before] for before, after in pairs[:8]]
+        pairs.append(self.many(dice))
         told = 0
         for (before, after), rows in zip(pairs, asked('comparing.mjs', pairs)):
             found = differences(Drawing(before, self.program), Drawing(after, self.program))
@@ -74,6 +75,17 @@ class Comparing(WithProgram):
             with self.subTest(before=before, after=after):
                 self.assertEqual(rows, wanted)
         self.assertGreater(told, 100)
+
+    def many(self, dice: random.Random) -> List[str]:
+        """Two drawings of so many elements that not all pairs are tried: all are moved, some come, some go."""
+        places = [(dice.randrange(2, 5), it) for it in range(1100)]
+        kept = [it for it in places if dice.random() < 0.99]
+        kept[400:400] = [(6, 5000 + it) for it in range(7)]
+        rows = [[self.path_of(count, 10 * at + more) for count, at in row] for row, more in ((places, 0), (kept, 3))]
+        return [self.put('many-%d.dgn' % it, drawings.drawing(*row)) for it, row in enumerate(rows)]
+
+    def path_of(self, count: int, place: int) -> bytes:
+        return plan.path(4, 1, [(place + 7 * it, place) for it in range(count)])
 
     def samples(self) -> List[str]:
         files = [it for it in drawings.DRAWINGS.values() if not it[1214] & 0x40]

@@ -27,7 +27,7 @@ class Comparing(WithBrowser):
         self.compare('color 5 1', 'move 6 1000 75', 'delete 9', 'copy 6 0 900')
         rows = self.seen.run("return [...document.querySelectorAll('#changes .entry')].map((it) => it.innerText)")
         said = [' '.join(it.split()) for it in rows]
-        self.assertIn('changed line string 5 on level 10: colour 0 to 1', said)
+        self.assertIn('changed line string 5 on level 10: colour 0 (white, #ffffff) to 1 (blue, #0000ff)', said)
         self.assertTrue(any(it.startswith('changed cell 6 VLV on level 10: moved by 1000,75') for it in said), said)
         self.assertTrue(any(it.startswith('deleted cell 9 VLV on level 10: deleted') for it in said), said)
         self.assertTrue(any(it.startswith('added cell 12 VLV on level 10: appended') for it in said), said)

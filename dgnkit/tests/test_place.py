@@ -7,6 +7,9 @@ import samples
 from samples import drawings, plan, with_units
 
 
+VLV = (22 * 1600 + 12 * 40 + 22).to_bytes(2, 'little')  # the first word of the name: V is 22, L 12
+
+
 class Place(samples.WithProgram):
     def setUp(self) -> None:
         super().setUp()
@@ -45,7 +48,7 @@ class Place(samples.WithProgram):
 
     def test_three_axes(self) -> None:
         header = plan.display(
-            2, 10, (0, 0), (9, 9), b'\x33\x00' + plan.radix('VLV') + bytes(72) + b''.join(map(plan.long, (1, 2, 3)))
+            2, 10, (0, 0), (9, 9), b'\x33\x00' + VLV + bytes(72) + b''.join(map(plan.long, (1, 2, 3)))
         )
         solid = self.put('solid.dgn', drawings.drawing(drawings.with_total(header, (124 - 38) // 2), axes=3))
         self.assertEqual(self.placed(solid, 'VLV', '10,20,30\n11,21\n'), [(1, 2, 3), (10, 20, 30), (11, 21, 3)])

@@ -1,33 +1,61 @@
 """What stands beside the editor dgnedit: it finds, explains, mends and compares what drawings hold, and writes scripts
 and patch files. It never writes a drawing: dgnedit alone does."""
 
+from importlib import import_module
+from typing import TYPE_CHECKING, Any
+
+if TYPE_CHECKING:
+    from .drawing.drawing import Drawing
+    from .drawing.nesting import Nesting
+    from .errors import (
+        BadDesign,
+        BadPatch,
+        BadScript,
+        BadUsage,
+        Ending,
+        ListingError,
+        MissingProgram,
+        Mistake,
+        OutOfMemory,
+        PatchRefused,
+        ReadFault,
+        TooLong,
+        WriteFault,
+    )
+    from .format.element import Element
+    from .format.patch import Entry, Field, Patch
+    from .format.tcb import Tcb
+    from .format.units import Units
+    from .program.answers import Answer
+    from .program.listings import Finding, Item, Link, Node, Reference
+    from .program.runs import Program
+    from .program.script import Command, Script
+
 __version__ = '0.1.0'
 
-from .program.answers import Answer
-from .drawing.drawing import Drawing
-from .format.element import Element
-from .errors import (
-    BadDesign,
-    BadPatch,
-    BadScript,
-    BadUsage,
-    Ending,
-    ListingError,
-    MissingProgram,
-    Mistake,
-    OutOfMemory,
-    PatchRefused,
-    ReadFault,
-    TooLong,
-    WriteFault,
-)
-from .program.listings import Finding, Item, Link, Node, Reference
-from .drawing.nesting import Nesting
-from .format.patch import Entry, Field, Patch
-from .program.runs import Program
-from .program.script import Command, Script
-from .format.tcb import Tcb
-from .format.units import Units
+# Where each name of the package is defined; a module is loaded once a name of it is wanted.
+PLACES = {
+    'drawing.drawing': 'Drawing',
+    'drawing.nesting': 'Nesting',
+    'errors': 'BadDesign BadPatch BadScript BadUsage Ending ListingError MissingProgram Mistake OutOfMemory '
+    'PatchRefused ReadFault TooLong WriteFault',
+    'format.element': 'Element',
+    'format.patch': 'Entry Field Patch',
+    'format.tcb': 'Tcb',
+    'format.units': 'Units',
+    'program.answers': 'Answer',
+    'program.listings': 'Finding Item Link Node Reference',
+    'program.runs': 'Program',
+    'program.script': 'Command Script',
+}
+
+
+def __getattr__(name: str) -> Any:
+    for place, names in PLACES.items():
+        if name in names.split():
+            return getattr(import_module('dgnkit.' + place), name)
+    raise AttributeError('dgnkit has no %r' % name)
+
 
 __all__ = [
     'Answer',

@@ -1,6 +1,6 @@
 """Runs the command by `python3 -m dgnkit`."""
 
-from dgnkit.cli import command
+from dgnkit.entry import command
 
 if __name__ == '__main__':
     command()

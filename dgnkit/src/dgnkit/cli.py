@@ -11,33 +11,30 @@ import io
 import os
 import pkgutil
 import re
+import signal
 import sys
+import threading
+import traceback
 from importlib import import_module
+from types import FrameType
 from typing import TYPE_CHECKING, Any, Callable, List, NoReturn, Optional, Sequence
 
-from . import __version__, commands
+from . import __version__, commands, files
 from .errors import Mistake
+from .output import note, printable
 
 if TYPE_CHECKING:
     Subparsers = argparse._SubParsersAction['Parser']
 
 NUMBERS = re.compile(r'^-[\d.][\d.,]*-?[\d.,]*$')
-ORDER = [
-    'info',
-    'health',
-    'find',
-    'why',
-    'diff',
-    'mend',
-    'relevel',
-    'retext',
-    'lock',
-    'unlock',
-    'merge',
-    'place',
-    'each',
-]
-ORDER += ['geojson', 'script', 'page']
+ORDER = (
+    'info health find why run diff mend relevel retext rename lock unlock undelete draw text merge place each '
+    'geojson script page'
+).split()
+ENDED = 2  # the status of what can't be done
+STOPPED = 130
+LONGEST = 700  # signs of a line that says why
+SIGNALS = ('SIGTERM', 'SIGHUP')
 
 
 class Parser(argparse.ArgumentParser):
@@ -49,7 +46,7 @@ class Parser(argparse.ArgumentParser):
 
     def error(self, message: str) -> NoReturn:
         """Says what is wrong with the words, and ends with 2."""
-        self.exit(2, '%s: %s\n' % (self.prog, message))
+        self.exit(ENDED, printable('%s: %s' % (self.prog, message)) + '\n')
 
 
 def module_names() -> List[str]:
@@ -68,29 +65,90 @@ def parser_of(names: Sequence[str]) -> Parser:
     return parser
 
 
-def command() -> NoReturn:
-    """Runs the command that the program was called with, and ends with its status."""
-    sys.exit(main())
-
-
 def main(words: Optional[Sequence[str]] = None) -> int:
-    """Runs a command, and gives its status: 0 and 1 as the command says, and 2 where it can't be done."""
+    """Runs a command, and gives its status: 0 and 1 as the command says, and 2 where it can't be done, with one line
+    on standard error that says why."""
     for stream in (sys.stdout, sys.stderr):
         if isinstance(stream, io.TextIOWrapper):
             stream.reconfigure(errors='backslashreplace')  # of texts a terminal may lack some signs
     gc.disable()  # a drawing is many small objects without cycles: to look for some again and again takes half the time
+    files.READ.clear()
+    catch_signals()
     try:
-        given, names = list(sys.argv[1:] if words is None else words), module_names()
-        arguments = parser_of([given[0]] if given and given[0] in names else names).parse_args(given)
-        run: Callable[[argparse.Namespace], int] = arguments.run
-        status = run(arguments)
-        sys.stdout.flush()
-        return status
-    except Mistake as why:
-        print('dgnkit: %s' % why, file=sys.stderr)
-        return 2
-    except BrokenPipeError:
-        os.dup2(os.open(os.devnull, os.O_WRONLY), sys.stdout.fileno())
-        return 2
+        return run_words(list(sys.argv[1:] if words is None else words))
     except KeyboardInterrupt:
-        return 130
+        return STOPPED
+    except Exception as why:
+        return ended(why)
+
+
+def run_words(given: List[str]) -> int:
+    """Runs the command that these words are."""
+    names = module_names()
+    arguments = parser_of([given[0]] if given and given[0] in names else names).parse_args(given)
+    run: Callable[[argparse.Namespace], int] = arguments.run
+    status = run(arguments)
+    if sys.stdout is not None:
+        sys.stdout.flush()
+    return status
+
+
+def ended(why: Exception) -> int:
+    """Says why a command couldn't be done, in one line, and gives the status."""
+    if isinstance(why, BrokenPipeError):
+        drop_output()
+        return ENDED
+    try:
+        note('dgnkit: ' + shortened(reason_of(why)))
+        if not isinstance(why, (Mistake, *EXPECTED)) and sys.stderr is not None:
+            traceback.print_exception(type(why), why, why.__traceback__)
+    except (OSError, ValueError):
+        pass
+    if isinstance(why, OSError) and why.filename is None:
+        drop_output()
+    return ENDED
+
+
+def shortened(text: str) -> str:
+    """A line that isn't too long to be read: of a longer one the front and the end."""
+    return text if len(text) <= LONGEST else '%s .. %s' % (text[: LONGEST // 2], text[-LONGEST // 2 :])
+
+
+EXPECTED = (OSError, MemoryError, RecursionError, ValueError, OverflowError)
+
+
+def reason_of(why: Exception) -> str:
+    """An exception in a line."""
+    if isinstance(why, Mistake):
+        return str(why)
+    if isinstance(why, MemoryError):
+        return 'there was no memory for it'
+    if isinstance(why, RecursionError):
+        return 'what is read is nested too deep'
+    if isinstance(why, UnicodeError):
+        return 'a name or a text has signs that can not be written: %s' % why
+    if isinstance(why, OSError):
+        reason = (why.strerror or str(why)).lower()
+        return reason if why.filename is None else '%s: %s' % (why.filename, reason)
+    if isinstance(why, EXPECTED):
+        return str(why).split('\n')[0]
+    return 'a fault of dgnkit itself: %r' % why
+
+
+def drop_output() -> None:
+    """Lets what standard output still holds go nowhere: nothing can be said there any more."""
+    try:
+        os.dup2(os.open(os.devnull, os.O_WRONLY), sys.stdout.fileno())
+    except (OSError, ValueError, AttributeError):
+        pass
+
+
+def catch_signals() -> None:
+    """Lets the signals that end a program end it in order, so that no temporary file is left."""
+    if threading.current_thread() is threading.main_thread():
+        for name in SIGNALS:
+            signal.signal(getattr(signal, name), stop)
+
+
+def stop(number: int, frame: Optional[FrameType]) -> None:
+    raise KeyboardInterrupt

@@ -1,8 +1,11 @@
-"""How commands say things: tables, JSON, counted words, and the command to run next."""
+"""How commands say things: lines, tables, CSV, JSON, counted words, and the command to run next."""
 
 from __future__ import annotations
 
+import csv
+import io
 import json
+import os
 import shlex
 import sys
 from pathlib import Path
@@ -10,19 +13,35 @@ from typing import Any, Iterable, List, Sequence
 
 
 def say(text: str) -> None:
-    """Says a line on standard output."""
+    """Says lines on standard output, without signs that would steer a terminal."""
+    say_raw('\n'.join(map(printable, text.split('\n'))))
+
+
+def say_raw(text: str) -> None:
+    """Says lines as they are, as those of a script. It raises OSError where standard output is closed."""
+    if sys.stdout is None:
+        raise OSError('standard output is closed')
     print(text)
 
 
 def note(text: str) -> None:
-    """Says a line on standard error."""
-    print(text, file=sys.stderr)
+    """Says a line on standard error, where there is one."""
+    if sys.stderr is not None:
+        print(printable(text), file=sys.stderr)
 
 
 def say_json(value: Any) -> None:
     """Says a value as JSON, in the signs of ASCII."""
-    json.dump(value, sys.stdout, indent=1)
-    print()
+    say(json.dumps(value, indent=1))
+
+
+def say_csv(head: Sequence[str], rows: Iterable[Sequence[object]]) -> None:
+    """Says rows as CSV, the names of the columns first; what isn't there is an empty field."""
+    text = io.StringIO()
+    writer = csv.writer(text, lineterminator='\n')
+    writer.writerow(head)
+    writer.writerows(['' if it is None else it for it in row] for row in rows)
+    say(text.getvalue().rstrip('\n'))
 
 
 def table(head: Sequence[str], rows: Iterable[Sequence[object]], left: Sequence[str] = ()) -> List[str]:
@@ -38,7 +57,7 @@ def table(head: Sequence[str], rows: Iterable[Sequence[object]], left: Sequence[
 
 
 def printable(text: str) -> str:
-    """Text of a drawing without signs that would steer a terminal: each is an escape instead."""
+    """Text of a drawing or a name of a file without signs that would steer a terminal: each is an escape instead."""
     if text.isprintable():
         return text
     return ''.join(it if it.isprintable() else it.encode('unicode_escape').decode('ascii') for it in text)
@@ -55,12 +74,26 @@ def few(numbers: Sequence[int], most: int = 8) -> str:
     return said if len(numbers) <= most else '%s and %d more' % (said, len(numbers) - most)
 
 
+def listed(words: Sequence[object]) -> str:
+    """Words as a row of them is spoken: `1`, `1 and 2`, `1, 2 and 3`."""
+    said = [str(it) for it in words]
+    return said[0] if len(said) == 1 else '%s and %s' % (', '.join(said[:-1]), said[-1])
+
+
 def quoted(*words: object) -> str:
     """Words as a shell reads them."""
     return ' '.join(shlex.quote(str(it)) for it in words)
 
 
 def out_name(drawing: str) -> str:
-    """What a drawing that is made of another one may be called."""
+    """What a drawing that is made of another one may be called: a name that isn't there."""
     path = Path(drawing)
-    return str(path.with_name(path.stem + '-out' + path.suffix))
+    stem = path.stem + '-out'
+    names = (str(path.with_name('%s%s%s' % (stem, more, path.suffix))) for more in _numbered())
+    return next(it for it in names if not os.path.lexists(it))
+
+
+def _numbered() -> Iterable[str]:
+    yield ''
+    for number in range(2, 1 << 30):
+        yield '-%d' % number

@@ -3,38 +3,57 @@
 from __future__ import annotations
 
 import argparse
+from dataclasses import dataclass
 from typing import TYPE_CHECKING, Callable, List, Sequence
 
 from ..drawing.conditions import Conditions, add_conditions, has_conditions
 from ..drawing.drawing import Drawing
+from ..drawing.nothing import nothing_said
 from ..errors import Mistake
+from ..explain.members import parts_said
+from ..output import counted, few, note, printable, say
 from ..propose.field_edits import FieldEdits
-from ..output import counted, printable, say
 from ..propose.writing import note_left, propose_patch
 
 if TYPE_CHECKING:
     from ..cli import Parser, Subparsers
 
 Edit = Callable[[Drawing, Sequence[int], argparse.Namespace], FieldEdits]
+TOLD = 8
 
 
-def register_edit(words: Subparsers, name: str, text: str, edit: Edit, asks: bool = True) -> Parser:
-    """Adds the parser of a command that edits a field of elements; it may ask for at least one condition."""
-    parser = words.add_parser(name, help=text)
+@dataclass(frozen=True)
+class Word:
+    """A command that edits a field: its name, what it does, how, whether it asks for a condition, and whether what
+    stands below a chosen header goes along."""
+
+    name: str
+    text: str
+    edit: Edit
+    asks: bool = True
+    takes_parts: bool = True
+
+
+def register_edit(words: Subparsers, word: Word) -> Parser:
+    """Adds the parser of such a command."""
+    parser = words.add_parser(word.name, help=word.text)
     parser.add_argument('drawing', metavar='IN')
     parser.add_argument('patch', metavar='PATCH')
     add_conditions(parser)
     parser.add_argument('--dry-run', action='store_true', help='say what it would do, and write nothing')
-    parser.set_defaults(run=lambda arguments: run_edit(arguments, edit, asks))
+    parser.set_defaults(run=lambda arguments: run_edit(arguments, word))
     return parser
 
 
-def run_edit(arguments: argparse.Namespace, edit: Edit, asks: bool) -> int:
-    if asks and not has_conditions(arguments):
+def run_edit(arguments: argparse.Namespace, word: Word) -> int:
+    if word.asks and not has_conditions(arguments):
         raise Mistake('which elements? give at least one condition, as --level 12')
     drawing = Drawing(arguments.drawing)
     conditions = Conditions(drawing, arguments)
-    made = edit(drawing, with_members(conditions), arguments)
+    numbers = taken(conditions, word.takes_parts)
+    if not numbers:
+        note(nothing_said(conditions))
+    made = word.edit(drawing, numbers, arguments)
     note_left(made.left)
     words = [printable(it.in_words()) for it in made.changes]
     said = 'would be changed' if arguments.dry_run else 'changed'
@@ -43,10 +62,28 @@ def run_edit(arguments: argparse.Namespace, edit: Edit, asks: bool) -> int:
     return 0
 
 
-def with_members(conditions: Conditions) -> List[int]:
-    """The chosen elements; with --trees all live elements of the chosen trees."""
-    chosen = conditions.chosen()
-    if not conditions.takes_trees:
+def taken(conditions: Conditions, takes_parts: bool) -> List[int]:
+    """The chosen elements, and what stands below them where parts are taken; with --trees all elements of the chosen
+    trees. What is marked deleted goes along with what is. It says what goes along, and what stays."""
+    drawing = conditions.drawing
+    chosen, nesting, dead = conditions.chosen(), drawing.nesting, drawing.dead
+    if not takes_parts and not conditions.takes_trees:
         return chosen
-    nesting, dead = conditions.drawing.nesting, conditions.drawing.dead
-    return [it for root in chosen for it in nesting.part(root) if it not in dead or root in dead]
+    below = {it for top in chosen for it in nesting.part(top) if it not in dead or top in dead}
+    more = sorted(below.difference(chosen))
+    if conditions.takes_members:
+        tell(more, 'stay as they are', drawing)
+        return chosen
+    tell(more, 'go along', drawing)
+    for said in parts_said(drawing, chosen, TOLD):
+        note(said + ', and the rest of it stays (--trees takes it)')
+    return sorted(below)
+
+
+def tell(numbers: Sequence[int], what: str, drawing: Drawing) -> None:
+    """Says what becomes of elements below chosen ones that meet no condition by themselves, and on which levels."""
+    if numbers:
+        levels = sorted({drawing.elements[it].level for it in numbers})
+        said = '%s: %s below chosen headers, on %s %s: %s'
+        level = 'level' if len(levels) == 1 else 'levels'
+        note(said % (what, counted(len(numbers), 'element'), level, few(levels), few(numbers)))

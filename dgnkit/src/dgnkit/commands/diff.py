@@ -1,14 +1,18 @@
-"""`dgnkit diff A B`: in words, element by element, how two drawings differ."""
+"""`dgnkit diff A B`: in words, element by element, how two drawings differ; or what of it a script can do."""
 
 from __future__ import annotations
 
 import argparse
 from typing import TYPE_CHECKING, Any, Dict, List
 
-from ..explain.comparing import Difference, differences
 from ..drawing.drawing import Drawing
-from ..output import counted, printable, say, say_json
+from ..errors import Mistake
+from ..explain.comparing import Difference, differences
+from ..explain.wording import command_said
+from ..output import counted, note, say, say_csv, say_json
 from ..program.runs import Program
+from ..propose.redoing import redoing_of
+from ..propose.scripting import give_script
 
 if TYPE_CHECKING:
     from ..cli import Subparsers
@@ -17,38 +21,63 @@ COUNTED = {
     'bit_c': 'with another bit C',
     'bytes': 'with other bytes',
     'level': 'on another level',
-    'locked': 'locked or unlocked',
     'looks': 'of another weight or style',
+    'name': 'with another name',
     'points': 'with single points moved',
     'range': 'with another range',
     'text': 'with another text',
     'total': 'with another total',
 }
+BACK = {'deleted': 'no longer deleted', 'locked': 'unlocked'}
 
 
 def register(words: Subparsers) -> None:
     parser = words.add_parser('diff', help='say in words how two drawings differ')
     parser.add_argument('first', metavar='A')
     parser.add_argument('second', metavar='B')
-    parser.add_argument('--json', action='store_true', help='say it as JSON')
+    form = parser.add_mutually_exclusive_group()
+    form.add_argument('--json', action='store_true', help='say it as JSON')
+    form.add_argument('--csv', action='store_true', help='say it as CSV')
+    form.add_argument('--script', action='store_true', help='write the script that makes of A what it can of B')
+    parser.add_argument('-o', '--output', metavar='SCRIPT', default='', help='the file for --script')
     parser.set_defaults(run=run)
 
 
 def run(arguments: argparse.Namespace) -> int:
-    """The status is 0 where the drawings are the same, byte by byte, else 1."""
+    """The status is 0 where the drawings are the same, byte by byte, else 1; with --script 0."""
+    if arguments.output and not arguments.script:
+        raise Mistake('-o goes with --script')
     program = Program.find()
     first, second = Drawing(arguments.first, program), Drawing(arguments.second, program)
     found = differences(first, second)
     tails = tail_said(first, second)
+    if arguments.script:
+        give_redoing(first, second, found, arguments.output)
+        return 0
     if arguments.json:
         say_json({'elements': [facts_of(it) for it in found], 'tail': tails})
+    elif arguments.csv:
+        rows = [[it.before, it.after, it.described, '; '.join(it.words)] for it in found]
+        say_csv(['before', 'after', 'is', 'words'], rows)
     else:
         for it in found:
-            say(printable('%s: %s' % (name_of(it), '; '.join(it.words))))
+            say('%s: %s' % (name_of(it), '; '.join(it.words)))
         for line in tails:
             say(line)
         say(summary(found) if found or tails else 'no difference')
     return 1 if found or tails else 0
+
+
+def give_redoing(first: Drawing, second: Drawing, found: List[Difference], path: str) -> None:
+    """Gives the script, and says what still differs once it has run."""
+    made = redoing_of(first, second, found)
+    for it in made.left[:20]:
+        note('left: %s: %s' % (name_of(it), '; '.join(it.words)))
+    if len(made.left) > 20:
+        note('left: and %d more' % (len(made.left) - 20))
+    note('after the script %s' % (summary(made.left) if made.left else 'no element differs'))
+    words = (command_said(first, it.text) for it in made.script.commands)
+    give_script(first.path, made.script, words, path, False)
 
 
 def facts_of(it: Difference) -> Dict[str, Any]:
@@ -71,7 +100,8 @@ def tail_said(first: Drawing, second: Drawing) -> List[str]:
 def summary(found: List[Difference]) -> str:
     counts: Dict[str, int] = {}
     for it in found:
-        for name in it.changes:
-            counts[name] = counts.get(name, 0) + 1
-    said = ', '.join('%d %s' % (counts[name], COUNTED.get(name, name)) for name in counts)
-    return '%s: %s' % (counted(len(found), 'element differs', 'elements differ'), said or 'none')
+        for name, facts in it.changes.items():
+            said = BACK[name] if name in BACK and facts is False else COUNTED.get(name, name)
+            counts[said] = counts.get(said, 0) + 1
+    words = ', '.join('%d %s' % (counts[said], said) for said in counts)
+    return '%s: %s' % (counted(len(found), 'element differs', 'elements differ'), words or 'none')

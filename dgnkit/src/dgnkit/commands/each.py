@@ -5,27 +5,30 @@ from __future__ import annotations
 import argparse
 import os
 import shutil
-import signal
 import sys
 import tempfile
 from dataclasses import dataclass
 from pathlib import Path
-from types import FrameType
-from typing import TYPE_CHECKING, Any, Dict, List, Optional, Sequence
+from typing import TYPE_CHECKING, Any, Dict, List, Sequence
 
+from ..drawing.spans import number_of
+from ..errors import BadDesign, Mistake, ReadFault, ending_of
+from ..explain.explaining import why_bad_design, why_not_read
+from ..files import mistake_of, put_in_place, read_file
+from ..format.limits import PATCH_LONGEST, SCRIPT_LONGEST
+from ..output import counted, note, say, say_csv, say_json, table
 from ..program.answers import answers_of
-from ..drawing.drawing import read_file
-from ..errors import Mistake, ending_of
-from ..output import counted, note, say, say_json, table
-from ..format.patch import MARK
-from ..program.runs import Program, lines_of
 from ..program.many import run_all
+from ..program.runs import Program, lines_of
 from ..program.script import Script
+from ..waiting import is_terminal, tells_itself
+from ._runs import is_patch, on_disk
 
 if TYPE_CHECKING:
     from ..cli import Subparsers
 
 WIDTH = 30
+JOBS_MOST = 1024
 
 
 @dataclass(frozen=True)
@@ -44,34 +47,32 @@ def register(words: Subparsers) -> None:
     parser.add_argument('script', metavar='SCRIPT', help='a script or a patch file')
     parser.add_argument('drawings', metavar='IN', nargs='+')
     parser.add_argument('--into', metavar='DIR', required=True, help='the folder that the new drawings are written to')
-    parser.add_argument('--jobs', metavar='N', type=int, default=os.cpu_count() or 1, help='so many at a time')
+    parser.add_argument('--jobs', metavar='N', default=str(os.cpu_count() or 1), help='so many at a time')
     parser.add_argument('--force', action='store_true', help='write over drawings of that name in DIR')
-    parser.add_argument('--json', action='store_true', help='say it as JSON')
+    form = parser.add_mutually_exclusive_group()
+    form.add_argument('--json', action='store_true', help='say it as JSON')
+    form.add_argument('--csv', action='store_true', help='say it as CSV')
     parser.set_defaults(run=run)
 
 
 def run(arguments: argparse.Namespace) -> int:
     """The status is 1 where a drawing wasn't written, or a command was refused."""
     program = Program.find()
-    if arguments.jobs < 1:
+    tells_itself()
+    jobs = number_of(arguments.jobs, 'number of jobs', JOBS_MOST)
+    if jobs < 1:
         raise Mistake('--jobs is at least 1')
-    is_patch = read_file(arguments.script).startswith(MARK)
     targets = targets_of(arguments.drawings, arguments.into, arguments.force)
-    runs = Runs(program, arguments.script, is_patch, arguments.drawings, targets)
-    kept = signal.signal(signal.SIGTERM, _stop)
-    try:
-        outcomes = runs.all(arguments.into, arguments.jobs)
-    finally:
-        signal.signal(signal.SIGTERM, kept)
+    with on_disk(arguments.script) as script:
+        runs = Runs(program, script, is_patch(script), arguments.drawings, targets, arguments.force)
+        outcomes = runs.all(arguments.into, jobs)
     if arguments.json:
         say_json([vars(it) for it in outcomes])
+    elif arguments.csv:
+        say_csv(list(vars(outcomes[0])), [list(vars(it).values()) for it in outcomes])
     else:
         tell(outcomes)
     return int(any(it.status for it in outcomes))
-
-
-def _stop(number: int, frame: Optional[FrameType]) -> None:
-    raise KeyboardInterrupt
 
 
 def targets_of(drawings: Sequence[str], folder: str, may_replace: bool) -> List[Path]:
@@ -80,7 +81,7 @@ def targets_of(drawings: Sequence[str], folder: str, may_replace: bool) -> List[
     try:
         os.makedirs(folder, exist_ok=True)
     except OSError as why:
-        raise Mistake('%s: %s' % (folder, (why.strerror or str(why)).lower()))
+        raise mistake_of(folder, why)
     by_name: Dict[str, str] = {}
     for name in drawings:
         target = Path(folder) / Path(name).name
@@ -97,10 +98,13 @@ def targets_of(drawings: Sequence[str], folder: str, may_replace: bool) -> List[
 class Runs:
     """Runs of one script or patch file over drawings, each into a file of its own."""
 
-    def __init__(self, program: Program, script: str, is_patch: bool, drawings: List[str], targets: List[Path]) -> None:
+    def __init__(
+        self, program: Program, script: str, is_patch: bool, drawings: List[str], targets: List[Path], force: bool
+    ) -> None:
         self.program, self.script, self.is_patch = program, script, is_patch
-        self.commands = [] if is_patch else [it.name for it in Script.read(script).commands]
-        self.drawings, self.targets = drawings, targets
+        content = read_file(script, PATCH_LONGEST if is_patch else SCRIPT_LONGEST)
+        self.commands = [] if is_patch else [it.name for it in Script.from_bytes(content).commands]
+        self.drawings, self.targets, self.force = drawings, targets, force
 
     def all(self, folder: str, jobs: int) -> List[Outcome]:
         """Runs them all. A drawing is put in its place once it is whole; nothing else is left, however this ends."""
@@ -125,18 +129,25 @@ class Runs:
         try:
             lines = lines_of(said)
             if status not in (0, 1):
-                return Outcome(name, status, str(ending_of(status, lines, name)), 0, '')
+                return Outcome(name, status, self.ending(status, lines, name), 0, '')
             asks = status == 1 and not self.is_patch
             refused = sum(it.is_refused for it in answers_of(self.commands, lines)) if asks else 0
+            put_in_place(out, target, self.force)
         except Mistake as why:
             return Outcome(name, -1, str(why), 0, '')
-        os.replace(out, target)
         return Outcome(name, status, 'done' if status == 0 else 'some refused', refused, str(target))
+
+    def ending(self, status: int, lines: List[str], name: str) -> str:
+        """Why the program ended without writing a drawing."""
+        ending = ending_of(status, lines, name)
+        if isinstance(ending, BadDesign) and ending.fault == 'not-design':
+            return why_bad_design(name, ending)
+        return why_not_read([name, self.script]) if isinstance(ending, ReadFault) else str(ending)
 
 
 def show_progress(done: int, count: int) -> None:
     """A bar on standard error: on a terminal it grows, elsewhere there is a line at each tenth."""
-    if sys.stderr.isatty():
+    if is_terminal():
         bar = ('#' * (WIDTH * done // count)).ljust(WIDTH)
         print('\r[%s] %d of %d' % (bar, done, count), end='\n' if done == count else '', file=sys.stderr, flush=True)
     elif done * 10 // count != (done - 1) * 10 // count:

@@ -1,4 +1,4 @@
-"""`dgnkit find IN [conditions]`: elements that meet conditions, as numbers, a table, JSON or a script."""
+"""`dgnkit find IN [conditions]`: elements that meet conditions, as numbers, a table, CSV, JSON or a script."""
 
 from __future__ import annotations
 
@@ -6,77 +6,121 @@ import argparse
 from typing import TYPE_CHECKING, Any, Dict, List, Sequence
 
 from ..drawing.conditions import Conditions, add_conditions
+from ..drawing.nothing import nothing_said
 from ..drawing.drawing import Drawing
-from ..format.element import Element
 from ..errors import Mistake
-from ..output import counted, note, say, say_json, table
-from ..propose.scripting import give_proposal, propose
+from ..explain.members import parts_said
+from ..format.element import Element
 from ..format.units import shortest
+from ..output import counted, note, say, say_csv, say_json, table
+from ..propose.scripting import LINE_HELP, give_proposal, propose
 
 if TYPE_CHECKING:
     from ..cli import Subparsers
+
+TOLD = 8  # so many headers with chosen members are told
 
 
 def register(words: Subparsers) -> None:
     parser = words.add_parser('find', help='find elements that meet conditions, and write a script for them')
     parser.add_argument('drawing', metavar='IN')
-    add_conditions(parser)
-    form = parser.add_mutually_exclusive_group()
-    form.add_argument('--numbers', action='store_true', help='say the numbers alone, one a line')
-    form.add_argument('--json', action='store_true', help='say them as JSON')
-    form.add_argument(
-        '--script',
-        metavar='LINE',
-        help="a script's line for each, with {n} for its number and {2.5} for 2.5 master units",
+    parser.add_argument(
+        '--numbers',
+        metavar='FILE',
+        nargs='?',
+        const='',
+        help='with the numbers in this file; without a name: say the numbers alone, one a line',
     )
+    add_conditions(parser, has_numbers=False)
+    form = parser.add_mutually_exclusive_group()
+    form.add_argument('--json', action='store_true', help='say them as JSON')
+    form.add_argument('--csv', action='store_true', help='say them as CSV')
+    form.add_argument('--script', metavar='LINE', dest='line', help=LINE_HELP)
     parser.add_argument('-o', '--output', metavar='SCRIPT', default='', help='the file for --script')
     parser.add_argument('--dry-run', action='store_true', help='say in words what the script would do')
     parser.set_defaults(run=run)
 
 
 def run(arguments: argparse.Namespace) -> int:
-    if (arguments.output or arguments.dry_run) and arguments.script is None:
+    if (arguments.output or arguments.dry_run) and arguments.line is None:
         raise Mistake('-o and --dry-run go with --script')
+    arguments.numbers_file = arguments.numbers
     drawing = Drawing(arguments.drawing)
     conditions = Conditions(drawing, arguments)
     chosen = conditions.chosen()
-    if conditions.near is not None and arguments.script is None:
+    if arguments.line is not None:
+        named = chosen if arguments.members else conditions.roots_of(chosen)
+        made = propose(drawing, named, arguments.line)
+        made.tell_members(drawing, chosen)
+        give_proposal(drawing, made, arguments.output, arguments.dry_run)
+    else:
+        tell(conditions, chosen, arguments)
+        for said in parts_said(drawing, chosen, TOLD):
+            note(said)
+    note('found %d of %s' % (len(chosen), counted(len(drawing.elements), 'element')))
+    if not chosen:
+        note(nothing_said(conditions))
+    return 0
+
+
+def tell(conditions: Conditions, chosen: List[int], arguments: argparse.Namespace) -> None:
+    """Says the chosen elements, the nearest to a place first."""
+    elements = conditions.drawing.elements
+    if conditions.nearness is not None:
         chosen.sort(key=lambda it: (conditions.distance(it), it))
-    if arguments.script is not None:
-        give_proposal(drawing, propose(drawing, chosen, arguments.script), arguments.output, arguments.dry_run)
-    elif arguments.json:
-        say_json([row_of(conditions, drawing.elements[it]) for it in chosen])
-    elif arguments.numbers:
+    if arguments.json:
+        say_json([row_of(conditions, elements[it]) for it in chosen])
+    elif arguments.csv:
+        rows = [csv_row(conditions, elements[it]) for it in chosen]
+        say_csv(list(rows[0]) if rows else ['number'], [list(it.values()) for it in rows])
+    elif arguments.numbers == '':
         say('\n'.join(map(str, chosen))) if chosen else None
     else:
         for line in table_of(conditions, chosen) if chosen else []:
             say(line)
-    note('found %d of %s' % (len(chosen), counted(len(drawing.elements), 'element')))
-    return 0
 
 
 def row_of(conditions: Conditions, element: Element) -> Dict[str, Any]:
     """What is said of an element, as JSON has it."""
-    nesting, number = conditions.drawing.nesting, element.number
+    drawing, number = conditions.drawing, element.number
+    colour = None if element.is_silent else element.colour
     row: Dict[str, Any] = {
         'number': number,
-        'root': nesting.roots[number],
+        'root': drawing.nesting.roots[number],
         'type': element.type,
         'type_name': element.type_name,
         'level': element.level,
-        'colour': None if element.is_silent else element.colour,
+        'colour': colour,
+        'colour_name': None if colour is None else drawing.palette.names[colour],
+        'rgb': None if colour is None else drawing.palette.spelled[colour],
         'weight': None if element.is_silent else element.weight,
         'style': None if element.is_silent else element.style,
         'text': element.text,
         'cell': element.cell_name,
-        'deleted': number in conditions.drawing.dead,
+        'deleted': number in drawing.dead,
         'locked': element.is_locked,
-        'broken': nesting.roots[number] in conditions.broken_roots,
+        'broken': drawing.nesting.roots[number] in conditions.broken_roots,
         'range': element.range,
     }
-    if conditions.near is not None:
+    if conditions.nearness is not None:
         row['distance'] = conditions.length_said(conditions.distance(number))
     return row
+
+
+def csv_row(conditions: Conditions, element: Element) -> Dict[str, Any]:
+    """What is said of an element, as CSV has it: with its origin or its first point, and a text's height and angle."""
+    row, scale = row_of(conditions, element), conditions.scale
+    low_high = row.pop('range') or ((), ())
+    points = element.points
+    for axis, name in enumerate('xyz'[: element.axes]):
+        row[name] = shortest(scale.said(points[0])[axis]) if points else None
+    for corner, words in zip(low_high or ((), ()), ('low', 'high')):
+        for axis, name in enumerate('xy'):
+            row['%s_%s' % (words, name)] = shortest(scale.said(corner)[axis]) if corner else None
+    size, angle = element.text_size, element.text_angle
+    row['height'] = None if size is None else shortest(round(conditions.length_said(size[1]), 9))
+    row['angle'] = None if angle is None else shortest(round(angle, 6))
+    return {name: int(it) if isinstance(it, bool) else it for name, it in row.items()}
 
 
 HEAD = ['number', 'root', 'type', 'level', 'colour', 'weight', 'style', 'standing', 'text or cell']
@@ -84,20 +128,23 @@ HEAD = ['number', 'root', 'type', 'level', 'colour', 'weight', 'style', 'standin
 
 def table_of(conditions: Conditions, chosen: Sequence[int]) -> List[str]:
     """The table of the chosen elements, with their distances where a place was asked for."""
-    head = [*HEAD[:1], 'distance', *HEAD[1:]] if conditions.near is not None else HEAD
+    head = [*HEAD[:1], 'distance', *HEAD[1:]] if conditions.nearness is not None else HEAD
     rows = [cells_of(conditions, conditions.drawing.elements[it]) for it in chosen]
-    return table(head, rows, left=('type', 'standing'))
+    return table(head, rows, left=('type', 'colour', 'standing'))
 
 
 def cells_of(conditions: Conditions, element: Element) -> List[object]:
     """What the table says of an element."""
-    number, roots = element.number, conditions.drawing.nesting.roots
-    standing = ['deleted'] if number in conditions.drawing.dead else []
+    drawing, number, roots = conditions.drawing, element.number, conditions.drawing.nesting.roots
+    standing = ['deleted'] if number in drawing.dead else []
     standing += ['locked'] if element.is_locked else []
     standing += ['broken'] if roots[number] in conditions.broken_roots else []
-    looks: List[object] = [''] * 3 if element.is_silent else [element.colour, element.weight, element.style]
+    looks: List[object] = [''] * 3
+    if not element.is_silent:
+        colour = ('%d %s' % (element.colour, drawing.palette.names[element.colour])).rstrip()
+        looks = [colour, element.weight, element.style]
     distance = []
-    if conditions.near is not None:
+    if conditions.nearness is not None:
         distance.append(shortest(round(conditions.length_said(conditions.distance(number)), 3)))
     front = [number, *distance, roots[number], element.type_name, element.level, *looks]
     return [*front, ' '.join(standing), element.text or element.cell_name or '']

@@ -3,24 +3,29 @@
 from __future__ import annotations
 
 import argparse
-import io
 import json
+import re
 import sys
-from typing import TYPE_CHECKING, TextIO
+from dataclasses import dataclass
+from typing import TYPE_CHECKING, Iterator, Optional
 
 from ..drawing.drawing import Drawing
 from ..drawing.features import Features
-from ..output import note
+from ..errors import Mistake
+from ..files import write_pieces
 from ..format.places import Scale
-from ..propose.writing import write_file
+from ..output import note
 
 if TYPE_CHECKING:
     from ..cli import Subparsers
+
+SYSTEM = re.compile(r'(EPSG):(\d{4,6})', re.IGNORECASE)
 
 
 def register(words: Subparsers) -> None:
     parser = words.add_parser('geojson', help='write a drawing as GeoJSON, for QGIS')
     parser.add_argument('drawing', metavar='IN')
+    parser.add_argument('--crs', metavar='EPSG:CODE', help='the system of coordinates that the places are in')
     parser.add_argument('--units', choices=('auto', 'master', 'resolution'), default='auto', help='of its places')
     parser.add_argument('--members', action='store_true', help='the members of complex chains and shapes too')
     parser.add_argument('-o', '--output', metavar='FILE', default='', help='the file, else standard output')
@@ -28,26 +33,46 @@ def register(words: Subparsers) -> None:
 
 
 def run(arguments: argparse.Namespace) -> int:
+    system = system_of(arguments.crs)
     drawing = Drawing(arguments.drawing)
     scale = Scale(drawing.units, arguments.units)
     features = Features(drawing, scale.is_master, arguments.members)
+    count = Count()
+    lines = lines_of(features, system, count)
     if arguments.output:
-        made = io.StringIO()
-        count = write(features, made)
-        write_file(arguments.output, made.getvalue().encode('utf-8'))
+        write_pieces(arguments.output, (it.encode('ascii') for it in lines))
+    elif sys.stdout is None:
+        raise OSError('standard output is closed')
     else:
-        count = write(features, sys.stdout)
-    note('%d features in %s' % (count, scale.name))
+        sys.stdout.writelines(lines)
+    note('%d features in %s' % (count.features, scale.name))
+    if system is None:
+        note('no system of coordinates is named: a reader may take the places for degrees; name it by --crs EPSG:CODE')
     return 0
 
 
-def write(features: Features, out: TextIO) -> int:
-    """Writes a collection, a feature a line, and gives their number. It says that no system of the earth's coordinates
-    is known, else a reader takes metres for degrees."""
-    out.write('{"type": "FeatureCollection", "crs": null, "features": [')
-    count = 0
+def system_of(word: Optional[str]) -> Optional[str]:
+    """The name of a system of coordinates as GeoJSON has it, none where none is given."""
+    if word is None:
+        return None
+    found = SYSTEM.fullmatch(word.strip())
+    if not found:
+        raise Mistake('%r is no system of coordinates: it is written EPSG:25832' % word)
+    return 'urn:ogc:def:crs:EPSG::' + found[2]
+
+
+@dataclass
+class Count:
+    """How many features were written."""
+
+    features: int = 0
+
+
+def lines_of(features: Features, system: Optional[str], count: Count) -> Iterator[str]:
+    """The lines of a collection, one for each feature. Without a system it says that none is known."""
+    crs = None if system is None else {'type': 'name', 'properties': {'name': system}}
+    yield '{"type": "FeatureCollection", "crs": %s, "features": [' % json.dumps(crs)
     for feature in features.all():
-        out.write(('\n' if count == 0 else ',\n') + json.dumps(feature))
-        count += 1
-    out.write('\n]}\n')
-    return count
+        yield ('\n' if count.features == 0 else ',\n') + feature
+        count.features += 1
+    yield '\n]}\n'

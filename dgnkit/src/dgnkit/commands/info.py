@@ -3,25 +3,33 @@
 from __future__ import annotations
 
 import argparse
+from collections import Counter
 from typing import TYPE_CHECKING, Any, Dict, List, Optional, Tuple
 
-from ..format.classes import type_name
+from ..drawing.attachments import names_in
 from ..drawing.drawing import Drawing
+from ..drawing.measuring import Measures, measures_of
 from ..errors import Mistake
+from ..format.classes import type_name
 from ..format.limits import PLANE_HIGH, PLANE_LOW
 from ..format.numbers import Point
-from ..output import counted, note, say, say_json, table
-from ..program.runs import Program
 from ..format.units import Units, metres_of, shortest
+from ..output import counted, note, say, say_csv, say_json, table
+from ..program.runs import Program
 
 if TYPE_CHECKING:
     from ..cli import Subparsers
+
+MEASURES = ['lines', 'length', 'shapes', 'outline', 'area']
 
 
 def register(words: Subparsers) -> None:
     parser = words.add_parser('info', help='say what drawings are, their units and what they have')
     parser.add_argument('drawings', metavar='IN', nargs='+')
-    parser.add_argument('--json', action='store_true', help='say it as JSON')
+    parser.add_argument('--lengths', action='store_true', help='sum up lengths and areas by level')
+    form = parser.add_mutually_exclusive_group()
+    form.add_argument('--json', action='store_true', help='say it as JSON')
+    form.add_argument('--csv', action='store_true', help='say the table of levels as CSV')
     parser.set_defaults(run=run)
 
 
@@ -31,28 +39,30 @@ def run(arguments: argparse.Namespace) -> int:
     status = 0
     for name in arguments.drawings:
         try:
-            facts = facts_of(Drawing(name, program))
+            facts = facts_of(Drawing(name, program), arguments.lengths)
         except Mistake as why:
             note('dgnkit: %s' % why)
             status = 2
             continue
         told.append(facts)
-        if not arguments.json:
+        if not arguments.json and not arguments.csv:
             for line in lines_of(facts):
                 say(line)
     if arguments.json:
         say_json(told)
+    elif arguments.csv:
+        head = ['file', 'level', 'elements', 'types', *(MEASURES if arguments.lengths else [])]
+        say_csv(head, [[it['file'], *row] for it in told for row in rows_of(it)])
     return status
 
 
-def facts_of(drawing: Drawing) -> Dict[str, Any]:
+def facts_of(drawing: Drawing, has_lengths: bool = False) -> Dict[str, Any]:
     """All that is said of a drawing, as JSON has it."""
     units, elements = drawing.units, drawing.elements
     extent = drawing.extent
-    by_level: Dict[int, Dict[int, int]] = {}
-    for element in elements:
-        types = by_level.setdefault(element.level, {})
-        types[element.type] = types.get(element.type, 0) + 1
+    by_level: Dict[int, Dict[str, int]] = {}
+    for (level, kind), count in Counter(zip(elements.levels, elements.types)).items():
+        by_level.setdefault(level, {})[type_name(kind)] = count
     return {
         'file': drawing.path,
         'bytes': len(drawing.data),
@@ -62,15 +72,29 @@ def facts_of(drawing: Drawing) -> Dict[str, Any]:
         'plane': [corner(units, PLANE_LOW, drawing.axes), corner(units, PLANE_HIGH, drawing.axes)],
         'extent': None if extent is None else extent_facts(units, extent),
         'elements': len(elements),
-        'deleted': sum(it.is_deleted for it in elements),
-        'locked': sum(it.is_locked for it in elements),
+        'deleted': len(elements.deleted()),
+        'locked': elements.locked_count(),
         'references': len(drawing.references),
+        'reference_files': [
+            {'element': it.number, 'deleted': it.is_deleted, 'names': names_in(elements[it.number])}
+            for it in drawing.references
+        ],
         'own_colours': drawing.colours is not None,
         'first_byte': drawing.tcb.first_byte,
-        'levels': {
-            str(level): {type_name(it): by_level[level][it] for it in by_level[level]} for level in sorted(by_level)
-        },
+        'levels': {str(level): by_level[level] for level in sorted(by_level)},
+        'lengths': lengths_facts(drawing) if has_lengths else None,
     }
+
+
+def lengths_facts(drawing: Drawing) -> Dict[str, Dict[str, float]]:
+    """The sums of each level, in master units where these are known."""
+    scale = drawing.units.in_master or 1
+
+    def facts(it: Measures) -> Dict[str, float]:
+        lengths = {'length': it.length / scale, 'outline': it.outline / scale, 'area': it.area / scale**2}
+        return {'lines': it.lines, 'shapes': it.shapes, **{name: round(lengths[name], 6) for name in lengths}}
+
+    return {str(level): facts(it) for level, it in sorted(measures_of(drawing).items())}
 
 
 def units_facts(units: Units) -> Dict[str, Any]:
@@ -115,12 +139,38 @@ def lines_of(facts: Dict[str, Any]) -> List[str]:
     more = [counted(facts['deleted'], 'is', 'are') + ' marked deleted', '%d locked' % facts['locked']]
     more += ['%d may attach a reference' % facts['references']] if facts['references'] else []
     lines.append('  elements   %d, of which %s' % (facts['elements'], ', '.join(more)))
+    for it in facts['reference_files']:
+        names = ', '.join(it['names']) or 'no name is read in it'
+        lines.append('  reference  element %d%s: %s' % (it['element'], ', deleted' * it['deleted'], names))
     lines.append('  colours    %s' % ('a table of its own' if facts['own_colours'] else 'no table of its own'))
+    lines += ['  ' + line for line in table(['level', 'elements', 'types'], [it[:3] for it in rows_of(facts)])]
+    return lines + measures_said(facts, name if units['known'] else 'units of resolution')
+
+
+def rows_of(facts: Dict[str, Any]) -> List[List[object]]:
+    """A row for each level: how many elements there are of each type, and the sums where they were asked for."""
+    made = []
+    for level, types in facts['levels'].items():
+        row: List[object] = [level, sum(types.values()), ', '.join('%d %s' % (types[it], it) for it in types)]
+        if facts['lengths'] is not None:
+            found = facts['lengths'].get(level, {})
+            row += [found.get(name) if name in found else None for name in MEASURES]
+        made.append(row)
+    return made
+
+
+def measures_said(facts: Dict[str, Any], name: str) -> List[str]:
+    """The sums in words: a table of the levels that have any."""
+    if facts['lengths'] is None:
+        return []
     rows = [
-        (level, sum(types.values()), ', '.join('%d %s' % (types[it], it) for it in types))
-        for level, types in facts['levels'].items()
+        [level, it['lines'], *(shortest(round(it[word], 3)) for word in ('length',)), it['shapes']]
+        + [shortest(round(it[word], 3)) for word in ('outline', 'area')]
+        for level, it in facts['lengths'].items()
     ]
-    return lines + ['  ' + line for line in table(['level', 'elements', 'types'], rows)]
+    head = ['level', *MEASURES]
+    lines = ['  lengths in %s and areas in square %s; outlines and areas are those of shapes' % (name, name)]
+    return lines + ['  ' + line for line in table(head, rows)]
 
 
 def place_said(place: List[float]) -> str:

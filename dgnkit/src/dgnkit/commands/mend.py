@@ -5,14 +5,17 @@ from __future__ import annotations
 import argparse
 import os
 import tempfile
+from pathlib import Path
 from typing import TYPE_CHECKING, Sequence
 
 from ..drawing.changes import Change
 from ..drawing.drawing import Drawing
 from ..format.element import described
 from ..drawing.mending import mending_of
-from ..output import counted, note, printable, say, say_json
-from ..propose.writing import applied, patch_of, propose_patch, write_file
+from ..errors import Mistake
+from ..output import counted, note, say, say_csv, say_json
+from ..files import write_file
+from ..propose.writing import applied, patch_of, propose_patch
 
 if TYPE_CHECKING:
     from ..cli import Subparsers
@@ -21,28 +24,36 @@ if TYPE_CHECKING:
 def register(words: Subparsers) -> None:
     parser = words.add_parser('mend', help='write a patch file that mends broken trees')
     parser.add_argument('drawing', metavar='IN')
-    parser.add_argument('patch', metavar='PATCH')
+    parser.add_argument('patch', metavar='PATCH', nargs='?', default='', help='none is wanted with --dry-run')
     parser.add_argument('--dry-run', action='store_true', help='say what it would do, and write nothing')
-    parser.add_argument('--json', action='store_true', help='say it as JSON')
+    form = parser.add_mutually_exclusive_group()
+    form.add_argument('--json', action='store_true', help='say it as JSON')
+    form.add_argument('--csv', action='store_true', help='say it as CSV')
     parser.set_defaults(run=run)
 
 
 def run(arguments: argparse.Namespace) -> int:
+    if not arguments.patch and not arguments.dry_run:
+        raise Mistake('name the patch file that is to be written: dgnkit mend %s PATCH' % arguments.drawing)
     drawing = Drawing(arguments.drawing)
     mending = mending_of(drawing)
-    words = [printable(it.in_words()) for it in mending.changes]
+    words = [it.in_words() for it in mending.changes]
     after = broken_after(drawing, mending.changes)
+    before = len(drawing.nesting.broken_roots)
     if arguments.json:
         mended = [{'element': it.element.number, 'words': it.in_words()} for it in mending.changes]
         left = [{'element': it.element.number, 'why': it.why} for it in mending.left]
-        say_json({'mended': mended, 'left': left, 'before': len(drawing.nesting.broken_roots), 'after': after})
+        say_json({'mended': mended, 'left': left, 'before': before, 'after': after})
+    elif arguments.csv:
+        rows = [[it.element.number, 'mended', it.in_words()] for it in mending.changes]
+        say_csv(['element', 'becomes', 'words'], [*rows, *([it.element.number, 'left', it.why] for it in mending.left)])
     else:
         for line in words:
             say(line)
     for it in mending.left:
-        note(printable('left: %s: %s' % (described(it.element), it.why)))
-    if not arguments.json:
-        say('%s before, %d after' % (counted(len(drawing.nesting.broken_roots), 'broken tree'), after))
+        note('left: %s: %s' % (described(it.element), it.why))
+    if not arguments.json and not arguments.csv:
+        say('%s before, %d after' % (counted(before, 'broken tree'), after))
         propose_patch(drawing, mending.changes, [], arguments.patch, arguments.dry_run)
     elif not arguments.dry_run:
         patch = patch_of(drawing, mending.changes)
@@ -55,6 +66,6 @@ def broken_after(drawing: Drawing, changes: Sequence[Change]) -> int:
     """How many trees are broken in the drawing with these changes, as the program says."""
     with tempfile.TemporaryDirectory(prefix='dgnkit-') as folder:
         patch, out = os.path.join(folder, 'patch'), os.path.join(folder, 'out.dgn')
-        write_file(patch, patch_of(drawing, changes).to_bytes())
+        Path(patch).write_bytes(patch_of(drawing, changes).to_bytes())
         drawing.program.apply(drawing.path, patch, out)
         return len(Drawing(out, drawing.program).nesting.broken_roots)

@@ -9,7 +9,7 @@ from pathlib import Path
 from typing import TYPE_CHECKING
 
 from ..output import say
-from ..propose.writing import write_file
+from ..files import write_file
 from .page import page_text
 
 if TYPE_CHECKING:

@@ -7,11 +7,11 @@ import os
 from pathlib import Path
 from typing import TYPE_CHECKING, List, Optional
 
-from ..drawing.drawing import Drawing, read_file
+from ..drawing.drawing import Drawing
 from ..errors import Mistake
+from ..files import read_file, write_file
 from ..output import say
 from ..page.app import PAGE_MARK, Part, page_of
-from ..propose.writing import write_file
 
 if TYPE_CHECKING:
     from ..cli import Subparsers

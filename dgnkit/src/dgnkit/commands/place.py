@@ -6,20 +6,23 @@ import argparse
 from dataclasses import dataclass
 from typing import TYPE_CHECKING, List, Optional, Sequence
 
+from ..drawing.cells import cells_called
 from ..drawing.drawing import Drawing
-from ..format import classes
-from ..format.element import Element, described
+from ..drawing.spans import number_of
+from ..drawing.tables import Row, columns_of, is_head, rows_of
 from ..errors import Mistake
-from ..format.limits import FARTHEST
+from ..format.element import Element, described
+from ..format.limits import ELEMENTS_MOST, FARTHEST
 from ..format.numbers import Point
-from ..output import few, note
 from ..format.places import Scale
+from ..output import few, note
 from ..program.script import Script
 from ..propose.scripting import REASONS, causes, give_script
-from ..propose.tables import Row, columns_of, is_head, rows_of
 
 if TYPE_CHECKING:
     from ..cli import Subparsers
+
+PLACES = ('x', 'y', 'z')
 
 
 @dataclass(frozen=True)
@@ -35,7 +38,7 @@ def register(words: Subparsers) -> None:
     parser.add_argument('drawing', metavar='IN')
     parser.add_argument('cell', metavar='CELL', help="the cell's name, as a person writes it")
     parser.add_argument('places', metavar='CSV', help='rows x,y or x,y,z; a first row may name the columns')
-    parser.add_argument('--number', type=int, help='the number of the cell to copy, where several have the name')
+    parser.add_argument('--number', help='the number of the cell to copy, where several have the name')
     parser.add_argument('--units', choices=('auto', 'master', 'resolution'), default='auto', help='of the places')
     parser.add_argument('-o', '--output', metavar='SCRIPT', default='', help='the script, else standard output')
     parser.add_argument('--dry-run', action='store_true', help='say what it would do, and write nothing')
@@ -44,57 +47,55 @@ def register(words: Subparsers) -> None:
 
 def run(arguments: argparse.Namespace) -> int:
     drawing = Drawing(arguments.drawing)
-    cell = cell_of(drawing, arguments.cell, arguments.number)
-    spots = spots_of(drawing, arguments.places, Scale(drawing.units, arguments.units))
+    number = None if arguments.number is None else number_of(arguments.number, 'number of an element', ELEMENTS_MOST)
+    cell = cell_of(drawing, arguments.cell, number)
+    scale = Scale(drawing.units, arguments.units)
+    spots = spots_of(drawing, arguments.places, scale)
     script = Script()
     for spot in spots:
         script.copy(cell.number, *shift_to(cell, spot))
     ask(drawing, cell, script, spots)
-    words = ['row %d: %s to %s' % (it.row.line, described(cell), ','.join(map(str, it.point))) for it in spots]
+    tell_outside(drawing, scale, spots)
+    words = ['row %d: %s to %s' % (it.row.line, described(cell), scale.place_said(it.point)) for it in spots]
     give_script(drawing.path, script, words, arguments.output, arguments.dry_run)
     return 0
 
 
 def cell_of(drawing: Drawing, name: str, number: Optional[int]) -> Element:
     """The first cell of a name that can be copied, or the one with a number. It raises Mistake where there is none."""
-    cells = [it for it in drawing.elements if it.type == classes.CELL and it.number not in drawing.dead]
-    named = [it for it in cells if (it.cell_name or '').upper() == name.strip().upper()]
-    if not named:
-        names = sorted({it.cell_name or '' for it in cells})
-        raise Mistake(
-            'no cell is called %r: %s' % (name, 'there are ' + ', '.join(names) if names else 'there is none')
-        )
+    named = cells_called(drawing, name)
     roots, broken = drawing.nesting.roots, drawing.nesting.broken_roots
     whole = [it for it in named if roots[it.number] not in broken and number in (None, it.number)]
+    numbers = few([it.number for it in named])
     if not whole and number is not None:
-        raise Mistake(
-            'element %d is no cell %s that can be copied: these are %s' % (number, name, few(_numbers(named)))
-        )
+        raise Mistake('element %d is no cell %s that can be copied: these are %s' % (number, name, numbers))
     if not whole:
-        raise Mistake('all cells %s are in broken trees (%s): `dgnkit mend` first' % (name, few(_numbers(named))))
+        raise Mistake('all cells %s are in broken trees (%s): `dgnkit mend` first' % (name, numbers))
     if len(whole) > 1:
         note('copied is the first of %d cells %s, element %d' % (len(whole), name, whole[0].number))
     return whole[0]
 
 
-def _numbers(cells: Sequence[Element]) -> List[int]:
-    return [it.number for it in cells]
-
-
 def spots_of(drawing: Drawing, file: str, scale: Scale) -> List[Spot]:
     """The places of a file. It raises Mistake with the row where one can't be read."""
     rows = rows_of(file)
-    columns: List[Optional[int]] = [0, 1, 2]
+    columns: Sequence[Optional[int]] = range(drawing.axes)
     if is_head(rows[0]):
-        columns = columns_of(rows[0], ['x', 'y', 'z'])
+        columns = columns_of(rows[0], PLACES[: drawing.axes])
         if columns[0] is None or columns[1] is None:
-            raise rows[0].mistake('it names no columns x and y: %s' % ', '.join(rows[0].fields))
+            said = 'it names no columns x and y, or easting and northing: %s'
+            raise rows[0].mistake(said % ', '.join(rows[0].fields))
         rows = rows[1:]
+    else:
+        for row in rows:
+            if row.width > drawing.axes:
+                said = 'it has %d columns, and the drawing %d axes: name the columns in a first row, as x,y'
+                raise row.mistake(said % (row.width, drawing.axes))
     made = []
     for row in rows:
         words = [row.field(it) for it in columns[:2] if it is not None]
-        z = columns[2]
-        if drawing.axes == 3 and z is not None and z < len(row.fields) and row.field(z):
+        z = columns[2] if len(columns) > 2 else None
+        if z is not None and z < len(row.fields) and row.field(z):
             words.append(row.field(z))
         made.append(_spot(row, words, scale))
     return made
@@ -123,3 +124,17 @@ def ask(drawing: Drawing, cell: Element, script: Script, spots: Sequence[Spot]) 
         if cause:
             reason = REASONS.get(cause.split(' ')[0], cause).replace('they', 'it', 1)
             raise spot.row.mistake('%s can not be copied there (%s): %s' % (described(cell), cause, reason))
+
+
+def tell_outside(drawing: Drawing, scale: Scale, spots: Sequence[Spot]) -> None:
+    """Warns of places that lie outside of what is drawn: a wrong column or unit shows so."""
+    extent = drawing.extent
+    if extent is None:
+        return
+    low, high = extent
+    far = [it for it in spots if not all(a <= at <= b for a, at, b in zip(low, it.point[:2], high))]
+    if far:
+        said = 'outside of what is drawn (%s to %s): %d of %d places, rows %s, the first at %s'
+        corners = scale.place_said(low, False), scale.place_said(high)
+        rows = few([it.row.line for it in far])
+        note(said % (*corners, len(far), len(spots), rows, scale.place_said(far[0].point)))

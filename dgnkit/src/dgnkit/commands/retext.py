@@ -5,17 +5,21 @@ from __future__ import annotations
 import argparse
 from typing import TYPE_CHECKING, Sequence
 
+from ..drawing.cells import cells_of
 from ..drawing.conditions import form_of, word_form
 from ..drawing.drawing import Drawing
+from ..output import note
 from ..propose.field_edits import FieldEdits, Replacement, retext
-from ._fields import register_edit
+from ..waiting import stopped_after
+from ._fields import Word, register_edit
 
 if TYPE_CHECKING:
     from ..cli import Subparsers
 
 
 def register(words: Subparsers) -> None:
-    parser = register_edit(words, 'retext', 'write a patch file that exchanges characters of texts', edit, False)
+    text = 'write a patch file that exchanges characters of texts'
+    parser = register_edit(words, Word('retext', text, edit, asks=False, takes_parts=False))
     parser.add_argument('old', metavar='OLD', help='the word to be replaced, not in the midst of another one')
     parser.add_argument('new', metavar='NEW', help='what stands in its place')
     parser.add_argument('--regex', action='store_true', help='OLD is a regular expression, and NEW may name its groups')
@@ -25,4 +29,9 @@ def register(words: Subparsers) -> None:
 def edit(drawing: Drawing, numbers: Sequence[int], arguments: argparse.Namespace) -> FieldEdits:
     form = (form_of if arguments.regex else word_form)(arguments.old, arguments.ignore_case)
     new = arguments.new if arguments.regex else arguments.new.replace('\\', '\\\\')
-    return retext(drawing, numbers, Replacement(form, new, arguments.encoding))
+    with stopped_after('the search of texts'):
+        made = retext(drawing, numbers, Replacement(form, new, arguments.encoding))
+        named = {it.cell_name or '' for it in cells_of(drawing) if form.search(it.cell_name or '')}
+    if named and not made.changes:
+        note('no text is changed; of cells that are called so, as %s, `dgnkit rename` changes the name' % min(named))
+    return made

@@ -3,15 +3,16 @@
 from __future__ import annotations
 
 import argparse
-from typing import TYPE_CHECKING, List
+from typing import TYPE_CHECKING
 
+from ..drawing.conditions import ask_numbers
 from ..drawing.drawing import Drawing
+from ..drawing.tables import numbers_in
 from ..errors import Mistake
 from ..program.grammar import fault_of
-from ..output import few
 from ..program.script import Script
-from ..propose.scripting import give_proposal, give_script, line_of, propose, template_of
-from ..propose.tables import numbers_in
+from ..propose.scripting import LINE_HELP, give_proposal, give_script, propose
+from ..propose.templates import line_of, template_of
 
 if TYPE_CHECKING:
     from ..cli import Subparsers
@@ -21,10 +22,8 @@ TWICE = ('move', 'copy')  # what an edit of a header does to its members, and do
 
 def register(words: Subparsers) -> None:
     parser = words.add_parser('script', help='write a script for elements whose numbers a file has')
-    parser.add_argument(
-        'line', metavar='LINE', help="a script's line for each, with {n} for its number and {2.5} for 2.5 master units"
-    )
-    parser.add_argument('--numbers', metavar='FILE', required=True, help='a CSV or GeoJSON file with their numbers')
+    parser.add_argument('line', metavar='LINE', help=LINE_HELP)
+    parser.add_argument('--numbers', metavar='FILE', required=True, help='a list, a CSV or a GeoJSON file with them')
     parser.add_argument('--field', default='number', help='the field that has them')
     parser.add_argument('--drawing', metavar='IN', help='the drawing, to leave out what it would refuse')
     parser.add_argument('-o', '--output', metavar='SCRIPT', default='', help='the script, else standard output')
@@ -37,7 +36,9 @@ def run(arguments: argparse.Namespace) -> int:
     if arguments.drawing:
         drawing = Drawing(arguments.drawing)
         ask_numbers(drawing, numbers, arguments.numbers)
-        give_proposal(drawing, propose(drawing, sorted(numbers), arguments.line), arguments.output, arguments.dry_run)
+        made = propose(drawing, sorted(numbers), arguments.line)
+        made.tell_members(drawing, numbers)
+        give_proposal(drawing, made, arguments.output, arguments.dry_run)
         return 0
     template = template_of(arguments.line, None)
     if template.split()[0] in TWICE:
@@ -50,11 +51,3 @@ def run(arguments: argparse.Namespace) -> int:
     words = ['element %d: %s' % (number, line.decode('utf-8')) for number, line in zip(numbers, script.lines)]
     give_script('IN.dgn', script, words, arguments.output, arguments.dry_run)
     return 0
-
-
-def ask_numbers(drawing: Drawing, numbers: List[int], file: str) -> None:
-    """It raises Mistake where a number is none of the drawing's elements."""
-    unknown = [it for it in numbers if it >= len(drawing.elements)]
-    if unknown:
-        last = len(drawing.elements) - 1
-        raise Mistake('%s: %s has elements 0 to %d, and none %s' % (file, drawing.path, last, few(unknown)))

@@ -4,36 +4,44 @@ from __future__ import annotations
 
 import argparse
 import fnmatch
-import math
 import re
-from dataclasses import dataclass
 from fractions import Fraction
-from functools import cached_property, partial
-from typing import Callable, FrozenSet, List, Optional, Sequence, Set, Tuple
+from functools import partial
+from typing import Callable, Iterable, List, Optional, Sequence, Set
 
+from ..errors import Mistake
 from ..format import classes
-from .drawing import Drawing
 from ..format.element import Element
 from ..format.limits import COLOUR_MOST, ELEMENTS_MOST, LEVEL_MOST, STYLE_MOST, WEIGHT_MOST
-from ..errors import Mistake
-from .geometry import Box, overlaps, square_distance
-from .hulls import Hulls, is_beside, is_within
-from ..format.numbers import Point
 from ..format.places import Scale, coordinates
+from ..output import few
+from ..waiting import stopped_after
+from .drawing import Drawing
+from .fencing import MODES, corners_of, trees_of
+from .nearness import Nearness
+from .spans import Spans, number_of, sizes_of
+from .tables import numbers_in
 
 Test = Callable[[Element], bool]
-SPAN = re.compile(r'(\d+)(?:-(\d+))?')
+NAMES = (
+    'number numbers_file level type color weight style size text pattern cell deleted locked broken wrong_range near '
+    'inside overlap void crossing'
+).split()
 
 
-def add_conditions(parser: argparse.ArgumentParser) -> None:
-    """Adds the conditions to a parser."""
+def add_conditions(parser: argparse.ArgumentParser, has_numbers: bool = True) -> None:
+    """Adds the conditions to a parser; --numbers may be one of the command's own."""
     group = parser.add_argument_group('conditions', 'All that are given have to hold.')
     group.add_argument('--number', metavar='R', action='append', help='with these numbers, as 12 or 3-5,9')
-    group.add_argument('--level', metavar='R', action='append', help='on these levels')
+    if has_numbers:
+        group.add_argument('--numbers', metavar='FILE', dest='numbers_file', help='with the numbers in this file')
+    group.add_argument('--field', metavar='NAME', default='number', help='the field of that file that has them')
+    group.add_argument('--level', metavar='R', action='append', help="on these levels, as 12, 3-5,9 or '>20'")
     group.add_argument('--type', metavar='T', action='append', help='of these types, by number or name, as 3,text')
     group.add_argument('--color', '--colour', metavar='R', action='append', help='of these colours')
-    group.add_argument('--weight', metavar='R', action='append', help='of these weights')
+    group.add_argument('--weight', metavar='R', action='append', help="of these weights, as '>3'")
     group.add_argument('--style', metavar='R', action='append', help='of these styles')
+    group.add_argument('--size', metavar='H', action='append', help="texts of this height, as 2.5 or '>2.5'")
     group.add_argument('--text', metavar='WORD', help='texts that hold this word, not in the midst of another one')
     group.add_argument('--pattern', metavar='REGEX', help='texts that hold what this regular expression finds')
     group.add_argument('--cell', metavar='NAME', help='cells of this name, in which * and ? stand for other signs')
@@ -44,18 +52,27 @@ def add_conditions(parser: argparse.ArgumentParser) -> None:
     group.add_argument('--locked', action='store_true', help='locked')
     group.add_argument('--broken', action='store_true', help='in a tree that is broken')
     group.add_argument('--wrong-range', action='store_true', help='whose stored range is not what they hold')
+    add_places(group)
+
+
+def add_places(group: argparse._ArgumentGroup) -> None:
+    """Adds the conditions on places."""
     group.add_argument('--near', metavar='X,Y', help='near this place')
     group.add_argument('--within', metavar='D', help='how near: at most this distance')
-    group.add_argument('--inside', metavar='X,Y', nargs=2, help='wholly inside the box with these corners')
-    group.add_argument('--overlap', metavar='X,Y', nargs=2, help='with something inside the box')
-    group.add_argument('--outside', metavar='X,Y', nargs=2, help='with nothing inside the box')
-    group.add_argument('--trees', action='store_true', help='take the roots whose header or any member meets them')
+    group.add_argument('--nearest', metavar='N', help='the N that are nearest to the place')
+    boxes = [
+        (['--inside'], 'in trees that lie inside the box with these corners'),
+        (['--overlap'], 'in trees with something inside the box or on its edge'),
+        (['--crossing'], 'in trees that cross an edge of the box or touch one'),
+        (['--void', '--outside'], 'in trees with nothing inside the box'),
+    ]
+    for names, text in boxes:
+        group.add_argument(*names, metavar='X,Y', nargs=2, help=text)
+    which = group.add_mutually_exclusive_group()
+    which.add_argument('--trees', action='store_true', help='take the whole tree of each')
+    which.add_argument('--members', action='store_true', help='take each by itself, also a member without its header')
     units = ('auto', 'master', 'resolution')
-    group.add_argument('--units', choices=units, default='auto', help='of places and distances')
-
-
-NAMES = 'number level type color weight style text pattern cell deleted locked broken wrong_range near inside'.split()
-NAMES += ['overlap', 'outside']
+    group.add_argument('--units', choices=units, default='auto', help='of places, distances and sizes')
 
 
 def has_conditions(arguments: argparse.Namespace) -> bool:
@@ -63,124 +80,125 @@ def has_conditions(arguments: argparse.Namespace) -> bool:
     return any(getattr(arguments, name) not in (None, False) for name in NAMES)
 
 
-@dataclass(frozen=True)
-class Near:
-    """A place, and how far from it something may be, in units of resolution."""
-
-    place: Point
-    within: Fraction
-
-    @property
-    def box(self) -> Box:
-        """The box around all that is so near."""
-        reach = math.ceil(self.within)
-        x, y = self.place[:2]
-        return Box(x - reach, y - reach, x + reach, y + reach)
-
-
 class Conditions:
     """What was asked of elements, of one drawing."""
 
     def __init__(self, drawing: Drawing, arguments: argparse.Namespace) -> None:
         """It raises Mistake where a condition can't be read."""
-        self.drawing = drawing
-        self.takes_trees = bool(arguments.trees)
+        self.drawing, self.arguments = drawing, arguments
         self.scale = Scale(drawing.units, arguments.units)
-        self.near = near_of(arguments, self.scale)
-        self.hulls = Hulls(drawing)
-        self.tests = [*plain_tests(arguments), *self._standing_tests(arguments)]
-        self.boxed = self._place_tests(arguments)
-        outside = arguments.outside if arguments.trees else None
-        self.of_trees = [partial(self._is_outside, box_of_words(outside, self.scale))] if outside else []
+        self.nearness = nearness_of(drawing, arguments, self.scale)
+        self.tests = [*self._listed_tests(), *plain_tests(arguments, self.scale), *self._standing_tests()]
+        self.tests += self._place_tests()
+
+    @property
+    def takes_trees(self) -> bool:
+        """Whether whole trees were asked for."""
+        return bool(self.arguments.trees)
+
+    @property
+    def takes_members(self) -> bool:
+        """Whether members were asked for by themselves."""
+        return bool(self.arguments.members)
 
     def chosen(self) -> List[int]:
-        """The numbers of the elements that meet all conditions, or with --trees of the roots, in file order."""
-        met = self.drawing.elements
-        for test in self.tests:
-            met = [it for it in met if test(it)]
-        for box, test in self.boxed:
-            met = [it for it in (met if box is None else self.hulls.meeting(met, box)) if test(it)]
-        found = [it.number for it in met]
-        if not self.takes_trees:
-            return found
+        """The numbers of the elements that meet all conditions, or with --trees of the roots of their trees, in file
+        order."""
+        met: Iterable[Element] = self.drawing.elements
+        with stopped_after('the search of texts'):
+            for test in self.tests:
+                met = [it for it in met if test(it)]
+            found = [it.number for it in met]
+        if self.arguments.nearest is not None:
+            found = self._nearest(found)
+        return self.roots_of(found) if self.takes_trees else found
+
+    def roots_of(self, numbers: Iterable[int]) -> List[int]:
+        """The roots of the trees that elements stand in, each once."""
         roots = self.drawing.nesting.roots
-        taken = sorted({roots[number] for number in found})
-        return [it for it in taken if all(test(self.drawing.elements[it]) for test in self.of_trees)]
+        return sorted({roots[number] for number in numbers})
+
+    def _nearest(self, found: List[int]) -> List[int]:
+        """Those of elements that are nearest to the place."""
+        count = number_of(self.arguments.nearest, 'number of elements', ELEMENTS_MOST)
+        return sorted(sorted(found, key=lambda it: (self.distance(it), it))[:count])
 
     def distance(self, number: int) -> float:
         """How far from the place of --near an element is, in units of resolution."""
-        assert self.near is not None
-        squares = [square_distance(it, self.near.place) for it in self.hulls.drawn(self.drawing.elements[number])]
-        return math.sqrt(min(squares)) if squares else math.inf
+        assert self.nearness is not None
+        return self.nearness.distance(number)
 
     def length_said(self, length: float) -> float:
         """A length of units of resolution as lengths are written here."""
         return length / self.drawing.units.in_master if self.scale.is_master else length
 
-    @cached_property
+    @property
     def broken_roots(self) -> Set[int]:
         """The roots of all trees that are broken."""
         return self.drawing.nesting.broken_roots
 
-    def _standing_tests(self, arguments: argparse.Namespace) -> List[Test]:
+    def _listed_tests(self) -> List[Test]:
+        """The numbers of a file. It raises Mistake where one is none of the drawing's elements."""
+        file = self.arguments.numbers_file
+        if not file:
+            return []
+        numbers = frozenset(numbers_in(file, self.arguments.field))
+        ask_numbers(self.drawing, sorted(numbers), file)
+        return [lambda it: it.number in numbers]
+
+    def _standing_tests(self) -> List[Test]:
         """How an element stands: deleted, locked, broken."""
         dead = self.drawing.dead
         tests: List[Test] = []
-        if arguments.deleted:
+        if self.arguments.deleted:
             tests.append(lambda it: it.number in dead)
         elif dead:
             tests.append(lambda it: it.number not in dead)
-        if arguments.locked:
+        if self.arguments.locked:
             tests.append(lambda it: it.is_locked)
-        if arguments.wrong_range:
+        if self.arguments.wrong_range:
             wrong = {it.number for it in self.drawing.findings}
             tests.append(lambda it: it.number in wrong)
-        if arguments.broken:
+        if self.arguments.broken:
             broken, roots = self.broken_roots, self.drawing.nesting.roots
             tests.append(lambda it: roots[it.number] in broken)
         return tests
 
-    def _place_tests(self, arguments: argparse.Namespace) -> List[Tuple[Optional[Box], Test]]:
-        """The tests on places, each with the box that what meets it has something in, where there is one."""
-        tests: List[Tuple[Optional[Box], Test]] = []
-        if self.near is not None:
-            tests.append((self.near.box, partial(self._is_near, self.near, self.near.box)))
-        for words, test in [(arguments.inside, self._is_inside), (arguments.overlap, self._overlaps)]:
+    def _place_tests(self) -> List[Test]:
+        """The tests on places: near one, or in a tree that the program takes by a box."""
+        tests: List[Test] = []
+        if self.nearness is not None:
+            squares = self.nearness.squares
+            tests.append(lambda it: it.number in squares)
+        for mode in MODES:
+            words = getattr(self.arguments, mode)
             if words:
-                box = box_of_words(words, self.scale)
-                tests.append((box, partial(test, box)))
-        if arguments.outside:
-            tests.append((None, partial(self._is_outside, box_of_words(arguments.outside, self.scale))))
+                corners = corners_of(words, self.scale)
+                taken = trees_of(self.drawing, corners, mode, self.arguments.deleted)
+                tests.append(partial(_is_below, taken, self.drawing.nesting.roots))
         return tests
 
-    def _is_near(self, near: Near, box: Box, element: Element) -> bool:
-        bounds = self.hulls.bounds(element)
-        if bounds is None or is_beside(bounds, box):
-            return False
-        return any(square_distance(it, near.place) <= near.within**2 for it in self.hulls.drawn(element))
 
-    def _is_inside(self, box: Box, element: Element) -> bool:
-        bounds = self.hulls.bounds(element)
-        return bounds is not None and is_within(bounds, box)
-
-    def _overlaps(self, box: Box, element: Element) -> bool:
-        bounds = self.hulls.bounds(element)
-        if bounds is None or is_beside(bounds, box):
-            return False
-        return is_within(bounds, box) or any(overlaps(it, box) for it in self.hulls.drawn(element))
-
-    def _is_outside(self, box: Box, element: Element) -> bool:
-        return self.hulls.bounds(element) is not None and not self._overlaps(box, element)
+def _is_below(taken: frozenset[int], roots: Sequence[int], element: Element) -> bool:
+    return roots[element.number] in taken
 
 
-def plain_tests(arguments: argparse.Namespace) -> List[Test]:
+def ask_numbers(drawing: Drawing, numbers: Sequence[int], file: str) -> None:
+    """It raises Mistake where a number is none of the drawing's elements."""
+    unknown = [it for it in numbers if it >= len(drawing.elements)]
+    if unknown:
+        last = len(drawing.elements) - 1
+        raise Mistake('%s: %s has elements 0 to %d, and none %s' % (file, drawing.path, last, few(unknown)))
+
+
+def plain_tests(arguments: argparse.Namespace, scale: Scale) -> List[Test]:
     """The conditions that ask an element alone."""
     tests: List[Test] = []
     if arguments.number:
-        numbers = numbers_of('number of an element', arguments.number, ELEMENTS_MOST - 1)
+        numbers = Spans.read('number of an element', arguments.number, ELEMENTS_MOST - 1)
         tests.append(lambda it: it.number in numbers)
     if arguments.level:
-        levels = numbers_of('level', arguments.level, LEVEL_MOST)
+        levels = Spans.read('level', arguments.level, LEVEL_MOST)
         tests.append(lambda it: it.level in levels)
     if arguments.type:
         types = types_of(arguments.type)
@@ -192,7 +210,15 @@ def plain_tests(arguments: argparse.Namespace) -> List[Test]:
     ]
     for what, words, most, look in looks:
         if words:
-            tests.append(partial(_looks, numbers_of(what, words, most), look))
+            tests.append(partial(_looks, Spans.read(what, words, most), look))
+    if arguments.size:
+        tests.append(partial(_has_size, sizes_of(arguments.size), scale))
+    return tests + text_tests(arguments)
+
+
+def text_tests(arguments: argparse.Namespace) -> List[Test]:
+    """The conditions on characters and names."""
+    tests: List[Test] = []
     if arguments.text is not None:
         tests.append(partial(_holds, word_form(arguments.text, arguments.ignore_case)))
     if arguments.pattern is not None:
@@ -203,7 +229,7 @@ def plain_tests(arguments: argparse.Namespace) -> List[Test]:
     return tests
 
 
-def _looks(values: FrozenSet[int], look: Callable[[Element], int], element: Element) -> bool:
+def _looks(values: Spans, look: Callable[[Element], int], element: Element) -> bool:
     return element.type in classes.LOUD and look(element) in values
 
 
@@ -211,11 +237,23 @@ def _holds(form: re.Pattern[str], element: Element) -> bool:
     return element.type == classes.TEXT and form.search(element.text or '') is not None
 
 
+def _has_size(wanted: Sequence[tuple[str, str]], scale: Scale, element: Element) -> bool:
+    """Whether a text has one of these heights, which are compared as the multipliers that stand for them."""
+    if element.type != classes.TEXT:
+        return False
+    there = element.height_multiplier
+    for sign, word in wanted:
+        size = scale.multiplier(word)
+        if {'': there == size, '>': there > size, '>=': there >= size, '<': there < size, '<=': there <= size}[sign]:
+            return True
+    return False
+
+
 def form_of(pattern: str, ignores_case: bool) -> re.Pattern[str]:
     """A regular expression. It raises Mistake where it doesn't compile."""
     try:
         return re.compile(pattern, re.IGNORECASE if ignores_case else 0)
-    except re.error as why:
+    except (re.error, OverflowError, RecursionError, ValueError) as why:
         raise Mistake('%r is no regular expression: %s' % (pattern, why))
 
 
@@ -228,37 +266,25 @@ def word_form(word: str, ignores_case: bool) -> re.Pattern[str]:
     return form_of(front + re.escape(word) + back, ignores_case)
 
 
-def numbers_of(what: str, words: Sequence[str], most: int) -> FrozenSet[int]:
-    """Numbers and spans, as `12` or `3-5,9`. It raises Mistake where one isn't from 0 to the most there are."""
-    made: List[int] = []
-    for piece in ','.join(words).split(','):
-        found = SPAN.fullmatch(piece.strip())
-        low, high = (int(found[1]), int(found[2] or found[1])) if found else (1, 0)
-        if not low <= high <= most:
-            raise Mistake('%r is no %s: it is a number from 0 to %d, or two with a dash' % (piece, what, most))
-        made.extend(range(low, high + 1))
-    return frozenset(made)
-
-
-def types_of(words: Sequence[str]) -> FrozenSet[int]:
+def types_of(words: Sequence[str]) -> frozenset[int]:
     """Types by their numbers or names. It raises Mistake where there is none of a name."""
     try:
         return frozenset(classes.kind_by_name(it) for it in ','.join(words).split(','))
     except ValueError as why:
-        raise Mistake(str(why))
+        raise Mistake('%s: there are numbers from 0 to %d, and %s' % (why, classes.MOST, TYPES_SAID))
 
 
-def near_of(arguments: argparse.Namespace, scale: Scale) -> Optional[Near]:
-    """The place of --near with the distance of --within, none without them. It raises Mistake where one is missing."""
-    if (arguments.near is None) != (arguments.within is None):
-        raise Mistake('--near and --within are given together')
+TYPES_SAID = ', '.join(classes.TYPE_NAMES[it] for it in sorted(classes.LOUD) if it in classes.TYPE_NAMES)
+
+
+def nearness_of(drawing: Drawing, arguments: argparse.Namespace, scale: Scale) -> Optional[Nearness]:
+    """How far elements are from the place of --near, none without it. It raises Mistake where something is missing."""
+    reach, count = arguments.within, arguments.nearest
+    if arguments.near is None and (reach is not None or count is not None):
+        raise Mistake('--within and --nearest go with --near, the place')
     if arguments.near is None:
         return None
-    return Near(scale.nearest(coordinates(arguments.near)), scale.length(arguments.within))
-
-
-def box_of_words(words: Sequence[str], scale: Scale) -> Box:
-    """The box with two corners, in any order, to whole units of resolution that lie in it."""
-    first, second = (scale.exact(coordinates(word)) for word in words)
-    low, high = [min(pair) for pair in zip(first, second)], [max(pair) for pair in zip(first, second)]
-    return Box(math.ceil(low[0]), math.ceil(low[1]), math.floor(high[0]), math.floor(high[1]))
+    if reach is None and count is None:
+        raise Mistake('--near goes with --within, how near, or --nearest, how many')
+    within: Optional[Fraction] = None if reach is None else scale.length(reach)
+    return Nearness(drawing, scale.nearest(coordinates(arguments.near)), within)

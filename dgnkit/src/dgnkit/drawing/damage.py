@@ -2,6 +2,7 @@
 
 from __future__ import annotations
 
+import re
 from bisect import bisect_right
 from dataclasses import dataclass
 from typing import Iterator, List
@@ -10,6 +11,7 @@ from .drawing import Drawing
 from ..format.element import Element
 
 RUN = 128  # so many zero bytes in a row are told
+ZEROS = re.compile(rb'\0{%d,}' % RUN)
 
 
 @dataclass(frozen=True)
@@ -25,9 +27,7 @@ class Stretch:
 def elements_of_nothing(drawing: Drawing) -> List[Stretch]:
     """The elements of type 0, each stretch of them as one. No program writes such: they are what zeros read as."""
     made: List[Stretch] = []
-    for element in drawing.elements:
-        if element.type != 0:
-            continue
+    for element in (drawing.elements[it] for it in drawing.elements.of_types(frozenset([0]))):
         end = element.offset + element.size
         if made and made[-1].last == element.number - 1:
             made[-1] = Stretch(made[-1].first, element.number, made[-1].start, end)
@@ -39,7 +39,7 @@ def elements_of_nothing(drawing: Drawing) -> List[Stretch]:
 def runs_of_zeros(drawing: Drawing) -> List[Stretch]:
     """The runs of many zero bytes, where elements are drawn or have the type 0. Other elements, as the TCB, have such
     runs by their nature."""
-    offsets = [it.offset for it in drawing.elements]
+    offsets = drawing.elements.offsets
     made = []
     for start, end in zero_runs(drawing.data, drawing.body_length):
         found = [drawing.elements[it] for it in range(bisect_right(offsets, start) - 1, bisect_right(offsets, end - 1))]
@@ -60,13 +60,7 @@ def may_have_zeros(element: Element) -> bool:
 
 def zero_runs(data: bytes, length: int) -> Iterator[tuple[int, int]]:
     """The runs of at least so many zero bytes in the first `length` bytes: where each begins, and where it ends."""
-    zeros, at = bytes(RUN), 0
-    while True:
-        start = data.find(zeros, at, length)
-        if start < 0:
-            return
-        at = length - len(data[start:length].lstrip(b'\0'))
-        yield start, at
+    return (it.span() for it in ZEROS.finditer(data, 0, length))
 
 
 def bytes_behind(drawing: Drawing) -> int:

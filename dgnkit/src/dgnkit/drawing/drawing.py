@@ -2,61 +2,81 @@
 
 from __future__ import annotations
 
+import os
+from collections import Counter
 from functools import cached_property
-from pathlib import Path
 from typing import Dict, Iterable, List, Optional, Set, Tuple
 
+from ..errors import BadDesign, ListingError, Mistake
+from ..files import mistake_of, read_drawing
 from ..format import classes
-from ..format.colours import Colour
-from ..format.element import Element
-from ..errors import BadDesign, Mistake
+from ..format.colours import Colour, Palette
+from ..format.elements import Elements
+from ..format.numbers import Point
+from ..format.tcb import KIND_SAID
+from ..format.tcb import SIZE as TCB_SIZE
+from ..format.tcb import Tcb, kind_of
+from ..format.units import Units
+from ..program.answers import Answer
 from ..program.listings import (
     Finding,
     Item,
     Link,
     Node,
     Reference,
-    counts_of,
-    elements_of,
     findings_of,
     item_of,
     links_of,
     references_of,
 )
-from .nesting import Nesting, read_nesting
-from ..format.numbers import Point
 from ..program.runs import Name, Program
-from .reach import Rows
 from ..program.script import Script
-from ..format.tcb import KIND_SAID, Tcb, kind_of
-from ..format.units import Units
+from ..waiting import doing
+from .extents import extent_of
+from .nesting import Nesting, read_nesting
+from .reach import Rows
 
 COLOUR_TABLE_SIZE = 806
-END = b'\xff\xff'
 
 
 class Drawing:
-    """A design file that opens. Each listing is asked for once, when it is first wanted."""
+    """A design file that opens. Each listing is asked for once, when it is first wanted; a file that is changed
+    meanwhile is an error."""
 
     def __init__(self, path: Name, program: Optional[Program] = None) -> None:
         """Reads the file. It raises Mistake where it can't be read, and BadDesign where its front is none of a design
         file; whether it opens is asked by the first listing, which raises BadDesign too."""
         self.path = str(path)
-        self.data = read_file(path)
+        self.data = read_drawing(path)
+        self._stamp = self._stamped()
         kind = kind_of(self.data)
         if kind != 'design':
             said = ['bad design not-design at 0']
             raise BadDesign('%s is %s' % (path, KIND_SAID[kind]), 4, said, 'not-design', 0)
         self.program = program or Program.find()
 
-    @cached_property
-    def _listed(self) -> List[str]:
-        return self.program.edit(self.path, Script().elements())[0].lines
+    def _stamped(self) -> Tuple[int, ...]:
+        """What of a file tells that it was written once more."""
+        try:
+            facts = os.stat(self.path)
+        except OSError as why:
+            raise mistake_of(self.path, why)
+        return facts.st_dev, facts.st_ino, facts.st_size, facts.st_mtime_ns
+
+    def listed(self, script: Script) -> List[Answer]:
+        """The answers of a script that lists. It raises Mistake where the file isn't as it was read."""
+        answers = self.program.listed(self.path, script)
+        self._ask_unchanged()
+        return answers
+
+    def _ask_unchanged(self) -> None:
+        if self._stamped() != self._stamp:
+            raise Mistake('%s was changed while it was read: run this again' % self.path)
 
     @cached_property
     def tcb(self) -> Tcb:
         """What the first element says."""
-        if len(self.data) < 1536:
+        if len(self.data) < TCB_SIZE:
             self.program.check(self.path)
         return Tcb.read(self.data)
 
@@ -71,39 +91,52 @@ class Drawing:
         return self.tcb.axes
 
     @cached_property
-    def elements(self) -> List[Element]:
+    def elements(self) -> Elements:
         """All elements, each at its number."""
-        return elements_of(self._listed, self.data, self.axes)
-
-    @cached_property
-    def level_counts(self) -> Dict[int, int]:
-        """How many elements each level has, in the order in which they are first seen."""
-        return counts_of(self._listed)[0]
+        made = self.program.elements(self.path, self.data, self.axes)
+        doing('%s is read, which has %d elements' % (self.path, len(made)))
+        self._ask_unchanged()
+        return made
 
     @cached_property
     def type_counts(self) -> Dict[int, int]:
         """How many elements each type has, in the order in which they are first seen."""
-        return counts_of(self._listed)[1]
+        return dict(Counter(self.elements.types))
 
     @cached_property
     def items(self) -> List[Item]:
         """What is shown, in file order."""
-        return [item_of(line) for line in self.program.edit(self.path, Script().show())[0].lines]
+        return [item_of(line) for line in self.listed(Script().show())[0].lines]
+
+    @cached_property
+    def _asked(self) -> List[Answer]:
+        """What `audit` and `refs` list, asked in one run, since each run reads the whole file."""
+        return self.listed(Script().audit().refs())
 
     @cached_property
     def findings(self) -> List[Finding]:
         """The elements whose stored range isn't what they hold."""
-        return findings_of(self.program.edit(self.path, Script().audit())[0].lines)
+        made = findings_of(self._asked[0].lines)
+        self._ask_numbers(it.number for it in made)
+        return made
 
     @cached_property
     def references(self) -> List[Reference]:
         """The elements that may attach a reference file."""
-        return references_of(self.program.edit(self.path, Script().refs())[0].lines)
+        made = references_of(self._asked[1].lines)
+        self._ask_numbers(it.number for it in made)
+        return made
+
+    def _ask_numbers(self, numbers: Iterable[int]) -> None:
+        """It raises ListingError where a listing names an element that isn't there."""
+        for number in numbers:
+            if number >= len(self.elements):
+                raise ListingError('dgnedit names element %d of %s, which has none such' % (number, self.path))
 
     @cached_property
     def nesting(self) -> Nesting:
         """Where each element stands in its tree."""
-        return read_nesting(self.program, self.path, self.elements)
+        return read_nesting(self.listed, self.elements)
 
     @cached_property
     def rows(self) -> Rows:
@@ -137,15 +170,14 @@ class Drawing:
         for number in linked:
             script.links(number)
         made: Dict[int, List[Link]] = {number: [] for number in asked}
-        for number, answer in zip(linked, self.program.edit_all(self.path, script)):
+        for number, answer in zip(linked, self.listed(script)):
             made[number] = links_of(answer.lines)
         return made
 
     @property
     def body_length(self) -> int:
         """How many bytes the elements have, without what stands behind them."""
-        last = self.elements[-1]
-        return last.offset + last.size
+        return self.elements.end
 
     @property
     def tail(self) -> bytes:
@@ -156,46 +188,41 @@ class Drawing:
     def colours(self) -> Optional[List[Colour]]:
         """The drawing's own colours, of 0 to 255, where it has a table: an element of type 5 on level 1. The first
         three bytes of a table are the last colour, which is the ground's."""
-        for element in self.elements:
-            if (
-                element.type == classes.GROUP_DATA
-                and element.level == 1
-                and not element.is_deleted
-                and element.size >= COLOUR_TABLE_SIZE
-            ):
+        for number in self.elements.of_types(frozenset([classes.GROUP_DATA])):
+            element = self.elements[number]
+            if element.level == 1 and not element.is_deleted and element.size >= COLOUR_TABLE_SIZE:
                 table = element.content[38:COLOUR_TABLE_SIZE]
                 colours = [(table[at], table[at + 1], table[at + 2]) for at in range(0, len(table), 3)]
                 return colours[1:] + colours[:1]
         return None
 
     @cached_property
+    def palette(self) -> Palette:
+        """What each colour is and is called."""
+        return Palette(self.colours)
+
+    @cached_property
     def dead(self) -> Set[int]:
         """The elements that are marked deleted, or stand below a header that is."""
-        marked = [it.number for it in self.elements if it.is_deleted]
+        marked = self.elements.deleted()
         made = set(marked)
         for number in marked:
-            if self.elements[number].type in classes.HEADERS:
+            if self.elements.types[number] in classes.HEADERS:
                 made.update(self.nesting.part(number))
         return made
+
+    @cached_property
+    def defined(self) -> Set[int]:
+        """The elements below shared cell definitions: a display shows nothing of these."""
+        definitions = self.elements.of_types(frozenset([classes.DEFINITION]))
+        return {it for number in definitions for it in self.nesting.part(number)}
 
     @cached_property
     def extent(self) -> Optional[Tuple[Point, Point]]:
         """The least box that holds what is drawn, none where nothing is: by the stored ranges of all live elements that
         are drawn by themselves, or their hulls where an audit finds that these are others."""
-        hulls = {it.number: (it.hull_low, it.hull_high) for it in self.findings}
-        dead = self.dead
-        ranges = [
-            hulls.get(it.number) or it.range
-            for it in self.elements
-            if it.type in classes.DRAWN and it.number not in dead and (it.type not in classes.VERTICES or it.has_points)
-        ]
-        lows, highs = zip(*[it for it in ranges if it is not None]) if ranges else ((), ())
-        return (tuple(map(min, zip(*lows))), tuple(map(max, zip(*highs)))) if lows else None
+        hulls = {it.number: (it.hull_low, it.hull_high) for it in self.findings if self._is_drawn(it.number)}
+        return extent_of(self.elements, self.dead | self.defined, hulls)
 
-
-def read_file(path: Name) -> bytes:
-    """The bytes of a file. It raises Mistake, with the reason, where it can't be read."""
-    try:
-        return Path(path).read_bytes()
-    except OSError as why:
-        raise Mistake('%s: %s' % (path, (why.strerror or str(why)).lower()))
+    def _is_drawn(self, number: int) -> bool:
+        return self.elements.types[number] in classes.DRAWN

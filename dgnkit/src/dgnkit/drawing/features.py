@@ -1,17 +1,43 @@
-"""A drawing as features of GeoJSON, for QGIS and others: one for each element that is drawn, with its number."""
+"""A drawing as features of GeoJSON, for QGIS and others: one for each element that is drawn, with its number. They are
+made as text at once, since a drawing may have a million."""
 
 from __future__ import annotations
 
-from typing import Any, Callable, Dict, Iterator, List, Optional, Sequence
+import json
+from functools import lru_cache
+from typing import Callable, Iterator, List, Optional, Sequence
 
 from ..format import classes
-from .drawing import Drawing
 from ..format.element import Element
-from .geometry import Box
 from ..format.numbers import Point
+from ..format.units import Units
+from ..waiting import told
+from .drawing import Drawing
+from .geometry import Box
 
-Geometry = Optional[Dict[str, Any]]
-Place = Callable[[Point], List[float]]
+Place = Callable[[Point], str]
+FEATURE = (
+    '{"type": "Feature", "id": %d, "properties": {"number": %d, "root": %d, "depth": %d, "type": %d, "type_name": %s, '
+    '"level": %d, "colour": %d, "rgb": "%s", "weight": %d, "style": %d, "text": %s, "height": %s, "angle": %s, '
+    '"cell": %s, "locked": %s, "broken": %s, "by_range": %s}, "geometry": {"type": "%s", "coordinates": %s}}'
+)
+ONLY_RANGE = classes.BY_RANGE - classes.WORDS
+NO, YES = 'false', 'true'
+
+
+@lru_cache(maxsize=4096)
+def spelled(value: Optional[str]) -> str:
+    """A text as JSON has it."""
+    return json.dumps(value)
+
+
+class Geometry:
+    """Where something is: its kind, and its coordinates as JSON has them."""
+
+    __slots__ = ('kind', 'coordinates')
+
+    def __init__(self, kind: str, coordinates: str) -> None:
+        self.kind, self.coordinates = kind, coordinates
 
 
 class Features:
@@ -20,87 +46,131 @@ class Features:
     def __init__(self, drawing: Drawing, is_master: bool, has_members: bool) -> None:
         """`has_members` is whether the members of complex chains and shapes are features too."""
         self.drawing, self.has_members = drawing, has_members
-        units = drawing.units
-        self.place: Place = (lambda it: list(units.to_master(it))) if is_master else list
+        self.place = in_master(drawing.units) if is_master else in_resolution
         self.broken_roots = drawing.nesting.broken_roots
-        self.scale = 1 / units.in_master if is_master else 1.0
+        self.scale = 1 / drawing.units.in_master if is_master else 1.0
+        self.extent = drawing.extent
+        self.colours = drawing.palette.spelled
 
-    def all(self) -> Iterator[Dict[str, Any]]:
+    def all(self) -> Iterator[str]:
         """The features of all that is drawn, in file order."""
-        dead, covered = self.drawing.dead, -1
-        for element in self.drawing.elements:
+        dead, defined, covered = self.drawing.dead, self.drawing.defined, -1
+        elements = self.drawing.elements
+        for element in told('features', elements, len(elements)):
             number = element.number
-            if number in dead or number <= covered:
+            if element.type not in classes.LOUD or number in dead or number in defined or number <= covered:
                 continue
             geometry = self.geometry(element)
             if geometry is not None:
-                yield {'type': 'Feature', 'id': number, 'properties': self.properties(element), 'geometry': geometry}
+                yield self.feature(element, geometry)
                 if element.type in classes.JOINED and not self.has_members:
                     covered = self.drawing.nesting.part(number).stop - 1
 
-    def properties(self, element: Element) -> Dict[str, Any]:
-        """What a feature says of its element."""
-        nesting, number, size = self.drawing.nesting, element.number, element.text_size
-        angle = element.text_angle
-        return {
-            'number': number,
-            'root': nesting.roots[number],
-            'depth': nesting.depths[number],
-            'type': element.type,
-            'type_name': element.type_name,
-            'level': element.level,
-            'colour': element.colour,
-            'weight': element.weight,
-            'style': element.style,
-            'text': element.text,
-            'height': None if size is None else round(size[1] * self.scale, 9),
-            'angle': None if angle is None else round(angle, 6),
-            'cell': element.cell_name,
-            'locked': element.is_locked,
-            'broken': nesting.roots[number] in self.broken_roots,
-            'by_range': element.type in classes.BY_RANGE and element.type not in classes.WORDS,
-        }
+    def feature(self, element: Element, geometry: Geometry) -> str:
+        """A feature: what it says of its element, and where that is."""
+        nesting, number, kind = self.drawing.nesting, element.number, element.type
+        root, text, height, angle, cell = nesting.roots[number], 'null', 'null', 'null', 'null'
+        if kind == classes.TEXT:
+            text = json.dumps(element.text)
+            height = repr(round((element.text_size or (0.0, 0.0))[1] * self.scale, 9))
+            angle = repr(round(element.text_angle or 0.0, 6))
+        elif kind == classes.CELL:
+            cell = spelled(element.cell_name)
+        return FEATURE % (
+            number,
+            number,
+            root,
+            nesting.depths[number],
+            kind,
+            spelled(element.type_name),
+            element.level,
+            element.colour,
+            self.colours[element.colour],
+            element.weight,
+            element.style,
+            text,
+            height,
+            angle,
+            cell,
+            YES if element.is_locked else NO,
+            YES if root in self.broken_roots else NO,
+            YES if kind in ONLY_RANGE else NO,
+            geometry.kind,
+            geometry.coordinates,
+        )
 
-    def geometry(self, element: Element) -> Geometry:
+    def geometry(self, element: Element) -> Optional[Geometry]:
         """Where an element is drawn; none of a header whose members are drawn by themselves."""
         if element.type in classes.VERTICES:
             return self.path(element.points, element.type == classes.SHAPE)
         if element.type in classes.WORDS:
-            return {'type': 'Point', 'coordinates': self.place(element.points[0])}
+            return Geometry('Point', self.place(element.points[0]))
         if element.type in classes.JOINED:
             return self.joined(element)
         if element.type in classes.COUNTED:
-            is_group = self.drawing.nesting.knot(element.number) == 'group' and bool(element.points)
-            return {'type': 'Point', 'coordinates': self.place(element.points[0])} if is_group else None
+            return self.origin(element)
         stored = element.range if element.type in classes.BY_RANGE else None
         if stored is None:
             return None
         (low_x, low_y), (high_x, high_y) = stored[0][:2], stored[1][:2]
         return self.ring(Box(low_x, low_y, high_x, high_y).corners)
 
-    def path(self, points: Sequence[Point], is_closed: bool) -> Geometry:
+    def origin(self, header: Element) -> Optional[Geometry]:
+        """Where a cell or a text node is: its origin, or the middle of its range where that lies outside of all that is
+        drawn, as GDAL's cells have their origin."""
+        points, extent = header.points, self.extent
+        if self.drawing.nesting.knot(header.number) != 'group' or not points:
+            return None
+        point = points[0]
+        if extent is not None and not all(a <= it <= b for a, it, b in zip(extent[0], point, extent[1])):
+            low, high = header.range or extent
+            point = tuple((a + b) // 2 for a, b in zip(low, high))
+        return Geometry('Point', self.place(point))
+
+    def path(self, points: Sequence[Point], is_closed: bool) -> Optional[Geometry]:
         """A line, or an outline; a point where there is one alone."""
         if not points:
             return None
-        if len(set(points)) == 1:
-            return {'type': 'Point', 'coordinates': self.place(points[0])}
-        if is_closed and len(set(points)) > 2:
+        places = len(set(points))
+        if places == 1:
+            return Geometry('Point', self.place(points[0]))
+        if is_closed and places > 2:
             return self.ring(points)
-        return {'type': 'LineString', 'coordinates': [self.place(it) for it in points]}
+        return Geometry('LineString', self.row(points))
+
+    def row(self, points: Sequence[Point]) -> str:
+        """Points one behind the other."""
+        return '[%s]' % ', '.join(map(self.place, points))
 
     def ring(self, points: Sequence[Point]) -> Geometry:
         """An outline through points."""
         whole = list(points) if points[0] == points[-1] and len(points) > 1 else [*points, points[0]]
-        return {'type': 'Polygon', 'coordinates': [[self.place(it) for it in whole]]}
+        return Geometry('Polygon', '[%s]' % self.row(whole))
 
-    def joined(self, header: Element) -> Geometry:
+    def joined(self, header: Element) -> Optional[Geometry]:
         """The members of a complex chain as lines, and those of a complex shape as one outline, where they meet; none
         where a member is no path."""
         nesting, dead = self.drawing.nesting, self.drawing.dead
-        members = [self.drawing.elements[it] for it in nesting.part(header.number)[1:] if it not in dead]
-        if not members or any(it.type not in classes.VERTICES or not it.points_count for it in members):
+        lines: List[List[Point]] = []
+        for number in nesting.part(header.number)[1:]:
+            member = self.drawing.elements[number]
+            if number in dead:
+                continue
+            if member.type not in classes.VERTICES or not member.points_count:
+                return None
+            lines.append(member.points)
+        if not lines:
             return None
-        lines = [it.points for it in members]
         if header.type == classes.COMPLEX_SHAPE and all(one[-1] == other[0] for one, other in zip(lines, lines[1:])):
             return self.path([*lines[0], *(it for line in lines[1:] for it in line[1:])], True)
-        return {'type': 'MultiLineString', 'coordinates': [[self.place(it) for it in line] for line in lines]}
+        return Geometry('MultiLineString', '[%s]' % ', '.join(map(self.row, lines)))
+
+
+def in_resolution(point: Point) -> str:
+    """A place in units of resolution."""
+    return '[%s]' % ', '.join(map(str, point))
+
+
+def in_master(units: Units) -> Place:
+    """What spells a place in master units."""
+    return lambda point: '[%s]' % ', '.join(map(repr, units.to_master(point)))

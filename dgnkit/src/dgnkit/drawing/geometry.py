@@ -90,23 +90,6 @@ def outline_of(element: Element) -> Optional[Outline]:
     return Outline(Box(low[0], low[1], high[0], high[1]).corners, True, True)
 
 
-def overlaps(outline: Outline, box: Box) -> bool:
-    """Whether some point of an outline lies in a box."""
-    own = outline.box
-    if own is None or not own.meets(box):
-        return False
-    return outline.is_filled or any(crosses(segment, box) for segment in outline.segments())
-
-
-def crosses(segment: Segment, box: Box) -> bool:
-    """Whether a segment has a point in a box: their bounds meet, and the box's corners aren't all on one side of it."""
-    (ax, ay), (bx, by) = segment[0][:2], segment[1][:2]
-    if not Box(min(ax, bx), min(ay, by), max(ax, bx), max(ay, by)).meets(box):
-        return False
-    sides = [(bx - ax) * (y - ay) - (by - ay) * (x - ax) for x, y in box.corners]
-    return min(sides) <= 0 <= max(sides)
-
-
 def square_distance(outline: Outline, place: Point) -> Fraction:
     """The square of the distance from a place to an outline; none, 0, within a filled one."""
     own = outline.box

@@ -5,7 +5,7 @@ it: anything else is told and left."""
 from __future__ import annotations
 
 from dataclasses import dataclass, field
-from typing import List
+from typing import List, Tuple
 
 from ..format import classes
 from .broken import why_loose
@@ -35,7 +35,7 @@ class Mending:
 def mending_of(drawing: Drawing) -> Mending:
     """Goes through the drawing as nesting does, with each header mended that can be."""
     walk = _Walk(drawing)
-    walk.members(1, len(drawing.elements), True)
+    walk.all()
     return walk.made
 
 
@@ -45,26 +45,37 @@ class _Walk:
     def __init__(self, drawing: Drawing) -> None:
         self.elements, self.rows = drawing.elements, drawing.rows
         self.made = Mending()
+        self.lists: List[Tuple[int, int, bool]] = []  # that are still to be walked, the next one last
         self.loose: List[Element] = []  # the loose headers whose members the next roots with bit C may be
 
-    def members(self, start: int, end: int, is_root: bool) -> None:
-        """Walks a list of elements, from `start` to before `end`."""
-        at = start
-        while at < end:
-            element = self.elements[at]
-            if is_root and not element.has_c:
-                self.loose = []
-            if element.type in classes.COUNTED:
-                at = self.header(element, end, is_root)
-            elif element.type in classes.SPLINES:
-                self.orphan(element, is_root)
-                at = self.behind_spline(at, end)
-            elif element.type == classes.DEFINITION and is_root:
-                self.orphan(element, is_root)
-                at = self.definition(at, end)
-            else:
-                self.orphan(element, is_root)
-                at += 1
+    def all(self) -> None:
+        """Walks the list of all elements, and those of members, each from a place to before an end."""
+        self.lists = [(1, len(self.elements), True)]
+        while self.lists:
+            at, end, is_root = self.lists.pop()
+            if at < end:
+                self.element(self.elements[at], end, is_root)
+
+    def go_on(self, at: int, end: int, is_root: bool) -> None:
+        """Lets the walk go on with a list at a place; lists that are given later are walked first."""
+        self.lists.append((at, end, is_root))
+
+    def element(self, element: Element, end: int, is_root: bool) -> None:
+        """Walks an element of a list that ends at `end`."""
+        at = element.number
+        if is_root and not element.has_c:
+            self.loose = []
+        if element.type in classes.COUNTED:
+            self.header(element, end, is_root)
+        elif element.type in classes.SPLINES:
+            self.orphan(element, is_root)
+            self.go_on(self.behind_spline(at, end), end, is_root)
+        elif element.type == classes.DEFINITION and is_root:
+            self.orphan(element, is_root)
+            self.definition(at, end)
+        else:
+            self.orphan(element, is_root)
+            self.go_on(at + 1, end, is_root)
 
     def behind_spline(self, at: int, end: int) -> int:
         """Where the parts of a B-spline end."""
@@ -73,30 +84,31 @@ class _Walk:
             at += 1
         return at
 
-    def definition(self, at: int, end: int) -> int:
-        """Walks what a shared cell definition holds, and gives where it ends."""
+    def definition(self, at: int, end: int) -> None:
+        """Walks what a shared cell definition holds, and then what stands behind it."""
         behind = at + 1
         while behind < end and self.elements[behind].has_c:
             behind += 1
-        self.members(at + 1, behind, False)
-        return behind
+        self.go_on(behind, end, True)
+        self.go_on(at + 1, behind, False)
 
     def orphan(self, element: Element, is_root: bool) -> None:
         """Tells of an orphan that is no header over counted members."""
         if is_root and element.has_c:
             self.made.left.append(Left(element, 'orphan: no header before it takes it in, and it is no header itself'))
 
-    def header(self, element: Element, end: int, is_root: bool) -> int:
+    def header(self, element: Element, end: int, is_root: bool) -> None:
         """Mends a counted header where it can, walks its members, and gives where they end."""
         reach = Reach(self.rows, element.number, end)
         fitting = reach.total if reach.count_of(bytes_of(reach.total)) is not None else reach.fitting_total()
         members = None if fitting is None else reach.count_of(bytes_of(fitting))
         if fitting is None or members is None:
-            return self.stay_loose(element, reach, is_root)
+            self.go_on(self.stay_loose(element, reach, is_root), end, is_root)
+            return
         behind = element.number + members + 1
         self.mend(element, fitting, behind, is_root and element.has_c)
-        self.members(element.number + 1, behind, False)
-        return behind
+        self.go_on(behind, end, is_root)
+        self.go_on(element.number + 1, behind, False)
 
     def mend(self, element: Element, total: int, behind: int, is_orphan: bool) -> None:
         """Makes the change of a header that wants one so that it holds the elements up to `behind`. What is locked

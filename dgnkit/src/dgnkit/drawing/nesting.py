@@ -2,15 +2,19 @@
 
 from __future__ import annotations
 
+from array import array
 from dataclasses import dataclass, field
 from functools import cached_property
-from typing import Dict, Iterable, List, Sequence, Set
+from typing import Callable, Dict, Iterator, List, Sequence, Set
 
+from ..errors import ListingError
 from ..format import classes
-from ..format.element import Element
+from ..format.elements import Elements
+from ..program.answers import Answer
 from ..program.listings import Node, nodes_of
-from ..program.runs import Name, Program
 from ..program.script import Script
+
+FIRST = 8  # so many trees of what has bit C are asked for at first
 
 
 @dataclass
@@ -18,16 +22,16 @@ class Nesting:
     """By an element's number: its depth, the root of its tree, the header right above it (-1 where it is a root). What
     isn't a leaf has its knot, group, run or loose, in `knots`; `orphans` are roots with bit C."""
 
-    depths: List[int]
-    roots: List[int]
-    parents: List[int]
+    depths: array[int]
+    roots: array[int]
+    parents: array[int]
     knots: Dict[int, str] = field(default_factory=dict)
     orphans: Set[int] = field(default_factory=set)
 
     @classmethod
     def of_leaves(cls, count: int) -> Nesting:
         """That of so many elements of which each is a tree of its own."""
-        return cls([0] * count, list(range(count)), [-1] * count)
+        return cls(array('H', bytes(2 * count)), array('I', range(count)), array('i', b'\xff' * 4 * count))
 
     def take(self, tree: Sequence[Node]) -> None:
         """Takes the tree of a root in."""
@@ -44,10 +48,10 @@ class Nesting:
                 self.orphans.add(node.number)
 
     @cached_property
-    def ends(self) -> List[int]:
+    def ends(self) -> array[int]:
         """Of each element the number behind the last that stands below it. Only once all trees are taken in."""
         count = len(self.depths)
-        made = list(range(1, count + 1))
+        made = array('I', range(1, count + 1))
         for number in range(count - 1, -1, -1):
             end = number + 1
             while end < count and self.depths[end] > self.depths[number]:
@@ -71,36 +75,49 @@ class Nesting:
         """What an element is in its tree: leaf, group, run or loose."""
         return self.knots.get(number, 'leaf')
 
-    @property
+    @cached_property
     def broken(self) -> List[int]:
         """The broken elements: loose headers and orphans."""
         loose = {number for number, knot in self.knots.items() if knot == 'loose'}
         return sorted(loose | self.orphans)
 
-    @property
+    @cached_property
     def broken_roots(self) -> Set[int]:
         """The roots whose trees hold a broken element; no edit of these trees is accepted."""
         return {self.roots[it] for it in self.broken}
 
 
-def read_nesting(program: Program, drawing: Name, elements: Sequence[Element]) -> Nesting:
-    """Asks the program for all trees that aren't sure to be a leaf alone. Without bit C an element is a root, and a
-    leaf where its type is no header's. What has bit C and is in no tree of these is an orphan, or stands below one."""
+def read_nesting(ask: Callable[[Script], List[Answer]], elements: Elements) -> Nesting:
+    """Asks for all trees that aren't sure to be a leaf alone. Without bit C an element is a root, and a leaf where its
+    type is no header's. What has bit C and is in no tree of these is an orphan, or stands below one: these are asked
+    for in rounds, twice as many at once each time, without those that stand below others."""
     nesting = Nesting.of_leaves(len(elements))
-    rest = {it.number for it in elements[1:] if it.has_c}
-    heads = [it.number for it in elements[1:] if not it.has_c and it.type in classes.HEADERS]
-    for tree in _trees(program, drawing, heads):
+    rest = set(elements.with_c())
+    heads = [it for it in elements.of_types(classes.HEADERS) if it and it not in rest]
+    for tree in _trees(ask, elements, heads):
         nesting.take(tree)
         rest.difference_update(it.number for it in tree)
-    for tree in _trees(program, drawing, sorted(rest)):
-        if tree[0].depth == 0:
-            nesting.take(tree)
+    waiting, size = sorted(rest), FIRST
+    while waiting:
+        asked, below = waiting[:size], -1
+        for tree in _trees(ask, elements, asked):
+            if tree[0].number > below:
+                nesting.take(tree)
+                below = tree[-1].number
+        waiting = [it for it in waiting[size:] if it > below]
+        size *= 2
     return nesting
 
 
-def _trees(program: Program, drawing: Name, numbers: Iterable[int]) -> Iterable[List[Node]]:
+def _trees(ask: Callable[[Script], List[Answer]], elements: Elements, numbers: Sequence[int]) -> Iterator[List[Node]]:
+    """The trees of elements. It raises ListingError where one isn't of the drawing."""
     script = Script()
     for number in numbers:
         script.tree(number)
-    for answer in program.edit_all(drawing, script):
-        yield nodes_of(answer.lines)
+    for number, answer in zip(numbers, ask(script)):
+        tree = nodes_of(answer.lines)
+        if [it.number for it in tree] != list(range(number, number + len(tree))) or not tree:
+            raise ListingError('dgnedit listed another tree of element %d than it can have' % number)
+        if tree[-1].number >= len(elements):
+            raise ListingError('dgnedit listed element %d, which is not there' % tree[-1].number)
+        yield tree

@@ -3,9 +3,9 @@
 from __future__ import annotations
 
 from bisect import bisect_left
-from typing import List, Optional, Sequence, Tuple
+from typing import List, Optional, Tuple
 
-from ..format.element import Element
+from ..format.elements import BIT_C, Elements
 from ..format.limits import TOTAL_MOST
 
 BEFORE_TOTAL = 38  # bytes up to the end of the total itself
@@ -79,10 +79,10 @@ class Rows:
     """Of all elements of a drawing where each begins, and behind the last where they end; and for each place the number
     of the first element from there on that has no bit C."""
 
-    def __init__(self, elements: Sequence[Element]) -> None:
+    def __init__(self, elements: Elements) -> None:
         self.elements = elements
-        self.starts = [it.offset for it in elements]
-        self.starts.append(elements[-1].offset + elements[-1].size)
+        self.starts = [*elements.offsets, elements.end]
         self.run_ends = [len(elements)] * (len(elements) + 1)
         for number in range(len(elements) - 1, -1, -1):
-            self.run_ends[number] = self.run_ends[number + 1] if elements[number].has_c else number
+            has_c = elements.marks[number] & BIT_C
+            self.run_ends[number] = self.run_ends[number + 1] if has_c else number

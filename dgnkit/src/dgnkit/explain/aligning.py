@@ -8,10 +8,10 @@ from difflib import SequenceMatcher
 from typing import Dict, Iterator, List, Optional, Sequence, Tuple
 
 from ..format.element import Element
+from .matching import matched
 
 Pair = Tuple[Optional[int], Optional[int]]
 Anchor = Tuple[int, int]
-Kind = Tuple[int, int]
 MANY = 1000000  # more pairs than that aren't compared one by one
 
 
@@ -81,15 +81,16 @@ def between(first: Sequence[Element], second: Sequence[Element], olds: List[int]
 
 
 def _by_kind(first: Sequence[Element], second: Sequence[Element], olds: List[int], news: List[int]) -> Iterator[Pair]:
-    """Pairs of elements of one type and size, by the longest rows of such; of very many they are paired in their order,
-    up to the first that doesn't agree."""
+    """Pairs of elements of one type and size, by the longest rows of such; of very many by the fewest that come and go,
+    or, where these are very many too, in their order up to the first that doesn't agree."""
     kinds = [(first[it].type, first[it].size) for it in olds], [(second[it].type, second[it].size) for it in news]
     if len(olds) * len(news) > MANY:
-        rows = [('equal', *_agreeing(*kinds))]
-        rows.append(('replace', rows[0][2], len(olds), rows[0][4], len(news)))
-    else:
-        rows = SequenceMatcher(None, *kinds, autojunk=False).get_opcodes()
-    for tag, old, old_end, new, new_end in rows:
+        found = matched(*kinds)
+        same = list(zip(*kinds)) if found is None else []
+        count = next((at for at, (a, b) in enumerate(same) if a != b), len(same))
+        yield from _paired(olds, news, [(it, it) for it in range(count)] if found is None else found)
+        return
+    for tag, old, old_end, new, new_end in SequenceMatcher(None, *kinds, autojunk=False).get_opcodes():
         if tag == 'equal':
             yield from zip(olds[old:old_end], news[new:new_end])
         else:
@@ -97,7 +98,12 @@ def _by_kind(first: Sequence[Element], second: Sequence[Element], olds: List[int
             yield from ((None, it) for it in news[new:new_end])
 
 
-def _agreeing(olds: Sequence[Kind], news: Sequence[Kind]) -> Tuple[int, int, int, int]:
-    """How far two rows of kinds agree from their front, as a span of each."""
-    count = next((at for at, (a, b) in enumerate(zip(olds, news)) if a != b), min(len(olds), len(news)))
-    return 0, count, 0, count
+def _paired(olds: List[int], news: List[int], matches: Sequence[Anchor]) -> Iterator[Pair]:
+    """The matched elements, and those between them, which are in one drawing alone."""
+    old = new = 0
+    for a, b in [*matches, (len(olds), len(news))]:
+        yield from ((it, None) for it in olds[old:a])
+        yield from ((None, it) for it in news[new:b])
+        if a < len(olds) and b < len(news):
+            yield olds[a], news[b]
+        old, new = a + 1, b + 1

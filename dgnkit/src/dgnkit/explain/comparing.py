@@ -12,7 +12,6 @@ from ..format.element import Element, described
 from ..format.fields import field_name, points_span
 from ..format.numbers import Point
 from ..output import counted
-from ..format.units import Units
 
 
 @dataclass
@@ -44,7 +43,7 @@ def differences(first: Drawing, second: Drawing) -> List[Difference]:
         else:
             old, new = first.elements[before], second.elements[after]
             if old.content != new.content:
-                made.append(_Comparison(first.units, old, new).difference())
+                made.append(_Comparison(first, old, new).difference())
     return made
 
 
@@ -76,8 +75,8 @@ def _told(first: Sequence[Element], second: Sequence[Element], found: Sequence[P
 class _Comparison:
     """What differs between two elements of one type and size."""
 
-    def __init__(self, units: Units, old: Element, new: Element) -> None:
-        self.units, self.old, self.new = units, old, new
+    def __init__(self, drawing: Drawing, old: Element, new: Element) -> None:
+        self.units, self.palette, self.old, self.new = drawing.units, drawing.palette, old, new
         self.made = Difference(old.number, new.number, described(old))
         a, b = old.content, new.content
         self.places: Set[int] = {it for it in range(len(a)) if a[it] != b[it]}
@@ -122,8 +121,12 @@ class _Comparison:
             ('style', self.old.style, self.new.style),
         ]
         changed = {name: [old, new] for name, old, new in pairs if old != new}
-        words = ', '.join('%s %d to %d' % (name, old, new) for name, (old, new) in changed.items())
+        words = ', '.join('%s %s to %s' % (name, *self.look_said(name, it)) for name, it in changed.items())
         self.made.add('recoloured' if 'colour' in changed else 'looks', changed, words)
+
+    def look_said(self, name: str, values: Sequence[int]) -> List[str]:
+        """A look before and after, colours with their names."""
+        return [self.palette.said(it) if name == 'colour' else str(it) for it in values]
 
     def characters(self) -> None:
         """The characters of a text, and their number."""
@@ -133,6 +136,12 @@ class _Comparison:
         longest = max(len(self.old.characters or b''), len(self.new.characters or b''))
         self.take(self.old.text_place, self.old.text_place + longest)
         self.made.add('text', [self.old.text, self.new.text], 'text %r to %r' % (self.old.text, self.new.text))
+
+    def name(self) -> None:
+        """The name of a cell."""
+        if self.old.type == classes.CELL and self.take(38, 42):
+            names = [self.old.cell_name, self.new.cell_name]
+            self.made.add('name', names, 'name %s to %s' % (names[0], names[1]))
 
     def place(self) -> None:
         """A displacement of all points, and of the range with them."""
@@ -206,6 +215,7 @@ STEPS: List[Callable[[_Comparison], None]] = [
     _Comparison.marks,
     _Comparison.looks,
     _Comparison.characters,
+    _Comparison.name,
     _Comparison.total,
     _Comparison.place,
     _Comparison.range,

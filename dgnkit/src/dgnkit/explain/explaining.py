@@ -3,8 +3,9 @@
 from __future__ import annotations
 
 import os
-from pathlib import Path
-from typing import List, Sequence, Union
+import re
+import struct
+from typing import Iterator, List, Sequence
 
 from ..drawing.drawing import Drawing
 from ..format.element import described
@@ -23,8 +24,11 @@ from ..errors import (
 )
 from ..format.fields import field_name
 from ..format.limits import DRAWING_LONGEST, PATCH_LONGEST, SCRIPT_LONGEST
-from ..program.grammar import fault_of
+from ..program.grammar import fault_of, kinds_of
+from ..files import front_of, read_drawing, read_file
 from ..format.patch import Entry, Field, Patch
+from ..format.places import Scale
+from ..format.units import Units, rounded
 from ..program.runs import Program
 from ..program.script import Script
 from ..format.tcb import KIND_SAID, kind_of
@@ -41,7 +45,7 @@ LIMITS = {
     'script': SCRIPT_LONGEST,
     'patch': PATCH_LONGEST,
 }
-Name = Union[str, Path]
+DECIMAL_POINT = re.compile(r'-?\d{1,12}(\.\d{1,12})?', re.ASCII)
 
 
 def why_ended(program: Program, ending: Ending, drawing: str, script: str, out: str) -> str:
@@ -49,7 +53,7 @@ def why_ended(program: Program, ending: Ending, drawing: str, script: str, out: 
     if isinstance(ending, BadUsage):
         return why_usage(drawing, script, out)
     if isinstance(ending, BadScript):
-        return why_bad_line(script, ending.line)
+        return why_bad_line(drawing, script, ending.line)
     if isinstance(ending, BadDesign):
         return why_bad_design(drawing, ending)
     if isinstance(ending, ReadFault):
@@ -79,23 +83,57 @@ def why_usage(drawing: str, script: str, out: str) -> str:
     return 'dgnedit does not take these arguments: %s %s %s' % (drawing, script, out)
 
 
-def why_bad_line(script: str, number: int) -> str:
+def why_bad_line(drawing: str, script: str, number: int) -> str:
     """What makes the first bad line of a script bad."""
-    line = Script.read(script).lines[number - 1]
+    lines = Script.read(script).lines
+    if number > len(lines):
+        return 'line %d of %s was bad, and the script is another one now: run this again' % (number, script)
+    line = lines[number - 1]
     said = line.decode('latin-1')
     return 'line %d of %s is bad, so nothing has run: %r: %s' % (
         number,
         script,
         said,
-        fault_of(line) or 'it is no command',
+        (fault_of(line) or 'it is no command') + in_units(drawing, line),
     )
+
+
+def in_units(drawing: str, line: bytes) -> str:
+    """What lengths and places of a line that have a point are in units of resolution, where the drawing says it."""
+    try:
+        units = Units.read(read_drawing(drawing))
+    except (Mistake, struct.error, IndexError):
+        return ''
+    words = [it for it in line.decode('latin-1').split(' ') if it]
+    pieces = [(word, kind) for word, kind in zip(words, kinds_of(words)) if kind in ('D', 'P', 'Q', 'M')]
+    scale = Scale(units, 'auto')
+    if not scale.is_master:
+        return ''
+    made = [it for word, kind in pieces for it in _in_units(scale, word, kind)]
+    return ''.join('; ' + it for it in made[:2])
+
+
+def _in_units(scale: Scale, word: str, kind: str) -> Iterator[str]:
+    """A piece that has a point, as the script wants it."""
+    numbers = word.split(',')
+    if any(not DECIMAL_POINT.fullmatch(it) for it in numbers) or '.' not in word:
+        return
+    try:
+        if kind == 'D':
+            yield '%s %s is %d here' % (word, scale.name, rounded(scale.signed_length(word)))
+        elif kind == 'M':
+            yield 'a text of %s %s has the multiplier %d' % (word, scale.name, scale.multiplier(word))
+        else:
+            place = (str(scale.coordinate(it, axis)) for axis, it in enumerate(numbers))
+            yield '%s %s is %s here' % (word, scale.name, ','.join(place))
+    except (Mistake, IndexError):
+        return
 
 
 def why_bad_design(drawing: str, ending: BadDesign) -> str:
     """Why a file is no design file."""
-    try:
-        kind = kind_of(Path(drawing).read_bytes()[:4])
-    except OSError:
+    kind = kind_of(front_of(drawing, 4))
+    if kind == 'empty' and not (os.path.isfile(drawing) and os.path.getsize(drawing) == 0):
         kind = 'design'
     if kind != 'design':
         return '%s is %s' % (drawing, KIND_SAID[kind])
@@ -148,10 +186,15 @@ def why_too_long(what: str, drawing: str, script: str) -> str:
 
 def why_refused(program: Program, name: str, patch_name: str, number: int) -> str:
     """Why an entry of a patch file doesn't stand on a drawing: its length, or the first field with other bytes."""
-    patch, drawing = Patch.from_bytes(Path(patch_name).read_bytes()), Drawing(name, program)
+    patch, drawing = Patch.from_bytes(read_file(patch_name, PATCH_LONGEST)), Drawing(name, program)
     body = bytearray(drawing.data[: drawing.body_length])
     for entry in patch.entries[: number - 1]:
         put_on(body, entry)
+    if number > len(patch.entries):
+        return 'entry %d of %s was refused, and the patch file is another one now: run this again' % (
+            number,
+            patch_name,
+        )
     entry = patch.entries[number - 1]
     front = 'entry %d of %d does not stand on %s, and nothing was written: ' % (number, len(patch.entries), name)
     if entry.length != len(body):

@@ -13,7 +13,6 @@ from ..format.element import described
 from ..format.limits import CORNERS_LEAST, CORNERS_MOST, DRAWING_LONGEST, PLANE_HIGH, PLANE_LOW
 from ..errors import BadDesign, Mistake
 from ..drawing.mending import mending_of
-from ..output import counted
 from ..program.script import Command
 from ..format.tcb import KIND_SAID, kind_of
 
@@ -201,8 +200,3 @@ EXPLAIN: Dict[str, Callable[[Explainer, Refusal, str], str]] = {
     'many': Explainer.many,
     'import': Explainer.import_,
 }
-
-
-def summary(count: int, refused: int) -> str:
-    """How many commands there are, and how many were refused."""
-    return '%s, %d refused' % (counted(count, 'command'), refused)

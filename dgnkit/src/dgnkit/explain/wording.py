@@ -38,12 +38,13 @@ def _copied(drawing: Drawing, words: Words) -> str:
 
 
 def _coloured(drawing: Drawing, words: Words) -> str:
-    return 'colour ' + words[0]
+    return 'colour ' + drawing.palette.said(int(words[0]))
 
 
 def _looks(drawing: Drawing, words: Words) -> str:
-    said = ['%s %s' % it for it in zip(('colour', 'weight', 'style'), words) if it[1] != '-']
-    return ', '.join(said) or 'nothing changes'
+    looks = [it for it in zip(('colour', 'weight', 'style'), words) if it[1] != '-']
+    names = ['%s %s' % (name, drawing.palette.said(int(it)) if name == 'colour' else it) for name, it in looks]
+    return ', '.join(names) or 'nothing changes'
 
 
 def _deleted(drawing: Drawing, words: Words) -> str:

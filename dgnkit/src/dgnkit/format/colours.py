@@ -51,6 +51,30 @@ def usual_colours() -> List[Colour]:
     return table[: 256 - len(LAST)] + LAST
 
 
-def spelled(table: Optional[List[Colour]]) -> List[str]:
-    """The colours 0 to 255 as `#rrggbb`: those of a drawing's own table, or the usual ones where it has none."""
-    return ['#%02x%02x%02x' % colour for colour in table or usual_colours()]
+NAMES = {
+    (255, 255, 255): 'white',
+    (0, 0, 255): 'blue',
+    (0, 255, 0): 'green',
+    (255, 0, 0): 'red',
+    (255, 255, 0): 'yellow',
+    (255, 0, 255): 'magenta',
+    (255, 127, 0): 'orange',
+    (0, 255, 255): 'cyan',
+    (64, 64, 64): 'dark grey',
+    (192, 192, 192): 'light grey',
+}
+
+
+class Palette:
+    """The colours 0 to 255 of a drawing: those of its own table, or the usual ones where it has none."""
+
+    def __init__(self, own: Optional[List[Colour]]) -> None:
+        table = own or usual_colours()
+        self.spelled = ['#%02x%02x%02x' % colour for colour in table]
+        self.names = [NAMES.get(colour, '') for colour in table]
+
+    def said(self, colour: int) -> str:
+        """A colour in words: its number, its name where it has one, and its red, green and blue, as in
+        `3 (red, #ff0000)`."""
+        name = self.names[colour]
+        return '%d (%s)' % (colour, ', '.join([*([name] if name else []), self.spelled[colour]]))

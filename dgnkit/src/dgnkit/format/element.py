@@ -5,18 +5,19 @@ from __future__ import annotations
 import math
 import struct
 from dataclasses import dataclass
+from fractions import Fraction
 from typing import List, Optional, Tuple
 
 from . import classes, radix50
-from .numbers import OFFSET, Point, long_at, longs_at, points_of, word_at
+from .numbers import OFFSET, Point, long_at, longs_at, points_at, word_at
 
 LINKED = 0x0800
-LOCKED = 0x0100
+LOCK_BYTE = 33  # the high byte of the properties, whose lowest bit says locked
 RANGE = struct.Struct('<12H')
 RANGE_XY = struct.Struct('<4H4x4H')
 Bounds = Tuple[int, int, int, int]
 ORIGINS = {classes.TEXT: (50, 62), classes.NODE: (62, 74), classes.CELL: (84, 112)}  # with two axes and with three
-TEXT_UNIT = 6.0 / 1000.0  # what one of a text's multipliers stands for, in units of resolution
+TEXT_UNIT = Fraction(6, 1000)  # what one of a text's multipliers stands for, in units of resolution
 
 
 def decoded(characters: bytes) -> str:
@@ -80,7 +81,7 @@ class Element:
     @property
     def is_locked(self) -> bool:
         """Whether the element is locked."""
-        return bool(self.properties & LOCKED)
+        return self.type in classes.LOUD and bool(self.data[self.offset + LOCK_BYTE] & 1)
 
     @property
     def group(self) -> int:
@@ -99,13 +100,20 @@ class Element:
         """The low and the high corner of the stored range, none of a silent element."""
         if self.type not in classes.LOUD:
             return None
+        corners = self.corners
+        return corners[: self.axes], corners[self.axes :]
+
+    @property
+    def corners(self) -> Tuple[int, ...]:
+        """The coordinates of the low and of the high corner of the stored range, all in a row. Only of an element that
+        isn't silent."""
         words = RANGE.unpack_from(self.data, self.offset + 4)
-        low = words[0] * 65536 + words[1] - OFFSET, words[2] * 65536 + words[3] - OFFSET
-        high = words[6] * 65536 + words[7] - OFFSET, words[8] * 65536 + words[9] - OFFSET
+        low_x, low_y = words[0] * 65536 + words[1] - OFFSET, words[2] * 65536 + words[3] - OFFSET
+        high_x, high_y = words[6] * 65536 + words[7] - OFFSET, words[8] * 65536 + words[9] - OFFSET
         if self.axes == 2:
-            return low, high
+            return low_x, low_y, high_x, high_y
         low_z, high_z = words[4] * 65536 + words[5] - OFFSET, words[10] * 65536 + words[11] - OFFSET
-        return (*low, low_z), (*high, high_z)
+        return low_x, low_y, low_z, high_x, high_y, high_z
 
     @property
     def bounds(self) -> Bounds:
@@ -125,8 +133,7 @@ class Element:
         place = self.points_place
         if place is None:
             return []
-        at = self.offset + place
-        return points_of(longs_at(self.data, at, self.points_count * self.axes), self.axes)
+        return points_at(self.data, self.offset + place, self.points_count, self.axes)
 
     @property
     def points_count(self) -> int:
@@ -179,11 +186,22 @@ class Element:
         return None if characters is None else decoded(characters)
 
     @property
+    def multipliers(self) -> Tuple[int, int]:
+        """The multipliers of a text's length and height. Only of a text; so is the one of the height."""
+        return long_at(self.data, self.offset + 38), long_at(self.data, self.offset + 42)
+
+    @property
+    def height_multiplier(self) -> int:
+        """The multiplier of a text's height."""
+        return long_at(self.data, self.offset + 42)
+
+    @property
     def text_size(self) -> Optional[Tuple[float, float]]:
         """How wide and how high a sign of a text is, in units of resolution, as its multipliers say."""
         if self.type != classes.TEXT:
             return None
-        return long_at(self.data, self.offset + 38) * TEXT_UNIT, long_at(self.data, self.offset + 42) * TEXT_UNIT
+        width, height = self.multipliers
+        return width * TEXT_UNIT.numerator / TEXT_UNIT.denominator, height * TEXT_UNIT.numerator / TEXT_UNIT.denominator
 
     @property
     def text_angle(self) -> Optional[float]:

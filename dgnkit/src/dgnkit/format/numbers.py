@@ -41,9 +41,23 @@ def long_bytes(value: int) -> bytes:
     return struct.pack('<HH', value >> 16, value & 0xFFFF)
 
 
+def range_bytes(value: int) -> bytes:
+    """The bytes of a range number."""
+    return long_bytes(value + OFFSET)
+
+
 def points_of(numbers: Sequence[int], axes: int) -> List[Point]:
     """Points of so many axes, out of their coordinates one behind the other."""
     return list(zip(*(numbers[axis::axes] for axis in range(axes))))
+
+
+def points_at(data: bytes, place: int, count: int, axes: int) -> List[Point]:
+    """So many points of longs, one behind the other."""
+    if axes == 3:
+        return points_of(longs_at(data, place, 3 * count), 3)
+    words = struct.unpack_from('<' + 'hHhH' * count, data, place)
+    columns = words[0::4], words[1::4], words[2::4], words[3::4]
+    return [(a * 65536 + b, c * 65536 + d) for a, b, c, d in zip(*columns)]
 
 
 def vax_double_at(data: bytes, place: int) -> Fraction:

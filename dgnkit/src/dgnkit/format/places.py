@@ -7,18 +7,19 @@ from fractions import Fraction
 from typing import List, Sequence, Tuple
 
 from ..errors import Mistake
-from .limits import is_on_plane
+from .element import TEXT_UNIT
+from .limits import MULTIPLIER_MOST, is_on_plane
 from .numbers import Point
-from .units import Units, rounded
+from .units import Units, rounded, shortest
 
-DECIMAL = re.compile(r'[-+]?(\d+(\.\d*)?|\.\d+)')
+DECIMAL = re.compile(r'[-+]?(\d{1,40}([.,]\d{0,40})?|[.,]\d{1,40})', re.ASCII)
 
 
 def decimal_of(word: str) -> Fraction:
-    """A decimal number, exactly. It raises Mistake where it is none."""
+    """A decimal number, exactly; its point may be a comma. It raises Mistake where it is none."""
     if not DECIMAL.fullmatch(word.strip()):
         raise Mistake('%r is no number' % word)
-    return Fraction(word.strip())
+    return Fraction(word.strip().replace(',', '.'))
 
 
 class Scale:
@@ -51,12 +52,36 @@ class Scale:
             raise Mistake('%s is not on the design plane' % ','.join(words))
         return point
 
+    def coordinate(self, word: str, axis: int) -> int:
+        """A coordinate along an axis, to the nearest unit of resolution."""
+        value = decimal_of(word)
+        if self.is_master:
+            value = value * self.units.in_master + self.units.origin[axis]
+        return rounded(value)
+
+    def signed_length(self, word: str) -> Fraction:
+        """A length in units of resolution, which may have a fraction and go either way."""
+        value = decimal_of(word)
+        return self.units.length_from_master(value) if self.is_master else value
+
     def length(self, word: str) -> Fraction:
         """A length in units of resolution, which may have a fraction."""
-        value = decimal_of(word)
+        value = self.signed_length(word)
         if value < 0:
             raise Mistake('%r is no distance' % word)
-        return self.units.length_from_master(value) if self.is_master else value
+        return value
+
+    def multiplier(self, word: str) -> int:
+        """The multiplier of a text that is so high. It raises Mistake where a text can't be so high."""
+        value = rounded(self.length(word) / TEXT_UNIT)
+        if not 0 < value <= MULTIPLIER_MOST:
+            raise Mistake('a text can not be %s %s high' % (word, self.name))
+        return value
+
+    def place_said(self, point: Point, with_name: bool = True) -> str:
+        """A place in words, with its unit."""
+        said = ','.join(map(shortest, self.said(point)))
+        return '%s %s' % (said, self.name) if with_name else said
 
     def said(self, point: Point) -> Tuple[float, ...]:
         """A place of the drawing as it is written."""
@@ -66,6 +91,8 @@ class Scale:
 def coordinates(word: str) -> List[str]:
     """The coordinates of a place `x,y`. It raises Mistake where it is none."""
     words = word.split(',')
+    if len(words) == 4:
+        raise Mistake('%r is no place: it is written x,y, with decimal points and no decimal commas' % word)
     if len(words) != 2:
         raise Mistake('%r is no place: it is written x,y' % word)
     return words

@@ -23,7 +23,25 @@ from ..format.limits import (
 
 PLAIN = re.compile(r'0|[1-9]\d*')
 SIGNED = re.compile(r'0|-?[1-9]\d*')
+BYTE_ORDER_MARK = b'\xef\xbb\xbf'
+DIGITS_MOST = 20  # no number that may stand in a script has more
 MODES = ('inside', 'overlap', 'void')
+
+
+# What people look for and the editor has no command for, and what there is for it.
+CAN_NOT = ': dgnedit and dgnkit can not %s'
+ADVICE = {
+    'rotate': CAN_NOT % 'rotate elements',
+    'scale': CAN_NOT % 'scale elements',
+    'mirror': CAN_NOT % 'mirror elements',
+    'rename': ': `dgnkit rename` gives cells another name',
+    'level': ': `dgnkit relevel` puts elements on another level',
+    'relevel': ': `dgnkit relevel` puts elements on another level',
+    'lock': ': `dgnkit lock` locks elements',
+    'unlock': ': `dgnkit unlock` unlocks elements',
+    'undelete': ': `dgnkit undelete` takes deletions back',
+    'retext': ': `dgnkit retext` changes the characters of texts',
+}
 
 
 @dataclass(frozen=True)
@@ -63,6 +81,8 @@ class Form:
 
 
 LOOK = ('LV', 'C', 'W', 'S')
+TEXT = Form((*LOOK, 'F', 'J', 'M', 'M', 'P'))  # and then its characters
+IMPORT = Form(('',), 'D', 0, 3)
 FORMS: Dict[str, Form] = {
     'move': Form(('N',), 'D', 2, 3),
     'copy': Form(('N',), 'D', 2, 3),
@@ -92,11 +112,23 @@ OWN_FORMS = ('text', 'import', 'levels')  # commands whose pieces have rules of 
 LISTS = {name: form.end for name, form in FORMS.items() if form.end}
 
 
+def kinds_of(words: Sequence[str]) -> List[str]:
+    """What each piece of a line is, the command's name first; nothing of a piece that is none of it, as the characters
+    of a text."""
+    if not words:
+        return []
+    form = TEXT if words[0] == 'text' else IMPORT if words[0] == 'import' else FORMS.get(words[0], Form(()))
+    kinds = ['', *form.kinds, *[form.more] * (len(words) - 1 - len(form.kinds))]
+    return kinds[: len(words)]
+
+
 def fault_of(line: bytes) -> Optional[str]:
     """What makes a line bad, in words, or none where it is a command, a comment or empty."""
     bare = line.strip(b' ')
     if not bare or bare.startswith(b'#'):
         return None
+    if line.startswith(BYTE_ORDER_MARK):
+        return 'it begins with a byte order mark, which is no part of a script: save it without one'
     words = [it.decode('latin-1') for it in bare.split(b' ') if it]
     if '\t' in bare.decode('latin-1').split('\n')[0] and words[0] != 'text':
         return 'it holds a tab, which is no blank'
@@ -115,12 +147,14 @@ def fault_of(line: bytes) -> Optional[str]:
 def _no_command(word: str) -> str:
     if word.lower() in FORMS or word.lower() in OWN_FORMS:
         return '%r is no command: they are written in small letters' % word
-    return '%r is no command' % word
+    return '%r is no command' % word + ADVICE.get(word.lower(), '')
 
 
 def _fault_of_form(name: str, form: Form, words: List[str]) -> Optional[str]:
     least, most = len(form.kinds) + form.least, None if form.most is None else len(form.kinds) + form.most
     if len(words) < least or (most is not None and len(words) > most):
+        if form.more == 'P' and len(words) >= len(form.kinds):
+            return _fault_of_count(name, form, len(words) - len(form.kinds))
         span = 'at least %d' % least if most is None else str(least) if least == most else '%d to %d' % (least, most)
         what = 'piece' if span == '1' else 'pieces'
         return '%s has %s %s behind it, and here are %d' % (name, span, what, len(words))
@@ -130,6 +164,11 @@ def _fault_of_form(name: str, form: Form, words: List[str]) -> Optional[str]:
         if fault:
             return fault
     return _fault_of_axes([word for word, kind in zip(words, kinds) if kind == 'P'])
+
+
+def _fault_of_count(name: str, form: Form, count: int) -> str:
+    span = str(form.least) if form.least == form.most else '%d to %d' % (form.least, form.most or 0)
+    return 'a %s has %s points, and here are %d' % ({'string': 'line string'}.get(name, name), span, count)
 
 
 def _fault_of_piece(word: str, kind: str) -> Optional[str]:
@@ -148,7 +187,7 @@ def _fault_of_number(word: str, kind: Kind) -> Optional[str]:
     if not (SIGNED if kind.low < 0 else PLAIN).fullmatch(word):
         why = ' (a number does not begin with 0 or +, and there is no -0)' if re.fullmatch(r'[-+]?\d+', word) else ''
         return '%r is not %s from %d to %d%s' % (word, kind.what, kind.low, kind.high, why)
-    if not kind.low <= int(word) <= kind.high:
+    if len(word) > DIGITS_MOST or not kind.low <= int(word) <= kind.high:
         return '%s is not from %d to %d, as %s is' % (word, kind.low, kind.high, kind.what)
     return None
 
@@ -191,7 +230,7 @@ def _fault_of_import(words: List[str]) -> Optional[str]:
 
 
 def _fault_of_text(line: bytes) -> Optional[str]:
-    kinds = (*LOOK, 'F', 'J', 'M', 'M', 'P')
+    kinds = TEXT.kinds
     found = re.match(rb' *text' + rb' +([^ ]+)' * len(kinds), line)
     if not found:
         return 'text has %d pieces before its characters' % len(kinds)

@@ -7,11 +7,15 @@ import shutil
 import subprocess
 import sys
 from dataclasses import dataclass
+from functools import cached_property
 from pathlib import Path
 from typing import List, Optional, Sequence, Union
 
 from .answers import Answer
+from .listings import elements_of
 from ..errors import ListingError, MissingProgram, ending_of
+from ..format.elements import Elements
+from ..waiting import doing
 from .script import Script
 
 Name = Union[str, Path]
@@ -20,10 +24,15 @@ NOWHERE = os.devnull
 
 @dataclass
 class Run:
-    """How the program ended, and the lines that it said."""
+    """How the program ended, and what it said."""
 
     status: int
-    said: List[str]
+    output: bytes
+
+    @cached_property
+    def said(self) -> List[str]:
+        """The lines that it said."""
+        return lines_of(self.output)
 
 
 class Program:
@@ -53,24 +62,41 @@ class Program:
     def run(self, *words: Name, given: Optional[bytes] = None) -> Run:
         """Runs it with these words, and with these bytes on its standard input."""
         command = [self.path, *map(str, words)]
+        doing('dgnedit is at work on %s' % words[1] if len(words) > 1 else 'dgnedit is at work')
         try:
             ran = subprocess.run(command, input=b'' if given is None else given, stdout=subprocess.PIPE)
         except OSError as why:
-            raise MissingProgram('%s can not be run: %s' % (self.path, why.strerror))
+            raise MissingProgram('%s can not be run: %s' % (self.path, (why.strerror or str(why)).lower()))
         if ran.returncode < 0:
             raise ListingError('dgnedit was ended by the signal %d' % -ran.returncode)
-        return Run(ran.returncode, lines_of(ran.stdout))
+        return Run(ran.returncode, ran.stdout)
 
     def edit(self, drawing: Name, script: Script, out: Name = NOWHERE) -> List[Answer]:
         """Runs a script, and gives the answers to its commands. It raises an Ending where it wasn't run whole."""
         ran = self.run('edit', drawing, '/dev/stdin', out, given=script.text)
         if ran.status not in (0, 1):
             raise ending_of(ran.status, ran.said, str(drawing))
-        return script.answers(ran.said)
+        answers = script.answers(ran.said)
+        if ran.status != int(any(it.is_refused for it in answers)):
+            raise ListingError('dgnedit ended with %d, which is not what it answered' % ran.status)
+        ask_written(out)
+        return answers
 
-    def edit_all(self, drawing: Name, script: Script) -> List[Answer]:
-        """The same of a script of any length that only lists, cut in as many runs as it takes."""
-        return [answer for part in script.parts() for answer in self.edit(drawing, part)]
+    def elements(self, drawing: Name, data: bytes, axes: int) -> Elements:
+        """The elements of a drawing whose bytes are `data`. It raises an Ending where it doesn't open."""
+        ran = self.run('edit', drawing, '/dev/stdin', NOWHERE, given=b'elements\n')
+        if ran.status not in (0, 1):
+            raise ending_of(ran.status, ran.said, str(drawing))
+        return elements_of(ran.output, data, axes)
+
+    def listed(self, drawing: Name, script: Script) -> List[Answer]:
+        """The answers of a script of any length that lists and sets fences alone, cut in as many runs as it takes. It
+        raises ListingError where one is refused."""
+        answers = [answer for part in script.parts() for answer in self.edit(drawing, part)]
+        for answer, command in zip(answers, script.commands):
+            if answer.is_refused:
+                raise ListingError('dgnedit refused %r of %s: %s' % (command.text, drawing, answer.cause))
+        return answers
 
     def check(self, drawing: Name) -> int:
         """How many elements a drawing has. It raises an Ending where it doesn't open."""
@@ -78,13 +104,21 @@ class Program:
 
     def apply(self, drawing: Name, patch: Name, out: Name = NOWHERE) -> int:
         """Puts a patch file on a drawing, and says how many entries it has. It raises an Ending where it doesn't."""
-        return self._counted('applied', drawing, 'apply', drawing, patch, out)
+        count = self._counted('applied', drawing, 'apply', drawing, patch, out)
+        ask_written(out)
+        return count
 
     def _counted(self, word: str, drawing: Name, *words: Name) -> int:
         ran = self.run(*words)
         if ran.status != 0:
             raise ending_of(ran.status, ran.said, str(drawing))
         return counted(word, ran.said)
+
+
+def ask_written(out: Name) -> None:
+    """It raises ListingError where a file that was to be written isn't there."""
+    if not os.path.exists(out):
+        raise ListingError('dgnedit said that it was done, and there is no %s' % out)
 
 
 def lines_of(said: bytes) -> List[str]:

@@ -8,6 +8,8 @@ from typing import Iterable, List, Optional, Sequence, Union
 
 from .answers import Answer, answers_of
 from ..errors import Mistake
+from ..files import read_file
+from ..output import quoted
 from ..format.limits import IMPORTS_MOST, NAME_LONGEST, SCRIPT_LONGEST
 
 Change = Optional[int]
@@ -54,10 +56,7 @@ class Script:
     @classmethod
     def read(cls, path: Union[str, Path]) -> Script:
         """The script in a file. It raises Mistake where that can't be read."""
-        try:
-            return cls.from_bytes(Path(path).read_bytes())
-        except OSError as why:
-            raise Mistake('%s: %s' % (path, why.strerror))
+        return cls.from_bytes(read_file(path, SCRIPT_LONGEST))
 
     @property
     def text(self) -> bytes:
@@ -214,8 +213,15 @@ def importable(name: str) -> str:
     if not name or len(name) > NAME_LONGEST:
         raise Mistake('%r can not stand in an import line: a name there has 1 to %d signs' % (name, NAME_LONGEST))
     if any(not '!' <= sign <= '~' for sign in name):
-        raise Mistake('%r can not stand in an import line: a name there has visible signs of ASCII alone' % name)
+        said = '%r can not stand in an import line, since it has a blank or a sign beyond ASCII: name a copy or a link'
+        raise Mistake((said + ' of it that has none, as by ln -s %s %s') % (name, quoted(name), plain_name(name)))
     return name
+
+
+def plain_name(name: str) -> str:
+    """A name of a file, in this folder, that can stand in an import line."""
+    last = name.rsplit('/', 1)[-1]
+    return ''.join(it if it.isascii() and it.isalnum() or it in '.-_' else '_' for it in last)
 
 
 def _changes(*changes: Change) -> str:

@@ -4,16 +4,18 @@ that they leave out come with the reason."""
 from __future__ import annotations
 
 import re
+import struct
 from dataclasses import dataclass, field
 from typing import List, Optional, Sequence, Tuple
 
 from ..drawing.changes import Change
 from ..drawing.drawing import Drawing
 from ..format import classes
-from ..format.element import Element
+from ..format.element import LOCK_BYTE, Element
+from ..format.radix50 import name_of
 from ..errors import Mistake
 
-LOCK_BYTE = 33  # the high byte of the properties, whose lowest bit says locked
+NAME_PLACE = 38  # where a cell's name stands
 SILENT = 'their types have no level of a drawing and no lock'
 IS_LOCKED = 'they are locked (`dgnkit unlock` unlocks)'
 
@@ -69,6 +71,37 @@ def set_lock(drawing: Drawing, numbers: Sequence[int], is_locked: bool) -> Field
         else:
             byte = element.content[LOCK_BYTE] & 0xFE | int(is_locked)
             made.change(element, LOCK_BYTE, bytes([byte]), 'locked' if is_locked else 'unlocked')
+    return made
+
+
+def undelete(drawing: Drawing, numbers: Sequence[int]) -> FieldEdits:
+    """Takes the deletion of elements back, and of the headers above them, without which they wouldn't be shown: one bit
+    of the second byte of each."""
+    made, nesting = FieldEdits(), drawing.nesting
+    wanted = set(numbers)
+    for number in numbers:
+        wanted.update(nesting.above(number))
+    for element in (drawing.elements[it] for it in sorted(wanted)):
+        if not element.is_deleted:
+            continue
+        if element.is_locked:
+            made.leave(element, IS_LOCKED)
+        else:
+            made.change(element, 1, bytes([element.type]), 'no longer deleted')
+    return made
+
+
+def rename(drawing: Drawing, numbers: Sequence[int], words: Tuple[int, int]) -> FieldEdits:
+    """Gives cells another name: two words of their body."""
+    made = FieldEdits()
+    spelled, name = struct.pack('<HH', *words), name_of(*words)
+    for element in (drawing.elements[it] for it in numbers):
+        if not may_edit(made, element):
+            continue
+        if element.cell_name == name:
+            made.leave(element, 'they are called %s already' % name)
+        else:
+            made.change(element, NAME_PLACE, spelled, 'it is called %s' % name)
     return made
 
 

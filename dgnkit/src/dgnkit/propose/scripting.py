@@ -3,22 +3,20 @@
 from __future__ import annotations
 
 import os
-import re
 import tempfile
 from dataclasses import dataclass, field
-from fractions import Fraction
-from typing import Iterable, List, Optional, Sequence, Tuple
+from typing import Iterable, List, Sequence, Tuple
 
 from ..drawing.drawing import Drawing
 from ..errors import BadScript, Mistake
-from ..output import counted, few, note, say
-from ..program.script import Script
-from ..format.units import Units, rounded
+from ..explain.members import parts_said
 from ..explain.wording import command_said
-from .writing import edit_command, note_left, script_names, write_script
+from ..output import counted, few, note, say, say_raw
+from ..program.script import Script
+from .templates import line_of, template_of
+from .writing import next_command, note_left, script_names, write_script
 
-PLACE = '{n}'
-LENGTH = re.compile(r'\{(-?\d+(?:\.\d+)?)\}')
+LINE_HELP = "a script's line for each, with {n} for its number and {2.5} for 2.5 master units"
 REASONS = {
     'broken': 'their trees are broken (`dgnkit mend` mends what can be)',
     'locked': 'they are locked, or what goes along is (`dgnkit unlock` unlocks)',
@@ -29,6 +27,7 @@ REASONS = {
     'too-long': 'the drawing would be too long',
     'unknown': 'there are no such elements',
 }
+TOLD = 8  # so many trees with chosen members are told
 BELOW = 'they stand below another one that is chosen, and go along with it'
 
 
@@ -41,21 +40,22 @@ class Proposal:
     named: List[int] = field(default_factory=list)
     left: List[Tuple[int, str]] = field(default_factory=list)
     along: List[int] = field(default_factory=list)
+    members: List[str] = field(default_factory=list)
+
+    def tell_members(self, drawing: Drawing, chosen: Sequence[int]) -> None:
+        """Lets it say which of the chosen elements are members of trees whose header wasn't chosen."""
+        named = set(self.named)
+        whole = [it for it in chosen if it not in named and drawing.nesting.roots[it] in named]
+        alone = [it for it in chosen if it in named and drawing.nesting.parents[it] >= 0]
+        below = set(chosen)
+        self.along = [it for it in self.along if it not in below]
+        parts = [it for it in whole if drawing.nesting.roots[it] not in below]
+        self.members += [it + ', which is taken whole (--members takes parts alone)' for it in _parts(drawing, parts)]
+        self.members += [it + ', and the rest of it stays' for it in _parts(drawing, alone)]
 
 
-def template_of(text: str, units: Optional[Units]) -> str:
-    """A line of the script with {n} for a number, in which each {LENGTH}, in master units, is now the nearest number of
-    units of resolution. It raises Mistake where it has no {n}, is more than a line, or the units aren't known."""
-    if PLACE not in text or '\n' in text:
-        raise Mistake('%r is no line for each element: it has to name it as %s' % (text, PLACE))
-    if LENGTH.search(text) and (units is None or not units.is_known):
-        raise Mistake('%r has a length in master units, and what these are is not known' % text)
-    return LENGTH.sub(lambda it: str(rounded(Fraction(it[1]) * (units.in_master if units else 1))), text)
-
-
-def line_of(template: str, number: int) -> bytes:
-    """The line of an element."""
-    return template.replace(PLACE, str(number)).encode('utf-8')
+def _parts(drawing: Drawing, numbers: Sequence[int]) -> List[str]:
+    return parts_said(drawing, numbers, TOLD)
 
 
 def propose(drawing: Drawing, numbers: Sequence[int], template: str) -> Proposal:
@@ -78,13 +78,14 @@ def propose(drawing: Drawing, numbers: Sequence[int], template: str) -> Proposal
 
 def topmost(drawing: Drawing, numbers: Sequence[int], made: Proposal) -> List[int]:
     """Those that stand below no other one; the others are left out, since an edit of that one takes them along."""
-    nesting, chosen = drawing.nesting, set(numbers)
-    tops = []
-    for number in numbers:
-        if nesting.parents[number] >= 0 and not chosen.isdisjoint(nesting.above(number)):
+    tops: List[int] = []
+    end = 0
+    for number in sorted(numbers):
+        if number < end:
             made.left.append((number, BELOW))
         else:
             tops.append(number)
+            end = drawing.nesting.part(number).stop
     return tops
 
 
@@ -111,6 +112,8 @@ def causes(drawing: Drawing, lines: Sequence[bytes]) -> List[str]:
 def note_proposal(drawing: Drawing, made: Proposal) -> None:
     """Says on standard error what is left out and why, and what goes along."""
     note_left(made.left)
+    for said in made.members:
+        note(said)
     if made.along:
         counts = counted(len(made.along), 'element')
         note('goes along: %s below chosen headers that meet no condition by themselves: %s' % (counts, few(made.along)))
@@ -130,15 +133,15 @@ def give_script(drawing: str, script: Script, words: Iterable[str], path: str, i
     if is_dry:
         for line in words:
             say(line)
-        say('nothing is written; without --dry-run the next command is: ' + edit_command(drawing, names))
+        say('nothing is written; without --dry-run the next command is: ' + next_command(drawing, names))
     elif path:
         write_script(script, path)
         say('%s: %s' % (', '.join(names), counted(len(script.commands), 'command')))
-        say('next: ' + edit_command(drawing, names))
+        say('next: ' + next_command(drawing, names))
     elif len(names) > 1 or not script.text.isascii():
         why = 'is longer than the program reads' if len(names) > 1 else 'has signs beyond ASCII'
         raise Mistake('the script %s: name a file for it by -o' % why)
     else:
         for command in script.lines:
-            say(command.decode('ascii'))
-        note('next: ' + edit_command(drawing, names))
+            say_raw(command.decode('ascii'))
+        note('next: ' + next_command(drawing, names))

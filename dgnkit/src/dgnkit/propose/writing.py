@@ -8,42 +8,12 @@ from pathlib import Path
 from typing import List, Sequence
 
 from ..drawing.changes import Change
-from ..drawing.drawing import Drawing, read_file
-from ..errors import ListingError, Mistake
+from ..drawing.drawing import Drawing
+from ..files import read_file, write_file, write_files
+from ..errors import ListingError
 from ..output import counted, few, note, out_name, quoted, say
 from ..format.patch import Patch
-from ..program.runs import Name
 from ..program.script import Script
-from ..format.tcb import kind_of
-
-
-def write_file(path: Name, content: bytes) -> None:
-    """Writes a file, which is there whole or stays as it was. It raises Mistake where it can't be written, or where a
-    drawing stands there: no command of dgnkit writes one."""
-    place = Path(path)
-    if place.is_file() and kind_of(place.read_bytes()[:4]) in ('design', 'v8', 'library'):
-        raise Mistake('%s is a drawing, and is not written over' % path)
-    try:
-        if place.exists() and not place.is_file():
-            place.write_bytes(content)  # a device, as /dev/stdout
-            return
-        handle, name = tempfile.mkstemp(prefix='.dgnkit-', dir=str(place.parent))
-    except OSError as why:
-        raise Mistake('%s: %s' % (path, (why.strerror or str(why)).lower()))
-    try:
-        with os.fdopen(handle, 'wb') as file:
-            file.write(content)
-        os.chmod(name, 0o666 & ~_mask())
-        os.replace(name, place)
-    except OSError as why:
-        os.unlink(name)
-        raise Mistake('%s: %s' % (path, (why.strerror or str(why)).lower()))
-
-
-def _mask() -> int:
-    mask = os.umask(0)
-    os.umask(mask)
-    return mask
 
 
 def patch_of(drawing: Drawing, changes: Sequence[Change]) -> Patch:
@@ -58,16 +28,18 @@ def propose_patch(drawing: Drawing, changes: Sequence[Change], words: Sequence[s
     """Writes a patch file of changes, tries it on the drawing, and says what it does and how it is put on. A dry run
     says it alone."""
     patch = patch_of(drawing, changes)
-    command = quoted('dgnedit', 'apply', drawing.path, path, out_name(drawing.path))
     if is_dry:
         for line in words:
             say(line)
-        say('nothing is written; without --dry-run the next command is: ' + command)
+        say(
+            'nothing is written; without --dry-run the next command is: '
+            + next_command(drawing.path, [path or 'PATCH'])
+        )
         return
     applied(drawing, patch, changes)
     write_file(path, patch.to_bytes())
     say('%s: %s' % (path, counted(len(patch.entries), 'entry', 'entries')))
-    say('next: ' + command)
+    say('next: ' + next_command(drawing.path, [path]))
 
 
 def applied(drawing: Drawing, patch: Patch, changes: Sequence[Change]) -> None:
@@ -97,17 +69,13 @@ def script_names(script: Script, path: str) -> List[str]:
 def write_script(script: Script, path: str) -> List[str]:
     """Writes a script in as many files as the program reads, and gives their names."""
     names = script_names(script, path)
-    for name, part in zip(names, script.parts() or [script]):
-        write_file(name, part.text)
+    write_files({name: part.text for name, part in zip(names, script.parts() or [script])})
     return names
 
 
-def edit_command(drawing: str, scripts: Sequence[str]) -> str:
-    """The command that runs scripts on a drawing, one behind the other."""
-    out = out_name(drawing)
-    steps = [out] if len(scripts) == 1 else [out + '.%d' % it for it in range(1, len(scripts))] + [out]
-    runs = [quoted('dgnedit', 'edit', old, script, new) for old, script, new in zip([drawing, *steps], scripts, steps)]
-    return ' && '.join(runs)
+def next_command(drawing: str, steps: Sequence[str]) -> str:
+    """The command that runs scripts and patch files on a drawing, one behind the other."""
+    return quoted('dgnkit', 'run', drawing, *steps, out_name(drawing))
 
 
 def note_left(left: Sequence[tuple[int, str]]) -> None:

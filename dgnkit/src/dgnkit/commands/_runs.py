@@ -1,0 +1,91 @@
+"""What `run` and `why` share: the steps of a run, each a script or a patch file, and what is said of it."""
+
+from __future__ import annotations
+
+import contextlib
+import os
+import stat
+import tempfile
+from pathlib import Path
+from typing import Any, Dict, Iterator, List
+
+from ..drawing.drawing import Drawing
+from ..errors import ListingError, ending_of
+from ..explain.explaining import why_ended
+from ..explain.refusals import Explainer
+from ..files import front_of, read_file
+from ..format.limits import PATCH_LONGEST, SCRIPT_LONGEST
+from ..format.patch import MARK
+from ..program.answers import Answer
+from ..program.runs import Program
+from ..program.script import Script
+
+Told = Dict[str, Any]
+HEAD = ['line', 'command', 'cause', 'why']  # what is told of a refused line
+
+
+def is_patch(name: str) -> bool:
+    """Whether a file begins as a patch file does."""
+    return front_of(name, len(MARK)) == MARK
+
+
+@contextlib.contextmanager
+def on_disk(name: str) -> Iterator[str]:
+    """The name of a file that can be read more than once: its own, or that of a copy where it is a pipe."""
+    try:
+        is_stream = not stat.S_ISREG(os.stat(name).st_mode) and not os.path.isdir(name)
+    except (OSError, ValueError):
+        is_stream = False
+    if not is_stream:
+        yield name
+        return
+    with tempfile.TemporaryDirectory(prefix='dgnkit-') as folder:
+        place = os.path.join(folder, os.path.basename(name) or 'script')
+        Path(place).write_bytes(read_file(name, max(SCRIPT_LONGEST, PATCH_LONGEST)))
+        yield place
+
+
+class Step:
+    """A script or a patch file that is run on a drawing."""
+
+    def __init__(self, program: Program, drawing: str, name: str, out: str) -> None:
+        self.program, self.drawing, self.name, self.out = program, drawing, name, out
+        self.is_patch = is_patch(name)
+        self.script = Script()
+        self.answers: List[Answer] = []
+        self.refused: List[Told] = []
+        self.end = ''
+
+    def run(self, said_out: str = '') -> str:
+        """Runs it, and gives why it ended without doing it, or nothing. `said_out` is what OUT is called in words."""
+        word = 'apply' if self.is_patch else 'edit'
+        ran = self.program.run(word, self.drawing, self.name, self.out)
+        if ran.status not in (0, 1):
+            ending = ending_of(ran.status, ran.said, self.drawing)
+            self.status, self.said = ran.status, ran.said
+            return why_ended(self.program, ending, self.drawing, self.name, said_out or self.out)
+        if not os.path.exists(self.out):
+            raise ListingError('dgnedit said that it was done, and there is no %s' % self.out)
+        if self.is_patch:
+            self.end = '%s: all stands on the drawing' % ran.said[0]
+            return ''
+        self.script = Script.read(self.name)
+        self.answers = self.script.answers(ran.said)
+        return ''
+
+    def explain(self, drawing: Drawing) -> None:
+        """Explains what was refused, on the drawing as it was before the script."""
+        if self.is_patch:
+            return
+        explainer = Explainer(drawing, self.script.commands, self.answers)
+        self.refused = [
+            {'line': it.command.line, 'command': it.command.text, 'cause': it.cause, 'why': explainer.sentence(it)}
+            for it in explainer.refused
+        ]
+        count = len(self.answers)
+        self.end = '%d command%s, %d refused' % (count, '' if count == 1 else 's', len(self.refused))
+
+    @property
+    def is_refused(self) -> bool:
+        """Whether a command of the script was refused."""
+        return any(it.is_refused for it in self.answers)

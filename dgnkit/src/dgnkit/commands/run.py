@@ -1,0 +1,103 @@
+"""`dgnkit run IN SCRIPT .. OUT`: has dgnedit run scripts and patch files, and says how that ended."""
+
+from __future__ import annotations
+
+import argparse
+import contextlib
+import os
+import tempfile
+from typing import TYPE_CHECKING, List
+
+from ..drawing.drawing import Drawing
+from ..errors import Mistake
+from ..files import mistake_of, put_in_place
+from ..output import counted, say, say_csv, say_json, say_raw
+from ..program.runs import Program
+from ._runs import HEAD, Step, on_disk
+
+if TYPE_CHECKING:
+    from ..cli import Subparsers
+
+ABOUT = """Has dgnedit run scripts and patch files on a drawing, one behind the other, and says in sentences how that
+ended and what was refused. OUT is there whole or not at all."""
+
+
+def register(words: Subparsers) -> None:
+    parser = words.add_parser('run', help='have dgnedit run scripts and patch files', description=ABOUT)
+    parser.add_argument('drawing', metavar='IN')
+    parser.add_argument('steps', metavar='SCRIPT', nargs='+', help='scripts and patch files, in their order')
+    parser.add_argument('out', metavar='OUT', help='the drawing that is written')
+    form = parser.add_mutually_exclusive_group()
+    form.add_argument('--json', action='store_true', help='say it as JSON')
+    form.add_argument('--csv', action='store_true', help='say the refused lines as CSV')
+    parser.set_defaults(run=run)
+
+
+def run(arguments: argparse.Namespace) -> int:
+    """The status is 0 where nothing was refused, 1 where a command was; it raises Mistake where nothing was written."""
+    out = arguments.out
+    ask_out([arguments.drawing, *arguments.steps], out)
+    program, steps = Program.find(), []
+    with contextlib.ExitStack() as stack:
+        names = [stack.enter_context(on_disk(it)) for it in arguments.steps]
+        folder = stack.enter_context(folder_beside(out))
+        drawing = arguments.drawing
+        for index, name in enumerate(names):
+            step = Step(program, drawing, name, os.path.join(folder, '%d.dgn' % index))
+            why = step.run(out)
+            if why:
+                raise Mistake(why)
+            step.explain(Drawing(drawing, program)) if step.answers else None
+            steps.append(step)
+            drawing = step.out
+        deliver(drawing, out)
+    tell(arguments, steps)
+    return int(any(it.is_refused for it in steps))
+
+
+def ask_out(read: List[str], out: str) -> None:
+    """It raises Mistake where the drawing would be written over a file that is read."""
+    for name in read:
+        if os.path.exists(name) and os.path.exists(out) and os.path.samefile(name, out) and os.path.isfile(out):
+            raise Mistake('%s is read, and is not written over: name another file' % out)
+    if os.path.isdir(out):
+        raise Mistake('%s can not be written: it is a folder' % out)
+
+
+def folder_beside(out: str) -> contextlib.AbstractContextManager[str]:
+    """A temporary folder on the disk that the drawing comes to stand on, or anywhere where it is no file there."""
+    place = os.path.dirname(os.path.abspath(out))
+    if os.path.exists(out) and not os.path.isfile(out):
+        return tempfile.TemporaryDirectory(prefix='dgnkit-')
+    if not os.path.isdir(place):
+        raise Mistake('%s can not be written: there is no folder %s' % (out, place))
+    try:
+        return tempfile.TemporaryDirectory(prefix='.dgnkit-', dir=place)
+    except OSError as why:
+        raise mistake_of(out, why)
+
+
+def deliver(made: str, out: str) -> None:
+    """Puts the drawing that dgnedit made in its place."""
+    if not os.path.exists(out) or os.path.isfile(out):
+        put_in_place(made, out, True)
+
+
+def tell(arguments: argparse.Namespace, steps: List[Step]) -> None:
+    if arguments.json:
+        say_json([{'step': name, 'said': it.end, 'refused': it.refused} for name, it in zip(arguments.steps, steps)])
+        return
+    if arguments.csv:
+        rows = [
+            [name, *(it[word] for word in HEAD)] for name, step in zip(arguments.steps, steps) for it in step.refused
+        ]
+        say_csv(['step', *HEAD], rows)
+        return
+    for name, step in zip(arguments.steps, steps):
+        for line in (line for answer in step.answers for line in answer.lines):
+            say_raw(line)
+        for it in step.refused:
+            say('line %s, %s: %s' % (it['line'], it['command'], it['why']))
+        say('%s: %s' % (name, step.end))
+    if os.path.isfile(arguments.out):
+        say('%s: written, %s' % (arguments.out, counted(os.path.getsize(arguments.out), 'byte')))

@@ -1,0 +1,39 @@
+"""What was asked for where nothing meets it, and what there is instead."""
+
+from __future__ import annotations
+
+from typing import List, Sequence
+
+from ..format import classes
+from ..format.classes import type_name
+from ..output import few, listed
+from .cells import names_said
+from .conditions import NAMES, Conditions
+
+OPTIONS = {'wrong_range': 'wrong-range', 'numbers_file': 'numbers'}
+
+
+def nothing_said(conditions: Conditions) -> str:
+    """Which conditions nothing meets, and what levels, types or cells there are where these were asked for."""
+    arguments, elements = conditions.arguments, conditions.drawing.elements
+    asked = [name for name in NAMES if getattr(arguments, name) not in (None, False)]
+    said = ['nothing meets ' + (' '.join(asked_said(name, getattr(arguments, name)) for name in asked) or 'that')]
+    if arguments.level:
+        said.append('there are elements on the levels %s' % few(sorted(set(elements.levels)), 20))
+    if arguments.type:
+        said.append('there are the types %s' % listed([type_name(it) for it in sorted(set(elements.types))]))
+    if arguments.cell is not None:
+        said.append(names_said(conditions.drawing))
+    if (arguments.text is not None or arguments.pattern is not None) and classes.TEXT not in elements.types:
+        said.append('there is no text')
+    return '; '.join(said)
+
+
+def asked_said(name: str, value: object) -> str:
+    """A condition as it was asked."""
+    words: List[str] = []
+    if isinstance(value, str):
+        words = [value]
+    elif isinstance(value, Sequence):
+        words = [str(it) for it in value]
+    return ' '.join(['--' + OPTIONS.get(name, name), *words])

@@ -1,0 +1,63 @@
+"""Numbers as a person writes them in a condition: 12, 3-5, several with commas, and comparisons as >3 or <=7."""
+
+from __future__ import annotations
+
+import re
+from typing import List, Sequence, Tuple
+
+from ..errors import Mistake
+
+SPAN = re.compile(r'(\d{1,12})(?:-(\d{1,12}))?')
+COMPARISON = re.compile(r'([<>]=?)\s*(\d{1,12})')
+
+
+class Spans:
+    """Whole numbers, as spans from a least to a greatest one."""
+
+    def __init__(self, spans: Sequence[Tuple[int, int]]) -> None:
+        self.spans = sorted(spans)
+        self.few = frozenset(it for low, high in spans for it in range(low, high + 1)) if self._is_small() else None
+
+    def _is_small(self) -> bool:
+        return sum(high - low + 1 for low, high in self.spans) <= 4096
+
+    def __contains__(self, number: object) -> bool:
+        if self.few is not None:
+            return number in self.few
+        return isinstance(number, int) and any(low <= number <= high for low, high in self.spans)
+
+    @classmethod
+    def read(cls, what: str, words: Sequence[str], most: int) -> Spans:
+        """Reads them. It raises Mistake where one isn't from 0 to the most that there are."""
+        return cls([span_of(piece.strip(), what, most) for piece in ','.join(words).split(',')])
+
+
+def span_of(piece: str, what: str, most: int) -> Tuple[int, int]:
+    """The span of a piece, as `3`, `3-5` or `>3`. It raises Mistake where it is none."""
+    compared, found = COMPARISON.fullmatch(piece), SPAN.fullmatch(piece)
+    low, high = 1, 0
+    if compared:
+        number, is_strict = int(compared[2]), len(compared[1]) == 1
+        low, high = (number + is_strict, most) if compared[1][0] == '>' else (0, number - is_strict)
+    elif found:
+        low, high = int(found[1]), int(found[2] or found[1])
+    if (compared and int(compared[2]) <= most) or low <= high <= most:
+        return low, high
+    said = '%r is no %s: it is a number from 0 to %d, or two with a dash, or a comparison as >3'
+    raise Mistake(said % (piece, what, most))
+
+
+def number_of(word: str, what: str, most: int) -> int:
+    """One number. It raises Mistake where it is none."""
+    if not (word.isascii() and word.isdecimal() and len(word) <= 12 and int(word) <= most):
+        raise Mistake('%r is no %s: it is a number from 0 to %d' % (word, what, most))
+    return int(word)
+
+
+def sizes_of(words: Sequence[str]) -> List[Tuple[str, str]]:
+    """Sizes with points, each as its comparison, empty for the size itself, and its number."""
+    pieces = (piece.strip() for piece in ','.join(words).split(','))
+    found = [re.fullmatch(r'([<>]=?)?\s*(\d{1,12}(?:\.\d{1,12})?)', piece) for piece in pieces]
+    if not all(found):
+        raise Mistake('%r is no size: it is a number as 2.5, or a comparison as >2.5' % ','.join(words))
+    return [(it[1] or '', it[2]) for it in found if it]

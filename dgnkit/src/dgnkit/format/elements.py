@@ -1,0 +1,88 @@
+"""All elements of a drawing as columns of numbers, so that a million of them takes little room. An `Element` is made of
+them when it is asked for."""
+
+from __future__ import annotations
+
+from array import array
+from itertools import accumulate
+from typing import Iterator, List, Sequence, Union, overload
+
+from . import classes
+from .element import LOCK_BYTE, Element
+
+BIT_C, DELETED = 1, 2
+YES_NO = (False, True)
+
+
+class Elements(Sequence[Element]):
+    """The elements of a file, each at its number."""
+
+    def __init__(self, data: bytes, axes: int) -> None:
+        self.data, self.axes = data, axes
+        self.offsets, self.sizes = array('I'), array('I')
+        self.types, self.levels, self.marks = bytearray(), bytearray(), bytearray()
+
+    def extend(self, sizes: Sequence[int], types: bytes, levels: bytes, marks: bytes) -> None:
+        """Appends elements behind the last one; their marks are sums of BIT_C and DELETED."""
+        self.offsets.extend(accumulate(sizes[:-1], initial=self.end))
+        self.sizes.extend(sizes)
+        self.types += types
+        self.levels += levels
+        self.marks += marks
+
+    def __len__(self) -> int:
+        return len(self.offsets)
+
+    @overload
+    def __getitem__(self, place: int) -> Element:
+        ...
+
+    @overload
+    def __getitem__(self, place: slice) -> List[Element]:
+        ...
+
+    def __getitem__(self, place: Union[int, slice]) -> Union[Element, List[Element]]:
+        if isinstance(place, slice):
+            return [self[it] for it in range(*place.indices(len(self)))]
+        at = place + len(self) if place < 0 else place
+        mark = self.marks[at]
+        return Element(
+            at,
+            self.offsets[at],
+            self.sizes[at],
+            self.types[at],
+            self.levels[at],
+            YES_NO[mark & BIT_C],
+            mark >= DELETED,
+            self.data,
+            self.axes,
+        )
+
+    def __iter__(self) -> Iterator[Element]:
+        data, axes = self.data, self.axes
+        rows = zip(self.offsets, self.sizes, self.types, self.levels, self.marks)
+        for number, (offset, size, kind, level, mark) in enumerate(rows):
+            yield Element(number, offset, size, kind, level, YES_NO[mark & BIT_C], mark >= DELETED, data, axes)
+
+    @property
+    def end(self) -> int:
+        """Where the last element ends."""
+        return self.offsets[-1] + self.sizes[-1] if self.offsets else 0
+
+    def with_c(self) -> List[int]:
+        """The numbers of the elements with bit C, but for element 0."""
+        return [number for number, mark in enumerate(self.marks) if mark & BIT_C and number]
+
+    def deleted(self) -> List[int]:
+        """The numbers of the elements that are marked deleted themselves."""
+        return [number for number, mark in enumerate(self.marks) if mark & DELETED]
+
+    def locked_count(self) -> int:
+        """How many elements are locked."""
+        data = self.data
+        loud = bytes(kind in classes.LOUD for kind in range(256))
+        return sum(data[at + LOCK_BYTE] & 1 for at, kind in zip(self.offsets, self.types) if loud[kind])
+
+    def of_types(self, kinds: frozenset[int]) -> Iterator[int]:
+        """The numbers of the elements of some types."""
+        return (number for number, kind in enumerate(self.types) if kind in kinds)

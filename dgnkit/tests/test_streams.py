@@ -1,0 +1,171 @@
+"""The command as a process: closed and full streams, no memory, signals, and what a shell hands on."""
+
+import os
+import resource
+import signal
+import subprocess
+import sys
+import time
+import unittest
+from typing import Callable, Dict, List, Optional, Tuple, Union
+
+import samples
+
+SOURCES = str(samples.TOP / 'dgnkit' / 'src')
+Ran = Tuple[int, str, str]
+
+
+class AsAProcess(samples.WithProgram):
+    def words(self, *words: object) -> List[str]:
+        return [sys.executable, '-m', 'dgnkit', *map(str, words)]
+
+    def place(self, **more: str) -> Dict[str, str]:
+        return {**os.environ, 'PYTHONPATH': SOURCES, **more}
+
+    def shell(self, line: str, *words: object, given: bytes = b'', limit: Optional[Callable[[], None]] = None) -> Ran:
+        """Runs a line of a shell, in which "$@" is the command with these words."""
+        ran = subprocess.run(
+            ['sh', '-c', line, 'sh', *self.words(*words)],
+            input=given,
+            stdout=subprocess.PIPE,
+            stderr=subprocess.PIPE,
+            env=self.place(),
+            cwd=self.folder,
+            preexec_fn=limit,
+        )
+        return ran.returncode, ran.stdout.decode('utf-8', 'replace'), ran.stderr.decode('utf-8', 'replace')
+
+    def one_line(self, ran: Ran, word: str) -> None:
+        """The command couldn't be done: one line says why, and the status is 2."""
+        status, out, err = ran
+        self.assertEqual((status, err.count('\n')), (2, 1), err)
+        self.assertIn(word, err)
+        self.assertNotIn('Traceback', err)
+
+    def test_a_full_or_closed_standard_output(self) -> None:
+        valve = self.example('valve.dgn')
+        self.one_line(self.shell('"$@" > /dev/full', 'info', valve), 'no space left')
+        self.one_line(self.shell('"$@" >&-', 'info', valve), 'standard output is closed')
+        self.one_line(self.shell('"$@" >&-', 'geojson', valve), 'standard output is closed')
+
+    def test_what_is_noted_does_not_come_into_a_script(self) -> None:
+        valve = self.example('valve.dgn')
+        words = ['find', valve, '--level', '10', '--script', 'color {n} 3']
+        status, out, _ = self.shell('"$@" 2>&-', *words)
+        self.assertEqual((status, out), (0, 'color 1 3\ncolor 2 3\n'))
+        self.assertEqual(self.shell('"$@" >&- 2>&-', *words)[0], 2)
+
+    def test_a_reader_that_goes_away(self) -> None:
+        status, out, err = self.shell('"$@" | head -n 1; true', 'find', self.gen(1, 5000))
+        self.assertEqual((status, out.count('\n')), (0, 1))
+        self.assertNotIn('Traceback', err)
+        self.assertNotIn('BrokenPipe', err)
+
+    def test_no_memory(self) -> None:
+        path = self.gen(1, 200000)
+
+        def limit() -> None:
+            resource.setrlimit(resource.RLIMIT_AS, (100 << 20, 100 << 20))
+
+        status, _, err = self.shell('exec "$@"', 'find', path, '--level', '1-63', '--json', limit=limit)
+        self.assertEqual((status, err.rstrip().split('\n')[-1]), (2, 'dgnkit: there was no memory for it'))
+        self.assertEqual(sorted(it.name for it in self.folder.iterdir()), ['gen.dgn'])
+
+    def test_a_word_that_is_not_in_utf_8(self) -> None:
+        valve = self.example('valve.dgn')
+        wrong: List[List[Union[str, bytes]]] = [
+            ['info', b'\xff.dgn'],
+            ['find', valve, b'--level', b'\xff'],
+            ['retext', valve, 'p', 'VLV', b'\xff'],
+        ]
+        for words in wrong:
+            command = [os.fsencode(it) for it in self.words()] + [os.fsencode(it) for it in words]
+            ran = subprocess.run(
+                command, env=self.place(), stdout=subprocess.PIPE, stderr=subprocess.PIPE, cwd=self.folder
+            )
+            self.assertNotIn(b'Traceback', ran.stderr)
+            self.assertIn(ran.returncode, (0, 2))
+
+    def test_a_folder_for_temporary_files_that_is_not_there(self) -> None:
+        broken = self.put('b.dgn', samples.drawings.DRAWINGS['a complex chain of the line 2, with bit C'])
+        command = self.words('mend', broken, self.path('p'))
+        # (a folder is looked for where TMPDIR is no such; so this one is there, and may hold nothing)
+        script = "import tempfile, sys; tempfile.tempdir = %r; from dgnkit.cli import main; sys.exit(main())"
+        command[1:3] = ['-c', script % self.path('none')]
+        ran = subprocess.run(command, env=self.place(), stdout=subprocess.PIPE, stderr=subprocess.PIPE)
+        self.one_line((ran.returncode, '', ran.stderr.decode()), 'no such file or directory')
+        self.assertFalse((self.folder / 'p').exists())
+
+    def test_a_piped_script_is_run(self) -> None:
+        valve, into = self.example('valve.dgn'), self.path('out')
+        status, _, _ = self.shell('exec "$@"', 'each', '/dev/stdin', valve, '--into', into, given=b'color 1 3\n')
+        self.assertEqual(status, 0)
+        self.assertEqual(samples.Drawing(self.path('out/valve.dgn'), self.program).elements[1].colour, 3)
+        status, out, _ = self.shell('exec "$@"', 'why', valve, '/dev/stdin', given=b'color 9 3\n')
+        self.assertEqual((status, 'there is no element 9' in out), (1, True))
+        status, out, _ = self.shell('exec "$@"', 'run', valve, '/dev/stdin', self.path('o.dgn'), given=b'color 1 5\n')
+        self.assertEqual((status, '1 command, 0 refused' in out), (0, True))
+        self.assertEqual(samples.Drawing(self.path('o.dgn'), self.program).elements[1].colour, 5)
+
+    def test_a_piped_drawing_is_refused(self) -> None:
+        valve = (samples.EXAMPLES / 'valve.dgn').read_bytes()
+        self.one_line(self.shell('cat | "$@"', 'info', '/dev/stdin', given=valve), 'no file on disk')
+
+    def stopped(self, number: int, wait: float) -> int:
+        """The status of a command that is stopped by a signal once its program is at work, or after so many seconds."""
+        slow = self.put('slow-%d' % number, '#!/bin/sh\ntouch "$0.begun"\nexec sleep 60\n')
+        os.chmod(slow, 0o755)
+        broken = self.put('b.dgn', samples.drawings.DRAWINGS['a complex chain of the line 2, with bit C'])
+        temporary = self.folder / 'tmp'
+        temporary.mkdir(exist_ok=True)
+        place = self.place(DGNEDIT=slow, TMPDIR=str(temporary))
+        command = self.words('run', broken, self.put('s', 'color 1 3\n'), self.path('o.dgn'))
+        child = subprocess.Popen(command, env=place, stdout=subprocess.PIPE, stderr=subprocess.PIPE)
+        end = time.monotonic() + 60
+        while wait == 0 and not os.path.exists(slow + '.begun') and time.monotonic() < end:
+            time.sleep(0.02)
+        time.sleep(wait)
+        child.send_signal(number)
+        out, err = child.communicate(timeout=60)
+        self.assertNotIn(b'Traceback', err)
+        self.assertEqual((out, list(temporary.iterdir())), (b'', []))
+        self.assertEqual(sorted(it.name for it in self.folder.iterdir() if it.name.startswith('.')), [])
+        return child.returncode
+
+    def test_what_takes_long_says_so(self) -> None:
+        slow = self.put('slow', '#!/bin/sh\nsleep 3\nexec %s "$@"\n' % samples.PROGRAM)
+        os.chmod(slow, 0o755)
+        valve = self.example('valve.dgn')
+        ran = subprocess.run(
+            self.words('find', valve, '--numbers', '--level', '10'),
+            env=self.place(DGNEDIT=slow),
+            stdout=subprocess.PIPE,
+            stderr=subprocess.PIPE,
+        )
+        self.assertEqual((ran.returncode, ran.stdout), (0, b'1\n2\n'))
+        self.assertIn('dgnedit is at work on %s, for 2 seconds now' % valve, ran.stderr.decode())
+
+    def test_signals_leave_nothing(self) -> None:
+        for number in (signal.SIGINT, signal.SIGTERM, signal.SIGHUP):
+            self.assertEqual(self.stopped(number, 0), 130, number)
+
+    def test_an_interrupt_at_the_beginning(self) -> None:
+        # whenever it comes once the command has begun, it ends with 130 or by the signal, and never with 1
+        begin = "import sys; sys.argv = ['dgnkit', 'info', %r]; import dgnkit.entry as it, os, signal; " % self.example(
+            'valve.dgn'
+        )
+        for at in ('dgnkit.cli', 'dgnkit.commands.info', 'dgnkit.drawing.drawing'):
+            stop = (
+                'import importlib.abc\n'
+                'class Stop(importlib.abc.MetaPathFinder):\n'
+                '    def find_spec(self, name, path, target=None):\n'
+                '        if name == %r: os.kill(os.getpid(), signal.SIGINT)\n'
+                'sys.meta_path.insert(0, Stop())\n'
+                'it.command()' % at
+            )
+            ran = subprocess.run([sys.executable, '-c', begin + '\n' + stop], env=self.place(), stderr=subprocess.PIPE)
+            self.assertEqual((ran.returncode, ran.stderr), (130, b''), at)
+
+
+if __name__ == '__main__':
+    unittest.main()
