@@ -78,13 +78,14 @@ export class Engine {
     }
 
     /**
-     * Has the worker that is ready do one thing, and lets it go.
+     * Has the worker that is ready do one thing, and lets it go. It is given the drawing as a copy of its own, which is
+     * moved and not copied once more.
      * @param {string} does
-     * @param {object} words
+     * @param {{ bytes: Uint8Array } & Record<string, any>} words
      * @returns {Promise<any>}
      */
     once(does, words) {
-        const worker = this.ready;
+        const worker = this.ready, bytes = words.bytes.slice();
         return new Promise((resolve, reject) => {
             this.endRun = reject;
             worker.onmessage = ({ data }) => {
@@ -95,7 +96,7 @@ export class Engine {
                 }
             };
             worker.onerror = (event) => reject(new Error(event.message || 'the worker could not be begun'));
-            worker.postMessage({ ...words, does });
+            worker.postMessage({ ...words, bytes, does }, [bytes.buffer]);
         }).finally(() => {
             this.endRun = null;
             worker.terminate();
