@@ -5,6 +5,7 @@ from __future__ import annotations
 import base64
 import os
 import shutil
+import socket
 import sys
 import tempfile
 import unittest
@@ -241,6 +242,24 @@ class Reading(WithBrowser):
         for word in ('innerHTML', 'outerHTML', 'insertAdjacentHTML', 'document.write', 'eval(', 'http://', 'https://'):
             self.assertFalse(word in text, word)
         self.assertEqual(self.seen.run('return performance.getEntriesByType("resource").length'), 0)
+
+    def test_nothing_can_be_sent_by_the_page_or_its_worker(self) -> None:
+        self.page(str(EXAMPLES / 'plan.dgn'))
+        with socket.create_server(('127.0.0.1', 0)) as waiting:
+            waiting.settimeout(0.5)
+            place = 'http://127.0.0.1:%d/' % waiting.getsockname()[1]
+            sending = "fetch('%s').then(() => DONE('sent'), () => DONE('stopped'));" % place
+            by_page = 'const done = arguments[0]; ' + sending.replace('DONE', 'done')
+            self.assertEqual(self.seen.run_slowly(by_page), 'stopped')
+            by_worker = (
+                'const done = arguments[1], held = new Blob([arguments[0]]);'
+                'new Worker(URL.createObjectURL(held)).onmessage = ({ data }) => done(data);'
+            )
+            said = self.seen.run_slowly(by_worker, sending.replace('DONE', 'postMessage'))
+            self.assertEqual(said, 'stopped')
+            with self.assertRaises(socket.timeout, msg='no call comes'):
+                waiting.accept()
+        self.assertGreater(len(self.seen.complaints()), 0, 'the browser says that it forbids it')
 
     def test_texts_of_both_codes_and_escapes(self) -> None:
         texts = ['Straße'.encode('utf-8'), 'Straße'.encode('latin-1'), b'a\nb', 'a\u202eb'.encode('utf-8')]
