@@ -131,7 +131,11 @@ export class Menu {
     }
 
     /** Puts a patch file on the drawing as it is now; what comes out is the drawing from then on. */
-    async apply(name, bytes) {
+    apply(name, bytes) {
+        return this.app.work.inTurn(() => this.applyNow(name, bytes));
+    }
+
+    async applyNow(name, bytes) {
         const { app } = this, { work } = app;
         const applied = await work.trying(() => work.engine.apply(bytes));
         if (applied === null) {

@@ -102,6 +102,10 @@ export class Opener {
             this.tellFault(name + ' doesn’t open. ' + await this.faultOf(drawing, bytes));
             return false;
         }
+        if (app.work !== null && app.work.isDoing) {
+            app.work.engine.stop();
+            await app.work.turn;
+        }
         setHidden(byId('start-fault'), true);
         this.name = name;
         this.bytes = bytes;

@@ -10,6 +10,7 @@ import sys
 import tempfile
 import unittest
 from pathlib import Path
+from unittest import mock
 
 from app import HOSTILE, MISSING, WithBrowser, made_app
 from samples import EXAMPLES, WithProgram, drawings, plan, vax_double, with_units
@@ -465,6 +466,19 @@ class Refusing(WithProgram):
         self.assertIn(made, self.refused(made, '-o', made))
         self.assertIn('nowhere', self.refused(made, '-o', self.path('nowhere/page.html')))
         self.assertIn('design file', self.refused(bad, '-o', page))
+
+    def test_a_drawing_is_opened_in_a_browser(self) -> None:
+        made = self.example('plan.dgn')
+        with mock.patch('webbrowser.open', return_value=True) as opened:
+            said = self.said('open', made)
+        page = Path(said.split(': ')[0])
+        self.addCleanup(shutil.rmtree, page.parent)
+        opened.assert_called_once_with(page.as_uri())
+        self.assertIn('<title>plan.dgn – 12 elements</title>', page.read_text(encoding='utf-8'))
+        with mock.patch('webbrowser.open', return_value=False):
+            said = self.said('open', made, status=1)
+        self.assertIn('no browser is found', said)
+        shutil.rmtree(Path(said.split(': ')[0]).parent)
 
     def test_a_file_that_is_no_page_is_left(self) -> None:
         made = self.example('plan.dgn')
