@@ -12,6 +12,8 @@ const FAULTS = Object.freeze({
     attributes: 'the attribute data of the element that begins at byte K begin where they can’t',
 });
 
+/** @typedef {{ line: string, at: number }} Done an accepted line of the script, and its number from 1 */
+
 /** Says of causes what they mean, of elements of the drawing as it was opened. */
 export class Refusals {
     /** @param {import('./drawing.js').Drawing} drawing */
@@ -31,34 +33,58 @@ export class Refusals {
      * Why a line was refused.
      * @param {string} line
      * @param {string} cause what the program says behind `refused`
+     * @param {Done[]} done the accepted lines before it
      */
-    sentence(line, cause) {
+    sentence(line, cause, done = []) {
         const [word, rest, ...more] = cause.split(' ');
-        const explain = this.explainers()[word];
-        return explain ? explain(rest, line.trim().split(/ +/), more) : 'the program says ' + cause + '.';
+        const explain = this.explainers(line.trim().split(/ +/), done)[word];
+        return (explain ? explain(rest, more) : 'the program says ' + cause) + '.';
     }
 
-    explainers() {
-        const { axes } = this.drawing;
+    /**
+     * What each word of a cause means, of a line of these words.
+     * @param {string[]} words
+     * @param {Done[]} done
+     * @returns {Record<string, (rest: string, more: string[]) => string>}
+     */
+    explainers(words, done) {
+        const { axes, count } = this.drawing, whose = (rest) => this.named(rest) + this.whose(rest, words);
+        const corners = words.length - 1;
         return {
-            'unknown': (rest) => 'there is no element ' + rest + '.',
+            'unknown': (rest) => 'there is no element ' + rest + ': the drawing has 0 to ' + (count - 1)
+                + ', and what the script appends comes behind',
             'broken': (rest) => this.broken(Number(rest)),
-            'deleted': (rest, words) => this.named(rest) + this.whose(rest, words) + ' is marked deleted.',
-            'locked': (rest, words) => this.named(rest) + this.whose(rest, words) + ' is locked.',
-            'dimension': () => 'the drawing has ' + axes + ' axes, and the line is given for ' + (5 - axes) + '.',
-            'floating': (rest, words) => this.named(rest) + this.whose(rest, words)
-                + ' has floating numbers for coordinates, which are not read, so it can not be moved.',
-            'opaque': (rest, words) => this.named(rest) + this.whose(rest, words)
-                + ' is of a type of which not all is read that the line would write.',
-            'off-plane': (rest, words) => this.named(rest) + this.whose(rest, words) + ' would leave ' + PLANE_SAID
-                + ': a smaller displacement stays on it.',
-            'too-long': () => 'the drawing would have more than 67108864 bytes, and no such is read.',
-            'nothing': () => 'no accepted edit before it is left to be taken back.',
-            'no-fence': () => 'no fence is set.',
-            'few': (rest, words) => 'a fence has at least 3 corners, and here are ' + (words.length - 1) + '.',
-            'many': (rest, words) => 'a fence has at most 256 corners, and here are ' + (words.length - 1) + '.',
-            'import': (rest, words, more) => this.imported(rest, words[1], more),
+            'deleted': (rest) => whose(rest) + this.whenDeleted(Number(rest), done),
+            'locked': (rest) => whose(rest) + ' is locked',
+            'dimension': () => 'the drawing has ' + axes + ' axes, and the command is given for ' + (5 - axes),
+            'floating': (rest) => whose(rest)
+                + ' has floating numbers for coordinates, which are not read, so it can not be moved',
+            'opaque': (rest) => whose(rest) + ' is of a type of which not all is read that the command would write',
+            'off-plane': (rest) => whose(rest) + ' would leave ' + PLANE_SAID + ': a smaller displacement stays on it',
+            'too-long': () => 'the drawing would have more than 67108864 bytes, and no such is read',
+            'nothing': () => 'no accepted edit before it is left to be taken back',
+            'no-fence': () => 'no fence is set: a line `fence x,y ..` before it sets one',
+            'few': () => 'a fence has at least 3 corners, and here are ' + corners,
+            'many': () => 'a fence has at most 256 corners, and here are ' + corners,
+            'import': (rest, more) => this.imported(rest, words[1], more),
         };
+    }
+
+    /**
+     * Whether an element is marked deleted in the drawing, or by which line of the script.
+     * @param {number} number
+     * @param {Done[]} done
+     */
+    whenDeleted(number, done) {
+        const { records, nesting, count } = this.drawing;
+        if (number < count && records.isDeleted(number)) {
+            return ' is marked deleted in the drawing: no edit takes that back';
+        }
+        const found = done.filter(({ line }) => {
+            const [word, top] = line.trim().split(/ +/), at = Number(top);
+            return word === 'delete' && (at === number || (at < number && at < count && number < nesting.end[at]));
+        }).pop();
+        return ' was marked deleted by ' + (found ? 'line ' + found.at : 'an earlier line') + ' of the script';
     }
 
     /** The element with a number, in words. */
@@ -75,26 +101,25 @@ export class Refusals {
 
     broken(number) {
         if (number >= this.drawing.count) {
-            return 'the tree holds ' + this.named(number) + ' and is broken.';
+            return 'the tree holds ' + this.named(number) + ' and is broken';
         }
         const { mending } = this;
         const isMended = mending.changes.some((it) => number >= it.number && number <= it.number + it.members)
             && !mending.left.some((it) => it.number === number);
-        const advice = isMended ? '‘Mend’ puts it right.' : '‘Mend’ can not put it right: it says why.';
+        const advice = isMended ? '‘Mend’ puts it right' : '‘Mend’ can not put it right: it says why';
         return 'its tree is broken at ' + this.named(number) + ' (' + whyBroken(this.drawing, number) + '). ' + advice;
     }
 
     /** Why a second drawing wasn't imported. */
     imported(word, name, more) {
         if (word in FAULTS) {
-            return name + ' does not open: ' + FAULTS[word].replace('K', more[1]) + '.';
+            return name + ' does not open: ' + faultSaid(word, Number(more[1]));
         }
         if (word === 'dimension') {
-            return name + ', or the displacement, has other axes than the drawing, which has ' + this.drawing.axes
-                + '.';
+            return name + ', or the displacement, has other axes than the drawing, which has ' + this.drawing.axes;
         }
         return 'of ' + name + ' the element ' + more[0] + ' can not be moved (' + word
-            + '). Without a displacement it would be taken as it is.';
+            + '). Without a displacement it would be taken as it is';
     }
 
     /**

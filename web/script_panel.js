@@ -52,7 +52,8 @@ export class ScriptPanel {
     rowOf(line, answer, index) {
         const { work, refusals } = this.app, isRefused = answer !== null && answer.cause !== null;
         const said = answer === null ? [] : [make('span', { class: 'answer' }, isRefused
-            ? answer.said + ': ' + refusals.sentence(line, answer.cause) : answer.said)];
+            ? answer.said + ': ' + refusals.sentence(line, answer.cause, work.session.doneBefore(index))
+            : answer.said)];
         const name = 'Take line ' + (index + 1) + ' out';
         const button = make('button', { 'type': 'button', 'class': 'remove', 'aria-label': name, 'title': name }, '×');
         button.addEventListener('click', () => work.remove(index));

@@ -101,6 +101,12 @@ export class Session {
         return ran;
     }
 
+    /** The lines that were accepted before one, with their numbers from 1. */
+    doneBefore(index) {
+        return this.lines.slice(0, index).map((line, at) => ({ line, at: at + 1 }))
+            .filter((_, at) => this.answers[at] !== null && this.answers[at].cause === null);
+    }
+
     /** Takes the last doing back, of which no line has written anything. */
     drop() {
         const end = this.lines.length - this.groups.pop();

@@ -318,7 +318,8 @@ export class Work {
     /** Says that a line was refused, and why; `leaveOut` adds what goes. */
     tellRefusal(line, answer, leaveOut = null) {
         const { app } = this;
-        const sentence = app.refusals.sentence(line, answer.cause);
+        const done = this.session.doneBefore(this.session.lines.length);
+        const sentence = app.refusals.sentence(line, answer.cause, done);
         /** @type {[string, () => void][]} */
         const acts = leaveOut ? [['Leave out what can’t be edited', leaveOut]] : [];
         app.notice(this.said(line) + ' is refused: ' + sentence, ...acts);

@@ -6,17 +6,19 @@ from __future__ import annotations
 import base64
 import json
 import random
+import re
 import shutil
 import subprocess
 import sys
 import unittest
-from typing import Any, List
+from typing import Any, List, Set
 
-from samples import EXAMPLES, PROGRAM, TOP, Drawing, WithProgram, drawings, plan
+from samples import EXAMPLES, PROGRAM, TOP, Drawing, Script, WithProgram, drawings, plan
 from test_mend_at_random import AtRandom
 
 from dgnkit.drawing.mending import mending_of
 from dgnkit.explain.comparing import differences
+from dgnkit.explain.refusals import Explainer
 from dgnkit.propose.writing import patch_of
 
 NODE = shutil.which('node') or shutil.which('nodejs')
@@ -56,6 +58,53 @@ class Mending(AtRandom):
                 self.assertEqual(row['mended'], [it.in_words() for it in mending.changes])
                 self.assertEqual(row['left'], [[it.element.number, it.why] for it in mending.left])
         self.assertGreater(mended, 100)
+
+
+@unittest.skipIf(NODE is None, 'node is not installed')
+class Explaining(WithProgram):
+    """The app says of a refusal what `dgnkit why` says, but for what one can do there."""
+
+    ADVICE = (
+        ('`dgnkit mend` writes a patch file that mends it', '‘Mend’ puts it right'),
+        ('`dgnkit mend` can not mend it: it says why', '‘Mend’ can not put it right: it says why'),
+    )
+
+    def test_refusals_of_every_kind(self) -> None:
+        rows: List[Any] = []
+        wanted: List[List[str]] = []
+        causes: Set[str] = set()
+        for index, file in enumerate([*drawings.DRAWINGS.values(), *self.examples()]):
+            drawing = Drawing(self.put('why-%d.dgn' % index, file), self.program)
+            script = Script()
+            for line in self.lines(drawing):
+                script.add(line)
+            answers = drawing.program.edit(drawing.path, script)
+            explainer = Explainer(drawing, script.commands, answers)
+            rows.append([drawing.path, [[it.text, said.cause] for it, said in zip(script.commands, answers)]])
+            wanted.append([self.as_the_app(explainer.sentence(it)) for it in explainer.refused])
+            causes.update(it.cause.split()[0] for it in explainer.refused)
+        for (path, lines), said, sentences in zip(rows, asked('refusals.mjs', rows), wanted):
+            with self.subTest(path, lines=lines):
+                self.assertEqual(said, sentences)
+        self.assertGreater(len(causes), 10, causes)
+
+    def examples(self) -> List[bytes]:
+        return [(EXAMPLES / (name + '.dgn')).read_bytes() for name in ('plan', 'street', 'town', 'valve')]
+
+    def lines(self, drawing: Drawing) -> List[str]:
+        """Edits of every element that are refused for some cause, and other lines that are refused."""
+        by, more = ' '.join(['1'] * drawing.axes), ' '.join(['1'] * (5 - drawing.axes))
+        far = ' '.join(['2147483647'] * drawing.axes)
+        made = ['undo', 'select inside', 'fence 0,0 1,1', 'move 1 ' + more, 'color 9999 1']
+        for number in range(len(drawing.elements)):
+            made += ['move %d %s' % (number, far), 'color %d 1' % number, 'copy %d %s' % (number, by)]
+        made += ['delete 2', 'color 2 1', 'color 3 1', 'delete 1', 'delete 1', 'move 1 ' + by]
+        return made
+
+    def as_the_app(self, sentence: str) -> str:
+        for theirs, ours in self.ADVICE:
+            sentence = sentence.replace(theirs, ours)
+        return re.sub(r' is locked\. .*', ' is locked', sentence) + '.'
 
 
 @unittest.skipIf(NODE is None, 'node is not installed')
