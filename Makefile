@@ -7,7 +7,7 @@ BIN = $(DESTDIR)$(PREFIX)/bin
 MAN = $(DESTDIR)$(PREFIX)/share/man/man1
 DOC = $(DESTDIR)$(PREFIX)/share/doc/dgnedit
 
-.PHONY: build check examples install uninstall dist clean help
+.PHONY: build check examples install uninstall lib web dist clean help
 
 build:          ## proves and builds the program, where it isn't built or a source is newer
 	@./dgnedit --build
@@ -30,6 +30,12 @@ install: build  ## installs the program, the companion dgnkit, man pages and doc
 uninstall:      ## removes what install has installed
 	rm -f "$(BIN)/dgnedit" "$(BIN)/dgnkit" "$(MAN)/dgnedit.1" "$(MAN)/dgnkit.1"
 	rm -rf "$(DOC)"
+
+lib:            ## makes the library for C: dist/libdgnedit.a and dist/dgnedit.h
+	tools/make_library lib dist
+
+web:            ## makes the program for a browser: dist/dgnedit.wasm
+	tools/make_library web dist
 
 dist: build     ## makes dist/: an archive of the built program, and a Debian package where dpkg-deb is
 	tools/make_dist $(PROGRAM) dist

@@ -23,7 +23,7 @@ class Ended(ctypes.Structure):
 
 
 def run(library: ctypes.CDLL, words: list[str], files: dict[str, bytes]) -> tuple[int, bytes, bytes | None]:
-    """Runs the program with these words over these files: the exit number, what it says, and the file that it writes."""
+    """Runs the program with these words over these files: its exit number, what it says, the file that it writes."""
     def handed(piece: bytes) -> Bytes:
         return Bytes(piece, len(piece))
 
