@@ -46,6 +46,20 @@ class Hostile(samples.WithProgram):
         status, out, _ = self.kit('why', plan_file, self.put('s', 'move 1 %s 0\n' % many))
         self.assertEqual((status, 'is not from' in out), (1, True))
 
+    def test_names_that_no_file_can_have(self) -> None:
+        plan_file, long = self.example('plan.dgn'), self.path('a' * 300)
+        script = self.put('s', 'color 5 3\n')
+        self.one_line(['info', long], 'file name too long')
+        self.one_line(['geojson', plan_file, '-o', long], 'file name too long')
+        self.one_line(['run', plan_file, script, long], 'file name too long')
+        self.one_line(['each', script, plan_file, '--into', long], 'file name too long')
+        self.one_line(['each', script, plan_file, '--into', script], 'file exists')
+        self.one_line(
+            ['find', plan_file, '--number', 5, '--script', 'fit {n}', '-o', self.path('none/s')], 'no such file'
+        )
+        for word in ('info', 'health', 'geojson'):
+            self.one_line([word, 'a\0b'], 'null byte')
+
     def test_patterns_that_do_not_compile(self) -> None:
         plan_file = self.example('plan.dgn')
         for pattern in ('a{1,99999999999}', '(' * 5000, '(?P<n', '[z-a]'):

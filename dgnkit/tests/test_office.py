@@ -28,6 +28,13 @@ class Runs(samples.WithProgram):
         self.assertIn('out.dgn: written, %d bytes' % (self.folder / 'out.dgn').stat().st_size, said)
         self.assertEqual(self.said('run', valve, first, '/dev/null').count('\n'), 4)
 
+    def test_the_range_of_an_appended_text_is_told(self) -> None:
+        valve, script = self.example('valve.dgn'), self.put('s', 'text 1 0 0 0 1 0 900 900 5,5 AB\n')
+        err = self.kit('run', valve, script, self.path('o.dgn'))[2]
+        self.assertIn('1 appended text has a range that is a point', err)
+        said = self.said('text', valve, '5,5', 'AB', '--height', '60', '-o', self.path('t'))
+        self.assertEqual(self.kit(*said.rstrip().split('next: dgnkit ')[1].split())[2], '')
+
     def test_each_ending_is_a_sentence_and_nothing_is_written(self) -> None:
         valve, out = self.example('valve.dgn'), self.path('out.dgn')
         good, bad = self.put('good', 'color 1 3\n'), self.put('bad', 'color 1 red\n')

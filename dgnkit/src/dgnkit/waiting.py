@@ -7,6 +7,7 @@ import signal
 import sys
 import threading
 import time
+from itertools import islice
 from types import FrameType
 from typing import Iterable, Iterator, Optional, TypeVar
 
@@ -74,10 +75,10 @@ def watch() -> None:
 
 def told(what: str, items: Iterable[Item], count: int) -> Iterator[Item]:
     """The same items; how far they are is kept in mind."""
-    for done, item in enumerate(items):
-        if done % STEP == 0:
-            doing('%s: %d of %d' % (what, done, count))
-        yield item
+    waiting = iter(items)
+    for done in range(0, count, STEP):
+        doing('%s: %d of %d' % (what, done, count))
+        yield from islice(waiting, STEP)
 
 
 def is_terminal() -> bool:

@@ -11,7 +11,7 @@ from typing import TYPE_CHECKING, List
 from ..drawing.drawing import Drawing
 from ..errors import Mistake
 from ..files import mistake_of, put_in_place
-from ..output import counted, say, say_csv, say_json, say_raw
+from ..output import counted, note, say, say_csv, say_json, say_raw
 from ..program.runs import Program
 from ._runs import HEAD, Step, on_disk
 
@@ -52,7 +52,21 @@ def run(arguments: argparse.Namespace) -> int:
             drawing = step.out
         deliver(drawing, out)
     tell(arguments, steps)
+    tell_texts(steps)
     return int(any(it.is_refused for it in steps))
+
+
+def tell_texts(steps: List[Step]) -> None:
+    """Says that the ranges of appended texts are points, where no patch file behind the script sets them."""
+    count = 0
+    for step in steps:
+        named = zip(step.script.commands, step.answers)
+        count = 0 if step.is_patch else count + sum(it.name == 'text' and not made.is_refused for it, made in named)
+    if count:
+        said = (
+            '%s a range that is a point, which fences and --near miss: `dgnkit text` and `draw` set it by a patch file'
+        )
+        note(said % counted(count, 'appended text has', 'appended texts have'))
 
 
 def ask_out(read: List[str], out: str) -> None:

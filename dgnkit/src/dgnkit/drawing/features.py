@@ -5,7 +5,7 @@ from __future__ import annotations
 
 import json
 from functools import lru_cache
-from typing import Callable, Iterator, List, Optional, Sequence
+from typing import Callable, Dict, Iterator, List, Optional, Sequence, Tuple
 
 from ..format import classes
 from ..format.element import Element
@@ -17,10 +17,11 @@ from .geometry import Box
 
 Place = Callable[[Point], str]
 FEATURE = (
-    '{"type": "Feature", "id": %d, "properties": {"number": %d, "root": %d, "depth": %d, "type": %d, "type_name": %s, '
-    '"level": %d, "colour": %d, "rgb": "%s", "weight": %d, "style": %d, "text": %s, "height": %s, "angle": %s, '
-    '"cell": %s, "locked": %s, "broken": %s, "by_range": %s}, "geometry": {"type": "%s", "coordinates": %s}}'
+    '{"type": "Feature", "id": %d, "properties": {"number": %d, "root": %d, "depth": %d, %s, "text": %s, "height": %s, '
+    '"angle": %s, "cell": %s, "locked": %s, "broken": %s, "by_range": %s}, '
+    '"geometry": {"type": "%s", "coordinates": %s}}'
 )
+LOOK = '"type": %d, "type_name": %s, "level": %d, "colour": %d, "rgb": "%s", "weight": %d, "style": %d'
 ONLY_RANGE = classes.BY_RANGE - classes.WORDS
 NO, YES = 'false', 'true'
 
@@ -46,7 +47,8 @@ class Features:
     def __init__(self, drawing: Drawing, is_master: bool, has_members: bool) -> None:
         """`has_members` is whether the members of complex chains and shapes are features too."""
         self.drawing, self.has_members = drawing, has_members
-        self.place = in_master(drawing.units) if is_master else in_resolution
+        self.place = in_master(drawing.units) if is_master else in_resolution(drawing.axes)
+        self.looks: Dict[Tuple[int, int, bytes], str] = {}
         self.broken_roots = drawing.nesting.broken_roots
         self.scale = 1 / drawing.units.in_master if is_master else 1.0
         self.extent = drawing.extent
@@ -81,13 +83,7 @@ class Features:
             number,
             root,
             nesting.depths[number],
-            kind,
-            spelled(element.type_name),
-            element.level,
-            element.colour,
-            self.colours[element.colour],
-            element.weight,
-            element.style,
+            self.look(element),
             text,
             height,
             angle,
@@ -98,6 +94,17 @@ class Features:
             geometry.kind,
             geometry.coordinates,
         )
+
+    def look(self, element: Element) -> str:
+        """What a feature says of the type, the level and the look; many elements have the same."""
+        key = element.type, element.level, element.data[element.offset + 34 : element.offset + 36]
+        found = self.looks.get(key)
+        if found is None:
+            colour, rest = element.colour, (element.weight, element.style)
+            name = spelled(element.type_name)
+            found = LOOK % (element.type, name, element.level, colour, self.colours[colour], *rest)
+            self.looks[key] = found
+        return found
 
     def geometry(self, element: Element) -> Optional[Geometry]:
         """Where an element is drawn; none of a header whose members are drawn by themselves."""
@@ -166,9 +173,9 @@ class Features:
         return Geometry('MultiLineString', '[%s]' % ', '.join(map(self.row, lines)))
 
 
-def in_resolution(point: Point) -> str:
-    """A place in units of resolution."""
-    return '[%s]' % ', '.join(map(str, point))
+def in_resolution(axes: int) -> Place:
+    """What spells a place of so many axes in units of resolution."""
+    return ('[%d, %d]' if axes == 2 else '[%d, %d, %d]').__mod__
 
 
 def in_master(units: Units) -> Place:

@@ -11,6 +11,7 @@ from . import classes
 from .element import LOCK_BYTE, Element
 
 BIT_C, DELETED = 1, 2
+NOT_C = bytes([0, DELETED])  # the marks of elements without bit C
 YES_NO = (False, True)
 
 
@@ -71,18 +72,25 @@ class Elements(Sequence[Element]):
 
     def with_c(self) -> List[int]:
         """The numbers of the elements with bit C, but for element 0."""
+        if not self.marks.translate(None, NOT_C):
+            return []
         return [number for number, mark in enumerate(self.marks) if mark & BIT_C and number]
 
     def deleted(self) -> List[int]:
         """The numbers of the elements that are marked deleted themselves."""
+        if max(self.marks, default=0) < DELETED:
+            return []
         return [number for number, mark in enumerate(self.marks) if mark & DELETED]
 
     def locked_count(self) -> int:
         """How many elements are locked."""
         data = self.data
         loud = bytes(kind in classes.LOUD for kind in range(256))
-        return sum(data[at + LOCK_BYTE] & 1 for at, kind in zip(self.offsets, self.types) if loud[kind])
+        found = [data[at + LOCK_BYTE] for at, kind in zip(self.offsets, self.types) if loud[kind]]
+        return sum(it & 1 for it in found) if max(found, default=0) else 0
 
     def of_types(self, kinds: frozenset[int]) -> Iterator[int]:
         """The numbers of the elements of some types."""
+        if kinds.isdisjoint(set(self.types)):
+            return iter(())
         return (number for number, kind in enumerate(self.types) if kind in kinds)

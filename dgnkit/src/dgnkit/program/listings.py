@@ -124,11 +124,11 @@ def elements_of(said: bytes, data: bytes, axes: int) -> Elements:
 
 def take_rows(made: Elements, words: Sequence[bytes]) -> None:
     """Takes the rows of these words in, six a row."""
-    numbers, offsets, sizes, types, levels = ([int(it) for it in words[at::6]] for at in range(5))
+    numbers, offsets, sizes, types, levels = (list(map(int, words[at::6])) for at in range(5))
     first = len(made)
     if max(types, default=0) > TYPE_MOST or max(levels, default=0) > LEVEL_MOST:
         raise ListingError('dgnedit listed a type or a level that there is not')
-    made.extend(sizes, bytes(types), bytes(levels), bytes([MARKS[it] for it in words[5::6]]))
+    made.extend(sizes, bytes(types), bytes(levels), bytes(map(MARKS.__getitem__, words[5::6])))
     if numbers != list(range(first, len(made))) or offsets != made.offsets[first:].tolist():
         raise ListingError('dgnedit listed elements that do not stand one behind the other')
 
