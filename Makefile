@@ -34,8 +34,9 @@ uninstall:      ## removes what install has installed
 lib:            ## makes the library for C: dist/libdgnedit.a and dist/dgnedit.h
 	tools/make_library lib dist
 
-web:            ## makes the program for a browser: dist/dgnedit.wasm
+web:            ## makes the editor in a browser: dist/dgnedit.html, with the program in it as dist/dgnedit.wasm
 	tools/make_library web dist
+	tools/make_app
 
 dist: build     ## makes dist/: an archive of the built program, and a Debian package where dpkg-deb is
 	tools/make_dist $(PROGRAM) dist
