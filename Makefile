@@ -6,6 +6,7 @@ PROGRAM = crates/dgnedit/out/dgnedit
 BIN = $(DESTDIR)$(PREFIX)/bin
 MAN = $(DESTDIR)$(PREFIX)/share/man/man1
 DOC = $(DESTDIR)$(PREFIX)/share/doc/dgnedit
+APP = $(DESTDIR)$(PREFIX)/share/dgnedit
 
 .PHONY: build check examples install uninstall lib web dist clean help
 
@@ -26,10 +27,11 @@ install: build  ## installs the program, the companion dgnkit, man pages and doc
 	install -m 644 README.md CHANGELOG.md LICENSE "$(DOC)"
 	install -m 644 docs/*.md docs/*.svg docs/*.png "$(DOC)/docs"
 	cp examples/* "$(DOC)/examples"
+	test ! -f dist/dgnedit.html || install -D -m 644 dist/dgnedit.html "$(APP)/dgnedit.html"
 
 uninstall:      ## removes what install has installed
 	rm -f "$(BIN)/dgnedit" "$(BIN)/dgnkit" "$(MAN)/dgnedit.1" "$(MAN)/dgnkit.1"
-	rm -rf "$(DOC)"
+	rm -rf "$(DOC)" "$(APP)"
 
 lib:            ## makes the library for C: dist/libdgnedit.a and dist/dgnedit.h
 	tools/make_library lib dist
@@ -38,7 +40,7 @@ web:            ## makes the editor in a browser: dist/dgnedit.html, with the pr
 	tools/make_library web dist
 	tools/make_app
 
-dist: build     ## makes dist/: an archive of the built program, and a Debian package where dpkg-deb is
+dist: build web ## makes dist/: an archive of the built program, and a Debian package where dpkg-deb is
 	tools/make_dist $(PROGRAM) dist
 
 clean:          ## removes what was built here

@@ -475,6 +475,9 @@ class Refusing(WithProgram):
         self.addCleanup(shutil.rmtree, page.parent)
         opened.assert_called_once_with(page.as_uri())
         self.assertIn('<title>plan.dgn – 12 elements</title>', page.read_text(encoding='utf-8'))
+        with mock.patch('webbrowser.open', return_value=True) as opened:
+            self.said('open')
+        opened.assert_called_once_with(Path(os.environ['DGNEDIT_APP']).as_uri())
         with mock.patch('webbrowser.open', return_value=False):
             said = self.said('open', made, status=1)
         self.assertIn('no browser is found', said)

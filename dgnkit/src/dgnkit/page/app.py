@@ -7,7 +7,6 @@ import gzip
 import html
 import os
 import sys
-from importlib import resources
 from pathlib import Path
 from typing import Iterator, List, Tuple
 
@@ -29,24 +28,23 @@ def app_places() -> Iterator[Path]:
     if named:
         yield Path(named)
         return
-    yield Path(sys.argv[0]).resolve().parent.parent / 'share' / 'dgnedit' / NAME
+    beside = Path(sys.argv[0]).resolve().parent
+    yield beside / NAME
+    yield beside.parent / 'share' / 'dgnedit' / NAME
     yield Path(__file__).resolve().parents[4] / 'dist' / NAME
 
 
-def app_text() -> str:
-    """The app. It raises Mistake where there is none."""
+def app_place() -> Path:
+    """Where the app is. It raises Mistake where there is none."""
     for place in app_places():
         if place.is_file():
-            return place.read_text(encoding='utf-8')
-    own = resources.files('dgnkit.page') / NAME
-    if own.is_file():
-        return own.read_text(encoding='utf-8')
+            return place
     raise Mistake('%s is not found: name it by $DGNEDIT_APP, or make it by `make web`' % NAME)
 
 
 def page_of(title: str, parts: List[Part]) -> str:
     """The app with these files in it. It raises Mistake where there is no app, or where it is none."""
-    text = app_text()
+    text = app_place().read_text(encoding='utf-8')
     if not all(text.count(it) == 1 for it in (APP_MARK, APP_TITLE, SLOT)):
         raise Mistake('%s is not the app that this dgnkit knows' % NAME)
     text = text.replace(APP_MARK, PAGE_MARK).replace(APP_TITLE, '<title>%s</title>' % html.escape(title))
