@@ -47,7 +47,7 @@ export class Drawing {
         this.bodyLength = offsets[this.count];
         this.axes = axesOf(bytes);
         this.units = unitsOf(bytes);
-        this.records = new Records(this.axes, this.count + ROOM);
+        this.records = new Records(this.axes, this.count + ROOM, (record) => this.bytesOf(record));
         this.nesting = nestingOf(bytes, offsets, true);
         for (let number = 0; number < this.count; number++) {
             readElement(this.records, bytes, offsets[number], number, this.nesting.flags[number]);

@@ -17,7 +17,7 @@ export function hasPlace(type, withOrigins) {
 /**
  * Widens a box so that it holds that of a record.
  * @param {number[]} box low x, low y, high x, high y
- * @param {Float64Array} boxes
+ * @param {Int32Array} boxes
  * @param {number} record
  */
 export function widenBox(box, boxes, record) {

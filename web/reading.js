@@ -31,7 +31,6 @@ export function readElement(records, bytes, at, number, flags) {
     records.number[record] = number;
     records.flags[record] = flags | (bytes[at] & 0x80 ? FLAG.bitC : 0) | (bytes[at + 1] & 0x80 ? FLAG.deleted : 0)
         | (isLocked ? FLAG.locked : 0);
-    records.label[record] = -1;
     records.first[record] = records.pointCount;
     records.points[record] = 0;
     if (isSilent) {
@@ -48,8 +47,7 @@ export function readElement(records, bytes, at, number, flags) {
     if (records.axes === 2 && CLASS_OF[type] === CLASS.floating) {
         readArc(records, bytes, at, record, type);
     }
-    readLabel(records, bytes, at, record, type);
-    records.setBox(record);
+    records.setBox(record, type === TYPE.text ? textAt(bytes, at, records.axes) : null);
     return record;
 }
 
@@ -132,19 +130,15 @@ function readArc(records, bytes, at, record, type) {
 }
 
 /**
- * @param {Records} records
+ * The characters of a text with how they are drawn, or the name of a cell.
  * @param {Uint8Array} bytes
  * @param {number} at
- * @param {number} record
  * @param {number} type
+ * @param {number} axes
  */
-function readLabel(records, bytes, at, record, type) {
-    if (type === TYPE.text) {
-        records.label[record] = records.labels.push(textAt(bytes, at, records.axes)) - 1;
-    } else if (type === TYPE.cell) {
-        const name = cellName(wordAt(bytes, at + 38), wordAt(bytes, at + 40));
-        records.label[record] = records.labels.push(name) - 1;
-    }
+export function labelAt(bytes, at, type, axes) {
+    return type === TYPE.text ? textAt(bytes, at, axes)
+        : cellName(wordAt(bytes, at + 38), wordAt(bytes, at + 40));
 }
 
 /**

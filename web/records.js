@@ -1,10 +1,11 @@
 /* The elements as columns, a row each; a row is called a record. */
 
-import { FLAG, TYPE } from './format.js';
+import { FLAG, GREATEST, LEAST, TYPE } from './format.js';
+import { labelAt } from './reading.js';
 
 /**
  * A typed array with the same values and at least so much room.
- * @template {Uint8Array | Uint16Array | Uint32Array | Int32Array | Float64Array} T
+ * @template {Uint8Array | Uint16Array | Uint32Array | Int32Array} T
  * @param {T} array
  * @param {number} length
  * @returns {T}
@@ -22,7 +23,7 @@ export function grown(array, length) {
 const COLUMNS = Object.freeze({
     type: Uint8Array, level: Uint8Array, colour: Uint8Array, weight: Uint8Array, style: Uint8Array,
     flags: Uint8Array, size: Uint32Array, number: Uint32Array, first: Uint32Array, points: Uint32Array,
-    label: Int32Array, group: Uint16Array,
+    group: Uint16Array,
 });
 const COLUMN_NAMES = Object.freeze(Object.keys(COLUMNS));
 
@@ -36,22 +37,27 @@ const COLUMN_NAMES = Object.freeze(Object.keys(COLUMNS));
 /**
  * Records of elements in columns. A record has its element's head and look, its place in `coordinates` (`first`,
  * counted in points, and how many `points`), its range, low corner and high corner, and the box that it is drawn in.
- * `label` is the place of a text or of a cell's name in `labels`, or -1.
+ * Texts and names of cells are read from the bytes when they are first asked for.
  */
 export class Records {
     /**
      * @param {number} axes
      * @param {number} room how many records there will be, as far as that is known
+     * @param {(record: number) => Uint8Array} bytesOf gives the bytes of a record
      */
-    constructor(axes, room) {
+    constructor(axes, room, bytesOf) {
         this.axes = axes;
         this.length = 0;
-        /** @type {(string | TextLabel)[]} */
-        this.labels = [];
+        this.bytesOf = bytesOf;
+        /**
+         * The texts and names that were asked for, by their records.
+         * @type {Map<number, string | TextLabel>}
+         */
+        this.labels = new Map();
         this.coordinates = new Int32Array(room * 2 * axes);
         this.pointCount = 0;
         this.range = new Int32Array(room * 2 * axes);
-        this.box = new Float64Array(room * 4);
+        this.box = new Int32Array(room * 4);
         this.type = new Uint8Array(room);
         this.level = new Uint8Array(room);
         this.colour = new Uint8Array(room);
@@ -62,7 +68,6 @@ export class Records {
         this.number = new Uint32Array(room);
         this.first = new Uint32Array(room);
         this.points = new Uint32Array(room);
-        this.label = new Int32Array(room);
         this.group = new Uint16Array(room);
     }
 
@@ -91,17 +96,21 @@ export class Records {
 
     /** Where all ends, so that what is appended can be forgotten again. */
     ends() {
-        return { length: this.length, pointCount: this.pointCount, labels: this.labels.length };
+        return { length: this.length, pointCount: this.pointCount };
     }
 
     /**
      * Forgets all that was appended since.
-     * @param {{ length: number, pointCount: number, labels: number }} ends
+     * @param {{ length: number, pointCount: number }} ends
      */
     cut(ends) {
         this.length = ends.length;
         this.pointCount = ends.pointCount;
-        this.labels.length = ends.labels;
+        for (const record of this.labels.keys()) {
+            if (record >= ends.length) {
+                this.labels.delete(record);
+            }
+        }
     }
 
     /**
@@ -109,7 +118,16 @@ export class Records {
      * @param {number} record
      */
     labelOf(record) {
-        return this.label[record] < 0 ? null : this.labels[this.label[record]];
+        const type = this.type[record];
+        if (type !== TYPE.text && type !== TYPE.cell) {
+            return null;
+        }
+        let label = this.labels.get(record);
+        if (label === undefined) {
+            label = labelAt(this.bytesOf(record), 0, type, this.axes);
+            this.labels.set(record, label);
+        }
+        return label;
     }
 
     /**
@@ -151,8 +169,9 @@ export class Records {
     /**
      * Sets the box that a record is drawn in, of x and y: low x, low y, high x, high y.
      * @param {number} record
+     * @param {TextLabel | null} text what it has to hold, too
      */
-    setBox(record) {
+    setBox(record, text) {
         const { box } = this;
         const at = record * 4;
         if (this.points[record] > 0) {
@@ -164,8 +183,8 @@ export class Records {
             box[at + 2] = Math.max(range[0], range[this.axes]);
             box[at + 3] = Math.max(range[1], range[this.axes + 1]);
         }
-        if (this.type[record] === TYPE.text) {
-            widenByText(box, at, /** @type {TextLabel} */ (this.labelOf(record)));
+        if (text !== null) {
+            widenByText(box, at, text);
         }
     }
 
@@ -197,8 +216,8 @@ export class Records {
 }
 
 /**
- * Widens a text's box, which is its origin, by the corners of its characters.
- * @param {Float64Array} box
+ * Widens a text's box, which is its origin, by the corners of its characters, to whole units within the plane.
+ * @param {Int32Array} box
  * @param {number} at
  * @param {TextLabel} text
  */
@@ -207,9 +226,9 @@ function widenByText(box, at, text) {
     const cosine = Math.cos(text.angle), sine = Math.sin(text.angle);
     for (const [along, up] of [[text.width, 0], [0, text.height], [text.width, text.height]]) {
         const cornerX = x + along * cosine - up * sine, cornerY = y + along * sine + up * cosine;
-        box[at] = Math.min(box[at], cornerX);
-        box[at + 1] = Math.min(box[at + 1], cornerY);
-        box[at + 2] = Math.max(box[at + 2], cornerX);
-        box[at + 3] = Math.max(box[at + 3], cornerY);
+        box[at] = Math.max(Math.min(box[at], Math.floor(cornerX)), LEAST);
+        box[at + 1] = Math.max(Math.min(box[at + 1], Math.floor(cornerY)), LEAST);
+        box[at + 2] = Math.min(Math.max(box[at + 2], Math.ceil(cornerX)), GREATEST);
+        box[at + 3] = Math.min(Math.max(box[at + 3], Math.ceil(cornerY)), GREATEST);
     }
 }

@@ -266,7 +266,7 @@ class Reading(WithBrowser):
         texts = ['Straße'.encode('utf-8'), 'Straße'.encode('latin-1'), b'a\nb', 'a\u202eb'.encode('utf-8')]
         made = [plan.text(1, (0, 100 * row), it) for row, it in enumerate(texts)]
         self.page(self.put('codes.dgn', drawings.drawing(*made)))
-        found = self.seen.run('return page.drawing.records.labels.map((it) => it.characters)')
+        found = self.seen.run('return [1, 2, 3, 4].map((it) => page.drawing.records.wordsOf(it))')
         self.assertEqual(found, ['Straße', 'Straße', 'a\\0ab', 'a\\e2\\80\\aeb'])
 
     def test_broken_locked_and_deleted_are_told(self) -> None:
