@@ -11,6 +11,8 @@ use std::test::Fail;
 
 const NAME: &str = "desk_test.tmp";
 
+const MANY_NAME: &str = "desk_test_many.tmp";
+
 // A name in a folder that isn't there.
 const IN_NO_FOLDER: &str = "no_folder/desk_test.tmp";
 
@@ -73,6 +75,30 @@ fn host_desk_writes_reads_and_says(rt: HostRuntime) -> Result<(), Fail> {
     fs::remove_file(&rt, NAME)?;
     assert!(rt; reads(alloc, &mut desk, NAME, 9, Err(ReadEnd::Fault)));
     assert!(rt; say(&mut desk, b"said\n") == Ok(()));
+    Ok(())
+}
+
+// How many bytes the file of many pieces has: a piece is 65,536 bytes at most, and a write of the system may take fewer.
+const MANY: usize = 200_000;
+
+// The bytes of the file of many pieces: no piece has those of another.
+fn many_bytes(alloc: Global) -> Result<Vec<u8>, AllocError> {
+    let mut bytes = Vec::with_capacity(alloc, MANY)?;
+    for at in 0..MANY {
+        bytes.push((at % 251) as u8)?;
+    }
+    Ok(bytes)
+}
+
+// A desk that ends a file after its first piece, or writes others, differs here.
+#[test]
+fn host_desk_on_many_pieces(rt: HostRuntime) -> Result<(), Fail> {
+    let bytes = many_bytes(rt.alloc())?;
+    let mut desk = HostDesk::new(rt.clone()?);
+    assert!(rt; write(&mut desk, MANY_NAME, bytes.as_slice(), b"", b"") == Ok(()));
+    let read = read_all(rt.alloc(), &mut desk, MANY_NAME, MANY);
+    fs::remove_file(&rt, MANY_NAME)?;
+    assert!(rt; read == Ok(bytes));
     Ok(())
 }
 

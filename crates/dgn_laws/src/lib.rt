@@ -8,6 +8,11 @@ ghost use Rattle.dgn_laws.specs.PatchLaws.{RefusesWhereOneDiffers, RefusesNoneEl
 ghost use Rattle.dgn_laws.specs.FitLaws.{FitsEndFindings};
 ghost use Rattle.dgn_laws.specs.ImportLaws.{ImportsNestApart, ImportsOfRunsNestApart, RefusedImportsChangeNothing};
 ghost use Rattle.dgn_tool.specs.Generation.{FixedScriptReads};
+ghost use Rattle.std.specs.Prelude.{◌≡◌};
+ghost use Rattle.dgn_layout.specs.declared.TheConstants.{SHARED_CELL, END_MARK};
+ghost use Rattle.dgn_drawing.specs.declared.limits.TheConstants.{MOST_DESIGN};
+ghost use Rattle.edit_script.specs.declared.limits.TheConstants.{MOST_SCRIPT};
+ghost use Rattle.patch_file.specs.declared.limits.TheConstants.{MOST_PATCH};
 
 /// The commands that a script reads to hold what their types keep: where its text is bytes, each edit, each edit of a fence
 /// and each displacement of an import has values that its fields can hold.
@@ -72,4 +77,14 @@ pub fn refused_at_the_first_difference()
 /// run writes what they make of the drawing, with its tail, and what fills the last block as before.
 pub fn all_entries_applied()
     ensures { AppliesAll }
+{}
+
+/// The constants of the code that definitions cite are these numbers: the most bytes of a design file, of a script and of a
+/// patch file, and the types of a shared cell definition and of the end mark.
+pub fn constants_are_these_numbers()
+    ensures design { MOST_DESIGN ≡ 67108864 }
+    ensures script { MOST_SCRIPT ≡ 1048576 }
+    ensures patch { MOST_PATCH ≡ 134217728 }
+    ensures shared_cell { SHARED_CELL ≡ 34 }
+    ensures end_mark { END_MARK ≡ 127 }
 {}

@@ -1,3 +1,4 @@
 pub mod Gathering
 pub mod InTurn
 pub mod Telling
+pub mod Moving

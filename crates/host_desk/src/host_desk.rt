@@ -1,4 +1,5 @@
-ghost use Rattle.std.specs.Prelude.{◌≡◌, ◌≤◌, length, Some, None, Ok, Err, IfOk, OnErr, IsErrOf, false};
+ghost use Rattle.std.specs.Prelude.{◌≡◌, ◌≤◌, ◌<◌, length, Some, None, Ok, Err, IfOk, OnErr, IsErrOf, IsOk, IfSome, IsSome, false};
+ghost use Rattle.std.specs.Io.KnownBytes.{ReadConsumes, WriteAppends};
 ghost use Rattle.std.proofs.Common.{rules};
 ghost use Rattle.host_desk.specs.Desk.{Counts, TakesSome, one_more};
 
@@ -75,6 +76,9 @@ impl<R: Files + Print + Drop> Desk for HostDesk<R> {
         ensures other { self.new.write_faults ≡ self.old.write_faults }
         ensures within { IfOk result (λ count. count ≤ length buf.new) }
         ensures memory { ¬ IsErrOf result Stop.Memory }
+        ensures begun { IsSome self.old.reading → IsSome self.new.reading }
+        ensures moved { IfSome self.old.reading (λ old. IfSome self.new.reading (λ new. ReadConsumes
+            (⟦<R::File as Read>⟧.remaining old) (⟦<R::File as Read>⟧.remaining new) result buf.new)) }
     {
         let Some(file) = &mut self.reading else {
             return Ok(0);
@@ -98,6 +102,9 @@ impl<R: Files + Print + Drop> Desk for HostDesk<R> {
         ensures other { self.new.read_faults ≡ self.old.read_faults }
         ensures taken { IfOk result (TakesSome bytes.now) }
         ensures memory { ¬ IsErrOf result Stop.Memory }
+        ensures begun { IsSome self.old.writing → IsSome self.new.writing }
+        ensures moved { IfSome self.old.writing (λ old. IfSome self.new.writing (λ new. WriteAppends
+            (⟦<R::File as Write>⟧.contents old) (⟦<R::File as Write>⟧.contents new) result bytes.now)) }
     {
         let Some(file) = &mut self.writing else {
             return failed(&mut self.write_faults);
@@ -120,6 +127,8 @@ impl<R: Files + Print + Drop> Desk for HostDesk<R> {
 // Takes the file that the system gave in the place of another, where each error is `Failed`, and is counted.
 fn begun<F: Drop>(given: io::Result<F>, file: &mut Option<F>, faults: &mut u64) -> Result<(), Stop>
     ensures taken { IfOk given (λ f. file.new ≡ Some f) }
+    ensures kept { OnErr given (file.new ≡ file.old) }
+    ensures given { IfOk given (λ _. IsOk result) }
     ensures cause { Counts faults.old faults.new result }
     ensures failed { OnErr given (result ≡ Err Stop.Failed) }
     ensures counted { OnErr given (faults.new ≡ one_more faults.old) }
@@ -150,7 +159,10 @@ fn taken(bytes: &[u8], given: io::Result<usize>, faults: &mut u64) -> Result<usi
     requires { IfOk given (λ count. count ≤ length bytes.now) }
     ensures cause { Counts faults.old faults.new result }
     ensures taken { IfOk result (TakesSome bytes.now) }
+    ensures told { IfOk given (λ count. 0 < count → result ≡ Ok count) }
+    ensures only { IfOk given (λ count. IfOk result (λ n. n ≡ count)) }
     ensures failed { OnErr given (result ≡ Err Stop.Failed) }
+    ensures counted { OnErr given (faults.new ≡ one_more faults.old) }
     ensures memory { ¬ IsErrOf result Stop.Memory }
 {
     match answered(given, faults) {
