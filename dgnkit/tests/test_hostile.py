@@ -58,7 +58,7 @@ class Hostile(samples.WithProgram):
             ['find', plan_file, '--number', 5, '--script', 'fit {n}', '-o', self.path('none/s')], 'no such file'
         )
         for word in ('info', 'health', 'geojson'):
-            self.one_line([word, 'a\0b'], 'null byte')
+            self.one_line([word, 'a\0b'], 'null')
 
     def test_patterns_that_do_not_compile(self) -> None:
         plan_file = self.example('plan.dgn')

@@ -6,9 +6,10 @@ import argparse
 from dataclasses import dataclass
 from typing import TYPE_CHECKING, Callable, List, Sequence
 
-from ..drawing.conditions import Conditions, add_conditions, has_conditions
+from ..drawing.conditions import Conditions
 from ..drawing.drawing import Drawing
 from ..drawing.nothing import nothing_said
+from ..drawing.options import add_conditions, has_conditions
 from ..errors import Mistake
 from ..explain.members import parts_said
 from ..output import counted, few, note, printable, say

@@ -8,17 +8,17 @@ import tempfile
 from pathlib import Path
 from typing import TYPE_CHECKING, Any, Dict, List, Optional, Sequence
 
-from ..program.answers import Answer
 from ..drawing.drawing import Drawing
 from ..errors import Ending, Mistake
 from ..explain.explaining import why_ended
+from ..explain.refusals import Explainer
+from ..files import write_file
 from ..output import say
 from ..page.changes import changes_between
 from ..page.contents import compared, contents_of, title_of
 from ..page.sheet import MARK, page_of
-from ..explain.refusals import Explainer
+from ..program.answers import Answer
 from ..program.script import Script
-from ..files import write_file
 
 if TYPE_CHECKING:
     from ..cli import Subparsers

@@ -5,13 +5,13 @@ from __future__ import annotations
 from dataclasses import dataclass, field
 from typing import Any, Callable, Dict, List, Optional, Sequence, Set
 
-from ..format import classes
-from .aligning import Pair, agree, aligned
 from ..drawing.drawing import Drawing
+from ..format import classes
 from ..format.element import Element, described
 from ..format.fields import field_name, points_span
 from ..format.numbers import Point
 from ..output import counted
+from .aligning import Pair, agree, aligned
 
 
 @dataclass

@@ -8,7 +8,6 @@ import struct
 from typing import Iterator, List, Sequence
 
 from ..drawing.drawing import Drawing
-from ..format.element import described
 from ..errors import (
     BadDesign,
     BadPatch,
@@ -22,16 +21,17 @@ from ..errors import (
     TooLong,
     WriteFault,
 )
+from ..files import front_of, read_drawing, read_file
+from ..format.element import described
 from ..format.fields import field_name
 from ..format.limits import DRAWING_LONGEST, PATCH_LONGEST, SCRIPT_LONGEST
-from ..program.grammar import fault_of, kinds_of
-from ..files import front_of, read_drawing, read_file
 from ..format.patch import Entry, Field, Patch
 from ..format.places import Scale
+from ..format.tcb import KIND_SAID, kind_of
 from ..format.units import Units, rounded
+from ..program.grammar import fault_of, kinds_of
 from ..program.runs import Program
 from ..program.script import Script
-from ..format.tcb import KIND_SAID, kind_of
 
 FAULTS = {
     'not-design': 'it does not begin as a design file does',

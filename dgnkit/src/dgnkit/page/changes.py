@@ -5,8 +5,8 @@ from __future__ import annotations
 from dataclasses import dataclass
 from typing import List, Optional, Union
 
-from ..explain.comparing import Difference, differences
 from ..drawing.drawing import Drawing
+from ..explain.comparing import Difference, differences
 
 
 @dataclass(frozen=True)

@@ -4,11 +4,11 @@ from __future__ import annotations
 
 from typing import Any, Dict, Iterable, List, Optional, Sequence, Set, Tuple
 
-from ..format import classes
 from ..drawing.broken import why_broken
 from ..drawing.drawing import Drawing
-from ..format.element import Element
 from ..drawing.nesting import Nesting
+from ..format import classes
+from ..format.element import Element
 
 Columns = Dict[str, Any]
 

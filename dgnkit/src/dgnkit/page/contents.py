@@ -5,8 +5,8 @@ from __future__ import annotations
 import os
 from typing import Any, Dict, List, Optional, Set
 
-from ..format import classes
 from ..drawing.drawing import Drawing
+from ..format import classes
 from ..output import counted
 from .changes import Change, rows_of
 from .columns import Columns, Writer, signature
