@@ -184,7 +184,8 @@ class Finds(samples.WithProgram):
         self.assertEqual(self.numbers(path, '--size', '2.5'), [2])
         self.assertEqual(self.numbers(path, '--size', '>2.5'), [3])
         self.assertEqual(self.numbers(path, '--size', '<=2.5'), [1, 2])
-        self.assertEqual(self.numbers(path, '--size', '0.6,6'), [1, 3])
+        self.assertEqual(self.numbers(path, '--size', '0.6', '--size', '6'), [1, 3])
+        self.assertEqual(self.numbers(path, '--size', '2,5'), [2])
         self.assertEqual(self.numbers(path, '--size', '2500', '--units', 'resolution'), [2])
 
     def test_the_nearest(self) -> None:
@@ -232,6 +233,9 @@ class Finds(samples.WithProgram):
         path = self.put('in.dgn', with_units(drawings.drawing(drawings.line()), *origin))
         words = ['find', path, '--number', 1, '--script']
         self.assertEqual(self.said(*words, 'move {n} {2.5} {-1}'), 'move 1 2500 -1000\n')
+        for wrong in ('move {n} {2,5} 0', 'move {n} {x} 0', 'move {n} {2.5 0'):
+            status, _, err = self.kit(*words, wrong)
+            self.assertEqual((status, 'it is written {2.5}' in err), (2, True), err)
         text = self.said(*words, 'text 1 0 0 0 1 0 {3} {3} {1.5},{2} NO {n}')
         self.assertEqual(text, 'text 1 0 0 0 1 0 500000 500000 500,2500 NO 1\n')
 
