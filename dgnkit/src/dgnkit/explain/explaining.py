@@ -51,7 +51,7 @@ DECIMAL_POINT = re.compile(r'-?\d{1,12}(\.\d{1,12})?', re.ASCII)
 def why_ended(program: Program, ending: Ending, drawing: str, script: str, out: str) -> str:
     """Why an `edit` or an `apply` ended as it did; `script` is the script or the patch file."""
     if isinstance(ending, BadUsage):
-        return why_usage(drawing, script, out)
+        return 'dgnedit does not take these arguments: %s %s %s' % (drawing, script, out)
     if isinstance(ending, BadScript):
         return why_bad_line(drawing, script, ending.line)
     if isinstance(ending, BadDesign):
@@ -72,15 +72,6 @@ def why_ended(program: Program, ending: Ending, drawing: str, script: str, out: 
     if isinstance(ending, OutOfMemory):
         return 'there was no memory for it'
     return str(ending)
-
-
-def why_usage(drawing: str, script: str, out: str) -> str:
-    """Why the arguments were not taken."""
-    if drawing == out:
-        return (
-            '%s is named as the drawing that is read and as the file that is written: name another one to write' % out
-        )
-    return 'dgnedit does not take these arguments: %s %s %s' % (drawing, script, out)
 
 
 def why_bad_line(drawing: str, script: str, number: int) -> str:
