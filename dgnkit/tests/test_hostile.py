@@ -67,9 +67,7 @@ class Hostile(samples.WithProgram):
 
     def test_a_pattern_that_never_ends_is_stopped(self) -> None:
         path = self.put('in.dgn', drawings.drawing(plan.text(3, (0, 0), b'a' * 40 + b'!')))
-        with mock.patch('dgnkit.waiting.PATIENCE', 0.5), mock.patch(
-            'dgnkit.waiting.stopped_after.__defaults__', (0.5,)
-        ):
+        with mock.patch('dgnkit.waiting.PATIENCE', 0.5):
             start = time.monotonic()
             self.one_line(['find', path, '--pattern', '(a+)+$'], 'was stopped')
             self.one_line(['retext', path, self.path('p'), '(a+)+$', 'b', '--regex'], 'was stopped')
