@@ -344,7 +344,14 @@ class OutOfTheDrawing(samples.WithProgram):
     def test_differences_as_a_script(self) -> None:
         file = (samples.EXAMPLES / 'plan.dgn').read_bytes()
         lines = ['move 6 10 -20', 'sym 5 3 7 -', 'color 9 5', 'delete 3', 'move 10 5 5', 'fit 9']
-        lines += ['line 3 1 2 3 0,0 9,9', 'shape 3 1 2 3 0,0 9,9 9,0 0,0', 'text 3 1 0 0 1 0 700 800 5,5 a b']
+        lines += [
+            'delete 11',
+            'copy 6 3 4',
+            'copy 5 5 5',
+            'line 3 1 2 3 0,0 9,9',
+            'shape 3 1 2 3 0,0 9,9 9,0 0,0',
+            'text 3 1 0 0 1 0 700 800 5,5 a b',
+        ]
         self.assertEqual(self.differences_left(file, lines, {}), 'no difference\n')
         self.assertIn('1 element differs: 1 on another level', self.differences_left(file, lines, {1536: 7}))
 

@@ -224,6 +224,16 @@ STEPS: List[Callable[[_Comparison], None]] = [
 ]
 
 
+def shift_between(drawing: Drawing, old: Element, new: Element) -> Optional[Point]:
+    """By what an element is moved against another one, none where they differ in something else."""
+    if old.type != new.type or old.size != new.size:
+        return None
+    changes = _Comparison(drawing, old, new).difference().changes
+    if not changes:
+        return (0,) * drawing.axes
+    return tuple(changes['moved']['resolution']) if list(changes) == ['moved'] else None
+
+
 def corners(element: Element) -> List[Point]:
     """The two corners of the stored range."""
     stored = element.range
