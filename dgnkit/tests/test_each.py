@@ -75,6 +75,13 @@ class Each(samples.WithProgram):
         status, _, err = self.kit('each', self.script, self.names[0], '--into', self.into)
         self.assertEqual((status, '--force' in err), (2, True))
 
+    def test_the_script_is_not_written_over(self) -> None:
+        (self.folder / 'out').mkdir()
+        script = self.put('out/0.dgn', 'color 1 3\n')
+        status, _, err = self.kit('each', script, self.names[0], '--into', self.into, '--force')
+        self.assertEqual((status, 'is read, and is not written over' in err), (2, True))
+        self.assertEqual((self.folder / 'out/0.dgn').read_text(), 'color 1 3\n')
+
     def test_nothing_is_left_where_it_is_stopped(self) -> None:
         # a program that writes half a drawing and then sleeps stands for one that is at work
         slow = self.put('slow', '#!/bin/sh\nprintf half > "$4"\nexec sleep 60\n')

@@ -32,6 +32,14 @@ class FieldEdits(samples.WithProgram):
         self.assertEqual(changed, {**{offsets[it]: (10, 21) for it in (5, 6, 9)}, **lines})
         self.assertIn('go along: 4 elements below chosen headers, on level 11: 7, 8, 10, 11', err)
 
+    def test_what_belongs_to_a_broken_tree_is_told_to_stay(self) -> None:
+        # a parcel as GDAL writes it: its rings, which are on level 0, are no members before it is mended
+        file = (samples.EXAMPLES / 'town.dgn').read_bytes()
+        changed, err = self.changed('relevel', file, '--to', 21, '--level', 20)
+        self.assertEqual(list(changed.values()), [(20, 21)] * 3)
+        self.assertIn('of 3 chosen elements in broken trees only they change', err)
+        self.assertIn('`dgnkit mend` first', err)
+
     def test_what_of_a_tree_stays_is_told(self) -> None:
         changed, err = self.changed('relevel', self.plan_file, '--to', 21, '--number', 7)
         self.assertEqual(list(changed.values()), [(139, 149)])

@@ -58,7 +58,7 @@ class Hostile(samples.WithProgram):
             ['find', plan_file, '--number', 5, '--script', 'fit {n}', '-o', self.path('none/s')], 'no such file'
         )
         for word in ('info', 'health', 'geojson'):
-            self.one_line([word, 'a\0b'], 'null byte')
+            self.one_line([word, 'a\0b'], 'null')
 
     def test_patterns_that_do_not_compile(self) -> None:
         plan_file = self.example('plan.dgn')
@@ -67,9 +67,7 @@ class Hostile(samples.WithProgram):
 
     def test_a_pattern_that_never_ends_is_stopped(self) -> None:
         path = self.put('in.dgn', drawings.drawing(plan.text(3, (0, 0), b'a' * 40 + b'!')))
-        with mock.patch('dgnkit.waiting.PATIENCE', 0.5), mock.patch(
-            'dgnkit.waiting.stopped_after.__defaults__', (0.5,)
-        ):
+        with mock.patch('dgnkit.waiting.PATIENCE', 0.5):
             start = time.monotonic()
             self.one_line(['find', path, '--pattern', '(a+)+$'], 'was stopped')
             self.one_line(['retext', path, self.path('p'), '(a+)+$', 'b', '--regex'], 'was stopped')

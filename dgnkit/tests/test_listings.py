@@ -8,14 +8,13 @@ from dgnkit import ListingError
 from dgnkit.program.answers import answers_of
 from dgnkit.program.listings import (
     chosen_of,
-    counts_of,
-    elements_of,
     findings_of,
     item_of,
     links_of,
     nodes_of,
     references_of,
 )
+from dgnkit.program.rows import counts_of, elements_of
 
 
 def said(lines: List[str]) -> bytes:

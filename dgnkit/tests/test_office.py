@@ -184,7 +184,8 @@ class Finds(samples.WithProgram):
         self.assertEqual(self.numbers(path, '--size', '2.5'), [2])
         self.assertEqual(self.numbers(path, '--size', '>2.5'), [3])
         self.assertEqual(self.numbers(path, '--size', '<=2.5'), [1, 2])
-        self.assertEqual(self.numbers(path, '--size', '0.6,6'), [1, 3])
+        self.assertEqual(self.numbers(path, '--size', '0.6', '--size', '6'), [1, 3])
+        self.assertEqual(self.numbers(path, '--size', '2,5'), [2])
         self.assertEqual(self.numbers(path, '--size', '2500', '--units', 'resolution'), [2])
 
     def test_the_nearest(self) -> None:
@@ -232,6 +233,9 @@ class Finds(samples.WithProgram):
         path = self.put('in.dgn', with_units(drawings.drawing(drawings.line()), *origin))
         words = ['find', path, '--number', 1, '--script']
         self.assertEqual(self.said(*words, 'move {n} {2.5} {-1}'), 'move 1 2500 -1000\n')
+        for wrong in ('move {n} {2,5} 0', 'move {n} {x} 0', 'move {n} {2.5 0'):
+            status, _, err = self.kit(*words, wrong)
+            self.assertEqual((status, 'it is written {2.5}' in err), (2, True), err)
         text = self.said(*words, 'text 1 0 0 0 1 0 {3} {3} {1.5},{2} NO {n}')
         self.assertEqual(text, 'text 1 0 0 0 1 0 500000 500000 500,2500 NO 1\n')
 
@@ -340,7 +344,14 @@ class OutOfTheDrawing(samples.WithProgram):
     def test_differences_as_a_script(self) -> None:
         file = (samples.EXAMPLES / 'plan.dgn').read_bytes()
         lines = ['move 6 10 -20', 'sym 5 3 7 -', 'color 9 5', 'delete 3', 'move 10 5 5', 'fit 9']
-        lines += ['line 3 1 2 3 0,0 9,9', 'shape 3 1 2 3 0,0 9,9 9,0 0,0', 'text 3 1 0 0 1 0 700 800 5,5 a b']
+        lines += [
+            'delete 11',
+            'copy 6 3 4',
+            'copy 5 5 5',
+            'line 3 1 2 3 0,0 9,9',
+            'shape 3 1 2 3 0,0 9,9 9,0 0,0',
+            'text 3 1 0 0 1 0 700 800 5,5 a b',
+        ]
         self.assertEqual(self.differences_left(file, lines, {}), 'no difference\n')
         self.assertIn('1 element differs: 1 on another level', self.differences_left(file, lines, {1536: 7}))
 

@@ -40,10 +40,14 @@ class Why(samples.WithProgram):
         self.said('why', source, script, out, status=1)
         self.assertEqual(samples.Drawing(out, self.program).elements[5].colour, 1)
 
-    def test_writing_over_the_drawing_itself(self) -> None:
-        source, script = self.example('valve.dgn'), self.put('s', 'copy 2 5 5\ndelete 1\ncolor 1 3\n')
-        same = os.path.join(str(self.folder), '.', 'valve.dgn')
-        self.assertIn('by line 2 of the script', self.said('why', source, script, same, status=1))
+    def test_nothing_is_written_over_what_is_read(self) -> None:
+        source, script = self.example('valve.dgn'), self.put('s', 'import %s\n' % self.example('plan.dgn'))
+        before = {it.name: it.read_bytes() for it in self.folder.iterdir()}
+        for out in (os.path.join(str(self.folder), '.', 'valve.dgn'), script, self.path('plan.dgn')):
+            for word in ('why', 'run'):
+                status, _, err = self.kit(word, source, script, out)
+                self.assertEqual((status, 'is read, and is not written over' in err), (2, True))
+        self.assertEqual({it.name: it.read_bytes() for it in self.folder.iterdir()}, before)
 
     def test_locked_deleted_and_unknown(self) -> None:
         said = self.why(drawings.DRAWINGS[MEMBER_LOCKED], 'move 1 5 5', 'color 2 1')
@@ -120,7 +124,6 @@ class Endings(samples.WithProgram):
         valve, script = self.example('valve.dgn'), self.put('s', 'color 1 3\n')
         self.assertIn('there is no folder', self.why(valve, script, self.path('nowhere/out.dgn')))
         self.assertIn('it is a folder', self.why(valve, script, str(self.folder)))
-        self.assertIn('name another one to write', self.why(valve, script, valve))
 
     def test_a_drawing_that_does_not_open(self) -> None:
         script = self.put('s', 'color 1 3\n')

@@ -23,17 +23,17 @@ STEP = 4096
 
 
 @contextlib.contextmanager
-def stopped_after(what: str, seconds: float = PATIENCE) -> Iterator[None]:
-    """Stops what takes longer than so many seconds. It raises Mistake then."""
+def stopped_after(what: str) -> Iterator[None]:
+    """Stops what takes longer than some seconds. It raises Mistake then."""
     if threading.current_thread() is not threading.main_thread():
         yield
         return
 
     def stop(number: int, frame: Optional[FrameType]) -> None:
-        raise Mistake('%s takes more than %g seconds, and was stopped' % (what, seconds))
+        raise Mistake('%s takes more than %g seconds, and was stopped' % (what, PATIENCE))
 
     kept = signal.signal(signal.SIGALRM, stop)
-    signal.setitimer(signal.ITIMER_REAL, seconds)
+    signal.setitimer(signal.ITIMER_REAL, PATIENCE)
     try:
         yield
     finally:

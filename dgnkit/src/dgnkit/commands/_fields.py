@@ -6,9 +6,10 @@ import argparse
 from dataclasses import dataclass
 from typing import TYPE_CHECKING, Callable, List, Sequence
 
-from ..drawing.conditions import Conditions, add_conditions, has_conditions
+from ..drawing.conditions import Conditions
 from ..drawing.drawing import Drawing
 from ..drawing.nothing import nothing_said
+from ..drawing.options import add_conditions, has_conditions
 from ..errors import Mistake
 from ..explain.members import parts_said
 from ..output import counted, few, note, printable, say
@@ -69,6 +70,7 @@ def taken(conditions: Conditions, takes_parts: bool) -> List[int]:
     chosen, nesting, dead = conditions.chosen(), drawing.nesting, drawing.dead
     if not takes_parts and not conditions.takes_trees:
         return chosen
+    tell_broken(conditions, chosen)
     below = {it for top in chosen for it in nesting.part(top) if it not in dead or top in dead}
     more = sorted(below.difference(chosen))
     if conditions.takes_members:
@@ -78,6 +80,16 @@ def taken(conditions: Conditions, takes_parts: bool) -> List[int]:
     for said in parts_said(drawing, chosen, TOLD):
         note(said + ', and the rest of it stays (--trees takes it)')
     return sorted(below)
+
+
+def tell_broken(conditions: Conditions, chosen: Sequence[int]) -> None:
+    """Says which chosen elements stand in broken trees: what belongs to these, as the rings of a parcel that GDAL
+    wrote, isn't known, and stays."""
+    roots = conditions.drawing.nesting.roots
+    broken = [it for it in chosen if roots[it] in conditions.broken_roots]
+    if broken:
+        said = 'of %s in broken trees only they change, since it is not known what belongs to them'
+        note((said + ' (%s): `dgnkit mend` first') % (counted(len(broken), 'chosen element'), few(broken)))
 
 
 def tell(numbers: Sequence[int], what: str, drawing: Drawing) -> None:

@@ -7,11 +7,11 @@ import os
 import stat
 import tempfile
 from pathlib import Path
-from typing import Any, Dict, Iterator, List
+from typing import Any, Dict, Iterator, List, Sequence
 
 from ..drawing.drawing import Drawing
-from ..errors import ListingError, ending_of
-from ..explain.explaining import why_ended
+from ..errors import ListingError, Mistake, ending_of
+from ..explain.explaining import imports_of, why_ended
 from ..explain.refusals import Explainer
 from ..files import front_of, read_file
 from ..format.limits import PATCH_LONGEST, SCRIPT_LONGEST
@@ -27,6 +27,13 @@ HEAD = ['line', 'command', 'cause', 'why']  # what is told of a refused line
 def is_patch(name: str) -> bool:
     """Whether a file begins as a patch file does."""
     return front_of(name, len(MARK)) == MARK
+
+
+def ask_out(drawing: str, steps: Sequence[str], out: str) -> None:
+    """It raises Mistake where the drawing would be written over a file that is read, or that a script imports."""
+    for name in [drawing, *steps, *(it for step in steps if not is_patch(step) for it in imports_of(step))]:
+        if os.path.exists(name) and os.path.exists(out) and os.path.samefile(name, out) and os.path.isfile(out):
+            raise Mistake('%s is read, and is not written over: name another file' % out)
 
 
 @contextlib.contextmanager

@@ -22,7 +22,7 @@ from ..program.many import run_all
 from ..program.runs import Program, lines_of
 from ..program.script import Script
 from ..waiting import is_terminal, tells_itself
-from ._runs import is_patch, on_disk
+from ._runs import ask_out, is_patch, on_disk
 
 if TYPE_CHECKING:
     from ..cli import Subparsers
@@ -63,6 +63,8 @@ def run(arguments: argparse.Namespace) -> int:
     if jobs < 1:
         raise Mistake('--jobs is at least 1')
     targets = targets_of(arguments.drawings, arguments.into, arguments.force)
+    for target in targets:
+        ask_out(arguments.script, [], str(target))
     with on_disk(arguments.script) as script:
         runs = Runs(program, script, is_patch(script), arguments.drawings, targets, arguments.force)
         outcomes = runs.all(arguments.into, jobs)

@@ -5,9 +5,10 @@ from __future__ import annotations
 import argparse
 from typing import TYPE_CHECKING, Any, Dict, List, Sequence
 
-from ..drawing.conditions import Conditions, add_conditions
-from ..drawing.nothing import nothing_said
+from ..drawing.conditions import Conditions
 from ..drawing.drawing import Drawing
+from ..drawing.nothing import nothing_said
+from ..drawing.options import add_conditions
 from ..errors import Mistake
 from ..explain.members import parts_said
 from ..format.element import Element

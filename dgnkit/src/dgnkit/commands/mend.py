@@ -10,11 +10,11 @@ from typing import TYPE_CHECKING, Sequence
 
 from ..drawing.changes import Change
 from ..drawing.drawing import Drawing
-from ..format.element import described
 from ..drawing.mending import mending_of
 from ..errors import Mistake
-from ..output import counted, note, say, say_csv, say_json
 from ..files import write_file
+from ..format.element import described
+from ..output import counted, note, say, say_csv, say_json
 from ..propose.writing import applied, patch_of, propose_patch
 
 if TYPE_CHECKING:

@@ -6,12 +6,12 @@ import argparse
 from typing import TYPE_CHECKING, Callable
 
 from ..drawing.drawing import Drawing
-from ..format.element import described
 from ..errors import Mistake
-from ..propose.merging import Merge, left_of, merge_of, words_of
+from ..format.element import described
 from ..output import note, printable, say
 from ..program.runs import Program
 from ..program.script import Script
+from ..propose.merging import Merge, left_of, merge_of, words_of
 from ..propose.scripting import give_script
 
 if TYPE_CHECKING:

@@ -5,8 +5,8 @@ from __future__ import annotations
 import argparse
 from typing import TYPE_CHECKING, Sequence
 
-from ..drawing.spans import number_of
 from ..drawing.drawing import Drawing
+from ..drawing.spans import number_of
 from ..format.limits import LEVEL_MOST
 from ..propose.field_edits import FieldEdits, relevel
 from ._fields import Word, register_edit

@@ -13,7 +13,7 @@ from ..errors import Mistake
 from ..files import mistake_of, put_in_place
 from ..output import counted, note, say, say_csv, say_json, say_raw
 from ..program.runs import Program
-from ._runs import HEAD, Step, on_disk
+from ._runs import HEAD, Step, ask_out, on_disk
 
 if TYPE_CHECKING:
     from ..cli import Subparsers
@@ -36,10 +36,12 @@ def register(words: Subparsers) -> None:
 def run(arguments: argparse.Namespace) -> int:
     """The status is 0 where nothing was refused, 1 where a command was; it raises Mistake where nothing was written."""
     out = arguments.out
-    ask_out([arguments.drawing, *arguments.steps], out)
+    if os.path.isdir(out):
+        raise Mistake('%s can not be written: it is a folder' % out)
     program, steps = Program.find(), []
     with contextlib.ExitStack() as stack:
         names = [stack.enter_context(on_disk(it)) for it in arguments.steps]
+        ask_out(arguments.drawing, [*arguments.steps, *names], out)
         folder = stack.enter_context(folder_beside(out))
         drawing = arguments.drawing
         for index, name in enumerate(names):
@@ -67,15 +69,6 @@ def tell_texts(steps: List[Step]) -> None:
             '%s a range that is a point, which fences and --near miss: `dgnkit text` and `draw` set it by a patch file'
         )
         note(said % counted(count, 'appended text has', 'appended texts have'))
-
-
-def ask_out(read: List[str], out: str) -> None:
-    """It raises Mistake where the drawing would be written over a file that is read."""
-    for name in read:
-        if os.path.exists(name) and os.path.exists(out) and os.path.samefile(name, out) and os.path.isfile(out):
-            raise Mistake('%s is read, and is not written over: name another file' % out)
-    if os.path.isdir(out):
-        raise Mistake('%s can not be written: it is a folder' % out)
 
 
 def folder_beside(out: str) -> contextlib.AbstractContextManager[str]:

@@ -3,14 +3,12 @@
 from __future__ import annotations
 
 import argparse
-import os
-from typing import TYPE_CHECKING, List, Optional
+from typing import TYPE_CHECKING, List
 
 from ..drawing.drawing import Drawing
-from ..errors import Mistake
 from ..output import say, say_csv, say_json
 from ..program.runs import NOWHERE, Program
-from ._runs import HEAD, Step, Told, on_disk
+from ._runs import HEAD, Step, Told, ask_out, on_disk
 
 if TYPE_CHECKING:
     from ..cli import Subparsers
@@ -30,27 +28,15 @@ def register(words: Subparsers) -> None:
 def run(arguments: argparse.Namespace) -> int:
     """The status is 0 where nothing was refused, else 1."""
     program = Program.find()
-    before = opened_before(program, arguments.drawing, arguments.out)
     with on_disk(arguments.script) as script:
+        ask_out(arguments.drawing, [arguments.script, script], arguments.out)
         step = Step(program, arguments.drawing, script, arguments.out)
         why = step.run()
     if why:
         return tell_ending(arguments, step, why)
     if step.is_refused or not step.is_patch:
-        step.explain(before or Drawing(arguments.drawing, program))
+        step.explain(Drawing(arguments.drawing, program))
     return tell(arguments, step.refused, step.end)
-
-
-def opened_before(program: Program, name: str, out: str) -> Optional[Drawing]:
-    """The drawing with all its trees as they are before the run, where that writes over it."""
-    if not (os.path.exists(name) and os.path.exists(out) and os.path.samefile(name, out)):
-        return None
-    try:
-        drawing = Drawing(name, program)
-        drawing.nesting  # is kept once it is read
-        return drawing
-    except Mistake:
-        return None
 
 
 def tell(arguments: argparse.Namespace, refused: List[Told], end: str) -> int:

@@ -3,10 +3,10 @@
 from __future__ import annotations
 
 from ..format import classes
-from .drawing import Drawing
 from ..format.element import Element
 from ..format.limits import TOTAL_MOST
 from ..output import counted
+from .drawing import Drawing
 from .reach import Reach, bytes_of
 
 

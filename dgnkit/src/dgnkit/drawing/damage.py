@@ -7,8 +7,8 @@ from bisect import bisect_right
 from dataclasses import dataclass
 from typing import Iterator, List
 
-from .drawing import Drawing
 from ..format.element import Element
+from .drawing import Drawing
 
 RUN = 128  # so many zero bytes in a row are told
 ZEROS = re.compile(rb'\0{%d,}' % RUN)

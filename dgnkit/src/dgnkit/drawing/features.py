@@ -5,6 +5,7 @@ from __future__ import annotations
 
 import json
 from functools import lru_cache
+from itertools import product
 from typing import Callable, Dict, Iterator, List, Optional, Sequence, Tuple
 
 from ..format import classes
@@ -17,13 +18,14 @@ from .geometry import Box
 
 Place = Callable[[Point], str]
 FEATURE = (
-    '{"type": "Feature", "id": %d, "properties": {"number": %d, "root": %d, "depth": %d, %s, "text": %s, "height": %s, '
-    '"angle": %s, "cell": %s, "locked": %s, "broken": %s, "by_range": %s}, '
+    '{"type": "Feature", "id": %d, "properties": {"number": %d, "root": %d, "depth": %d, %s, %s, %s}, '
     '"geometry": {"type": "%s", "coordinates": %s}}'
 )
+WORDS = '"text": %s, "height": %s, "angle": %s, "cell": %s'
+NO_WORDS = WORDS % (('null',) * 4)
+STANDING = '"locked": %s, "broken": %s, "by_range": %s'
 LOOK = '"type": %d, "type_name": %s, "level": %d, "colour": %d, "rgb": "%s", "weight": %d, "style": %d'
 ONLY_RANGE = classes.BY_RANGE - classes.WORDS
-NO, YES = 'false', 'true'
 
 
 @lru_cache(maxsize=4096)
@@ -48,6 +50,7 @@ class Features:
         """`has_members` is whether the members of complex chains and shapes are features too."""
         self.drawing, self.has_members = drawing, has_members
         self.place = in_master(drawing.units) if is_master else in_resolution(drawing.axes)
+        self.standings = {key: STANDING % tuple(map(json.dumps, key)) for key in product((False, True), repeat=3)}
         self.looks: Dict[Tuple[int, int, bytes], str] = {}
         self.broken_roots = drawing.nesting.broken_roots
         self.scale = 1 / drawing.units.in_master if is_master else 1.0
@@ -71,29 +74,18 @@ class Features:
     def feature(self, element: Element, geometry: Geometry) -> str:
         """A feature: what it says of its element, and where that is."""
         nesting, number, kind = self.drawing.nesting, element.number, element.type
-        root, text, height, angle, cell = nesting.roots[number], 'null', 'null', 'null', 'null'
-        if kind == classes.TEXT:
-            text = json.dumps(element.text)
-            height = repr(round((element.text_size or (0.0, 0.0))[1] * self.scale, 9))
-            angle = repr(round(element.text_angle or 0.0, 6))
-        elif kind == classes.CELL:
-            cell = spelled(element.cell_name)
-        return FEATURE % (
-            number,
-            number,
-            root,
-            nesting.depths[number],
-            self.look(element),
-            text,
-            height,
-            angle,
-            cell,
-            YES if element.is_locked else NO,
-            YES if root in self.broken_roots else NO,
-            YES if kind in ONLY_RANGE else NO,
-            geometry.kind,
-            geometry.coordinates,
-        )
+        root = nesting.roots[number]
+        words = self.words(element) if kind in (classes.TEXT, classes.CELL) else NO_WORDS
+        standing = self.standings[element.is_locked, root in self.broken_roots, kind in ONLY_RANGE]
+        front = number, number, root, nesting.depths[number]
+        return FEATURE % (*front, self.look(element), words, standing, geometry.kind, geometry.coordinates)
+
+    def words(self, element: Element) -> str:
+        """What a feature says of a text or of a cell."""
+        if element.type == classes.CELL:
+            return WORDS % ('null', 'null', 'null', spelled(element.cell_name))
+        height = round((element.text_size or (0.0, 0.0))[1] * self.scale, 9)
+        return WORDS % (json.dumps(element.text), repr(height), repr(round(element.text_angle or 0.0, 6)), 'null')
 
     def look(self, element: Element) -> str:
         """What a feature says of the type, the level and the look; many elements have the same."""

@@ -8,11 +8,11 @@ from dataclasses import dataclass, field
 from typing import List, Tuple
 
 from ..format import classes
+from ..format.element import Element
+from ..output import counted
 from .broken import why_loose
 from .changes import Change
 from .drawing import Drawing
-from ..format.element import Element
-from ..output import counted
 from .reach import Reach, bytes_of
 
 

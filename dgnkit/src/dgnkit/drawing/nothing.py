@@ -8,7 +8,8 @@ from ..format import classes
 from ..format.classes import type_name
 from ..output import few, listed
 from .cells import names_said
-from .conditions import NAMES, Conditions
+from .conditions import Conditions
+from .options import NAMES
 
 OPTIONS = {'wrong_range': 'wrong-range', 'numbers_file': 'numbers'}
 

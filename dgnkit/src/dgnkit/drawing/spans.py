@@ -8,6 +8,7 @@ from typing import List, Sequence, Tuple
 from ..errors import Mistake
 
 SPAN = re.compile(r'(\d{1,12})(?:-(\d{1,12}))?')
+SIZE = re.compile(r'([<>]=?)?\s*(\d{1,12}(?:[.,]\d{1,12})?)', re.ASCII)
 COMPARISON = re.compile(r'([<>]=?)\s*(\d{1,12})')
 
 
@@ -55,9 +56,11 @@ def number_of(word: str, what: str, most: int) -> int:
 
 
 def sizes_of(words: Sequence[str]) -> List[Tuple[str, str]]:
-    """Sizes with points, each as its comparison, empty for the size itself, and its number."""
-    pieces = (piece.strip() for piece in ','.join(words).split(','))
-    found = [re.fullmatch(r'([<>]=?)?\s*(\d{1,12}(?:\.\d{1,12})?)', piece) for piece in pieces]
-    if not all(found):
-        raise Mistake('%r is no size: it is a number as 2.5, or a comparison as >2.5' % ','.join(words))
-    return [(it[1] or '', it[2]) for it in found if it]
+    """Sizes with points or decimal commas, each as its comparison, empty for the size itself, and its number."""
+    made = []
+    for word in words:
+        found = SIZE.fullmatch(word.strip())
+        if not found:
+            raise Mistake('%r is no size: it is a number as 2.5, or a comparison as >2.5' % word)
+        made.append((found[1] or '', found[2]))
+    return made

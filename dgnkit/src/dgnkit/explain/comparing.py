@@ -5,13 +5,13 @@ from __future__ import annotations
 from dataclasses import dataclass, field
 from typing import Any, Callable, Dict, List, Optional, Sequence, Set
 
-from ..format import classes
-from .aligning import Pair, agree, aligned
 from ..drawing.drawing import Drawing
+from ..format import classes
 from ..format.element import Element, described
 from ..format.fields import field_name, points_span
 from ..format.numbers import Point
 from ..output import counted
+from .aligning import Pair, agree, aligned
 
 
 @dataclass
@@ -222,6 +222,16 @@ STEPS: List[Callable[[_Comparison], None]] = [
     _Comparison.points,
     _Comparison.rest,
 ]
+
+
+def shift_between(drawing: Drawing, old: Element, new: Element) -> Optional[Point]:
+    """By what an element is moved against another one, none where they differ in something else."""
+    if old.type != new.type or old.size != new.size:
+        return None
+    changes = _Comparison(drawing, old, new).difference().changes
+    if not changes:
+        return (0,) * drawing.axes
+    return tuple(changes['moved']['resolution']) if list(changes) == ['moved'] else None
 
 
 def corners(element: Element) -> List[Point]:

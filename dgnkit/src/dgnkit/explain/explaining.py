@@ -8,7 +8,6 @@ import struct
 from typing import Iterator, List, Sequence
 
 from ..drawing.drawing import Drawing
-from ..format.element import described
 from ..errors import (
     BadDesign,
     BadPatch,
@@ -22,16 +21,17 @@ from ..errors import (
     TooLong,
     WriteFault,
 )
+from ..files import front_of, read_drawing, read_file
+from ..format.element import described
 from ..format.fields import field_name
 from ..format.limits import DRAWING_LONGEST, PATCH_LONGEST, SCRIPT_LONGEST
-from ..program.grammar import fault_of, kinds_of
-from ..files import front_of, read_drawing, read_file
 from ..format.patch import Entry, Field, Patch
 from ..format.places import Scale
+from ..format.tcb import KIND_SAID, kind_of
 from ..format.units import Units, rounded
+from ..program.grammar import fault_of, kinds_of
 from ..program.runs import Program
 from ..program.script import Script
-from ..format.tcb import KIND_SAID, kind_of
 
 FAULTS = {
     'not-design': 'it does not begin as a design file does',
@@ -51,7 +51,7 @@ DECIMAL_POINT = re.compile(r'-?\d{1,12}(\.\d{1,12})?', re.ASCII)
 def why_ended(program: Program, ending: Ending, drawing: str, script: str, out: str) -> str:
     """Why an `edit` or an `apply` ended as it did; `script` is the script or the patch file."""
     if isinstance(ending, BadUsage):
-        return why_usage(drawing, script, out)
+        return 'dgnedit does not take these arguments: %s %s %s' % (drawing, script, out)
     if isinstance(ending, BadScript):
         return why_bad_line(drawing, script, ending.line)
     if isinstance(ending, BadDesign):
@@ -72,15 +72,6 @@ def why_ended(program: Program, ending: Ending, drawing: str, script: str, out: 
     if isinstance(ending, OutOfMemory):
         return 'there was no memory for it'
     return str(ending)
-
-
-def why_usage(drawing: str, script: str, out: str) -> str:
-    """Why the arguments were not taken."""
-    if drawing == out:
-        return (
-            '%s is named as the drawing that is read and as the file that is written: name another one to write' % out
-        )
-    return 'dgnedit does not take these arguments: %s %s %s' % (drawing, script, out)
 
 
 def why_bad_line(drawing: str, script: str, number: int) -> str:

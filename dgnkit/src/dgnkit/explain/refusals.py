@@ -6,15 +6,15 @@ from dataclasses import dataclass
 from functools import cached_property
 from typing import Callable, Dict, Optional, Sequence, Set
 
-from ..program.answers import Answer
 from ..drawing.broken import why_broken
 from ..drawing.drawing import Drawing
+from ..drawing.mending import mending_of
+from ..errors import BadDesign, Mistake
 from ..format.element import described
 from ..format.limits import CORNERS_LEAST, CORNERS_MOST, DRAWING_LONGEST, PLANE_HIGH, PLANE_LOW
-from ..errors import BadDesign, Mistake
-from ..drawing.mending import mending_of
-from ..program.script import Command
 from ..format.tcb import KIND_SAID, kind_of
+from ..program.answers import Answer
+from ..program.script import Command
 
 PLANE_SAID = 'the design plane, %d to %d' % (PLANE_LOW, PLANE_HIGH)
 

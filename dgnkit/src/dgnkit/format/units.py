@@ -8,8 +8,8 @@ from fractions import Fraction
 from functools import cached_property
 from typing import List, Optional, Sequence, Tuple, Union
 
-from .numbers import long_at, vax_double_at
 from ..output import counted, printable
+from .numbers import long_at, vax_double_at
 
 # What two characters are known to stand for, in metres; a foot is the international one. Case doesn't count.
 METRES = {

@@ -11,11 +11,11 @@ from functools import cached_property
 from pathlib import Path
 from typing import List, Optional, Sequence, Union
 
-from .answers import Answer
-from .listings import elements_of
 from ..errors import ListingError, MissingProgram, ending_of
 from ..format.elements import Elements
 from ..waiting import doing
+from .answers import Answer
+from .rows import elements_of
 from .script import Script
 
 Name = Union[str, Path]

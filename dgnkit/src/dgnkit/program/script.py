@@ -6,11 +6,11 @@ from dataclasses import dataclass
 from pathlib import Path
 from typing import Iterable, List, Optional, Sequence, Union
 
-from .answers import Answer, answers_of
 from ..errors import Mistake
 from ..files import read_file
-from ..output import quoted
 from ..format.limits import IMPORTS_MOST, NAME_LONGEST, SCRIPT_LONGEST
+from ..output import quoted
+from .answers import Answer, answers_of
 
 Change = Optional[int]
 Corner = Sequence[int]

@@ -10,10 +10,10 @@ from typing import List, Optional, Sequence, Tuple
 
 from ..drawing.changes import Change
 from ..drawing.drawing import Drawing
+from ..errors import Mistake
 from ..format import classes
 from ..format.element import LOCK_BYTE, Element
 from ..format.radix50 import name_of
-from ..errors import Mistake
 
 NAME_PLACE = 38  # where a cell's name stands
 SILENT = 'their types have no level of a drawing and no lock'

@@ -10,9 +10,9 @@ from ..drawing.drawing import Drawing
 from ..errors import Mistake
 from ..format.limits import FARTHEST
 from ..format.numbers import Point
+from ..format.units import Units, rounded, shortest
 from ..output import counted, few
 from ..program.script import importable
-from ..format.units import Units, rounded, shortest
 
 Extent = Tuple[Point, Point]
 

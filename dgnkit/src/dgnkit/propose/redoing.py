@@ -6,7 +6,7 @@ from __future__ import annotations
 import os
 import tempfile
 from dataclasses import dataclass
-from typing import Any, Callable, Dict, Iterator, List, Optional, Sequence, Tuple
+from typing import AbstractSet, Any, Callable, Dict, Iterator, List, Optional, Sequence, Tuple
 
 from ..drawing.drawing import Drawing
 from ..explain.comparing import Difference, differences
@@ -14,6 +14,7 @@ from ..format import classes
 from ..format.element import Element
 from ..format.limits import POINTS_MOST
 from ..program.script import Script
+from .copies import Copies
 from .scripting import causes
 
 Look = Tuple[Optional[int], Optional[int], Optional[int]]
@@ -46,29 +47,42 @@ def redoing_of(first: Drawing, second: Drawing, found: Sequence[Difference]) -> 
 
 
 def _lines(first: Drawing, second: Drawing, found: Sequence[Difference]) -> Iterator[bytes]:
-    """The lines of the script: what is moved, then looks, deletions, ranges, and what is appended."""
+    """The lines of the script: deletions of what else stays as it is, then what is moved, looks, other deletions,
+    ranges, and what is appended."""
     changes: Dict[int, Dict[str, Any]] = {it.before: it.changes for it in found if it.before is not None}
-    shifts = {it: tuple(change['moved']['resolution']) for it, change in changes.items() if 'moved' in change}
-    yield from _of_parts(first, shifts, lambda it: 'move %d %s' % (it, ' '.join(map(str, shifts[it]))))
-    looks = {it: look_of(change) for it, change in changes.items() if look_of(change) != (None, None, None)}
-    yield from _of_looks(first, second, found, looks)
     gone = {it: True for it, change in changes.items() if change.get('deleted') or 'gone' in change}
-    yield from _of_parts(first, gone, lambda it: 'delete %d' % it)
+    alone = {it: True for it in gone if len(changes[it]) == 1}
+    yield from _of_parts(first, alone, first.dead, lambda it: 'delete %d' % it)
+    dead = first.dead | set(alone)
+    shifts = {it: tuple(change['moved']['resolution']) for it, change in changes.items() if 'moved' in change}
+    yield from _of_parts(first, shifts, dead, lambda it: 'move %d %s' % (it, ' '.join(map(str, shifts[it]))))
+    looks = {it: look_of(change) for it, change in changes.items() if look_of(change) != (None, None, None)}
+    yield from _of_looks(first, second, found, looks, dead)
+    rest = {it: True for it in gone if it not in alone}
+    yield from _of_parts(first, rest, dead, lambda it: 'delete %d' % it)
     fitted = {first.nesting.roots[it] for it, change in changes.items() if 'range' in change}
     yield from (b'fit %d' % it for it in sorted(fitted))
-    for difference in found:
-        if difference.before is None and difference.after is not None:
-            line = drawn_again(second.elements[difference.after])
-            if line and second.nesting.depths[difference.after] == 0:
+    yield from _appended(second, [it.after for it in found if it.before is None and it.after is not None])
+
+
+def _appended(second: Drawing, numbers: Sequence[int]) -> Iterator[bytes]:
+    """A line for each tree that the second drawing has more: of what a script can draw, or copy."""
+    copies = Copies(second, min(numbers, default=0))
+    for number in numbers:
+        if second.nesting.depths[number] == 0:
+            line = copies.line(number) or drawn_again(second.elements[number])
+            if line:
                 yield line
 
 
-def _of_parts(drawing: Drawing, facts: Dict[int, Any], line: Callable[[int], str]) -> Iterator[bytes]:
+def _of_parts(
+    drawing: Drawing, facts: Dict[int, Any], dead: AbstractSet[int], line: Callable[[int], str]
+) -> Iterator[bytes]:
     """A line for each element of which all that stands below it has the same fact, but for what is deleted."""
     end = 0
     for number in sorted(facts):
         part = drawing.nesting.part(number)
-        live = [it for it in part if it not in drawing.dead]
+        live = [it for it in part if it not in dead]
         if number >= end and live and all(facts.get(it) == facts[number] for it in live):
             yield line(number).encode('ascii')
             end = part.stop
@@ -80,13 +94,15 @@ def look_of(change: Dict[str, Any]) -> Look:
     return tuple(facts[name][1] if name in facts else None for name in NAMES)  # type: ignore[return-value]
 
 
-def _of_looks(first: Drawing, second: Drawing, found: Sequence[Difference], looks: Dict[int, Look]) -> Iterator[bytes]:
+def _of_looks(
+    first: Drawing, second: Drawing, found: Sequence[Difference], looks: Dict[int, Look], dead: AbstractSet[int]
+) -> Iterator[bytes]:
     """A line for each element whose part has one look where any of it has changed."""
     after = {it.before: it.after for it in found if it.before is not None and it.after is not None}
     end = 0
     for number in sorted(looks):
         part = first.nesting.part(number)
-        live = [it for it in part if it not in first.dead and not first.elements[it].is_silent]
+        live = [it for it in part if it not in dead and not first.elements[it].is_silent]
         changed = [any(looks[it][axis] is not None for it in live if it in looks) for axis in range(3)]
         news = {_look(second.elements[after[it]] if it in after else first.elements[it], changed) for it in live}
         if number >= end and len(news) == 1:

@@ -21,7 +21,7 @@ def template_of(text: str, units: Optional[Units]) -> str:
     has no {n}, is more than a line, or the units aren't known."""
     if PLACE not in text or '\n' in text:
         raise Mistake('%r is no line for each element: it has to name it as %s' % (text, PLACE))
-    if not LENGTH.search(text):
+    if '{' not in text.replace(PLACE, ''):
         return text
     if units is None or not units.is_known:
         raise Mistake('%r has a length in master units, and what these are is not known' % text)
@@ -41,7 +41,9 @@ def expanded(text: str, scale: Scale) -> str:
 
 
 def _piece(word: str, kind: str, scale: Scale) -> str:
-    """A piece of a line, by its kind."""
+    """A piece of a line, by its kind. It raises Mistake where other things stand in braces than a number."""
+    if kind and '{' in LENGTH.sub('', word.replace(PLACE, '')):
+        raise Mistake('%r has in braces what is no number: it is written {2.5}, with a decimal point' % word)
     if kind in ('P', 'Q'):
         axes = enumerate(word.split(','))
         return ','.join(LENGTH.sub(lambda it: str(scale.coordinate(it[1], axis)), one) for axis, one in axes)

@@ -9,10 +9,10 @@ from typing import List, Sequence
 
 from ..drawing.changes import Change
 from ..drawing.drawing import Drawing
-from ..files import read_file, write_file, write_files
 from ..errors import ListingError
-from ..output import counted, few, note, out_name, quoted, say
+from ..files import read_file, write_file, write_files
 from ..format.patch import Patch
+from ..output import counted, few, note, out_name, quoted, say
 from ..program.script import Script
 
 
