@@ -35,6 +35,16 @@ class Runs(samples.WithProgram):
         said = self.said('text', valve, '5,5', 'AB', '--height', '60', '-o', self.path('t'))
         self.assertEqual(self.kit(*said.rstrip().split('next: dgnkit ')[1].split())[2], '')
 
+    def test_a_link_stays_one(self) -> None:
+        valve = self.example('valve.dgn')
+        (self.folder / 'disk').mkdir()
+        os.symlink('disk/there.dgn', self.path('out.dgn'))
+        for colour in (3, 5):
+            self.said('run', valve, self.put('s', 'color 1 %d\n' % colour), self.path('out.dgn'))
+            self.assertTrue(os.path.islink(self.path('out.dgn')))
+            made = samples.Drawing(self.path('disk/there.dgn'), self.program)
+            self.assertEqual(made.elements[1].colour, colour)
+
     def test_each_ending_is_a_sentence_and_nothing_is_written(self) -> None:
         valve, out = self.example('valve.dgn'), self.path('out.dgn')
         good, bad = self.put('good', 'color 1 3\n'), self.put('bad', 'color 1 red\n')
