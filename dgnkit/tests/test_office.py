@@ -27,6 +27,7 @@ class Runs(samples.WithProgram):
         self.assertIn('two: 2 commands, 1 refused', said)
         self.assertIn('out.dgn: written, %d bytes' % (self.folder / 'out.dgn').stat().st_size, said)
         self.assertEqual(self.said('run', valve, first, '/dev/null').count('\n'), 4)
+        self.assertIn('none: 0 commands, 0 refused', self.said('run', valve, self.put('none', '# nothing\n'), out))
 
     def test_the_range_of_an_appended_text_is_told(self) -> None:
         valve, script = self.example('valve.dgn'), self.put('s', 'text 1 0 0 0 1 0 900 900 5,5 AB\n')

@@ -49,7 +49,8 @@ def run(arguments: argparse.Namespace) -> int:
             why = step.run(out)
             if why:
                 raise Mistake(why)
-            step.explain(Drawing(drawing, program)) if step.answers else None
+            if step.is_refused:
+                step.explain(Drawing(drawing, program))
             steps.append(step)
             drawing = step.out
         deliver(drawing, out)
