@@ -46,7 +46,8 @@ int main(int count, char **arguments)
         fprintf(stderr, "usage: edit_in_memory IN SCRIPT OUT, where IN and SCRIPT can be read\n");
         return 2;
     }
-    size_t text_room = 4096, file_room = files[0].bytes.length + 4096;
+    /* Room for the answers of a script without listings, and for what it may well append. */
+    size_t text_room = 2 * files[1].bytes.length + 4096, file_room = files[0].bytes.length + 65536;
     uint8_t *said = malloc(text_room), *made = malloc(file_room);
     dgnedit_ended ended = {0, 0, 7, false};
     if (said != NULL && made != NULL)

@@ -30,7 +30,7 @@ def run(library: ctypes.CDLL, words: list[str], files: dict[str, bytes]) -> tupl
     library.dgnedit_run.restype = Ended
     given = (Bytes * len(words))(*(handed(word.encode()) for word in words))
     lent = (File * len(files))(*(File(handed(name.encode()), handed(it)) for name, it in files.items()))
-    text_room, file_room = 4096, sum(map(len, files.values())) + 4096
+    text_room = file_room = sum(map(len, files.values())) + 65536
     while True:
         text, file = ctypes.create_string_buffer(text_room), ctypes.create_string_buffer(file_room)
         size = ctypes.c_size_t

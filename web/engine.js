@@ -23,7 +23,7 @@ export function canRun() {
 export class Engine {
     /**
      * @param {string} source the worker's script
-     * @param {Uint8Array} program the module
+     * @param {WebAssembly.Module} program
      * @param {(isBusy: boolean) => void} tell is told when the program begins to work and when it has ended
      */
     constructor(source, program, tell) {
@@ -44,7 +44,7 @@ export class Engine {
         this.ready = this.begun();
     }
 
-    /** A worker that has the program. */
+    /** A worker that has the program: what the browser has made of its code so far goes along. */
     begun() {
         const worker = new Worker(this.place);
         worker.postMessage({ does: 'begin', program: this.program });

@@ -14,9 +14,12 @@ const NO_PART = 'This copy of the app shows drawings alone: the program that edi
 
 /** The program in its worker, or null where it can't be run here. */
 async function engineOf() {
-    const program = canRun() ? await partOf('program-part') : null;
-    return program === null ? null : new Engine(byId('worker-part').textContent, program,
-        (isBusy) => showBusy(isBusy));
+    const part = canRun() ? await partOf('program-part') : null;
+    if (part === null) {
+        return null;
+    }
+    const program = await WebAssembly.compile(/** @type {BufferSource} */ (part));
+    return new Engine(byId('worker-part').textContent, program, (isBusy) => showBusy(isBusy));
 }
 
 /** @type {ReturnType<typeof setTimeout> | undefined} */

@@ -26,11 +26,11 @@ extern unsigned char __heap_base;
 static size_t heap_start(void) { return (size_t)&__heap_base; }
 static size_t heap_end(void) { return __builtin_wasm_memory_size(0) * PAGE; }
 
-/* By a fourth at once, and 16 MB at least: a browser may move the whole memory each time that it grows. */
+/* By a fourth at once, and 4 MB at least: a browser may move the whole memory each time that it grows. */
 static int grow_to(size_t end)
 {
     size_t have = heap_end(), pages = (end - have + PAGE - 1) / PAGE, step = have / PAGE / 4;
-    if (step < 256) step = 256;
+    if (step < 64) step = 64;
     if (pages < step && __builtin_wasm_memory_grow(0, step) != (size_t)-1) return 1;
     return __builtin_wasm_memory_grow(0, pages) != (size_t)-1;
 }

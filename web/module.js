@@ -53,13 +53,16 @@ class Memory {
 }
 
 /**
- * The room to try first: the drawing and what a script may well add; two bytes of text for each of a script's.
+ * The room to try first: for the file the drawing and what a script may well add, for the text the answers of a script
+ * without listings.
+ * @param {string[]} words
  * @param {Map<string, Uint8Array>} files
  * @returns {Rooms}
  */
-function usualRooms(files) {
+function usualRooms(words, files) {
     const size = [...files.values()].reduce((sum, bytes) => sum + bytes.length, 0);
-    return { text: 262144 + Math.min(size, 1048576) * 2, file: size + 65536 };
+    const script = files.get(words[2]);
+    return { text: 65536 + 4 * (script === undefined ? 0 : script.length), file: size + 65536 };
 }
 
 /**
@@ -100,7 +103,7 @@ function runWithin(module, words, files, rooms) {
  * @param {Rooms} [rooms] how large text and file may well be; where that is too little, it is run again
  * @returns {Ran}
  */
-export function run(module, words, files, rooms = usualRooms(files)) {
+export function run(module, words, files, rooms = usualRooms(words, files)) {
     try {
         const first = runWithin(module, words, files, rooms);
         return 'status' in first ? first : /** @type {Ran} */ (runWithin(module, words, files, first));

@@ -4,7 +4,7 @@ import { Picture } from './picture.js';
 
 // Milliseconds of a frame for drawing: while the view stands still; the least and the most while it moves; and how long
 // a frame may be then before less is drawn in the next one. A longer pause says nothing of how quick it goes.
-const STILL_SLICE = 24;
+const STILL_SLICE = 50;
 const LEAST_SLICE = 2;
 const MOST_SLICE = 9;
 const LONG_FRAME = 25;

@@ -22,9 +22,9 @@ function ran(words, { bytes, files }, ...more) {
 }
 
 const DOES = {
-    /** @param {{ program: Uint8Array }} asked */
+    /** @param {{ program: WebAssembly.Module }} asked */
     begin(asked) {
-        program = new WebAssembly.Module(/** @type {BufferSource} */ (asked.program));
+        ({ program } = asked);
         return {};
     },
 

@@ -27,6 +27,7 @@ class Runs(samples.WithProgram):
         self.assertIn('two: 2 commands, 1 refused', said)
         self.assertIn('out.dgn: written, %d bytes' % (self.folder / 'out.dgn').stat().st_size, said)
         self.assertEqual(self.said('run', valve, first, '/dev/null').count('\n'), 4)
+        self.assertIn('none: 0 commands, 0 refused', self.said('run', valve, self.put('none', '# nothing\n'), out))
 
     def test_the_range_of_an_appended_text_is_told(self) -> None:
         valve, script = self.example('valve.dgn'), self.put('s', 'text 1 0 0 0 1 0 900 900 5,5 AB\n')
@@ -34,6 +35,16 @@ class Runs(samples.WithProgram):
         self.assertIn('1 appended text has a range that is a point', err)
         said = self.said('text', valve, '5,5', 'AB', '--height', '60', '-o', self.path('t'))
         self.assertEqual(self.kit(*said.rstrip().split('next: dgnkit ')[1].split())[2], '')
+
+    def test_a_link_stays_one(self) -> None:
+        valve = self.example('valve.dgn')
+        (self.folder / 'disk').mkdir()
+        os.symlink('disk/there.dgn', self.path('out.dgn'))
+        for colour in (3, 5):
+            self.said('run', valve, self.put('s', 'color 1 %d\n' % colour), self.path('out.dgn'))
+            self.assertTrue(os.path.islink(self.path('out.dgn')))
+            made = samples.Drawing(self.path('disk/there.dgn'), self.program)
+            self.assertEqual(made.elements[1].colour, colour)
 
     def test_each_ending_is_a_sentence_and_nothing_is_written(self) -> None:
         valve, out = self.example('valve.dgn'), self.path('out.dgn')

@@ -46,6 +46,10 @@ class AsAProcess(samples.WithProgram):
         valve = self.example('valve.dgn')
         self.one_line(self.shell('"$@" > /dev/full', 'info', valve), 'no space left')
         self.one_line(self.shell('"$@" >&-', 'info', valve), 'standard output is closed')
+        for words in (['--help'], ['find', '--help'], ['--version']):
+            self.assertEqual(self.shell('"$@"', *words)[::2], (0, ''))
+            self.one_line(self.shell('"$@" > /dev/full', *words), 'no space left')
+        self.assertEqual(self.shell('"$@" 2>&-', 'find', valve, '--level')[:2], (2, ''))
         self.one_line(self.shell('"$@" >&-', 'geojson', valve), 'standard output is closed')
 
     def test_what_is_noted_does_not_come_into_a_script(self) -> None:

@@ -44,6 +44,12 @@ class Parser(argparse.ArgumentParser):
         super().__init__(*words, **more)
         self._negative_number_matcher = NUMBERS
 
+    def _print_message(self, message: str, file: Any = None) -> None:
+        """Says something, and keeps no failure of that to itself."""
+        stream = sys.stderr if file is None else file
+        if stream is not None and message:
+            stream.write(message)
+
     def error(self, message: str) -> NoReturn:
         """Says what is wrong with the words, and ends with 2."""
         self.exit(ENDED, printable('%s: %s' % (self.prog, message)) + '\n')
@@ -85,9 +91,12 @@ def main(words: Optional[Sequence[str]] = None) -> int:
 def run_words(given: List[str]) -> int:
     """Runs the command that these words are."""
     names = module_names()
-    arguments = parser_of([given[0]] if given and given[0] in names else names).parse_args(given)
-    run: Callable[[argparse.Namespace], int] = arguments.run
-    status = run(arguments)
+    try:
+        arguments = parser_of([given[0]] if given and given[0] in names else names).parse_args(given)
+        run: Callable[[argparse.Namespace], int] = arguments.run
+        status = run(arguments)
+    except SystemExit as told:  # of --help, --version, and words that can't be read
+        status = int(told.code or 0)
     if sys.stdout is not None:
         sys.stdout.flush()
     return status

@@ -16,6 +16,7 @@ from ..explain.refusals import Explainer
 from ..files import front_of, read_file
 from ..format.limits import PATCH_LONGEST, SCRIPT_LONGEST
 from ..format.patch import MARK
+from ..output import counted
 from ..program.answers import Answer
 from ..program.runs import Program
 from ..program.script import Script
@@ -58,6 +59,7 @@ class Step:
     def __init__(self, program: Program, drawing: str, name: str, out: str) -> None:
         self.program, self.drawing, self.name, self.out = program, drawing, name, out
         self.is_patch = is_patch(name)
+        self.status, self.said = 0, ['']
         self.script = Script()
         self.answers: List[Answer] = []
         self.refused: List[Told] = []
@@ -78,19 +80,19 @@ class Step:
             return ''
         self.script = Script.read(self.name)
         self.answers = self.script.answers(ran.said)
+        refused = sum(it.is_refused for it in self.answers)
+        self.end = '%s, %d refused' % (counted(len(self.answers), 'command'), refused)
         return ''
 
     def explain(self, drawing: Drawing) -> None:
         """Explains what was refused, on the drawing as it was before the script."""
-        if self.is_patch:
+        if not self.is_refused:
             return
         explainer = Explainer(drawing, self.script.commands, self.answers)
         self.refused = [
             {'line': it.command.line, 'command': it.command.text, 'cause': it.cause, 'why': explainer.sentence(it)}
             for it in explainer.refused
         ]
-        count = len(self.answers)
-        self.end = '%d command%s, %d refused' % (count, '' if count == 1 else 's', len(self.refused))
 
     @property
     def is_refused(self) -> bool:

@@ -49,7 +49,8 @@ def run(arguments: argparse.Namespace) -> int:
             why = step.run(out)
             if why:
                 raise Mistake(why)
-            step.explain(Drawing(drawing, program)) if step.answers else None
+            if step.is_refused:
+                step.explain(Drawing(drawing, program))
             steps.append(step)
             drawing = step.out
         deliver(drawing, out)
@@ -73,7 +74,7 @@ def tell_texts(steps: List[Step]) -> None:
 
 def folder_beside(out: str) -> contextlib.AbstractContextManager[str]:
     """A temporary folder on the disk that the drawing comes to stand on, or anywhere where it is no file there."""
-    place = os.path.dirname(os.path.abspath(out))
+    place = os.path.dirname(os.path.realpath(out))
     if os.path.exists(out) and not os.path.isfile(out):
         return tempfile.TemporaryDirectory(prefix='dgnkit-')
     if not os.path.isdir(place):
@@ -85,9 +86,9 @@ def folder_beside(out: str) -> contextlib.AbstractContextManager[str]:
 
 
 def deliver(made: str, out: str) -> None:
-    """Puts the drawing that dgnedit made in its place."""
+    """Puts the drawing that dgnedit made in its place, behind a link where OUT is one."""
     if not os.path.exists(out) or os.path.isfile(out):
-        put_in_place(made, out, True)
+        put_in_place(made, os.path.realpath(out), True)
 
 
 def tell(arguments: argparse.Namespace, steps: List[Step]) -> None:

@@ -34,7 +34,7 @@ def run(arguments: argparse.Namespace) -> int:
         why = step.run()
     if why:
         return tell_ending(arguments, step, why)
-    if step.is_refused or not step.is_patch:
+    if step.is_refused:
         step.explain(Drawing(arguments.drawing, program))
     return tell(arguments, step.refused, step.end)
 

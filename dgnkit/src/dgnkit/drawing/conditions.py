@@ -49,7 +49,7 @@ class Conditions:
     def chosen(self) -> List[int]:
         """The numbers of the elements that meet all conditions, or with --trees of the roots of their trees, in file
         order."""
-        met: Iterable[Element] = self.drawing.elements
+        met: Iterable[Element] = self._likely()
         with stopped_after('the search of texts'):
             for test in self.tests:
                 met = [it for it in met if test(it)]
@@ -57,6 +57,22 @@ class Conditions:
         if self.arguments.nearest is not None:
             found = self._nearest(found)
         return self.roots_of(found) if self.takes_trees else found
+
+    def _likely(self) -> Iterable[Element]:
+        """The elements of the levels and types that are asked for, which are found without a look at each."""
+        arguments, elements = self.arguments, self.drawing.elements
+        levels = Spans.read('level', arguments.level or ['0-%d' % LEVEL_MOST], LEVEL_MOST)
+        kinds = types_of(arguments.type) if arguments.type else frozenset(range(classes.MOST + 1))
+        if arguments.cell is not None:
+            kinds &= {classes.CELL}
+        if (arguments.text, arguments.pattern, arguments.size) != (None, None, None):
+            kinds &= {classes.TEXT}
+        is_level = bytes(it in levels for it in range(LEVEL_MOST + 1))
+        is_kind = bytes(it in kinds for it in range(classes.MOST + 1))
+        if all(is_level) and all(is_kind):
+            return elements
+        rows = enumerate(zip(elements.levels, elements.types))
+        return [elements[number] for number, (level, kind) in rows if is_level[level] and is_kind[kind]]
 
     def roots_of(self, numbers: Iterable[int]) -> List[int]:
         """The roots of the trees that elements stand in, each once."""
