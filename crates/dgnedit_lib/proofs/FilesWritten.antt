@@ -1,5 +1,6 @@
 -- Each outcome writes the file that the last of four words names, where it ends as done or with some refused, and else none.
-use Rattle.std.proofs.Common.{◌≡◌, ℕ, ◌-◌, nat_lt, nat_le, Bool, true, false, ◌&&◌, not, if◌then◌else◌, List, [], ◌∷◌, length, map, codes, Option, Some, None, option_map, Result, Ok, Err, refl, sym, ap, ◌∙◌}
+use Rattle.std.proofs.Common.{◌≡◌, ℕ, ◌-◌, nat_lt, nat_le, Bool, true, false, ◌&&◌, not, if◌then◌else◌, List, [], ◌∷◌, length, map, codes}
+use Rattle.std.proofs.Common.{Option, Some, None, option_map, Result, Ok, Err, refl, sym, ap, ◌∙◌}
 use Rattle.std.specs.List.{list_all}
 use Rattle.std.specs.Str.{bytes_eq}
 use Rattle.host_desk.specs.Content.{Files, bytes_of}
@@ -47,11 +48,13 @@ either name true x y is_x is_y = is_x
 either name false x y is_x is_y = is_y
 
 -- whatever the opening of IN comes to
-opened_writes : (name : Option (List ℕ)) (r : Result Opened Fault) (go_on : Opened → Outcome) → ((d : Opened) → WritesAt name (go_on d)) → WritesAt name (opened_outcome r go_on)
+opened_writes : (name : Option (List ℕ)) (r : Result Opened Fault) (go_on : Opened → Outcome)
+    → ((d : Opened) → WritesAt name (go_on d)) → WritesAt name (opened_outcome r go_on)
 opened_writes name (Ok d) go_on goes = goes d
 opened_writes name (Err fault) go_on goes = said name statuses.BadDesign (fault_line fault) refl
 
-input_writes : (name : Option (List ℕ)) (input : List ℕ) (go_on : Opened → Outcome) → ((d : Opened) → WritesAt name (go_on d)) → WritesAt name (input_outcome input go_on)
+input_writes : (name : Option (List ℕ)) (input : List ℕ) (go_on : Opened → Outcome)
+    → ((d : Opened) → WritesAt name (go_on d)) → WritesAt name (input_outcome input go_on)
 input_writes name input go_on goes =
     either name (nat_lt MOST_DESIGN (length input)) (ended statuses.TooLong (codes "too long design\n")) (opened_outcome (opening input) go_on)
     (said name statuses.TooLong _ refl) (opened_writes name (opening input) go_on goes)
@@ -98,7 +101,8 @@ packed_writes d gs patch =
     (record { writes = sym (ap (λ w. name_written w (Some patch)) (ends_written (nat_lt 0 (refused_count gs (begun d))))) })
 
 -- whatever a patch file makes
-made_writes : (before : ℕ) (tail : List ℕ) (count : ℕ) (made : Patched) (output : List ℕ) → WritesAt (Some output) (patched_outcome before tail count made output)
+made_writes : (before : ℕ) (tail : List ℕ) (count : ℕ) (made : Patched) (output : List ℕ)
+    → WritesAt (Some output) (patched_outcome before tail count made output)
 made_writes before tail count (Made b) output = record { writes = refl }
 made_writes before tail count (Differs k) output = said (Some output) statuses.PatchRefused (numbered (codes "refused entry ") k) refl
 made_writes before tail count Overruns output = said (Some output) statuses.TooLong (codes "too long design\n") refl
@@ -135,7 +139,8 @@ request_writes (Some (Gen seed count output)) name files names = at_same _ _ _ n
 request_writes (Some (Pack input script patch)) name files names =
     at_same _ _ _ names (run_writes (Some patch) input script files (λ d gs. packed d gs patch) (λ d gs. packed_writes d gs patch))
 request_writes (Some (Apply input patch output)) name files names =
-    at_same _ _ _ names (input_writes (Some output) (bytes_of files input) (λ d. patched d (bytes_of files patch) output) (λ d. patched_writes d (bytes_of files patch) output))
+    at_same _ _ _ names
+    (input_writes (Some output) (bytes_of files input) (λ d. patched d (bytes_of files patch) output) (λ d. patched_writes d (bytes_of files patch) output))
 
 -- whichever request it is
 either_names : (name : Option (List ℕ)) (b : Bool) (x y : Option Request) → Names x name → Names y name → Names (if b then x else y) name
@@ -145,7 +150,8 @@ either_names name false x y is_x is_y = is_y
 generation_names : (seed count : Option ℕ) (output : List ℕ) → Names (generation_of seed count output) (Some output)
 generation_names None count output = tt
 generation_names (Some seed) None output = tt
-generation_names (Some seed) (Some count) output = either_names (Some output) (nat_le 1 count && nat_le count 200000) (Some (Gen seed count output)) None refl tt
+generation_names (Some seed) (Some count) output =
+    either_names (Some output) (nat_le 1 count && nat_le count 200000) (Some (Gen seed count output)) None refl tt
 
 -- what four words ask for that begin otherwise
 abbrev apply_or_gen : List ℕ → List ℕ → List ℕ → List ℕ → Option Request
@@ -174,7 +180,8 @@ words_name (a ∷ b ∷ c ∷ d ∷ []) = four_name a b c d
 words_name (a ∷ b ∷ c ∷ d ∷ e ∷ more) = tt
 
 -- the outcome of words writes the file that the last of four of them names, where it has written one
-pub outcome_writes : (words : List (List ℕ)) (files : Files) → option_map (λ f. f.0) (outcome words files).file ≡ name_written (has_written (outcome words files).status) (last_of_four words)
+pub outcome_writes : (words : List (List ℕ)) (files : Files)
+    → option_map (λ f. f.0) (outcome words files).file ≡ name_written (has_written (outcome words files).status) (last_of_four words)
 outcome_writes words files = (request_writes (request_of words) (last_of_four words) files (words_name words)).writes
 
 -- of the files after an outcome, that of this name has the bytes that it writes

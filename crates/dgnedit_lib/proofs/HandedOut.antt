@@ -1,5 +1,6 @@
 -- What a run leaves is what is handed out.
-use Rattle.std.proofs.Common.{◌≡◌, ℕ, List, [], ◌++◌, length, Option, Some, None, option_map, unwrap_or, is_some, Bool, true, false, nat_le, if◌then◌else◌, refl, sym, ap, ◌∙◌, arith}
+use Rattle.std.proofs.Common.{◌≡◌, ℕ, List, [], ◌++◌, length, Option, Some, None, option_map, unwrap_or, is_some}
+use Rattle.std.proofs.Common.{Bool, true, false, nat_le, if◌then◌else◌, refl, sym, ap, ◌∙◌, arith}
 use Rattle.host_desk.specs.Content.{Files, Content}
 use Rattle.host_desk.specs.Desk.{Rose}
 use Rattle.dgn_files.specs.Leaving.{Leaves}
@@ -41,7 +42,12 @@ pub hands_out : (words : List (List ℕ)) (status : Status) (old new : Content) 
     → Leaves (outcome words old.files) status old (Some new) → old.said ≡ []
     → found ≡ bytes_at (name_written (has_written status) (last_of_four words)) new.files
     → HandsOut (outcome words old.files) (ended_with status (length new.said) found)
-    (record { text_before = text_before; text_after = put_in new.said text_before; file_before = file_before; file_after = put_in (unwrap_or found []) file_before })
+    (record {
+      text_before = text_before;
+      text_after = put_in new.said text_before;
+      file_before = file_before;
+      file_after = put_in (unwrap_or found []) file_before;
+    })
 hands_out words status old new found text_before file_before left silent is =
     let o = outcome words old.files in
     let told : left.content ≡ new = (let e = left.told_is in cc) in
@@ -55,7 +61,8 @@ hands_out words status old new found text_before file_before left silent is =
           ap (λ s. ended_with s (length new.said) found) left.status_is
           ∙ ap (λ t. ended_with o.status (length t) found) said
           ∙ ap (ended_with o.status (length o.text)) file
-          ∙ ap (λ b. record { text_length = length o.text; file_length = length (bytes_filed o.file); status = number_of o.status; file_written = b }) (is_some-bytes o.file);
+          ∙ ap (λ b. record { text_length = length o.text; file_length = length (bytes_filed o.file); status = number_of o.status; file_written = b })
+          (is_some-bytes o.file);
       text = ap (λ t. put_in t text_before) said;
       file = ap (λ f. put_in (unwrap_or f []) file_before) file;
     }

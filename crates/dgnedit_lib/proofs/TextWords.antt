@@ -38,4 +38,5 @@ kept_more ws i d kept low so_far =
 pub none_given : (ws : List Word) (i : ℕ) (d : Word) → i < length ws → ¬ IsUtf8 (get_or ws i d).bytes.now → [] ≡ words_given (bytes_of_words ws)
 none_given ws i d low not_text =
     sym (ap (λ b. if b then bytes_of_words ws else [])
-    (list_all-map is_utf8 (λ w. w.bytes.now) ws ∙ list_all_at (λ (w : Word). is_utf8 w.bytes.now) ws i d low (fails _ (λ e. not_text (IsUtf8-from_is_utf8 _ e)))))
+    (list_all-map is_utf8 (λ w. w.bytes.now) ws
+    ∙ list_all_at (λ (w : Word). is_utf8 w.bytes.now) ws i d low (fails _ (λ e. not_text (IsUtf8-from_is_utf8 _ e)))))
