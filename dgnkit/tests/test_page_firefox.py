@@ -1,0 +1,59 @@
+"""The app in Firefox, opened from disk: it edits, and what it makes is the program's file. Skipped where there is no
+Firefox."""
+
+from __future__ import annotations
+
+import base64
+import os
+import subprocess
+import sys
+import unittest
+from pathlib import Path
+from unittest import mock
+
+import firefox
+from app import HAS_PROGRAM, NO_PROGRAM, made_app
+from samples import EXAMPLES, PROGRAM, WithProgram
+
+# Waits until the page's script has run, and gives its answers and the bytes that it made.
+MADE = '''
+const done = arguments[arguments.length - 1];
+const look = () => {
+    const { page } = window.wrappedJSObject || window, work = page && page.work;
+    if (!work || work.isDoing || work.session.answers.length < 5) {
+        setTimeout(look, 50);
+        return;
+    }
+    let text = '';
+    for (const byte of work.engine.made) {
+        text += String.fromCharCode(byte);
+    }
+    done([document.title, work.session.answers.filter((it) => it !== null && it.cause !== null).length, btoa(text)]);
+};
+look();
+'''
+
+
+def setUpModule() -> None:
+    if not firefox.COMMAND:
+        print('the page is not tested in Firefox: there is no firefox-esr', file=sys.stderr)
+
+
+@unittest.skipUnless(firefox.COMMAND, 'no firefox-esr')
+@unittest.skipUnless(HAS_PROGRAM, NO_PROGRAM)
+class InFirefox(WithProgram):
+    def test_a_script_makes_what_the_program_makes(self) -> None:
+        assert PROGRAM
+        drawing, script, made = str(EXAMPLES / 'plan.dgn'), str(EXAMPLES / 'plan.txt'), self.path('made.dgn')
+        with mock.patch.dict(os.environ, {'DGNEDIT_APP': str(made_app(self.path('')))}):
+            self.said('page', drawing, '--script', script, '-o', self.path('page.html'))
+        subprocess.run([str(PROGRAM), 'edit', drawing, script, made], check=True, stdout=subprocess.DEVNULL)
+        with firefox.firefox() as seen:
+            seen.open(self.path('page.html'))
+            title, refused, content = seen.run(MADE)
+        self.assertEqual((title, refused), ('plan.dgn – 12 elements', 0))
+        self.assertEqual(base64.b64decode(content), Path(made).read_bytes())
+
+
+if __name__ == '__main__':
+    unittest.main()
