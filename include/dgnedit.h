@@ -5,7 +5,9 @@
    - Each pointer is valid for so many bytes or entries as the length beside it says, which is below 2^63; where that is 0,
      the pointer may be any that isn't null.
    - The two buffers overlap neither each other nor what is handed in, and nobody else writes to any of it during the call.
-   - The call isn't made from a signal handler. Calls on several threads are fine, each with buffers of its own.
+   - malloc, realloc and free come from one allocator, and a block lies at each power of two up to 16 that divides its size.
+   - The call isn't made from a signal handler, nor from the forked child of a process with threads. It can be made on
+     several threads, each with buffers of its own.
 
    Nothing that the bytes, words and names hold can break the call. It reads and writes no file and prints nothing. */
 
