@@ -1,12 +1,15 @@
 -- What is known of a live element before an edit is put into it, and what only its sums tell. No contract of a public call
 -- of `edit_ops` cites this.
 use Rattle.std.specs.Prelude.{ℕ, ◌≡◌, List, Option, None, IsTrue, IsFalse}
+use Rattle.std.specs.List.{flat_map}
 use Rattle.dgn_layout.specs.Classes.{class_of, is_silent}
-use Rattle.dgn_layout.specs.Spots.{has_spots}
+use Rattle.dgn_layout.specs.Spots.{spots_of, has_spots}
+use Rattle.dgn_layout.specs.declared.spot.Spot.{Spot}
 use Rattle.dgn_layout.specs.declared.TheConstants.{END_MARK}
 use Rattle.dgn_drawing.specs.declared.edit.Edit.{Edit}
 use Rattle.dgn_drawing.specs.declared.edit.Edit.TheVariants as edit
 use Rattle.dgn_drawing.specs.Element.{Element}
+use Rattle.dgn_drawing.specs.Spelling.{spell}
 use Rattle.edit_trees.specs.declared.cause.Cause.{Cause}
 use Rattle.edit_trees.specs.declared.asked.Test.TheVariants as tests
 use Rattle.edit_trees.specs.Trees.{Live}
@@ -25,3 +28,7 @@ abbrev pub leaving : ℕ → Edit → List Live → Option Cause
 leaving dim (edit.Move n by) vs = first_cause dim (tests.Leaves by) vs
 leaving dim (edit.Copy n by) vs = first_cause dim (tests.Leaves by) vs
 leaving dim other vs = None
+
+-- the coordinate fields of these live elements, one element's behind the other's
+abbrev pub all_spots : ℕ → List Live → List Spot
+all_spots dim vs = flat_map (λ v. spots_of dim v.element.kind (spell v.element)) vs

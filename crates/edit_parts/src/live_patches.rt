@@ -1,4 +1,4 @@
-ghost use Rattle.std.specs.Prelude.{◌≡◌, ◌+◌, ◌<◌, ◌≤◌, ◌∷◌, [], ◌++◌, length, map, None, OnOk, IfOk, IfErr, OnSome, IfSome, IfNone, IsTrue, IsFalse};
+ghost use Rattle.std.specs.Prelude.{◌≡◌, ◌+◌, ◌<◌, ◌≤◌, ◌∷◌, [], ◌++◌, length, map, min, None, OnOk, IfOk, IfErr, OnSome, IfSome, IfNone, IsTrue, IsFalse};
 ghost use Rattle.std.specs.List.{AllByRecursion, list_all};
 ghost use Rattle.std.specs.Option.{option_to_list};
 ghost use Rattle.elem_head.specs.Head.{symbology_of};
@@ -13,7 +13,7 @@ ghost use Rattle.edit_trees.specs.Causes.{off_plane};
 ghost use Rattle.edit_trees.specs.Trees.{found_at};
 ghost use Rattle.edit_trees.specs.Written.{found, live_puts, sum_put, new_look};
 ghost use Rattle.edit_parts.specs.Copying.{IsStopped};
-ghost use Rattle.edit_parts.specs.Putting.{MayBePut, leaving};
+ghost use Rattle.edit_parts.specs.Putting.{MayBePut, leaving, all_spots};
 
 use dgn_drawing::{Edit, MOST_DESIGN, Shift, SymbChange};
 use dgn_layout::Spot;
@@ -70,10 +70,11 @@ fn make_room(
     }
 }
 
-// How many coordinate fields the elements of these numbers have.
+// How many coordinate fields the elements of these numbers have, as far as the number goes.
 fn numbers_in(d: &Design, live: &[u32]) -> usize
     requires whole { IsWhole d.now }
     requires spotted { AllByRecursion (λ v. IsTrue (has_spots (class_of v.element.kind))) (found (elements d.now) live.now) }
+    ensures { result ≡ min (length (all_spots d.now.dim (found (elements d.now) live.now))) 18446744073709551615 }
 {
     let mut count = 0_usize;
     'live: for m in live {
@@ -87,6 +88,7 @@ fn numbers_at(d: &Design, m: u32) -> usize
     requires whole { IsWhole d.now }
     requires spotted { AllByRecursion (λ v. IsTrue (has_spots (class_of v.element.kind)))
         (option_to_list (found_at (elements d.now) m)) }
+    ensures { result ≡ length (all_spots d.now.dim (option_to_list (found_at (elements d.now) m))) }
 {
     let Some(found) = find(d, m) else {
         return 0;

@@ -73,8 +73,11 @@ fn push_row(rows: &mut Vec<Row>, row: Row, bytes: &[u8]) -> Result<(), AllocErro
     Ok(())
 }
 
-// How many elements with bit C the bytes begin with.
-fn count_members(bytes: &[u8]) -> usize {
+// How many elements with bit C the bytes begin with: no more than there are bytes, so that room for them is no more than in
+// proportion.
+fn count_members(bytes: &[u8]) -> usize
+    ensures { result ≤ length bytes.now }
+{
     let mut rest = bytes;
     let mut count = 0usize;
     'members: while HEAD_END <= rest.len() {
