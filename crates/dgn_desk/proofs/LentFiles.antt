@@ -1,12 +1,13 @@
 -- Files that were written over files that are lent: what stands at a name, and what a change of those that were written makes.
-use Rattle.std.proofs.Common.{◌≡◌, ℕ, ◌+◌, ◌<◌, ◌≤◌, length, drop, take, get_or, List, [], ◌∷◌, ◌++◌, map, Option, Some, None, IsSome, is_some, Bool, true, false, cond, unwrap_or, refl, sym, ap, ◌∙◌}
+use Rattle.std.proofs.Common.{◌≡◌, ℕ, ◌+◌, ◌<◌, ◌≤◌, length, drop, take, get_or, List, [], ◌∷◌, ◌++◌, map, Option, Some, None, IsSome, is_some}
+use Rattle.std.proofs.Common.{Bool, true, false, cond, unwrap_or, refl, sym, ap, ◌∙◌, arith}
 use Rattle.std.specs.Ordering.{nat_cmp, eq_by_cmp}
 use Rattle.std.specs.Cmp.Lexicographic.{slice_cmp, nat_list_cmp_total}
 use Rattle.std.specs.Str.{bytes_eq}
 use Rattle.std.specs.FinMap as maps
-use Rattle.host_desk.specs.Content.{Files, with_file, bytes_of, opened, written}
+use Rattle.host_desk.specs.Content.{Files, with_file, bytes_of, opened, filed, written}
 use Rattle.host_desk.specs.FileLaws.{same_files, get-with_file, get-with_file-same}
-use Rattle.std.proofs.lemmas.List.{at_drop_more, drop_all}
+use Rattle.std.proofs.lemmas.List.{at_drop_more, drop_all, take-append-drop}
 use Rattle.std.proofs.Math.Seq.{take-length}
 use Rattle.dgn_desk.specs.declared.lent_file.LentFile.{LentFile}
 use Rattle.dgn_desk.specs.LentDesk.{pair_of, lent_files, over, IsBegun}
@@ -69,7 +70,8 @@ there_set name bytes w = ap is_some (get-with_file-same name bytes w)
 
 -- of the files from one on, that one is looked at first
 pub first_of_rest : (fs : List LentFile) (i : ℕ) (q : List ℕ) (f : LentFile) → i < length fs
-    → maps.get (lent_files (drop i fs)) q ≡ cond (bytes_eq q (get_or fs i f).name.now) (Some (get_or fs i f).bytes.now) (maps.get (lent_files (drop (i + 1) fs)) q)
+    → maps.get (lent_files (drop i fs)) q
+    ≡ cond (bytes_eq q (get_or fs i f).name.now) (Some (get_or fs i f).bytes.now) (maps.get (lent_files (drop (i + 1) fs)) q)
 first_of_rest fs i q f low =
     at_drop_more (λ rest. maps.get (lent_files rest) q) fs i f low
     ∙ get-with_file (get_or fs i f).name.now (get_or fs i f).bytes.now (lent_files (drop (i + 1) fs)) q
@@ -91,10 +93,25 @@ pub none_left : (fs : List LentFile) (i : ℕ) (q : List ℕ) → length fs ≤ 
 none_left fs i q past = ap (λ rest. maps.get (lent_files rest) q) (drop_all i fs past) ∙ maps.get-empty (slice_cmp nat_cmp) q
 
 -- a file that is opened to read: all its bytes are left
-pub opened_over : (w : Files) (fs : List LentFile) (q bytes left said : List ℕ) (target : Option (List ℕ)) → bytes_of (over w fs) q ≡ bytes
-    → Some (record { files = over w fs; left = bytes; target = target; said = said })
-    ≡ Some (opened q (record { files = over w fs; left = left; target = target; said = said }))
-opened_over w fs q bytes left said target is = ap (λ b. Some (record { files = over w fs; left = b; target = target; said = said })) (sym is)
+pub opened_over : (w : Files) (fs : List LentFile) (q bytes left settled since : List ℕ) (target : Option (List ℕ)) → bytes_of (over w fs) q ≡ bytes
+    → Some (record { files = over w fs; left = bytes; target = target; settled = settled; since = since })
+    ≡ Some (opened q (record { files = over w fs; left = left; target = target; settled = settled; since = since }))
+opened_over w fs q bytes left settled since target is =
+    ap (λ b. Some (record { files = over w fs; left = b; target = target; settled = settled; since = since })) (sym is)
+
+-- a file that is begun: it is there and empty, and all that was said was said before it
+pub filed_over : (w new : Files) (fs : List LentFile) (name begun left said : List ℕ) (n at : ℕ) (target : Option (List ℕ))
+    → new ≡ with_file name [] w → begun ≡ name → n ≡ length said
+    → Some (record { files = over new fs; left = left; target = Some begun; settled = take n said; since = drop n said })
+    ≡ Some (filed name [] (record { files = over w fs; left = left; target = target; settled = take at said; since = drop at said }))
+filed_over w new fs name begun left said n at target is same all =
+    ap (λ f. Some (record { files = f; left = left; target = Some begun; settled = take n said; since = drop n said }))
+    (ap (λ f. over f fs) is ∙ over_with_file name [] w fs)
+    ∙ ap (λ q. Some (record { files = with_file name [] (over w fs); left = left; target = Some q; settled = take n said; since = drop n said })) same
+    ∙ ap (λ t. Some (record { files = with_file name [] (over w fs); left = left; target = Some name; settled = t; since = drop n said }))
+    (ap (λ k. take k said) all ∙ take-length said ∙ sym (take-append-drop at said))
+    ∙ ap (λ t. Some (record { files = with_file name [] (over w fs); left = left; target = Some name; settled = take at said ++ drop at said; since = t }))
+    (drop_all n said (omega (arith, all)))
 
 -- what was written under a name is what it has
 pub get_written : (w : Files) (fs : List LentFile) (q bytes : List ℕ) → Some bytes ≡ maps.get w q → maps.get (over w fs) q ≡ Some bytes
@@ -105,14 +122,14 @@ pub get_lent : (w : Files) (fs : List LentFile) (q : List ℕ) → None ≡ maps
 get_lent w fs q none = get_over w fs q ∙ ap (λ o. or_else o (maps.get (lent_files fs) q)) (sym none)
 
 -- bytes that are written stand behind those of the file that was begun
-pub written_over : (w new : Files) (fs : List LentFile) (name bytes left said : List ℕ) (target : Option (List ℕ))
+pub written_over : (w new : Files) (fs : List LentFile) (name bytes left settled since : List ℕ) (target : Option (List ℕ))
     → target ≡ Some name → IsBegun target w → new ≡ with_file name (bytes_of w name ++ bytes) w
-    → Some (record { files = over new fs; left = left; target = target; said = said })
-    ≡ Some (written (take (length bytes) bytes) (record { files = over w fs; left = left; target = target; said = said }))
-written_over w new fs name bytes left said None is begun appended = absurd (let e = is in cc)
-written_over w new fs name bytes left said (Some other) is begun appended =
+    → Some (record { files = over new fs; left = left; target = target; settled = settled; since = since })
+    ≡ Some (written (take (length bytes) bytes) (record { files = over w fs; left = left; target = target; settled = settled; since = since }))
+written_over w new fs name bytes left settled since None is begun appended = absurd (let e = is in cc)
+written_over w new fs name bytes left settled since (Some other) is begun appended =
     let same : name ≡ other = (let e = is in cc) in
-    ap (λ f. Some (record { files = f; left = left; target = Some other; said = said }))
+    ap (λ f. Some (record { files = f; left = left; target = Some other; settled = settled; since = since }))
     (ap (λ f. over f fs) appended
     ∙ over_with_file name (bytes_of w name ++ bytes) w fs
     ∙ ap (λ q. with_file q (bytes_of w q ++ bytes) (over w fs)) same

@@ -12,7 +12,8 @@ pub record LentDesk : Type 0 where
 
 -- such a desk as data: its fields in order
 abbrev pub coded_lent : Coded LentDesk
-coded_lent = code_by (Content × ℕ) (coded× coded_content coded_ℕ) (λ d. (d.content, d.read_faults)) (λ p. record { content = p.0; read_faults = p.1 }) (λ _. refl)
+coded_lent =
+    code_by (Content × ℕ) (coded× coded_content coded_ℕ) (λ d. (d.content, d.read_faults)) (λ p. record { content = p.0; read_faults = p.1 }) (λ _. refl)
 
 -- a file that is lent, as its name and its bytes
 abbrev pub pair_of : LentFile → List ℕ × List ℕ

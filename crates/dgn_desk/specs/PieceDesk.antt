@@ -9,4 +9,5 @@ pub record PieceDesk : Type 0 where
 
 -- such a desk as data: its fields in order
 abbrev pub coded_pieces : Coded PieceDesk
-coded_pieces = code_by (Content × ℕ) (coded× coded_content coded_ℕ) (λ d. (d.content, d.piece)) (λ p. record { content = p.0; piece = p.1 }) (λ _. refl)
+coded_pieces =
+    code_by (Content × ℕ) (coded× coded_content coded_ℕ) (λ d. (d.content, d.piece)) (λ p. record { content = p.0; piece = p.1 }) (λ _. refl)

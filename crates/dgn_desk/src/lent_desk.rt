@@ -2,7 +2,7 @@ ghost use Rattle.std.specs.Prelude.{◌≡◌, [], None, Some, Err, true};
 ghost use Rattle.std.proofs.Common.{rules};
 ghost use Rattle.std.specs.Option.{option_copied};
 ghost use Rattle.std.specs.FinMap as maps;
-ghost use Rattle.host_desk.specs.Content.{HasFile, opened};
+ghost use Rattle.host_desk.specs.Content.{all_said, HasFile, opened};
 ghost use Rattle.host_desk.specs.Desk.{Counts, Changes, DoesNotFail};
 ghost use Rattle.dgn_desk.specs.LentDesk.{lent_files};
 
@@ -28,11 +28,13 @@ pub struct LentDesk<'a> {
     left: &'a [u8],
     target: Option<String>,
     said: Vec<u8>,
+    // How many bytes had been said when a file was last begun.
+    settled: usize,
     read_faults: u64,
 }
 
 impl<'a> Model for LentDesk<'a> {
-    ghost use Rattle.std.specs.Prelude.{◌≤◌, ◌++◌, drop, vec_len, string_bytes, option_map};
+    ghost use Rattle.std.specs.Prelude.{◌≤◌, ◌++◌, take, drop, vec_len, string_bytes, option_map};
     ghost use Rattle.dgn_desk.specs.LentDesk.{LentDesk, coded_lent, over, IsBegun};
 
     ghost Value = { LentDesk };
@@ -44,12 +46,14 @@ impl<'a> Model for LentDesk<'a> {
         files = over d.written d.lent.now;
         left = drop d.at d.copied.items ++ d.left.now;
         target = option_map string_bytes d.target;
-        said = d.said.items;
+        settled = take d.settled d.said.items;
+        since = drop d.settled d.said.items;
       };
       read_faults = d.read_faults;
     } };
 
-    ghost invariant = { λ d. (d.at ≤ vec_len d.copied) × IsBegun (option_map string_bytes d.target) d.written };
+    ghost invariant = { λ d. (d.at ≤ vec_len d.copied) × IsBegun (option_map string_bytes d.target) d.written
+        × (d.settled ≤ vec_len d.said) };
 }
 
 impl<'a> LentDesk<'a> {
@@ -57,7 +61,7 @@ impl<'a> LentDesk<'a> {
     #[tactic(auto, using(crate::proofs::LentFiles::over_empty))]
     pub fn new(alloc: Global, lent: &'a [LentFile<'a>]) -> LentDesk<'a>
         ensures { result ≡ record {
-          content = record { files = lent_files lent.now; left = []; target = None; said = [] };
+          content = record { files = lent_files lent.now; left = []; target = None; settled = []; since = [] };
           read_faults = 0;
         } }
     {
@@ -70,6 +74,7 @@ impl<'a> LentDesk<'a> {
             left: &[],
             target: None,
             said: Vec::new(alloc),
+            settled: 0,
             read_faults: 0,
         }
     }
@@ -86,7 +91,7 @@ impl<'a> LentDesk<'a> {
 
     /// All that was said.
     pub fn said(&self) -> &[u8]
-        ensures { result.now ≡ self.now.content.said }
+        ensures { result.now ≡ all_said self.now.content }
     {
         self.said.as_slice()
     }
@@ -149,6 +154,7 @@ impl<'a> Desk for LentDesk<'a> {
         let target = String::from_str(self.alloc, name)?;
         self.written.set(name, Vec::new(self.alloc))?;
         self.target = Some(target);
+        self.settled = self.said.len();
         Ok(())
     }
 

@@ -3,7 +3,7 @@ ghost use Rattle.std.proofs.Common.{rules};
 ghost use Rattle.std.specs.Option.{option_copied};
 ghost use Rattle.std.specs.FinMap as maps;
 ghost use Rattle.dgn_desk.specs.declared.act.Act.TheVariants as act;
-ghost use Rattle.host_desk.specs.Content.{opened, consumed, filed, written, spoken, with_file, HasFile, HasTarget};
+ghost use Rattle.host_desk.specs.Content.{all_said, opened, consumed, filed, written, spoken, with_file, HasFile, HasTarget};
 ghost use Rattle.host_desk.specs.Desk.{Counts, TakesFirst, TakesSome, StaysWilling, DoesNotFail};
 ghost use Rattle.dgn_desk.specs.NumberedDesk.{is_listed, none_ahead, is_missing, has_no_target, Answers};
 
@@ -57,7 +57,7 @@ impl MemDesk {
     pub fn new(alloc: Global, piece: usize) -> MemDesk
         requires { 1 ≤ piece }
         ensures { result ≡ record {
-          content = record { files = maps.empty; left = []; target = None; said = [] };
+          content = record { files = maps.empty; left = []; target = None; settled = []; since = [] };
           piece = piece;
           fails = [];
           acts = [];
@@ -105,7 +105,7 @@ impl MemDesk {
 
     /// All that was said.
     pub fn said(&self) -> &[u8]
-        ensures { result.now ≡ self.now.content.said }
+        ensures { result.now ≡ all_said self.now.content }
     {
         self.under.said()
     }

@@ -2,7 +2,7 @@ ghost use Rattle.std.specs.Prelude.{◌≡◌, ◌≤◌, [], length, take, Some
 ghost use Rattle.std.proofs.Common.{rules};
 ghost use Rattle.std.specs.Option.{option_copied};
 ghost use Rattle.std.specs.FinMap as maps;
-ghost use Rattle.host_desk.specs.Content.{with_file, opened, consumed, filed, written, spoken};
+ghost use Rattle.host_desk.specs.Content.{all_said, with_file, opened, consumed, filed, written, spoken};
 ghost use Rattle.host_desk.specs.Desk.{Changes, TakesFirst, TakesSome, DoesNotFail};
 
 use crate::file_map::FileMap;
@@ -23,10 +23,12 @@ pub struct SureDesk {
     at: usize,
     target: String,
     said: Vec<u8>,
+    // How many bytes had been said when a file was last begun.
+    settled: usize,
 }
 
 impl Model for SureDesk {
-    ghost use Rattle.std.specs.Prelude.{◌≤◌, Some, drop, vec_len, string_bytes};
+    ghost use Rattle.std.specs.Prelude.{◌≤◌, Some, take, drop, vec_len, string_bytes};
     ghost use Rattle.dgn_desk.specs.PieceDesk.{PieceDesk, coded_pieces};
 
     ghost Value = { PieceDesk };
@@ -38,12 +40,13 @@ impl Model for SureDesk {
         files = d.files;
         left = drop d.at d.reading.items;
         target = Some (string_bytes d.target);
-        said = d.said.items;
+        settled = take d.settled d.said.items;
+        since = drop d.settled d.said.items;
       };
       piece = d.piece;
     } };
 
-    ghost invariant = { λ d. (d.at ≤ vec_len d.reading) × (1 ≤ d.piece) };
+    ghost invariant = { λ d. (d.at ≤ vec_len d.reading) × (1 ≤ d.piece) × (d.settled ≤ vec_len d.said) };
 }
 
 impl SureDesk {
@@ -52,7 +55,7 @@ impl SureDesk {
     pub fn new(alloc: Global, piece: usize) -> SureDesk
         requires { 1 ≤ piece }
         ensures { result ≡ record {
-          content = record { files = maps.empty; left = []; target = Some []; said = [] };
+          content = record { files = maps.empty; left = []; target = Some []; settled = []; since = [] };
           piece = piece;
         } }
     {
@@ -64,6 +67,7 @@ impl SureDesk {
             at: 0,
             target: String::new(alloc),
             said: Vec::new(alloc),
+            settled: 0,
         }
     }
 
@@ -88,7 +92,7 @@ impl SureDesk {
 
     /// All that was said.
     pub fn said(&self) -> &[u8]
-        ensures { result.now ≡ self.now.content.said }
+        ensures { result.now ≡ all_said self.now.content }
     {
         self.said.as_slice()
     }
@@ -140,6 +144,7 @@ impl Desk for SureDesk {
         let target = String::from_str(self.alloc, name)?;
         self.files.set(name, Vec::new(self.alloc))?;
         self.target = target;
+        self.settled = self.said.len();
         Ok(())
     }
 

@@ -1,8 +1,8 @@
 -- What is told of a run that writes a file and then says a text, and what where that was stopped.
-use Rattle.std.proofs.Common.{◌≡◌, List, [], ℕ, take, Option, Some, None, Result, Ok, Err, inl, inr, refl, sym}
+use Rattle.std.proofs.Common.{◌≡◌, List, [], ◌++◌, ap, ◌∙◌, ℕ, take, Option, Some, None, Result, Ok, Err, inl, inr, refl, sym}
 use Rattle.std.specs.Prelude.{option_map, IfSome}
 use Rattle.std.proofs.lemmas.List.{append-nil}
-use Rattle.host_desk.specs.Content.{Content, filed}
+use Rattle.host_desk.specs.Content.{Content, all_said, filed}
 use Rattle.host_desk.specs.Desk.{FilesAll}
 use Rattle.host_desk.specs.Seen.{Seen, Writes}
 use Rattle.host_desk.specs.declared.stop.Stop.{Stop}
@@ -19,7 +19,16 @@ module _ (status : Status) (text name bytes : List ℕ) where
   unwritten : (old now : Option Content) → now ≡ old → IfSome old (λ c. Stops (filed_then_said status text name bytes) c now)
   unwritten None now e = tt
   unwritten (Some c) now e =
-      record { content = c; told_is = e; front = []; is_front = (text, refl); said_is = sym (append-nil c.said); files_are = inl refl; in_order = inl refl }
+      record {
+        content = c;
+        told_is = e;
+        front = [];
+        is_front = (text, refl);
+        said_is = sym (append-nil (all_said c));
+        files_are = inl refl;
+        in_order = inl refl;
+        begun_is = inl (refl, refl);
+      }
 
   -- or a front of it was
   written_front : (front : List ℕ) (old now : Option Content) → IsFrontOf bytes front → now ≡ option_map (filed name front) old
@@ -31,9 +40,10 @@ module _ (status : Status) (text name bytes : List ℕ) where
         told_is = e;
         front = [];
         is_front = (text, refl);
-        said_is = sym (append-nil c.said);
+        said_is = refl;
         files_are = inr (front, is, refl);
         in_order = inl refl;
+        begun_is = inr (sym (append-nil (all_said c)));
       }
 
   pub written_part : (stop : Stop) (old now : Option Content) → FilesAll (Err stop) name bytes old now
@@ -47,7 +57,14 @@ module _ (status : Status) (text name bytes : List ℕ) where
   leaves_filed ending None mid now is leaves = tt
   leaves_filed ending (Some c) mid now is leaves =
       let l : Leaves (ended status text) ending (filed name bytes c) now = rw is at leaves in
-      record { status_is = l.status_is; content = l.content; told_is = l.told_is; said_is = l.said_is; files_are = l.files_are }
+      record {
+        status_is = l.status_is;
+        content = l.content;
+        told_is = l.told_is;
+        said_is = l.said_is ∙ ap (λ t. t ++ text) (append-nil (all_said c));
+        files_are = l.files_are;
+        settled_is = l.settled_is ∙ sym (append-nil (all_said c));
+      }
 
   -- or was stopped there
   stops_filed : (old mid now : Option Content) → mid ≡ option_map (filed name bytes) old → IfSome mid (λ c. Stops (ended status text) c now)
@@ -60,9 +77,10 @@ module _ (status : Status) (text name bytes : List ℕ) where
         told_is = s.told_is;
         front = s.front;
         is_front = s.is_front;
-        said_is = s.said_is;
+        said_is = s.said_is ∙ ap (λ t. t ++ s.front) (append-nil (all_said c));
         files_are = inr (bytes, ([], sym (append-nil bytes)), s.files_are);
         in_order = inr s.files_are;
+        begun_is = inr (s.begun_is ∙ sym (append-nil (all_said c)));
       }
 
   pub filed_first : (r : Result Ending Stop) (old mid now : Option Content) → mid ≡ option_map (filed name bytes) old

@@ -76,6 +76,8 @@ unread_behind : (has also : Files → Type 0) (old mid new : Seen) → OnlyReads
     → IsUnread also mid new → IsUnread has old new
 unread_behind has also old mid new reads enough unread = record {
   rose = subst (λ (n : ℕ). Rose n new.read_faults) reads.calm unread.rose;
+  quiet = unread.quiet ∙ reads.quiet;
+  stays = λ willing. unread.stays (reads.stays willing);
   only = read_twice old.content mid.content new.content reads.told unread.only;
   lacks = λ willing there. unread.lacks (reads.stays willing) (there_behind has also old.content mid.content reads.told enough there);
 }

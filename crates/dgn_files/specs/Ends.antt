@@ -1,11 +1,11 @@
 -- How a part of a run ends the run, and what it leaves of the desk.
-use Rattle.std.specs.Prelude.{ℕ, List, Option, Result, Ok, Err, IfSome, IsSome, IsTrue}
+use Rattle.std.specs.Prelude.{ℕ, ◌≡◌, List, Option, Result, Ok, Err, IfSome, IsSome, IsTrue}
 use Rattle.std.specs.FinMap as maps
 use Rattle.host_desk.specs.declared.desk.Desk.{Ghosts}
 use Rattle.host_desk.specs.declared.stop.Stop.{Stop}
 use Rattle.host_desk.specs.declared.stop.Stop.TheVariants as stops
 use Rattle.host_desk.specs.Content.{Files, Content, OnlyLeftDiffers}
-use Rattle.host_desk.specs.Desk.{Rose}
+use Rattle.host_desk.specs.Desk.{Rose, StaysWilling}
 use Rattle.host_desk.specs.Seen.{Seen, seen, OnlyReads, Writes}
 use Rattle.dgn_files.specs.Ended.{Outcome}
 use Rattle.dgn_files.specs.Leaving.{Leaves, Stops}
@@ -55,6 +55,8 @@ pub record IsSaid (are : Files → Type 0) (o : Files → Outcome) (ending : End
 -- a fault of reading: only that was done, and a willing desk lacks a file that is read
 pub record IsUnread (has : Files → Type 0) (old new : Seen) : Type 0 where
   pub rose : Rose old.read_faults new.read_faults
+  pub quiet : new.write_faults ≡ old.write_faults
+  pub stays : StaysWilling old.willing new.willing
   pub only : OnlyLeftDiffers old.content new.content
   pub lacks : IsTrue old.willing → IfSome old.content (λ c. has c.files) → ⊥
 

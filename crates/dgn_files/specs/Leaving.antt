@@ -1,7 +1,7 @@
 -- What a run leaves of the content that its desk told, by the outcome that it came to.
 use Rattle.std.specs.Prelude.{ℕ, ◌≡◌, ◌⊎◌, Bool, true, false, List, [], ◌++◌, Option, Some, None}
-use Rattle.std.specs.Prelude.{Result, Ok, Err, option_map}
-use Rattle.host_desk.specs.Content.{Files, Content, with_file, spoken}
+use Rattle.std.specs.Prelude.{Result, Ok, Err, option_map, if◌then◌else◌}
+use Rattle.host_desk.specs.Content.{Files, Content, all_said, with_file, spoken}
 use Rattle.host_desk.specs.declared.stop.Stop.{Stop}
 use Rattle.dgn_files.specs.Ended.{Outcome}
 use Rattle.dgn_files.specs.declared.status.Status.{Status}
@@ -11,13 +11,24 @@ abbrev pub files_after : Option (List ℕ × List ℕ) → Files → Files
 files_after None files = files
 files_after (Some file) files = with_file file.0 file.1 files
 
--- a run over a desk that told this content ended so: with the outcome's status, its text said and its file written
+-- what was said when the file was begun: all of the text, or nothing of it
+abbrev pub said_before_file : Outcome → List ℕ
+said_before_file o = if o.says_first then o.text else []
+
+-- what was said before the last file was begun: where the outcome writes one, what was said before the run and before that file
+abbrev pub settled_after : Outcome → Option (List ℕ × List ℕ) → Content → List ℕ
+settled_after o None old = old.settled
+settled_after o (Some file) old = all_said old ++ said_before_file o
+
+-- a run over a desk that told this content ended so: with the outcome's status, its text said and its file written, each
+-- when the outcome says it
 pub record Leaves (o : Outcome) (status : Status) (old : Content) (now : Option Content) : Type 0 where
   pub status_is : status ≡ o.status
   pub content : Content
   pub told_is : now ≡ Some content
-  pub said_is : content.said ≡ old.said ++ o.text
+  pub said_is : all_said content ≡ all_said old ++ o.text
   pub files_are : content.files ≡ files_after o.file old.files
+  pub settled_is : content.settled ≡ settled_after o o.file old
 
 -- bytes that these begin with: some first ones of them, none and all among them
 abbrev pub IsFrontOf : List ℕ → List ℕ → Type 0
@@ -43,6 +54,12 @@ abbrev pub InOrder : Bool → List ℕ → List ℕ → Option (List ℕ × List
 InOrder true text front file old now = (front ≡ text) ⊎ (now ≡ old)
 InOrder false text front file old now = (front ≡ []) ⊎ (now ≡ files_after file old)
 
+-- no file was begun, or the one that the outcome writes was, once so much of its text had been said
+abbrev pub IsBegun : Outcome → Option (List ℕ × List ℕ) → Content → Content → Type 0
+IsBegun o None old now = now.settled ≡ old.settled
+IsBegun o (Some file) old now =
+    ((now.files ≡ old.files) × (now.settled ≡ old.settled)) ⊎ (now.settled ≡ all_said old ++ said_before_file o)
+
 -- a run over a desk that told this content stopped so: a front of the outcome's text was said, of the file that it writes
 -- there is a front, or the file as it was, and both came in the outcome's order
 pub record Stops (o : Outcome) (old : Content) (now : Option Content) : Type 0 where
@@ -50,6 +67,7 @@ pub record Stops (o : Outcome) (old : Content) (now : Option Content) : Type 0 w
   pub told_is : now ≡ Some content
   pub front : List ℕ
   pub is_front : IsFrontOf o.text front
-  pub said_is : content.said ≡ old.said ++ front
+  pub said_is : all_said content ≡ all_said old ++ front
   pub files_are : HoldsFront o.file old.files content.files
   pub in_order : InOrder o.says_first o.text front o.file old.files content.files
+  pub begun_is : IsBegun o o.file old content

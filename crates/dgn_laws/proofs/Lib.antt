@@ -1,10 +1,7 @@
 mod FitFindings
 mod ImportedTrees
-mod NamedValues
 mod PatchesApplied
 mod EntriesInOrder
 mod PackedAgain
 mod SameFile
-mod ScriptEdits
 mod FieldCounts
-mod WrittenFiles

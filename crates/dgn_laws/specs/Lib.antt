@@ -1,5 +1,3 @@
 pub mod FitLaws
 pub mod ImportLaws
-pub mod ScriptLaws
 pub mod PatchLaws
-pub mod RunLaws

@@ -2,8 +2,7 @@
 //! Each function does nothing; its contract is the law. The program doesn't stand on this crate.
 #![tactic(auto)]
 
-ghost use Rattle.dgn_laws.specs.ScriptLaws.{ScriptsHoldEdits, UntouchedByScripts};
-ghost use Rattle.dgn_laws.specs.RunLaws.{UntouchedByRuns};
+ghost use Rattle.dgn_tool.specs.ScriptLaws.{ScriptsHoldEdits, UntouchedByScripts};
 ghost use Rattle.dgn_laws.specs.PatchLaws.{RefusesWhereOneDiffers, RefusesNoneElse, AppliesAll, WritesTheSame, AppliedGivesTheSame};
 ghost use Rattle.dgn_laws.specs.FitLaws.{FitsEndFindings};
 ghost use Rattle.dgn_laws.specs.ImportLaws.{ImportsNestApart, ImportsOfRunsNestApart, RefusedImportsChangeNothing};
@@ -23,15 +22,6 @@ pub fn scripts_hold_edits()
 /// Untouched bytes stay with every script, of which nothing is asked but that it is bytes and reads to its commands.
 pub fn untouched_by_scripts()
     ensures { UntouchedByScripts }
-{}
-
-/// And so it is with every run that edits IN by SCRIPT into OUT, over every desk that tells what it holds: where it ends with
-/// Done or SomeRefused, the clauses `outcome` and `bytes` of `run` give that IN opens, that SCRIPT reads to commands, that OUT
-/// holds the file that these make of IN, with the second files that they name, and that no other file changed; and that file
-/// opens, and has IN's byte at each place in IN's elements that is in no field of a remaining edit. Nothing is asked of the files
-/// but what these clauses say.
-pub fn untouched_by_runs()
-    ensures { UntouchedByRuns }
 {}
 
 /// Applied gives the same: the entries of the patch file that a run packs stand, one after the other, on the elements of

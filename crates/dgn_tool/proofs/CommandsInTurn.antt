@@ -33,7 +33,7 @@ pub record Ran (all left : List Given) (refused : ℕ) (from s : State) (old now
 -- nothing was said
 unsaid : (c : Option Content) → c ≡ option_map (spoken []) c
 unsaid None = refl
-unsaid (Some c) = ap (λ (t : List ℕ). Some (record c { said = t })) (sym (append-nil c.said))
+unsaid (Some c) = ap (λ (t : List ℕ). Some (record c { since = t })) (sym (append-nil c.since))
 
 sum_moved : (a b c : ℕ) → a + (b + c) ≡ (a + b) + c
 sum_moved a b c = omega arith

@@ -10,4 +10,8 @@ pub mod StackedEdits
 pub mod UsageSaid
 pub mod GeneratedSizes
 pub mod UntouchedBytes
+pub mod NamedValues
+pub mod ScriptEdits
+pub mod WrittenFiles
+pub mod HeldBack
 pub mod WholeRuns

@@ -3,7 +3,7 @@ use Rattle.std.proofs.Common.{◌≡◌, List, [], ℕ, length, vec_len, take}
 use Rattle.std.proofs.Common.{Option, Some, None, Ok, Err, inl, inr, refl, sym, ap, ◌∙◌, subst}
 use Rattle.std.specs.Prelude.{option_map, IfSome}
 use Rattle.std.proofs.lemmas.List.{append-nil}
-use Rattle.host_desk.specs.Content.{Content, filed, spoken}
+use Rattle.host_desk.specs.Content.{Content, all_said, filed, spoken}
 use Rattle.host_desk.specs.Desk.{FilesAll}
 use Rattle.host_desk.specs.Seen.{Seen, Writes}
 use Rattle.host_desk.specs.declared.stop.Stop.{Stop}
@@ -24,7 +24,7 @@ use Rattle.dgn_tool.specs.Outcome.{edited_from}
 use Rattle.dgn_files.specs.Leaving.{Leaves, Stops, IsFrontOf, SaysFront, SaysAs}
 use Rattle.dgn_files.specs.declared.ending.Ending.{Ending}
 use Rattle.dgn_files.specs.declared.status.Status.{Status}
-use Rattle.dgn_files.proofs.ToldContents.{is_taken}
+use Rattle.dgn_files.proofs.ToldContents.{is_taken, said_behind}
 
 module _ (status : Status) (text name bytes : List ℕ) where
   -- all was said, and the file was written
@@ -32,14 +32,30 @@ module _ (status : Status) (text name bytes : List ℕ) where
       → IfSome old (λ c. Leaves (said_then_filed status text name bytes) status c now)
   all_filed None mid now said e = tt
   all_filed (Some c) mid now said e =
-      record { status_is = refl; content = filed name bytes (spoken text c); told_is = rw (e, said) refl; said_is = refl; files_are = refl }
+      record {
+        status_is = refl;
+        content = filed name bytes (spoken text c);
+        told_is = rw (e, said) refl;
+        said_is = append-nil (all_said (spoken text c)) ∙ said_behind text c;
+        files_are = refl;
+        settled_is = said_behind text c;
+      }
 
   -- a front was said
   front_said : (front : List ℕ) (old now : Option Content) → IsFrontOf text front → now ≡ option_map (spoken front) old
       → IfSome old (λ c. Stops (said_then_filed status text name bytes) c now)
   front_said front None now is e = tt
   front_said front (Some c) now is e =
-      record { content = spoken front c; told_is = e; front = front; is_front = is; said_is = refl; files_are = inl refl; in_order = inr refl }
+      record {
+        content = spoken front c;
+        told_is = e;
+        front = front;
+        is_front = is;
+        said_is = said_behind front c;
+        files_are = inl refl;
+        in_order = inr refl;
+        begun_is = inl (refl, refl);
+      }
 
   pub stopped_saying : (old now : Option Content) → SaysFront text old now → IfSome old (λ c. Stops (said_then_filed status text name bytes) c now)
   stopped_saying old now says = front_said says.0 old now says.1 says.2
@@ -54,9 +70,10 @@ module _ (status : Status) (text name bytes : List ℕ) where
         told_is = rw (e, said) refl;
         front = text;
         is_front = ([], sym (append-nil text));
-        said_is = refl;
+        said_is = append-nil (all_said (spoken text c)) ∙ said_behind text c;
         files_are = inr (front, is, refl);
         in_order = inl refl;
+        begun_is = inr (said_behind text c);
       }
 
   -- or nothing of it was

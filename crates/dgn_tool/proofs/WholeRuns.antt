@@ -1,5 +1,5 @@
 -- What a whole run ensures, by the end of the form that was asked for, or by what was said of words of no form.
-use Rattle.std.proofs.Common.{◌≡◌, ℕ, List, Option, Some, None, Ok, Err, refl, sym, subst}
+use Rattle.std.proofs.Common.{◌≡◌, ℕ, List, Option, Some, None, Ok, Err, refl, sym, subst, arith}
 use Rattle.host_desk.specs.declared.stop.Stop.{Stop}
 use Rattle.host_desk.specs.declared.stop.Stop.TheVariants as stops
 use Rattle.host_desk.specs.Desk.{SaysAll}
@@ -17,6 +17,7 @@ use Rattle.dgn_files.specs.declared.status.Status.{Status}
 use Rattle.dgn_files.specs.declared.status.Status.TheVariants as statuses
 use Rattle.dgn_files.proofs.ToldContents.{all_told}
 use Rattle.dgn_tool.proofs.UsageSaid.{usage_said, usage_stopped}
+use Rattle.dgn_tool.proofs.WrittenFiles.{edits_as_asked}
 
 -- the status of an ending that was said is none of a stop, nor Usage
 not_stopped : (ending : Ending) → IsStopped (status_said ending) → ⊥
@@ -66,6 +67,9 @@ ends_as request old new (ends.Said ending) reads ended = record {
   complete = λ _ _. faultless ending;
   complete_willing = λ _ _. faultless ending;
   bytes = λ _. ended.left.known;
+  never_fewer = omega (arith, ended.left.comes.cause);
+  stays_willing = ended.left.comes.stays;
+  stays = edits_as_asked (Some request) (status_said ending) old.content new.content (λ _. ended.left.comes.told) (λ _. ended.left.known);
 }
 ends_as request old new ends.ReadFault reads ended = record {
   outcome = λ ending. absurd ending;
@@ -78,6 +82,9 @@ ends_as request old new ends.ReadFault reads ended = record {
   complete = λ unread _. absurd (unread ended.left.rose);
   complete_willing = λ willing there. absurd (ended.left.lacks willing there);
   bytes = λ ending. absurd ending;
+  never_fewer = omega (arith, ended.left.quiet);
+  stays_willing = ended.left.stays;
+  stays = λ input script output asked written. absurd written;
 }
 ends_as request old new (ends.Stopped stops.Failed) reads ended = record {
   outcome = λ ending. absurd ending;
@@ -90,6 +97,9 @@ ends_as request old new (ends.Stopped stops.Failed) reads ended = record {
   complete = λ _ unwritten. absurd (unwritten ended.left.cause.1);
   complete_willing = λ willing _. absurd (ended.left.able willing);
   bytes = λ ending. absurd ending;
+  never_fewer = ended.left.cause.0;
+  stays_willing = ended.left.stays;
+  stays = λ input script output asked written. absurd written;
 }
 ends_as request old new (ends.Stopped stops.Memory) reads ended = record {
   outcome = λ ending. absurd ending;
@@ -102,6 +112,9 @@ ends_as request old new (ends.Stopped stops.Memory) reads ended = record {
   complete = λ _ _. tt;
   complete_willing = λ _ _. tt;
   bytes = λ ending. absurd ending;
+  never_fewer = omega (arith, ended.left.cause);
+  stays_willing = ended.left.stays;
+  stays = λ input script output asked written. absurd written;
 }
 
 pub ran : (request : Request) (asked : Option Request) (old new : Seen) (end : End) (status : Status) → Some request ≡ asked → status ≡ status_of end
@@ -125,6 +138,9 @@ says_usage line old new is said = record {
   complete = λ _ _. tt;
   complete_willing = λ _ _. tt;
   bytes = λ _. all_told old.content;
+  never_fewer = omega (arith, said.cause);
+  stays_willing = said.stays;
+  stays = λ input script output asked written. absurd written;
 }
 
 stops_at : (line : List ℕ) (old new : Seen) (stop : Stop) → line ≡ usage_line → Writes {T = Unit {0}} (Err stop) (SaysAll (Err stop) line) old new
@@ -140,6 +156,9 @@ stops_at line old new stops.Failed is said = record {
   complete = λ _ unwritten. absurd (unwritten said.cause.1);
   complete_willing = λ willing _. absurd (said.able willing);
   bytes = λ ending. absurd ending;
+  never_fewer = said.cause.0;
+  stays_willing = said.stays;
+  stays = λ input script output asked written. absurd written;
 }
 stops_at line old new stops.Memory is said = record {
   outcome = λ ending. absurd ending;
@@ -152,6 +171,9 @@ stops_at line old new stops.Memory is said = record {
   complete = λ _ _. tt;
   complete_willing = λ _ _. tt;
   bytes = λ ending. absurd ending;
+  never_fewer = omega (arith, said.cause);
+  stays_willing = said.stays;
+  stays = λ input script output asked written. absurd written;
 }
 
 pub stops_usage : (line : List ℕ) (old new : Seen) (stop : Stop) (status : Status) → line ≡ usage_line → status ≡ status_of (ends.Stopped stop)

@@ -5,4 +5,6 @@ pub mod Laws
 pub mod Outcome
 pub mod Packing
 pub mod ReadInputs
+pub mod ScriptLaws
+pub mod EditedRuns
 pub mod Runs

@@ -1,14 +1,16 @@
 // A run with the words as the runtime gives them.
 
-ghost use Rattle.std.specs.Prelude.{◌≡◌, [], map, string_bytes, IfOk, IfErr};
+ghost use Rattle.std.specs.Prelude.{◌≡◌, [], map, string_bytes, Result, IfOk, IfErr};
 ghost use Rattle.std.specs.Process.{exit_status};
 ghost use Rattle.std.specs.IoError.{error_kind};
 ghost use Rattle.std.specs.declared.io.ErrorKind.TheVariants.{OutOfMemory};
 ghost use Rattle.dgn_files.specs.Request.{request_of};
-ghost use Rattle.dgn_tool.specs.Runs.{DeskRuns, DeskExits, EndsFlushed, ExitsFlushed};
+ghost use Rattle.host_desk.specs.declared.stop.Stop.{Stop};
+ghost use Rattle.host_desk.specs.Seen.{DeskWrites};
+ghost use Rattle.dgn_tool.specs.Runs.{DeskRuns, DeskExits, IsSettled, flushed_status};
 ghost use Rattle.dgn_files.specs.Status.{number_of};
 
-use crate::top::run_words;
+use crate::top::run;
 use dgn_files::{End, Status};
 use host_desk::{BufferedDesk, Desk};
 use std::alloc::Global;
@@ -29,35 +31,37 @@ pub fn run_given<D: Desk>(alloc: Global, given: io::Result<Vec<String>>, desk: &
     exit_code(end_given(alloc, given, desk))
 }
 
-/// The same over a desk that holds back what is said, which is flushed at the end. Where the flush stops, the number is that
-/// of what stopped it: text that wasn't handed on wasn't said.
+/// The same with what is said held back, so that many short texts are said by one call of the desk: until OUT is begun, and
+/// then to the end, where the rest is handed on. Where that stops, the run ends as if it had stopped there: text that wasn't
+/// handed on wasn't said. So all that `run` promises holds of this desk itself, if nothing was said over it since its last
+/// file was begun. The answer is the number, and the desk.
 pub fn run_flushed<D: Desk + Drop>(
     alloc: Global,
     given: io::Result<Vec<String>>,
-    desk: &mut BufferedDesk<D>,
-) -> ExitCode
-    ensures words { IfOk given
-        (λ words. ExitsFlushed ⟦<BufferedDesk<D> as Desk>⟧ (request_of (map string_bytes words.items))
-        desk.old desk.new desk.new.held.items (exit_status result)) }
-    ensures none { IfErr given (λ error. ¬ (error_kind error ≡ OutOfMemory)
-        → ExitsFlushed ⟦<BufferedDesk<D> as Desk>⟧ (request_of [])
-        desk.old desk.new desk.new.held.items (exit_status result)) }
+    desk: D,
+) -> (ExitCode, D)
+    ensures words { IfOk given (λ words. IsSettled (D.content desk)
+        → DeskExits D.Desk (request_of (map string_bytes words.items)) desk result.1 (exit_status result.0)) }
+    ensures none { IfErr given (λ error. ¬ (error_kind error ≡ OutOfMemory) → IsSettled (D.content desk)
+        → DeskExits D.Desk (request_of []) desk result.1 (exit_status result.0)) }
     ensures memory { IfErr given (λ error. error_kind error ≡ OutOfMemory
-        → EndsFlushed ⟦<BufferedDesk<D> as Desk>⟧ desk.old desk.new
-        desk.new.held.items (number_of Status.Memory) (exit_status result)) }
+        → (exit_status result.0 ≡ number_of Status.Memory) × (result.1 ≡ desk)) }
 {
-    let ended = run_given(alloc, given, desk);
-    flushed(desk, ended)
+    let mut buffered = BufferedDesk::new(desk);
+    let ended = end_given(alloc, given, &mut buffered);
+    let status = flushed(&mut buffered, ended);
+    (exit_code(status), buffered.into_inner())
 }
 
-// What the program ends with once the desk is flushed, where its run ended with this.
-fn flushed<D: Desk + Drop>(desk: &mut BufferedDesk<D>, ended: ExitCode) -> ExitCode
-    ensures { EndsFlushed ⟦<BufferedDesk<D> as Desk>⟧ desk.old desk.new desk.new.held.items
-        (exit_status ended) (exit_status result) }
+// How a run ends that ended so, once the desk is flushed.
+fn flushed<D: Desk + Drop>(desk: &mut BufferedDesk<D>, ended: Status) -> Status
+    ensures writes { (flush : Result (Unit {0}) Stop) × DeskWrites ⟦<BufferedDesk<D> as Desk>⟧ flush (λ told now. now ≡ told) desk.old desk.new
+        × IfOk flush (λ _. desk.new.held.items ≡ []) × (result ≡ flushed_status flush ended) }
+    ensures idle { desk.old.held.items ≡ [] → (result ≡ ended) × (desk.new.desk ≡ desk.old.desk) }
 {
     match desk.flush() {
         Ok(()) => ended,
-        Err(stop) => exit_code(End::Stopped(stop).status()),
+        Err(stop) => End::Stopped(stop).status(),
     }
 }
 
@@ -71,9 +75,9 @@ fn end_given<D: Desk>(alloc: Global, given: io::Result<Vec<String>>, desk: &mut 
         → (result ≡ Status.Memory) × (desk.new ≡ desk.old)) }
 {
     match given {
-        Ok(words) => run_words(alloc, &words, desk),
+        Ok(words) => run(alloc, &words, desk),
         Err(error) if error.kind() == io::ErrorKind::OutOfMemory => Status::Memory,
-        Err(_) => run_words(alloc, &[], desk),
+        Err(_) => run(alloc, &[], desk),
     }
 }
 

@@ -1,7 +1,8 @@
-ghost use Rattle.std.specs.Prelude.{◌≡◌, map, string_bytes, IsNone, IfSome, IsTrue, None, Some};
+ghost use Rattle.std.specs.Prelude.{◌≡◌, ◌≤◌, map, string_bytes, IsNone, IfSome, IsTrue, None, Some};
 ghost use Rattle.host_desk.specs.Content.{OnlyLeftDiffers};
-ghost use Rattle.host_desk.specs.Desk.{Rose};
+ghost use Rattle.host_desk.specs.Desk.{Rose, StaysWilling};
 ghost use Rattle.dgn_files.specs.Ends.{DeskEnds};
+ghost use Rattle.dgn_tool.specs.EditedRuns.{EditsAsAsked};
 ghost use Rattle.dgn_tool.specs.RunInBytes.{FilesInBytes};
 ghost use Rattle.dgn_files.specs.Request.{request_of};
 ghost use Rattle.dgn_files.specs.RequestView.{seen, IsCounted};
@@ -54,6 +55,9 @@ pub fn run<D: Desk>(alloc: Global, words: &[String], desk: &mut D) -> Status
         → IsFaultless result }
     ensures bytes { IsEnding result → IfSome (D.content desk.old)
         (λ c. FilesInBytes (request_of (map string_bytes words.now)) c.files) }
+    ensures never_fewer { D.write_faults desk.old ≤ D.write_faults desk.new }
+    ensures stays_willing { StaysWilling (D.willing desk.old) (D.willing desk.new) }
+    ensures stays { EditsAsAsked (request_of (map string_bytes words.now)) result (D.content desk.old) (D.content desk.new) }
 {
     run_words(alloc, words, desk)
 }

@@ -2,11 +2,12 @@
 #![tactic(auto)]
 
 use dgn_tool::run_flushed;
-use host_desk::{BufferedDesk, HostDesk, words};
+use host_desk::{HostDesk, words};
 use std::process::ExitCode;
 
 fn main(rt: HostRuntime) -> ExitCode {
     let given = words(&rt);
     let alloc = rt.alloc();
-    run_flushed(alloc, given, &mut BufferedDesk::new(HostDesk::new(rt)))
+    let (ended, _) = run_flushed(alloc, given, HostDesk::new(rt));
+    ended
 }

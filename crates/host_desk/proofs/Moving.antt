@@ -1,5 +1,5 @@
 -- Bytes that the system took, by what the desk answers of it.
-use Rattle.std.proofs.Common.{◌≡◌, ℕ, ◌<◌, List, [], take, append-nil, Option, Some, None, Result, Ok, Err, IfOk, OnErr, refl, sym, ap, subst, ◌∙◌, arith}
+use Rattle.std.proofs.Common.{◌≡◌, ℕ, ◌<◌, List, [], take, append-nil, Option, Some, None, Result, Ok, Err, IfOk, OnErr, sym, subst, ◌∙◌, arith}
 use Rattle.std.specs.Io.KnownBytes.{Appends, Keeps, WriteAppends}
 use Rattle.host_desk.specs.declared.stop.Stop.{Stop}
 use Rattle.host_desk.specs.declared.stop.Stop.TheVariants.{Failed}

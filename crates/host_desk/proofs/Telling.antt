@@ -1,9 +1,9 @@
 -- Bytes that are said or written piece by piece: what is told after each piece, by the pieces together.
-use Rattle.std.proofs.Common.{◌≡◌, ℕ, ◌≤◌, ◌+◌, List, ◌++◌, length, take, drop, Option, Some, None, option_map, Result, Ok, Err, refl, sym, ap, ◌∙◌, inr}
+use Rattle.std.proofs.Common.{◌≡◌, ℕ, ◌≤◌, ◌+◌, List, [], ◌++◌, length, take, drop, Option, Some, None, option_map, Result, Ok, Err, refl, sym, ap, ◌∙◌, inr}
 use Rattle.std.proofs.Common.{append_assoc, arith}
 use Rattle.std.proofs.Math.Seq.{take-append_seam, take-append-add}
 use Rattle.std.proofs.lemmas.List.{take-append-drop, take-append-le, length-append}
-use Rattle.host_desk.specs.Content.{Content, filed, spoken, written, written_to, with_file, HasTarget}
+use Rattle.host_desk.specs.Content.{Content, all_said, filed, spoken, written, written_to, with_file, HasTarget}
 use Rattle.host_desk.specs.Desk.{SaysAll, AddsAll, FilesAll}
 use Rattle.host_desk.specs.declared.stop.Stop.{Stop}
 use Rattle.host_desk.specs.FileLaws.{bytes_of-with_file-same, with_file-with_file}
@@ -12,14 +12,14 @@ use Rattle.host_desk.specs.FileLaws.{bytes_of-with_file-same, with_file-with_fil
 pub spoken-append : (done more : List ℕ) (old : Option Content)
     → option_map (spoken more) (option_map (spoken done) old) ≡ option_map (spoken (done ++ more)) old
 spoken-append done more None = refl
-spoken-append done more (Some c) = ap (λ said. Some (record c { said = said })) (append_assoc c.said done more)
+spoken-append done more (Some c) = ap (λ since. Some (record c { since = since })) (append_assoc c.since done more)
 
 -- written behind what the file was made to hold is made to hold both
 pub written-filed : (name done more : List ℕ) (old : Option Content)
     → option_map (written more) (option_map (filed name done) old) ≡ option_map (filed name (done ++ more)) old
 written-filed name done more None = refl
 written-filed name done more (Some c) =
-    ap (λ files. Some (record c { files = files; target = Some name }))
+    ap (λ files. Some (record { files = files; left = c.left; target = Some name; settled = all_said c; since = [] }))
     (ap (λ bytes. with_file name (bytes ++ more) (with_file name done c.files)) (bytes_of-with_file-same name done c.files)
     ∙ with_file-with_file name (done ++ more) done c.files)
 

@@ -1,4 +1,4 @@
-ghost use Rattle.std.specs.Prelude.{◌≡◌, ◌≤◌, [], drop, OnOk, IsTrue};
+ghost use Rattle.std.specs.Prelude.{◌≡◌, ◌≤◌, [], drop, OnOk, IsOk, IsTrue};
 ghost use Rattle.arrayvec.specs.ArrayVec.{array_vec_len};
 ghost use Rattle.host_desk.specs.Content.{filed};
 ghost use Rattle.host_desk.specs.Desk.{Counts, Changes, StaysWilling, DoesNotFail};
@@ -28,7 +28,9 @@ pub struct BufferedDesk<D: Desk + Drop> {
 impl<D: Desk + Drop> BufferedDesk<D> {
     /// A desk over this one that holds back nothing yet.
     pub fn new(desk: D) -> BufferedDesk<D>
-        ensures { seen ⟦<BufferedDesk<D> as Desk>⟧ result ≡ seen D.Desk desk }
+        ensures seen { seen ⟦<BufferedDesk<D> as Desk>⟧ result ≡ seen D.Desk desk }
+        ensures below { result.desk ≡ desk }
+        ensures none { result.held.items ≡ [] }
     {
         BufferedDesk {
             desk,
@@ -43,12 +45,20 @@ impl<D: Desk + Drop> BufferedDesk<D> {
         &self.desk
     }
 
+    /// The desk below. What is held back is dropped.
+    pub fn into_inner(self) -> D
+        ensures { result ≡ self.desk }
+    {
+        self.desk
+    }
+
     /// Hands on all that is held back. Where the desk below stops, the rest is held back still, and what is told stays.
     pub fn flush(&mut self) -> Result<(), Stop>
         ensures kept { DeskWrites ⟦<BufferedDesk<D> as Desk>⟧ result (λ old new. new ≡ old) self.old self.new }
         ensures handed { OnOk result (D.content self.new.desk
             ≡ with_held self.old.held.items (D.content self.old.desk)) }
         ensures none { OnOk result (self.new.held.items ≡ []) }
+        ensures idle { self.old.held.items ≡ [] → IsOk result × (self.new.desk ≡ self.old.desk) }
     {
         'pieces: while !self.held.is_empty() {
             let count = self.desk.say(self.held.as_slice())?;

@@ -65,6 +65,7 @@ impl<R: Files + Print + Drop> Desk for HostDesk<R> {
         ensures cause { Counts self.old.read_faults self.new.read_faults result }
         ensures other { self.new.write_faults ≡ self.old.write_faults }
         ensures memory { ¬ IsErrOf result Stop.Memory }
+        ensures begun { IfOk result (λ _. IsSome self.new.reading) }
     {
         let given = fs::open(&self.rt, name);
         begun(given, &mut self.reading, &mut self.read_faults)
@@ -91,6 +92,7 @@ impl<R: Files + Print + Drop> Desk for HostDesk<R> {
         ensures cause { Counts self.old.write_faults self.new.write_faults result }
         ensures other { self.new.read_faults ≡ self.old.read_faults }
         ensures memory { ¬ IsErrOf result Stop.Memory }
+        ensures begun { IfOk result (λ _. IsSome self.new.writing) }
     {
         let given = fs::create(&self.rt, name);
         begun(given, &mut self.writing, &mut self.write_faults)

@@ -1,4 +1,4 @@
-use Rattle.dgn_laws.proofs.ScriptEdits.{scripts_hold_edits}
+use Rattle.dgn_tool.proofs.ScriptEdits.{scripts_hold_edits}
 use Rattle.dgn_laws.proofs.scripts_hold_edits.Goals as goal
 
 pub returns : goal.returns

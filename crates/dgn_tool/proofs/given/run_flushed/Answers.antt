@@ -1,30 +1,33 @@
-use Rattle.std.proofs.Common.{Result, Ok, Err, IfOk, IfErr}
-use Rattle.std.specs.Process.{exit_status}
+use Rattle.std.proofs.Common.{◌≡◌, [], map, string_bytes, Result, Ok, Err, IfErr, refl, ap, ◌∙◌}
+use Rattle.std.specs.IoError.{error_kind}
+use Rattle.std.specs.declared.io.ErrorKind.TheVariants.{OutOfMemory}
+use Rattle.host_desk.specs.declared.buffered_desk.BufferedDesk.{BufferedDesk}
+use Rattle.dgn_files.specs.Request.{request_of}
+use Rattle.host_desk.specs.Seen.{seen}
+use Rattle.dgn_files.specs.Status.{number_of}
+use Rattle.dgn_tool.proofs.HeldBack.{ok_exits, err_exits}
 use Rattle.dgn_tool.proofs.given.run_flushed.Goals as goal
 
--- what is so of a result for one reason is so for another that follows
-ok_so : {T E : Type 0} {P Q : T → Type 0} (r : Result T E) → ((x : T) → P x → Q x) → IfOk r P → IfOk r Q
-ok_so (Ok x) so is = so x is
-ok_so (Err e) so is = tt
-
+-- what is so of an error for one reason is so for another that follows
 err_so : {T E : Type 0} {P Q : E → Type 0} (r : Result T E) → ((e : E) → P e → Q e) → IfErr r P → IfErr r Q
 err_so (Ok x) so is = tt
 err_so (Err e) so is = so e is
 
 pub returns-clause-words : goal.returns-clause-words
 returns-clause-words g c =
-    ok_so c.args.given (λ words exits. record {
-      run = c.run_given-ended.new.desk;
-      ended = exit_status c.run_given-ended.result;
-      exits = exits;
-      flushed = c.flushed.ensures;
-    }) c.run_given-ended.ensures.words
+    ok_exits c.args.given (λ words. request_of (map string_bytes words.items)) c.new-buffered.ensures.seen (ap (seen g.D.Desk) c.into_inner.ensures) c.flushed-status.ensures.writes refl
+    c.exit_code.ensures c.end_given-ended.ensures.words
 
 pub returns-clause-none : goal.returns-clause-none
 returns-clause-none g c =
-    err_so c.args.given (λ error exits other. record {
-      run = c.run_given-ended.new.desk;
-      ended = exit_status c.run_given-ended.result;
-      exits = exits other;
-      flushed = c.flushed.ensures;
-    }) c.run_given-ended.ensures.none
+    err_exits c.args.given (λ error. ¬ (error_kind error ≡ OutOfMemory)) (request_of []) c.new-buffered.ensures.seen (ap (seen g.D.Desk) c.into_inner.ensures) c.flushed-status.ensures.writes refl
+    c.exit_code.ensures c.end_given-ended.ensures.none
+
+pub returns-clause-memory : goal.returns-clause-memory
+returns-clause-memory g c =
+    err_so c.args.given (λ error ran memory.
+    let none = ap (λ (b : BufferedDesk g.row.D.Denot). b.held.items) (ran memory).1 ∙ c.new-buffered.ensures.none in
+    let idle = c.flushed-status.ensures.idle none in (
+      c.exit_code.ensures ∙ ap number_of (idle.0 ∙ (ran memory).0),
+      c.into_inner.ensures ∙ idle.1 ∙ ap (λ (b : BufferedDesk g.row.D.Denot). b.desk) (ran memory).1 ∙ c.new-buffered.ensures.below,
+    )) c.end_given-ended.ensures.memory

@@ -10,7 +10,7 @@ returns-in_err-self-inside-in-Some-clause-absent c = λ none.
 
 pub returns-in_ok-self-inside-in-Some-clause-told : goal.returns-in_ok-self-inside-in-Some-clause-told
 returns-in_ok-self-inside-in-Some-clause-told c =
-    opened_over c.self.inside.written c.self.inside.lent.now c.args.name.now _ [] _ _
+    opened_over c.self.inside.written c.self.inside.lent.now c.args.name.now _ [] _ _ _
     (ap (λ o. unwrap_or o []) (get_written _ _ _ _ c.in-Some.ensures) ∙ sym (append-nil _ ∙ c.in_ok-self-inside-in-Some.ensures.items))
     ∙ ap (λ d. Some (opened c.args.name.now d.content)) c.self.view_is
 
@@ -20,7 +20,7 @@ returns-in_ok-self-inside-in-Some-clause-absent c = λ none.
 
 pub returns-in-Some-find-clause-told : goal.returns-in-Some-find-clause-told
 returns-in-Some-find-clause-told c =
-    opened_over c.self.inside.written c.self.inside.lent.now c.args.name.now _ [] _ _
+    opened_over c.self.inside.written c.self.inside.lent.now c.args.name.now _ [] _ _ _
     (ap (λ o. unwrap_or o []) (get_lent _ _ _ c.in-None.ensures ∙ ap (maps.get _) (sym c.as_bytes.ensures.value) ∙ sym c.in-Some-find.ensures)
     ∙ sym (ap (λ xs. xs ++ c.in-Some-find.bytes.now) c.new.ensures.items))
     ∙ ap (λ d. Some (opened c.args.name.now d.content)) c.self.view_is

@@ -1,4 +1,4 @@
-use Rattle.std.proofs.Common.{◌≡◌, length}
+use Rattle.std.proofs.Common.{◌≡◌, [], length}
 use Rattle.host_desk.specs.Holding.{with_held}
 use Rattle.host_desk.specs.Desk.{StaysWilling}
 use Rattle.host_desk.proofs.buffered_desk.BufferedDesk.flush.Given as goal
@@ -9,6 +9,7 @@ invariant-pieces g l =
       told : with_held l.self.held.items (g.D.Desk.content l.self.desk) ≡ with_held l.fn.self.held.items (g.D.Desk.content l.fn.self.desk);
       writes : g.D.Desk.write_faults l.self.desk ≡ g.D.Desk.write_faults l.fn.self.desk;
       reads : g.D.Desk.read_faults l.self.desk ≡ g.D.Desk.read_faults l.fn.self.desk;
+      idle : l.fn.self.held.items ≡ [] → (l.self.held.items ≡ []) × (l.self.desk ≡ l.fn.self.desk);
       stays : StaysWilling (g.D.Desk.willing l.fn.self.desk) (g.D.Desk.willing l.self.desk);
     }
 

@@ -1,5 +1,4 @@
--- What holds of every run of `edit` over a desk that tells what it holds, by the clauses of `run` alone, the contract of a
--- function in `laws`.
+-- What a run of `edit` leaves that has written OUT, over a desk that tells what it holds.
 use Rattle.std.specs.Prelude.{ℕ, ◌≡◌, List, Option, Some, Ok, IfSome, ⊤}
 use Rattle.host_desk.specs.Content.{Files, Content, bytes_of, with_file}
 use Rattle.dgn_drawing.specs.Opening.{Opens}
@@ -9,10 +8,8 @@ use Rattle.elem_index.specs.Opened.{Opened}
 use Rattle.dgn_answers.specs.Commands.{begun}
 use Rattle.dgn_answers.specs.Given.{Given}
 use Rattle.dgn_tool.specs.FileAfter.{file_after}
-use Rattle.dgn_tool.specs.RunInBytes.{FilesInBytes}
 use Rattle.dgn_tool.specs.Laws.{steps_of, IsEditedFile}
-use Rattle.dgn_tool.specs.Outcome.{outcome, EndsAs, IsEnding}
-use Rattle.dgn_files.specs.Request.{Edit, request_of}
+use Rattle.dgn_files.specs.Request.{Request, Edit}
 use Rattle.dgn_files.specs.SecondFiles.{names_in, files_named}
 use Rattle.dgn_files.specs.declared.status.Status.{Status}
 use Rattle.dgn_files.specs.declared.status.Status.TheVariants as statuses
@@ -40,11 +37,8 @@ pub record EditsFile (input script output : List ℕ) (files : Files) (now : Opt
   pub files_are : content.files ≡ with_file output (file_after (begun drawing) drawing.tail (steps_with files commands)) files
   pub stays : IsEditedFile (bytes_of files input) (begun drawing) drawing.tail (steps_with files commands)
 
--- where the clauses `outcome` and `bytes` of `run` hold of a run of `edit` that has written OUT, it left that
-abbrev pub UntouchedByRuns : Type 0
-UntouchedByRuns =
-    (words : List (List ℕ)) (input script output : List ℕ) (status : Status) (old now : Option Content)
-    → request_of words ≡ Some (Edit input script output) → HasWritten status
-    → EndsAs status (outcome words) old now
-    → (IsEnding status → IfSome old (λ c. FilesInBytes (request_of words) c.files))
+-- a run with this request that has written OUT left that
+abbrev pub EditsAsAsked : Option Request → Status → Option Content → Option Content → Type 0
+EditsAsAsked request status old now =
+    (input script output : List ℕ) → request ≡ Some (Edit input script output) → HasWritten status
     → IfSome old (λ c. EditsFile input script output c.files now)

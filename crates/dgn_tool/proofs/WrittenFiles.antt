@@ -1,7 +1,7 @@
 -- What a run of `edit` leaves that has written OUT, by what the run came to and by what is known of its files.
 use Rattle.std.proofs.Common.{◌≡◌, ◌≤◌, ℕ, List, [], ◌∷◌, length, map, nat_lt, Bool, true, false, cond, Option, Some, None, Result, Ok, Err, refl, ap, ◌∙◌}
 use Rattle.std.proofs.Common.{subst, arith}
-use Rattle.std.specs.Prelude.{All, codes}
+use Rattle.std.specs.Prelude.{All, IfSome, codes}
 use Rattle.std.specs.List.{list_all}
 use Rattle.std.proofs.lemmas.Bool.{and_parts}
 use Rattle.std.proofs.lemmas.Bool.Decides.{nat_tests}
@@ -22,19 +22,19 @@ use Rattle.dgn_answers.specs.Given.{Given, given_all}
 use Rattle.dgn_files.specs.Ended.{Outcome, ended}
 use Rattle.dgn_files.specs.InBytes.{AreInBytes, SecondsInBytes, ScriptInBytes, AllInBytes}
 use Rattle.dgn_tool.specs.RunInBytes.{FilesInBytes}
-use Rattle.dgn_tool.specs.Outcome.{edited, run_outcome, outcome_of, outcome, IsEnding}
+use Rattle.dgn_tool.specs.Outcome.{edited, run_outcome, outcome_of, EndsAs, IsEnding}
 use Rattle.dgn_files.specs.InputOutcomes.{script_outcome, scripted, opened_outcome}
 use Rattle.dgn_files.specs.Leaving.{files_after, Leaves}
 use Rattle.dgn_files.specs.Readings.{OpensAs, ReadsAs, ComeTo}
-use Rattle.dgn_files.specs.Request.{Request, Edit, request_of}
-use Rattle.dgn_laws.specs.RunLaws.{HasWritten, steps_with, EditsFile, UntouchedByRuns}
+use Rattle.dgn_files.specs.Request.{Request, Edit}
+use Rattle.dgn_tool.specs.EditedRuns.{HasWritten, steps_with, EditsFile, EditsAsAsked}
 use Rattle.dgn_files.specs.SecondFiles.{names_in, files_named, is_within}
 use Rattle.dgn_tool.specs.Outcome.{stepped}
 use Rattle.dgn_files.specs.declared.status.Status.{Status}
 use Rattle.dgn_files.specs.declared.status.Status.TheVariants as statuses
 use Rattle.dgn_files.proofs.InputOutcomes.{comes, input_opens, script_reads}
 use Rattle.dgn_tool.proofs.RunInputs.{to_steps}
-use Rattle.dgn_laws.proofs.ScriptEdits.{untouched_by_scripts}
+use Rattle.dgn_tool.proofs.ScriptEdits.{untouched_by_scripts}
 use Rattle.dgn_files.proofs.SecondFiles.{short}
 
 -- such a status is that of an ending
@@ -146,19 +146,21 @@ module _ (input script output : List ℕ) (files : Files) (content : Content) (n
         after_input found.0 (few, found.1, bytes.0 few) (subst HasSuch (input_opens file behind (Ok found.0) few found.1) written)
 
 -- where it is told what the desk holds
-where_held : (words : List (List ℕ)) (input script output : List ℕ) (status : Status) (c : Content) (now : Option Content)
-    → request_of words ≡ Some (Edit input script output) → HasWritten status
-    → Leaves (outcome words c.files) status c now → FilesInBytes (request_of words) c.files → EditsFile input script output c.files now
-where_held words input script output status c now asked written leaves known =
-    let same : outcome words c.files ≡ run_outcome input script c.files (λ d gs. edited d gs output) =
+where_held : (request : Option Request) (input script output : List ℕ) (status : Status) (c : Content) (now : Option Content)
+    → request ≡ Some (Edit input script output) → HasWritten status
+    → Leaves (outcome_of request c.files) status c now → FilesInBytes request c.files → EditsFile input script output c.files now
+where_held request input script output status c now asked written leaves known =
+    let same : outcome_of request c.files ≡ run_outcome input script c.files (λ d gs. edited d gs output) =
     ap (λ (r : Option Request). outcome_of r c.files) asked in
     edits_file input script output c.files leaves.content now leaves.told_is
     (subst (λ (r : Option Request). FilesInBytes r c.files) asked known)
     (leaves.files_are ∙ ap (λ (o : Outcome). files_after o.file c.files) same)
     (subst HasSuch same (subst HasWritten leaves.status_is written))
 
-pub untouched_by_runs : UntouchedByRuns
-untouched_by_runs words input script output status None now asked written ended known = tt
-untouched_by_runs words input script output status (Some c) now asked written ended known =
+-- a run that came to its ending, of which it is known that its files are bytes, left what it was asked for
+pub edits_as_asked : (request : Option Request) (status : Status) (old now : Option Content) → EndsAs status (outcome_of request) old now
+    → (IsEnding status → IfSome old (λ c. FilesInBytes request c.files)) → EditsAsAsked request status old now
+edits_as_asked request status None now ended known = λ input script output asked written. tt
+edits_as_asked request status (Some c) now ended known = λ input script output asked written.
     let ending = is_ending status written in
-    where_held words input script output status c now asked written (ended ending) (known ending)
+    where_held request input script output status c now asked written (ended ending) (known ending)

@@ -40,9 +40,9 @@ use Rattle.edit_script.specs.Grammar.{alone, asking, range_reading, fence_readin
 use Rattle.edit_script.specs.Grammar.{command_of}
 use Rattle.edit_script.specs.Script.{joined, commands_from}
 use Rattle.dgn_tool.specs.Laws.{IsEditIn}
-use Rattle.dgn_laws.specs.ScriptLaws.{ScriptsHoldEdits, UntouchedByScripts}
+use Rattle.dgn_tool.specs.ScriptLaws.{ScriptsHoldEdits, UntouchedByScripts}
 use Rattle.dgn_tool.proofs.UntouchedBytes.{untouched}
-use Rattle.dgn_laws.proofs.NamedValues.{of_some, number_below, shift_holds, given_shift_holds, look_holds, pen_holds, path_holds, lettering_holds, chars_hold}
+use Rattle.dgn_tool.proofs.NamedValues.{of_some, number_below, shift_holds, given_shift_holds, look_holds, pen_holds, path_holds, lettering_holds, chars_hold}
 
 -- the lines of bytes are bytes
 onto_bytes : (b : ℕ) (parts : List (List ℕ)) → b < 256 → All IsBytes parts → All IsBytes (onto_first b parts)
