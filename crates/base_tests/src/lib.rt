@@ -4,6 +4,8 @@
 #[cfg(test)]
 mod buffering;
 #[cfg(test)]
+mod command_line;
+#[cfg(test)]
 mod desks;
 #[cfg(test)]
 mod headers;

@@ -10,7 +10,9 @@ use Rattle.elem_index.specs.Answers.{opened_of}
 use Rattle.patch_file.specs.declared.patch_entry.PatchEntry.{PatchEntry}
 use Rattle.patch_file.specs.PatchView.{packed_of, all_packed}
 use Rattle.patch_file.specs.Spelling.{Packed, AreEntries}
-use Rattle.patch_file.specs.Reading.{patch_of, IsBadAt}
+use Rattle.patch_file.specs.Reading.{patch_of}
+use Rattle.patch_file.specs.BadPieces.{IsBadAt}
+use Rattle.patch_file.proofs.BadAgain.{patch_bad}
 use Rattle.patch_file.specs.declared.limits.TheConstants.{MOST_PATCH}
 use Rattle.dgn_files.specs.Applied.{Patched, Made, put_from, patched_outcome, entries_outcome, reading_outcome, body_patched, patched}
 use Rattle.dgn_files.specs.Ended.{ended, filed_then_said}
@@ -44,7 +46,7 @@ pub reads_bad : (b tail name text output : List ℕ) (offset : ℕ) (files : Fil
 reads_bad b tail name text output offset files bad is =
     let place = bad.place in
     let at_offset : length text - bad.left ≡ offset = omega arith in
-    reads_patch b tail name text output (Err bad.left) files bad.bad is
+    reads_patch b tail name text output (Err bad.left) files (patch_bad text bad.left bad.bad) is
     ∙ ap (λ (n : ℕ). ended statuses.BadPatch (numbered (codes "bad patch at ") n)) at_offset
 
 -- the entries that were read are few

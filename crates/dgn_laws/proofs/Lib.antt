@@ -5,3 +5,4 @@ mod EntriesInOrder
 mod PackedAgain
 mod SameFile
 mod FieldCounts
+mod PackedRuns

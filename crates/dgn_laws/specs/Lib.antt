@@ -1,3 +1,4 @@
 pub mod FitLaws
 pub mod ImportLaws
 pub mod PatchLaws
+pub mod PackedRuns

@@ -4,6 +4,7 @@
 
 ghost use Rattle.dgn_tool.specs.ScriptLaws.{ScriptsHoldEdits, UntouchedByScripts};
 ghost use Rattle.dgn_laws.specs.PatchLaws.{RefusesWhereOneDiffers, RefusesNoneElse, AppliesAll, WritesTheSame, AppliedGivesTheSame};
+ghost use Rattle.dgn_laws.specs.PackedRuns.{PackedRunsApply};
 ghost use Rattle.dgn_laws.specs.FitLaws.{FitsEndFindings};
 ghost use Rattle.dgn_laws.specs.ImportLaws.{ImportsNestApart, ImportsOfRunsNestApart, RefusedImportsChangeNothing};
 ghost use Rattle.dgn_tool.specs.Generation.{FixedScriptReads};
@@ -31,6 +32,14 @@ pub fn untouched_by_scripts()
 pub fn applied_gives_the_same()
     ensures entries { AppliedGivesTheSame }
     ensures file { WritesTheSame }
+{}
+
+/// What is packed applies: where a run packs what SCRIPT does to IN, and a run behind it applies that patch file to a drawing,
+/// the clauses `outcome` and `bytes` of `run` give the following. On a drawing of the same bytes as IN the second run writes the
+/// very file that `edit` would have written; on any drawing it is refused at an entry exactly where that is the first that
+/// differs, those before it keeping the limit of a design file, and then it says the number of that entry and writes nothing.
+pub fn packed_runs_apply()
+    ensures { PackedRunsApply }
 {}
 
 /// Where a run comes to a fit and does it, `audit` would say behind it exactly what it would have said before it, without

@@ -38,7 +38,7 @@ use Rattle.dgn_tool.proofs.ScriptEdits.{untouched_by_scripts}
 use Rattle.dgn_files.proofs.SecondFiles.{short}
 
 -- such a status is that of an ending
-is_ending : (status : Status) → HasWritten status → IsEnding status
+pub is_ending : (status : Status) → HasWritten status → IsEnding status
 is_ending statuses.Done written = tt
 is_ending statuses.SomeRefused written = tt
 is_ending statuses.Usage written = absurd written
@@ -52,7 +52,7 @@ is_ending statuses.BadPatch written = absurd written
 is_ending statuses.PatchRefused written = absurd written
 
 -- an outcome with such a status
-abbrev HasSuch : Outcome → Type 0
+abbrev pub HasSuch : Outcome → Type 0
 HasSuch o = HasWritten o.status
 
 -- a file that is too long has none
@@ -89,43 +89,36 @@ seconds_all (n ∷ names) files within are =
     let known = are (short (bytes_of files n) parts.0) in
     All-cons IsBytes (bytes_of files n) (files_named names files) known.0 (seconds_all names files parts.1 known.1)
 
-module _ (input script output : List ℕ) (files : Files) (content : Content) (now : Option Content) (told_is : now ≡ Some content) where
-  -- what a drawing and steps come to
-  abbrev go_on : Opened → List Given → Outcome
-  go_on d gs = edited d gs output
+-- what is known of IN, SCRIPT and the second files of a run that read them, and came to what it goes on with
+pub record Went (input script : List ℕ) (files : Files) (go_on : Opened → List Given → Outcome) : Type 0 where
+  pub drawing : Opened
+  pub commands : List Command
+  pub opens : OpensAs input files drawing
+  pub reads : ReadsAs script files commands
+  pub seconds : All IsBytes (files_named (names_in commands) files)
+  pub same : run_outcome input script files go_on ≡ go_on drawing (steps_with files commands)
 
-  -- what the run comes to
-  abbrev whole : Outcome
-  whole = run_outcome input script files go_on
-
-  -- the files are as it leaves them
-  abbrev AreLeft : Type 0
-  AreLeft = content.files ≡ files_after whole.file files
-
+module _ (input script : List ℕ) (files : Files) (go_on : Opened → List Given → Outcome) where
   -- IN was opened, SCRIPT was read, and the second files are bytes
-  after_script : (d : Opened) (cs : List Command) → OpensAs input files d → ReadsAs script files cs → AreInBytes (names_in cs) files → AreLeft
-      → HasSuch (stepped cs files (go_on d)) → EditsFile input script output files now
-  after_script d cs opens reads are left written =
+  after_script : (d : Opened) (cs : List Command) → OpensAs input files d → ReadsAs script files cs → AreInBytes (names_in cs) files
+      → HasSuch (stepped cs files (go_on d)) → Went input script files go_on
+  after_script d cs opens reads are written =
       let fs : List (List ℕ) = files_named (names_in cs) files in
       let within = are_within (list_all is_within fs) (go_on d (given_all cs (map second_of fs))) (codes "too long import\n") written in
       let come : ComeTo (names_in cs) files (map second_of fs) = (within, refl, are) in
-      let same : whole ≡ edited d (steps_with files cs) output = to_steps input script d cs (map second_of fs) files opens reads come go_on in
-      let file : Opens (bytes_of files input) d.dim d.elements d.tail = opens-opening (bytes_of files input) d opens.2 opens.1 in
       record {
         drawing = d;
         commands = cs;
-        opens = file;
-        reads = reads.1;
-        content = content;
-        told_is = told_is;
-        files_are = left ∙ ap (λ (o : Outcome). files_after o.file files) same;
-        stays = untouched_by_scripts (bytes_of files input) d (bytes_of files script) cs fs file reads.2 reads.1 (seconds_all (names_in cs) files within are);
+        opens = opens;
+        reads = reads;
+        seconds = seconds_all (names_in cs) files within are;
+        same = to_steps input script d cs (map second_of fs) files opens reads come go_on;
       }
 
-  module _ (bytes : AllInBytes input script files) (left : AreLeft) where
+  module _ (bytes : AllInBytes input script files) where
     -- IN was opened
     after_input : (d : Opened) → OpensAs input files d → HasSuch (scripted (bytes_of files script) (λ cs. stepped cs files (go_on d)))
-        → EditsFile input script output files now
+        → Went input script files go_on
     after_input d opens written =
         let text : List ℕ = bytes_of files script in
         let behind : List Command → Outcome = λ cs. stepped cs files (go_on d) in
@@ -134,16 +127,35 @@ module _ (input script output : List ℕ) (files : Files) (content : Content) (n
         let known : ScriptInBytes script files = bytes.1 (comes (bytes_of files input) d opens.0 opens.1) in
         after_script d found.0 opens (few, found.1, known.0 few)
         (subst (λ (r : Result (List Command) ScriptFault). SecondsInBytes r files) found.1 (known.1 few))
-        left (subst HasSuch (script_reads text behind (Ok found.0) few found.1) written)
+        (subst HasSuch (script_reads text behind (Ok found.0) few found.1) written)
 
     -- nothing is known yet
-    edits_file : HasSuch whole → EditsFile input script output files now
-    edits_file written =
+    pub went : HasSuch (run_outcome input script files go_on) → Went input script files go_on
+    went written =
         let file : List ℕ = bytes_of files input in
         let behind : Opened → Outcome = λ d. scripted (bytes_of files script) (λ cs. stepped cs files (go_on d)) in
         let few = is_short MOST_DESIGN (length file) (codes "too long design\n") (opened_outcome (opening file) behind) written in
         let found = has_drawing (opening file) behind (subst HasSuch (input_opens file behind (opening file) few refl) written) in
         after_input found.0 (few, found.1, bytes.0 few) (subst HasSuch (input_opens file behind (Ok found.0) few found.1) written)
+
+-- an edit that did so, and left these files
+edits_file : (input script output : List ℕ) (files : Files) (content : Content) (now : Option Content) → now ≡ Some content
+    → (w : Went input script files (λ d gs. edited d gs output))
+    → content.files ≡ files_after (run_outcome input script files (λ d gs. edited d gs output)).file files → EditsFile input script output files now
+edits_file input script output files content now told_is w left =
+    let file : Opens (bytes_of files input) w.drawing.dim w.drawing.elements w.drawing.tail =
+    opens-opening (bytes_of files input) w.drawing w.opens.2 w.opens.1 in
+    record {
+      drawing = w.drawing;
+      commands = w.commands;
+      opens = file;
+      reads = w.reads.1;
+      content = content;
+      told_is = told_is;
+      files_are = left ∙ ap (λ (o : Outcome). files_after o.file files) w.same;
+      stays = untouched_by_scripts (bytes_of files input) w.drawing (bytes_of files script) w.commands (files_named (names_in w.commands) files) file
+          w.reads.2 w.reads.1 w.seconds;
+    }
 
 -- where it is told what the desk holds
 where_held : (request : Option Request) (input script output : List ℕ) (status : Status) (c : Content) (now : Option Content)
@@ -153,9 +165,9 @@ where_held request input script output status c now asked written leaves known =
     let same : outcome_of request c.files ≡ run_outcome input script c.files (λ d gs. edited d gs output) =
     ap (λ (r : Option Request). outcome_of r c.files) asked in
     edits_file input script output c.files leaves.content now leaves.told_is
-    (subst (λ (r : Option Request). FilesInBytes r c.files) asked known)
+    (went input script c.files (λ d gs. edited d gs output) (subst (λ (r : Option Request). FilesInBytes r c.files) asked known)
+    (subst HasSuch same (subst HasWritten leaves.status_is written)))
     (leaves.files_are ∙ ap (λ (o : Outcome). files_after o.file c.files) same)
-    (subst HasSuch same (subst HasWritten leaves.status_is written))
 
 -- a run that came to its ending, of which it is known that its files are bytes, left what it was asked for
 pub edits_as_asked : (request : Option Request) (status : Status) (old now : Option Content) → EndsAs status (outcome_of request) old now

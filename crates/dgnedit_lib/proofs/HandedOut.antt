@@ -1,7 +1,7 @@
 -- What a run leaves is what is handed out.
 use Rattle.std.proofs.Common.{◌≡◌, ℕ, List, [], ◌++◌, length, Option, Some, None, option_map, unwrap_or, is_some}
 use Rattle.std.proofs.Common.{Bool, true, false, nat_le, if◌then◌else◌, refl, sym, ap, ◌∙◌, arith}
-use Rattle.host_desk.specs.Content.{Files, Content}
+use Rattle.host_desk.specs.Content.{Files, Content, all_said}
 use Rattle.host_desk.specs.Desk.{Rose}
 use Rattle.dgn_files.specs.Leaving.{Leaves}
 use Rattle.dgn_files.specs.Status.{number_of}
@@ -39,26 +39,26 @@ ended_with status count found =
 
 -- what a run left of a desk that had said nothing is handed out
 pub hands_out : (words : List (List ℕ)) (status : Status) (old new : Content) (found : Option (List ℕ)) (text_before file_before : List ℕ)
-    → Leaves (outcome words old.files) status old (Some new) → old.said ≡ []
+    → Leaves (outcome words old.files) status old (Some new) → all_said old ≡ []
     → found ≡ bytes_at (name_written (has_written status) (last_of_four words)) new.files
-    → HandsOut (outcome words old.files) (ended_with status (length new.said) found)
+    → HandsOut (outcome words old.files) (ended_with status (length (all_said new)) found)
     (record {
       text_before = text_before;
-      text_after = put_in new.said text_before;
+      text_after = put_in (all_said new) text_before;
       file_before = file_before;
       file_after = put_in (unwrap_or found []) file_before;
     })
 hands_out words status old new found text_before file_before left silent is =
     let o = outcome words old.files in
     let told : left.content ≡ new = (let e = left.told_is in cc) in
-    let said : new.said ≡ o.text = ap (λ c. c.said) (sym told) ∙ left.said_is ∙ ap (λ s. s ++ o.text) silent in
+    let said : all_said new ≡ o.text = ap all_said (sym told) ∙ left.said_is ∙ ap (λ s. s ++ o.text) silent in
     let file : found ≡ option_map (λ f. f.1) o.file =
     is
     ∙ ap (λ s. bytes_at (name_written (has_written s) (last_of_four words)) new.files) left.status_is
     ∙ bytes_written o.file _ old.files new.files (outcome_writes words old.files) (ap (λ c. c.files) (sym told) ∙ left.files_are) in
     record {
       ending =
-          ap (λ s. ended_with s (length new.said) found) left.status_is
+          ap (λ s. ended_with s (length (all_said new)) found) left.status_is
           ∙ ap (λ t. ended_with o.status (length t) found) said
           ∙ ap (ended_with o.status (length o.text)) file
           ∙ ap (λ b. record { text_length = length o.text; file_length = length (bytes_filed o.file); status = number_of o.status; file_written = b })
@@ -70,15 +70,15 @@ hands_out words status old new found text_before file_before left silent is =
 -- the same, by what a desk over these files told that had said nothing, and by what stands in the ending and in the buffers
 pub handed_out : (words : List (List ℕ)) (files : Files) (status : Status) (old new : Content) (found : Option (List ℕ)) (e : Ended)
     (text_before text_after file_before file_after : List ℕ)
-    → old ≡ record { files = files; left = []; target = None; said = [] }
+    → old ≡ record { files = files; left = []; target = None; settled = []; since = [] }
     → Leaves (outcome words old.files) status old (Some new)
     → found ≡ bytes_at (name_written (has_written status) (last_of_four words)) new.files
-    → e ≡ ended_with status (length new.said) found
-    → text_after ≡ put_in new.said text_before
+    → e ≡ ended_with status (length (all_said new)) found
+    → text_after ≡ put_in (all_said new) text_before
     → file_after ≡ put_in (unwrap_or found []) file_before
     → HandsOut (outcome words files) e (record { text_before = text_before; text_after = text_after; file_before = file_before; file_after = file_after })
 handed_out words files status old new found e text_before text_after file_before file_after before left is ending text file =
-    let h = hands_out words status old new found text_before file_before left (ap (λ c. c.said) before) is in
+    let h = hands_out words status old new found text_before file_before left (ap all_said before) is in
     record {
       ending = ending ∙ h.ending ∙ ap (λ c. ended_of (outcome words c.files)) before;
       text = text ∙ h.text ∙ ap (λ c. put_in (outcome words c.files).text text_before) before;

@@ -11,3 +11,5 @@ pub mod FieldRules
 pub mod FieldEquality
 pub mod ReadSpellings
 pub mod WorkedFile
+pub mod BadRead
+pub mod BadAgain

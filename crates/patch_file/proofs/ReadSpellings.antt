@@ -53,7 +53,7 @@ number_takes left bytes x fits e =
     let small : from_le_bytes w32 (take 4 bytes) < 2 ^ 32 = omega (arith, front 0, front 1, front 2, front 3) in
     subst (λ (y : ℕ × List ℕ). Takes bytes (number y.0) y.1 × (y.0 < 2 ^ 32)) g.1 (taken bytes _ _ fits parts, small)
 
-byte_takes : (left : ℕ) (bytes : List ℕ) (x : ℕ × List ℕ) → byte_at left bytes ≡ Ok x → bytes ≡ x.0 ∷ x.1
+pub byte_takes : (left : ℕ) (bytes : List ℕ) (x : ℕ × List ℕ) → byte_at left bytes ≡ Ok x → bytes ≡ x.0 ∷ x.1
 byte_takes left [] x e = absurd cc
 byte_takes left (b ∷ rest) x e =
     let made : ℕ × List ℕ = (b, rest) in ap (λ (y : ℕ × List ℕ). y.0 ∷ y.1) (ok_is made x e)
@@ -62,7 +62,7 @@ part_takes : (left n : ℕ) (bytes : List ℕ) (x : List ℕ × List ℕ) → Is
 part_takes left n bytes x fits e =
     let p = bytes_take left n bytes x e in (taken bytes x.0 x.1 fits p.parts, p.long)
 
-field_takes : (from len : ℕ) (bytes : List ℕ) (x : Exchange × List ℕ) → IsBytes bytes → field_at from len bytes ≡ Ok x → Takes bytes (field_spelling x.0) x.1
+pub field_takes : (from len : ℕ) (bytes : List ℕ) (x : Exchange × List ℕ) → IsBytes bytes → field_at from len bytes ≡ Ok x → Takes bytes (field_spelling x.0) x.1
 field_takes from len bytes x fits e =
     let p = field_parts from len bytes x e in
     let place = number_takes (length bytes) bytes p.place fits p.number in
@@ -76,7 +76,7 @@ field_takes from len bytes x fits e =
     Takes-then bytes (number p.place.0) p.place.1 (length x.0.was ∷ (x.0.was ++ x.0.put)) x.1 place.0 rest in
     subst (λ (k : ℕ). Takes bytes (number k ++ (length x.0.was ∷ (x.0.was ++ x.0.put))) x.1) (sym x'.place) whole
 
-fields_take : (from len n : ℕ) (bytes : List ℕ) (x : List Exchange × List ℕ) → IsBytes bytes → fields_at from len n bytes ≡ Ok x
+pub fields_take : (from len n : ℕ) (bytes : List ℕ) (x : List Exchange × List ℕ) → IsBytes bytes → fields_at from len n bytes ≡ Ok x
     → Takes bytes (flat_map field_spelling x.0) x.1 × (length x.0 ≡ n)
 fields_take from len zero bytes x fits e =
     subst (λ (y : List Exchange × List ℕ). Takes bytes (flat_map field_spelling y.0) y.1 × (length y.0 ≡ 0)) (sym (fields_none from len bytes x e))
@@ -89,8 +89,8 @@ fields_take from len (suc n) bytes x fits e =
     subst (λ (y : List Exchange × List ℕ). Takes bytes (flat_map field_spelling y.0) y.1 × (length y.0 ≡ suc n)) (sym p.both)
     (rw flat_map-cons both, ap suc second.1)
 
-head_takes : (bytes : List ℕ) (x : (ℕ × ℕ × ℕ) × List ℕ) → IsBytes bytes → head_at bytes ≡ Ok x → Takes bytes (head_spelling x.0.0 x.0.1 x.0.2) x.1
-    × (x.0.0 < 2 ^ 32) × (x.0.2 < 2 ^ 32)
+pub head_takes : (bytes : List ℕ) (x : (ℕ × ℕ × ℕ) × List ℕ) → IsBytes bytes → head_at bytes ≡ Ok x → Takes bytes (head_spelling x.0.0 x.0.1 x.0.2) x.1
+    × (x.0.0 < 2 ^ 32) × (x.0.1 < 2 ^ 32) × (x.0.2 < 2 ^ 32)
 unfolding head_at
 head_takes bytes x fits e =
     let left : ℕ = length bytes in
@@ -104,10 +104,10 @@ head_takes bytes x fits e =
     let e12 = Takes-then a.0.1 (number b.0.0) b.0.1 (number c.0.0) c.0.1 t1.0 t2.0 in
     let e02 = Takes-then bytes (number a.0.0) a.0.1 (number b.0.0 ++ number c.0.0) c.0.1 t0.0 e12 in
     let made : (ℕ × ℕ × ℕ) × List ℕ = ((a.0.0, b.0.0, c.0.0), c.0.1) in
-    subst (λ (y : (ℕ × ℕ × ℕ) × List ℕ). Takes bytes (head_spelling y.0.0 y.0.1 y.0.2) y.1 × (y.0.0 < 2 ^ 32) × (y.0.2 < 2 ^ 32)) (ok_is made x c.2)
-    (e02, t0.1, t2.1)
+    subst (λ (y : (ℕ × ℕ × ℕ) × List ℕ). Takes bytes (head_spelling y.0.0 y.0.1 y.0.2) y.1 × (y.0.0 < 2 ^ 32) × (y.0.1 < 2 ^ 32) × (y.0.2 < 2 ^ 32))
+    (ok_is made x c.2) (e02, t0.1, t1.1, t2.1)
 
-entry_takes : (bytes : List ℕ) (x : Packed × List ℕ) → IsBytes bytes → entry_at bytes ≡ Ok x → Takes bytes (entry_spelling x.0) x.1 × IsEntry x.0
+pub entry_takes : (bytes : List ℕ) (x : Packed × List ℕ) → IsBytes bytes → entry_at bytes ≡ Ok x → Takes bytes (entry_spelling x.0) x.1 × IsEntry x.0
 unfolding entry_at
 entry_takes bytes x fits e =
     let a = bind_ok (head_at bytes)
@@ -126,12 +126,12 @@ entry_takes bytes x fits e =
     subst (λ (k : ℕ). Takes bytes (head_spelling a.0.0.0 k a.0.0.2 ++ (flat_map field_spelling b.0.0 ++ c.0.0)) c.0.1) (sym t1.1) e02 in
     let whole : Takes bytes (head_spelling a.0.0.0 (length b.0.0) (length c.0.0) ++ (flat_map field_spelling b.0.0 ++ c.0.0)) c.0.1 =
     subst (λ (k : ℕ). Takes bytes (head_spelling a.0.0.0 (length b.0.0) k ++ (flat_map field_spelling b.0.0 ++ c.0.0)) c.0.1) (sym t2.1) counted in
-    let small : length c.0.0 < 2 ^ 32 = subst (λ (k : ℕ). k < 2 ^ 32) (sym t2.1) t0.2 in
+    let small : length c.0.0 < 2 ^ 32 = subst (λ (k : ℕ). k < 2 ^ 32) (sym t2.1) t0.3 in
     let made : Packed × List ℕ = (record { len = a.0.0.0; fields = b.0.0; append = c.0.0 }, c.0.1) in
     subst (λ (y : Packed × List ℕ). Takes bytes (entry_spelling y.0) y.1 × IsEntry y.0) (ok_is made x c.2)
     (whole, record { len = t0.1; append = small; rules = fields_rules 0 a.0.0.0 a.0.0.1 a.0.1 b.0 b.1 })
 
-entries_take : (n : ℕ) (bytes : List ℕ) (x : List Packed × List ℕ) → IsBytes bytes → entries_at n bytes ≡ Ok x
+pub entries_take : (n : ℕ) (bytes : List ℕ) (x : List Packed × List ℕ) → IsBytes bytes → entries_at n bytes ≡ Ok x
     → Takes bytes (flat_map entry_spelling x.0) x.1 × (length x.0 ≡ n) × AllByRecursion IsEntry x.0
 unfolding entries_at
 entries_take zero bytes x fits e =
@@ -148,7 +148,7 @@ entries_take (suc n) bytes x fits e =
     subst (λ (y : List Packed × List ℕ). Takes bytes (flat_map entry_spelling y.0) y.1 × (length y.0 ≡ suc n) × AllByRecursion IsEntry y.0)
     (ok_is made x b.2) (rw flat_map-cons both, ap suc second.1, (first.1, second.2))
 
-mark_takes : (bytes rest : List ℕ) → IsBytes bytes → mark_at bytes ≡ Ok rest → Takes bytes mark rest
+pub mark_takes : (bytes rest : List ℕ) → IsBytes bytes → mark_at bytes ≡ Ok rest → Takes bytes mark rest
 mark_takes bytes rest fits e =
     let p = pass_ok (starts_with eqb bytes mark) (length bytes) (Ok (drop 8 bytes)) rest e in
     let parts : bytes ≡ mark ++ drop 8 bytes = (starts_is Decides-eqb bytes mark (starts_with eqb bytes mark) refl).0 p.0 in

@@ -20,7 +20,7 @@ four_again left n text rest long is =
     let enough : ltb (length (text ++ rest)) 4 ≡ false = le-ltb _ _ (omega (arith, length-append text rest)) in
     rw (enough, take_at text rest 4 long, drop_at text rest 4 long, is) refl
 
-number_again : (left n : ℕ) (rest : List ℕ) → n < 2 ^ 32 → number_at left (number n ++ rest) ≡ Ok (n, rest)
+pub number_again : (left n : ℕ) (rest : List ℕ) → n < 2 ^ 32 → number_at left (number n ++ rest) ≡ Ok (n, rest)
 unfolding number
 number_again left n rest lt = four_again left n (number n) rest refl (from_le_bytes-to_le_bytes_4 n lt)
 
@@ -33,7 +33,7 @@ passes : (from len at count : ℕ) → 1 ≤ count → count ≤ 4 → from ≤ 
 passes from len at count a b c d =
     and_from _ _ (and_from _ _ (and_from _ _ (le-leb 1 count a) (le-leb count 4 b)) (le-leb from at c)) (le-leb (at + count) len d)
 
-field_again : (from len : ℕ) (f : Exchange) (rest : List ℕ) → len < 2 ^ 32 → KeepsRules from len f → field_at from len (field_spelling f ++ rest) ≡ Ok (f, rest)
+pub field_again : (from len : ℕ) (f : Exchange) (rest : List ℕ) → len < 2 ^ 32 → KeepsRules from len f → field_at from len (field_spelling f ++ rest) ≡ Ok (f, rest)
 unfolding field_at
 field_again from len f rest small rules =
     let least = rules.least in
@@ -49,7 +49,7 @@ field_again from len f rest small rules =
       exchange_again (length (number f.at ++ (length f.was ∷ (f.was ++ (f.put ++ rest))))) f.at (length f.was) f.was f.put rest refl rules.same,
     ) refl
 
-fields_again : (from len : ℕ) (fs : List Exchange) (rest : List ℕ) → len < 2 ^ 32 → AllKeepRules from len fs
+pub fields_again : (from len : ℕ) (fs : List Exchange) (rest : List ℕ) → len < 2 ^ 32 → AllKeepRules from len fs
     → fields_at from len (length fs) (flat_map field_spelling fs ++ rest) ≡ Ok (fs, rest)
 unfolding fields_at
 fields_again from len [] rest small rules = refl
@@ -59,7 +59,7 @@ fields_again from len (f ∷ fs) rest small rules =
     ap (fields_at from len (suc (length fs))) regrouped
     ∙ rw (field_again from len f (flat_map field_spelling fs ++ rest) small rules.0, fields_again (f.at + length f.was) len fs rest small rules.1) refl
 
-head_again : (len fields append : ℕ) (rest : List ℕ) → len < 2 ^ 32 → fields < 2 ^ 32 → append < 2 ^ 32
+pub head_again : (len fields append : ℕ) (rest : List ℕ) → len < 2 ^ 32 → fields < 2 ^ 32 → append < 2 ^ 32
     → head_at (head_spelling len fields append ++ rest) ≡ Ok ((len, fields, append), rest)
 unfolding head_at
 head_again len fields append rest a b c =
@@ -82,7 +82,7 @@ few_fields from len (f ∷ fs) le rules =
     let more = few_fields (f.at + length f.was) len fs rules.0.within rules.1 in
     omega arith
 
-entry_again : (e : Packed) (rest : List ℕ) → IsEntry e → entry_at (entry_spelling e ++ rest) ≡ Ok (e, rest)
+pub entry_again : (e : Packed) (rest : List ℕ) → IsEntry e → entry_at (entry_spelling e ++ rest) ≡ Ok (e, rest)
 unfolding entry_at
 entry_again e rest is =
     let head : List ℕ = head_spelling e.len (length e.fields) (length e.append) in
@@ -97,7 +97,7 @@ entry_again e rest is =
       part_again (length (e.append ++ rest)) (length e.append) e.append rest refl,
     ) refl
 
-entries_again : (es : List Packed) (rest : List ℕ) → AllByRecursion IsEntry es → entries_at (length es) (flat_map entry_spelling es ++ rest) ≡ Ok (es, rest)
+pub entries_again : (es : List Packed) (rest : List ℕ) → AllByRecursion IsEntry es → entries_at (length es) (flat_map entry_spelling es ++ rest) ≡ Ok (es, rest)
 unfolding entries_at
 entries_again [] rest are = refl
 entries_again (e ∷ es) rest are =

@@ -10,7 +10,7 @@ use Rattle.patch_file.specs.declared.stop.Stop.TheVariants.{Bad}
 use Rattle.patch_file.specs.declared.stop.Stop.TheVariants as stop
 use Rattle.patch_file.specs.Spelling.{Packed, AreEntries, patch_spelling}
 use Rattle.patch_file.specs.PatchView.{all_packed}
-use Rattle.patch_file.specs.Reading.{patch_of, IsBadAt}
+use Rattle.patch_file.specs.BadPieces.{IsBadAt}
 
 -- the reading stopped at that piece; want of memory says nothing of the bytes
 abbrev pub Stops : {Y : Type 0} → Stop → Result Y ℕ → Type 0
@@ -33,8 +33,14 @@ IsList es (Ok v) = all_packed v.items ≡ es
 IsList es (Err fault.Memory) = Unit {0}
 IsList es (Err (At offset)) = ⊥
 
--- unless memory ran out, the answer is the offset of the bad piece, or the list where there is none
-abbrev pub Tells : List ℕ → Result (Vec PatchEntry) PatchFault → Type 0
-Tells file (Ok v) = patch_of file ≡ Ok (all_packed v.items)
-Tells file (Err fault.Memory) = Unit {0}
-Tells file (Err (At offset)) = IsBadAt file offset
+-- where a piece is named, it is the bad piece
+abbrev pub NamesBad : List ℕ → Result (Vec PatchEntry) PatchFault → Type 0
+NamesBad file (Ok v) = Unit {0}
+NamesBad file (Err fault.Memory) = Unit {0}
+NamesBad file (Err (At offset)) = IsBadAt file offset
+
+-- unless memory ran out, the answer is this offset
+abbrev pub IsNamed : ℕ → Result (Vec PatchEntry) PatchFault → Type 0
+IsNamed offset (Ok v) = ⊥
+IsNamed offset (Err fault.Memory) = Unit {0}
+IsNamed offset (Err (At other)) = other ≡ offset

@@ -1,5 +1,5 @@
 -- What holds of all patch files, and of all entries that are taken off and put on.
-use Rattle.std.specs.Prelude.{ℕ, ◌≡◌, List, map, length, Ok}
+use Rattle.std.specs.Prelude.{ℕ, ◌≡◌, ◌<◌, ◌↔◌, List, map, length, All, Ok, Err}
 use Rattle.patch_bytes.specs.Puts.{Put, Span, old_of}
 use Rattle.undo_log.specs.declared.entry.Entry.{Entry}
 use Rattle.undo_log.specs.Entries.{entry_of, back, back_by}
@@ -7,11 +7,23 @@ use Rattle.undo_log.specs.Commits.{Change, changed, MayCommit}
 use Rattle.patch_file.specs.Exchanges.{Exchange}
 use Rattle.patch_file.specs.Spelling.{Packed, AreEntries, patch_spelling}
 use Rattle.patch_file.specs.Reading.{patch_of}
+use Rattle.patch_file.specs.Answers.{Spells}
+use Rattle.patch_file.specs.BadPieces.{IsBad, IsBadAt}
 use Rattle.patch_file.specs.Standing.{Stands, put_on, taken_of, MayTake, AllStand, put_all, all_taken, MayTakeAll}
 
 -- reading the spelling of entries gives these entries
 abbrev pub SpelledIsRead : Type 0
 SpelledIsRead = (es : List Packed) → AreEntries es → patch_of (patch_spelling es) ≡ Ok es
+
+-- a file of bytes is the spelling of entries, which are read, or is bad at an offset, where reading stops; and no file is both
+pub record IsReadOrBad (file : List ℕ) : Type 0 where
+  pub spelled : (es : List Packed) → (patch_of file ≡ Ok es) ↔ Spells es file
+  pub bad : (left : ℕ) → (patch_of file ≡ Err left) ↔ IsBad file left
+  pub one : (p q : ℕ) → IsBadAt file p → IsBadAt file q → p ≡ q
+  pub either : (es : List Packed) (p : ℕ) → Spells es file → ¬ IsBadAt file p
+
+abbrev pub ReadsByPieces : Type 0
+ReadsByPieces = (file : List ℕ) → All (λ b. b < 256) file → IsReadOrBad file
 
 -- entries that have the same spelling are the same
 abbrev pub OneSpelling : Type 0

@@ -1,4 +1,5 @@
 pub mod Answers
+pub mod BadPieces
 pub mod Exchanges
 pub mod FieldView
 pub mod Laws

@@ -1,7 +1,6 @@
--- Reading a patch file from left to right, piece by piece, up to the first bad one. A piece is bad where the file ends
--- before it does, or where it breaks its rule. Reading gives a value and the bytes behind it, or how many bytes there
--- are from where the bad piece begins to the end of the file.
-use Rattle.std.specs.Prelude.{ℕ, zero, suc, ◌≡◌, ◌+◌, Bool, ◌&&◌, List, [], ◌∷◌, length, take, drop, Result, Ok, Err, nat_lt, nat_le, nat_eq, ◌==◌}
+-- Reading a patch file from left to right, piece by piece, up to the first bad one (BadPieces). Reading gives a value and the
+-- bytes behind it, or how many bytes there are from where the bad piece begins to the end of the file.
+use Rattle.std.specs.Prelude.{ℕ, zero, suc, ◌+◌, Bool, ◌&&◌, List, [], ◌∷◌, length, take, drop, Result, Ok, Err, nat_lt, nat_le, nat_eq, ◌==◌}
 use Rattle.std.specs.Prelude.{if◌then◌else◌}
 use Rattle.std.specs.Int.{w32, from_le_bytes}
 use Rattle.std.specs.List.{starts_with}
@@ -88,9 +87,3 @@ patch_of bytes = do
   count ← number_at (length rest) rest
   entries ← entries_at count.0 count.1
   if length entries.1 == 0 then Ok entries.0 else Err (length entries.1)
-
--- the first bad piece of the file begins at this offset
-pub record IsBadAt (bytes : List ℕ) (offset : ℕ) : Type 0 where
-  pub left : ℕ
-  pub bad : patch_of bytes ≡ Err left
-  pub place : offset + left ≡ length bytes

@@ -1,7 +1,7 @@
 //! What holds of all patch files and of all entries. Each call does nothing; its contract is the law.
 
 ghost use Rattle.patch_file.specs.FieldView.{ExchangesTell};
-ghost use Rattle.patch_file.specs.Laws.{SpelledIsRead, OneSpelling, TakenGivesTheSame, AllTakenGiveTheSame, TakenIsTheEdit, EditsMayBeTaken};
+ghost use Rattle.patch_file.specs.Laws.{SpelledIsRead, OneSpelling, ReadsByPieces, TakenGivesTheSame, AllTakenGiveTheSame, TakenIsTheEdit, EditsMayBeTaken};
 
 use crate::Field;
 
@@ -17,6 +17,12 @@ pub fn exchanges_tell(f: Field, g: Field)
 pub fn one_spelling()
     ensures read { SpelledIsRead }
     ensures same { OneSpelling }
+{}
+
+/// A file of bytes is the spelling of exactly the entries that are read of it, or has exactly one bad piece, at which reading
+/// stops: those before it stand, and it is cut off or breaks its rule.
+pub fn reads_by_pieces()
+    ensures { ReadsByPieces }
 {}
 
 /// Applied gives the same: what is taken off a body stands on the body that the log's entry leads

@@ -1,11 +1,12 @@
 // Reading a patch file, from left to right.
 
-ghost use Rattle.std.specs.Prelude.{◌≡◌, ◌+◌, ◌≤◌, List, length, IfOk};
+ghost use Rattle.std.specs.Prelude.{ℕ, ◌≡◌, ◌+◌, ◌≤◌, List, length, IfOk};
 ghost use Rattle.patch_file.specs.Spelling.{Packed};
 ghost use Rattle.patch_file.specs.FieldView.{exchange_of};
 ghost use Rattle.patch_file.specs.PatchView.{packed_of, all_packed};
 ghost use Rattle.patch_file.specs.Reading.{fields_at, entry_at, entries_at, patch_of};
-ghost use Rattle.patch_file.specs.Answers.{Gives, Spells, IsList, Tells};
+ghost use Rattle.patch_file.specs.Answers.{Gives, Spells, IsList, IsNamed, NamesBad};
+ghost use Rattle.patch_file.specs.BadPieces.{IsBadAt};
 
 use crate::pieces::{bytes_at, field_at, head_at, mark_at, number_at};
 use crate::stop::Stop;
@@ -103,7 +104,8 @@ pub fn read_patch(alloc: Global, bytes: &[u8]) -> Result<Vec<PatchEntry>, PatchF
     ensures only { (es : List Packed) → Spells es bytes.now → IsList es result }
 
     // Else the answer is where the bad piece begins.
-    ensures exactly { Tells bytes.now result }
+    ensures bad { (offset : ℕ) → IsBadAt bytes.now offset → IsNamed offset result }
+    ensures named { NamesBad bytes.now result }
 {
     match patch_of(alloc, bytes) {
         Ok(entries) => Ok(entries),

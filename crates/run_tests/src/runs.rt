@@ -4,6 +4,7 @@ mod absent;
 mod commands;
 mod faults;
 mod fences;
+mod flushed;
 mod generating;
 mod hostile;
 mod imports;

@@ -11,7 +11,7 @@ fn add(desk: &mut MemDesk, alloc: Global, name: &str, bytes: &[u8]) -> Result<()
 }
 
 // A desk with a design file of a line, a script, a patch file, a script of two imports, and their second file.
-fn desk_of_all(alloc: Global) -> Result<MemDesk, AllocError> {
+pub(super) fn desk_of_all(alloc: Global) -> Result<MemDesk, AllocError> {
     let mut desk = MemDesk::new(alloc, 512);
     let line = design(alloc, 0, &[&LINE, &END])?;
     add(&mut desk, alloc, "in", &line)?;
@@ -23,14 +23,14 @@ fn desk_of_all(alloc: Global) -> Result<MemDesk, AllocError> {
 }
 
 // The same desk, of whose calls this one fails.
-fn failing(alloc: Global, call: u64) -> Result<MemDesk, AllocError> {
+pub(super) fn failing(alloc: Global, call: u64) -> Result<MemDesk, AllocError> {
     let mut desk = desk_of_all(alloc)?;
     desk.fail_at(call)?;
     Ok(desk)
 }
 
 // Calls of a desk, a letter for each: R and W begin to read and to write, r and w read and write, and s says.
-fn letters(alloc: Global, acts: &[Act]) -> Result<Vec<u8>, AllocError> {
+pub(super) fn letters(alloc: Global, acts: &[Act]) -> Result<Vec<u8>, AllocError> {
     let mut letters = Vec::new(alloc);
     for act in acts {
         letters.push(match act {

@@ -2,9 +2,11 @@ use Rattle.std.proofs.Common.{◌≡◌, List, ℕ, length, Ok, Err, refl, ap, s
 use Rattle.std.specs.Prelude.{codes}
 use Rattle.host_desk.specs.Content.{bytes_of}
 use Rattle.patch_file.specs.declared.patch_entry.PatchEntry.{PatchEntry}
-use Rattle.patch_file.specs.Answers.{Tells}
+use Rattle.patch_file.specs.Answers.{NamesBad}
+use Rattle.patch_file.proofs.ReadAnswers.{read_of}
 use Rattle.patch_file.specs.PatchView.{all_packed}
-use Rattle.patch_file.specs.Reading.{patch_of, IsBadAt}
+use Rattle.patch_file.specs.Reading.{patch_of}
+use Rattle.patch_file.specs.BadPieces.{IsBadAt}
 use Rattle.patch_file.specs.declared.limits.TheConstants.{MOST_PATCH}
 use Rattle.dgn_files.specs.Applied.{body_patched, entries_outcome, reading_outcome}
 use Rattle.dgn_files.specs.Ended.{ended}
@@ -41,7 +43,7 @@ returns-in-Ok-read_patch g c =
     let output = c.args.output.now in
     let es = all_packed c.deref-in-Ok-read_patch.result.now in
     let found : patch_of c.in-Ok.bytes.items ≡ Ok es =
-    ap patch_of (sym c.deref.ensures.value) ∙ c.in-Ok-read_patch.ensures.exactly
+    ap patch_of (sym c.deref.ensures.value) ∙ read_of c.deref.result.now (all_packed c.in-Ok-read_patch.entries.items) c.in-Ok-read_patch.ensures.found
     ∙ ap (λ (l : List PatchEntry). Ok (all_packed l)) (sym c.deref-in-Ok-read_patch.ensures.value) in
     then_comes c.in-Ok.ensures.read (Has patch) (IsInBytes patch MOST_PATCH) (λ files. body_patched b tail (bytes_of files patch) output)
     (entries_outcome b tail es output) c.apply_entries.result c.of.result
@@ -55,7 +57,7 @@ returns-in-Err-At g c =
     let patch = c.args.patch.now in
     let output = c.args.output.now in
     let told : IsBadAt c.deref.result.now c.in-Err-At.offset =
-    subst (λ fault. Tells c.deref.result.now (Err fault)) c.in-Err-At.field-0-is c.in-Err-At.ensures.exactly in
+    subst (λ fault. NamesBad c.deref.result.now (Err fault)) c.in-Err-At.field-0-is c.in-Err-At.ensures.named in
     let bad : IsBadAt c.in-Ok.bytes.items c.in-Err-At.offset = subst (λ (x : List ℕ). IsBadAt x c.in-Err-At.offset) c.deref.ensures.value told in
     then_comes c.in-Ok.ensures.read (Has patch) (IsInBytes patch MOST_PATCH) (λ files. body_patched b tail (bytes_of files patch) output)
     (ended statuses.BadPatch (numbered (codes "bad patch at ") c.in-Err-At.offset)) c.end_numbered.result c.of-in-Err-At.result

@@ -40,9 +40,11 @@ returns-in-Err-TooLong-clause-ended g c =
 pub returns-in-Err-Fault-clause-ended : goal.returns-in-Err-Fault-clause-ended
 returns-in-Err-Fault-clause-ended g c =
     let read = rw c.in-Err-Fault.field-0-is at c.in-Err-Fault.ensures in
-    record { early = λ go_on. record {
-      left = record { rose = read.cause.1; quiet = read.other; stays = read.stays; only = read.told; lacks = read.able };
-    } }
+    record {
+      early = λ go_on. record {
+        left = record { rose = read.cause.1; quiet = read.other; stays = read.stays; only = read.told; lacks = read.able };
+      };
+    }
 
 pub returns-in-Err-Memory-clause-ended : goal.returns-in-Err-Memory-clause-ended
 returns-in-Err-Memory-clause-ended g c =

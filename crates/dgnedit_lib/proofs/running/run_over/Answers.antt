@@ -1,4 +1,5 @@
 use Rattle.std.proofs.Common.{map, string_bytes, length, Some, None, true, ap, ◌∙◌}
+use Rattle.host_desk.specs.Content.{all_said}
 use Rattle.dgn_files.specs.Status.{number_of}
 use Rattle.dgnedit_lib.proofs.HandedOut.{ends, handed_out, put_none}
 use Rattle.dgnedit_lib.specs.Handing.{put_in, text_ended}
@@ -13,7 +14,7 @@ returns-in-Some-clause-outcome c = λ read memory.
     (ap (λ e. record { text_length = e.text_length; file_length = c.put_in-in-Some.result; status = e.status; file_written = true }) c.with_text-ended.ensures
     ∙ ap (λ n. record { text_length = n; file_length = c.put_in-in-Some.result; status = number_of c.run-status.result; file_written = true })
     (c.put_in.ensures.count ∙ ap length c.said.ensures)
-    ∙ ap (λ n. record { text_length = length c.run-status.new.desk.content.said; file_length = n; status = number_of c.run-status.result; file_written = true })
+    ∙ ap (λ n. record { text_length = length (all_said c.run-status.new.desk.content); file_length = n; status = number_of c.run-status.result; file_written = true })
     c.put_in-in-Some.ensures.count)
     (c.put_in.ensures.put ∙ ap (λ t. put_in t c.args.text.now) c.said.ensures) c.put_in-in-Some.ensures.put
 
