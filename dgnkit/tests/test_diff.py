@@ -145,7 +145,8 @@ class Diff(samples.WithProgram):
 
     def test_the_tail(self) -> None:
         self.assertEqual(
-            self.found(self.valve, self.valve + b'x')['tail'], ['behind the elements: 2 bytes, and then 3 bytes']
+            self.found(self.valve, self.valve + b'x')['tail'],
+            ['after the elements: 2 bytes in the first, 3 bytes in the second'],
         )
 
     def test_every_byte_that_differs_is_told(self) -> None:

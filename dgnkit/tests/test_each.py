@@ -79,7 +79,7 @@ class Each(samples.WithProgram):
         (self.folder / 'out').mkdir()
         script = self.put('out/0.dgn', 'color 1 3\n')
         status, _, err = self.kit('each', script, self.names[0], '--into', self.into, '--force')
-        self.assertEqual((status, 'is read, and is not written over' in err), (2, True))
+        self.assertEqual((status, "is an input, and isn't overwritten" in err), (2, True))
         self.assertEqual((self.folder / 'out/0.dgn').read_text(), 'color 1 3\n')
 
     def test_nothing_is_left_where_it_is_stopped(self) -> None:

@@ -65,8 +65,10 @@ class Explaining(WithProgram):
     """The app says of a refusal what `dgnkit why` says, but for what one can do there."""
 
     ADVICE = (
-        ('`dgnkit mend` writes a patch file that mends it', '‘Mend’ puts it right'),
-        ('`dgnkit mend` can not mend it: it says why', '‘Mend’ can not put it right: it says why'),
+        ('`dgnkit mend` writes a patch file that mends it', '‘Mend’ can mend it'),
+        ("`dgnkit mend` can't mend it, and says why", '‘Mend’ can’t mend it, and says why'),
+        (' (`dgnkit undelete` can)', ''),
+        ("n't", 'n’t'),
     )
 
     def test_refusals_of_every_kind(self) -> None:

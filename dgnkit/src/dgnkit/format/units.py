@@ -82,16 +82,14 @@ class Units:
     def said(self) -> str:
         """The units in words, in metres too where the master unit's name is known."""
         if not self.is_known:
-            said = (
-                'none are set (the TCB counts %d subunits and %d units of resolution): places are units of resolution'
-            )
+            said = 'not set (the TCB has %d subunits and %d units of resolution): positions are in units of resolution'
             return said % (self.subunits, self.resolution)
         master, sub = (printable(it) or '(no name)' for it in (self.master_name, self.sub_name))
         fine = counted(self.resolution, 'unit of resolution', 'units of resolution')
         said = '1 %s = %d %s, 1 %s = %s' % (master, self.subunits, sub, sub, fine)
         metres = self.master_metres
         if metres is None:
-            return said + '; %s is no unit whose metres are known' % master
+            return said + "; it isn't known how long 1 %s is" % master
         return said + '; 1 unit of resolution = %s m' % shortest(float(metres / self.in_master))
 
     def to_master(self, point: Sequence[int]) -> Tuple[float, ...]:
