@@ -8,7 +8,7 @@ MAN = $(DESTDIR)$(PREFIX)/share/man/man1
 DOC = $(DESTDIR)$(PREFIX)/share/doc/dgnedit
 APP = $(DESTDIR)$(PREFIX)/share/dgnedit
 
-.PHONY: build check examples install uninstall lib web dist clean help
+.PHONY: build check examples install uninstall lib web card dist clean help
 
 build:          ## proves and builds the program, where it isn't built or a source is newer
 	@./dgnedit --build
@@ -40,8 +40,12 @@ web:            ## makes the editor in a browser: dist/dgnedit.html, with the pr
 	tools/make_library web dist
 	tools/make_app
 
-dist: build web ## makes dist/: an archive of the built program, and a Debian package where dpkg-deb is
+card:           ## makes the quick card of all commands, which prints on two pages: dist/dgnedit-card.html
+	tools/make_card
+
+dist: build web card ## makes dist/: archive, Debian package where dpkg-deb is, the editor in a browser, and SHA256SUMS
 	tools/make_dist $(PROGRAM) dist
+	cd dist && find . -type f ! -name SHA256SUMS -printf '%P\n' | LC_ALL=C sort | xargs sha256sum >SHA256SUMS
 
 clean:          ## removes what was built here
 	rm -rf dist crates/*/out
