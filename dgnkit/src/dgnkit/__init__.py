@@ -53,7 +53,10 @@ PLACES = {
 
 def __getattr__(name: str) -> Any:
     if name == '__version__':
-        return (get_data('dgnkit', 'VERSION') or b'').decode('ascii').strip()
+        try:
+            return (get_data('dgnkit', 'VERSION') or b'').decode('ascii').strip()
+        except OSError:  # of modules that were copied without it
+            return 'unknown'
     for place, names in PLACES.items():
         if name in names.split():
             return getattr(import_module('dgnkit.' + place), name)

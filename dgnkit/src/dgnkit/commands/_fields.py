@@ -38,8 +38,8 @@ class Word:
 def register_edit(words: Subparsers, word: Word) -> Parser:
     """Adds the parser of such a command."""
     parser = words.add_parser(word.name, help=word.text)
-    parser.add_argument('drawing', metavar='IN')
-    parser.add_argument('patch', metavar='PATCH')
+    parser.add_argument('drawing', metavar='IN', help='the drawing')
+    parser.add_argument('patch', metavar='PATCH', help='the patch file to write')
     add_conditions(parser)
     parser.add_argument('--dry-run', action='store_true', help='say what would be done, and write nothing')
     parser.set_defaults(run=lambda arguments: run_edit(arguments, word))

@@ -33,8 +33,8 @@ BACK = {'deleted': 'no longer deleted', 'locked': 'unlocked'}
 
 def register(words: Subparsers) -> None:
     parser = words.add_parser('diff', help='say in words how two drawings differ')
-    parser.add_argument('first', metavar='A')
-    parser.add_argument('second', metavar='B')
+    parser.add_argument('first', metavar='A', help='the first drawing')
+    parser.add_argument('second', metavar='B', help='the second drawing')
     form = parser.add_mutually_exclusive_group()
     form.add_argument('--json', action='store_true', help='print it as JSON')
     form.add_argument('--csv', action='store_true', help='print it as CSV')

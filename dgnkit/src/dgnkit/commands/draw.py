@@ -22,7 +22,7 @@ patch file after the script; -o SCRIPT writes it too, with the name of the scrip
 
 def register(words: Subparsers) -> None:
     parser = words.add_parser('draw', help='write the script that draws what a table says', description=ABOUT)
-    parser.add_argument('drawing', metavar='IN')
+    parser.add_argument('drawing', metavar='IN', help='the drawing')
     parser.add_argument('table', metavar='CSV', help='a table of positions')
     kinds = ('line', 'string', 'shape', 'text')
     parser.add_argument('--as', dest='kind', choices=kinds, default='', help="what is drawn, if a row doesn't say")

@@ -45,7 +45,7 @@ class Outcome:
 def register(words: Subparsers) -> None:
     parser = words.add_parser('each', help='run one script or patch file over many drawings at once')
     parser.add_argument('script', metavar='SCRIPT', help='a script or a patch file')
-    parser.add_argument('drawings', metavar='IN', nargs='+')
+    parser.add_argument('drawings', metavar='IN', nargs='+', help='the drawings')
     parser.add_argument('--into', metavar='DIR', required=True, help='the folder that the new drawings are written to')
     parser.add_argument('--jobs', metavar='N', default=str(os.cpu_count() or 1), help='how many at a time')
     parser.add_argument('--force', action='store_true', help='overwrite drawings of that name in DIR')

@@ -24,7 +24,7 @@ TOLD = 8  # so many headers with chosen members are told
 
 def register(words: Subparsers) -> None:
     parser = words.add_parser('find', help='find elements that meet conditions, and write a script for them')
-    parser.add_argument('drawing', metavar='IN')
+    parser.add_argument('drawing', metavar='IN', help='the drawing')
     parser.add_argument(
         '--numbers',
         metavar='FILE',

@@ -24,7 +24,7 @@ SYSTEM = re.compile(r'(EPSG):(\d{4,6})', re.IGNORECASE)
 
 def register(words: Subparsers) -> None:
     parser = words.add_parser('geojson', help='write a drawing as GeoJSON, for QGIS')
-    parser.add_argument('drawing', metavar='IN')
+    parser.add_argument('drawing', metavar='IN', help='the drawing')
     parser.add_argument('--crs', metavar='EPSG:CODE', help='the coordinate system of the drawing')
     parser.add_argument(
         '--units', choices=('auto', 'master', 'resolution'), default='auto', help='the units of its positions'

@@ -31,7 +31,7 @@ COUNTS = 'broken_trees type_0 zeros audit twice outside end_mark behind deleted 
 
 def register(words: Subparsers) -> None:
     parser = words.add_parser('health', help='report what is damaged, broken or odd in drawings')
-    parser.add_argument('drawings', metavar='IN', nargs='+')
+    parser.add_argument('drawings', metavar='IN', nargs='+', help='the drawings')
     parser.add_argument(
         '--frame', metavar='X,Y', nargs=2, help="also report what isn't inside the box with these corners"
     )

@@ -25,7 +25,7 @@ MEASURES = ['lines', 'length', 'shapes', 'outline', 'area']
 
 def register(words: Subparsers) -> None:
     parser = words.add_parser('info', help='report the units and the contents of drawings')
-    parser.add_argument('drawings', metavar='IN', nargs='+')
+    parser.add_argument('drawings', metavar='IN', nargs='+', help='the drawings')
     parser.add_argument('--lengths', action='store_true', help='add up lengths and areas by level')
     form = parser.add_mutually_exclusive_group()
     form.add_argument('--json', action='store_true', help='print it as JSON')

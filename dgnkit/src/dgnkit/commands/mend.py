@@ -23,8 +23,10 @@ if TYPE_CHECKING:
 
 def register(words: Subparsers) -> None:
     parser = words.add_parser('mend', help='write a patch file that mends broken trees')
-    parser.add_argument('drawing', metavar='IN')
-    parser.add_argument('patch', metavar='PATCH', nargs='?', default='', help='not needed with --dry-run')
+    parser.add_argument('drawing', metavar='IN', help='the drawing')
+    parser.add_argument(
+        'patch', metavar='PATCH', nargs='?', default='', help='the patch file to write; not needed with --dry-run'
+    )
     parser.add_argument('--dry-run', action='store_true', help='say what would be done, and write nothing')
     form = parser.add_mutually_exclusive_group()
     form.add_argument('--json', action='store_true', help='print it as JSON')

@@ -20,8 +20,8 @@ if TYPE_CHECKING:
 
 def register(words: Subparsers) -> None:
     parser = words.add_parser('merge', help='write the script that imports other drawings')
-    parser.add_argument('drawing', metavar='A')
-    parser.add_argument('others', metavar='B', nargs='+')
+    parser.add_argument('drawing', metavar='A', help='the drawing to import into')
+    parser.add_argument('others', metavar='B', nargs='+', help='the drawings to import')
     parser.add_argument('-o', '--output', metavar='SCRIPT', default='', help='the script; otherwise it is printed')
     parser.add_argument('--dry-run', action='store_true', help='say what would be done, and write nothing')
     parser.set_defaults(run=run)

@@ -35,7 +35,7 @@ class Spot:
 
 def register(words: Subparsers) -> None:
     parser = words.add_parser('place', help='write the script that copies a cell to places')
-    parser.add_argument('drawing', metavar='IN')
+    parser.add_argument('drawing', metavar='IN', help='the drawing')
     parser.add_argument('cell', metavar='CELL', help="the cell's name, such as MHOLE")
     parser.add_argument('places', metavar='CSV', help='rows of x,y or x,y,z; the first row may name the columns')
     parser.add_argument('--number', help='the number of the cell to copy, if several have the name')

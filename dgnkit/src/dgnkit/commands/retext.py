@@ -22,7 +22,9 @@ def register(words: Subparsers) -> None:
     parser = register_edit(words, Word('retext', text, edit, asks=False, takes_parts=False))
     parser.add_argument('old', metavar='OLD', help='what to replace, as a whole word')
     parser.add_argument('new', metavar='NEW', help='what to put there instead')
-    parser.add_argument('--regex', action='store_true', help='OLD is a regular expression, and NEW may name its groups')
+    parser.add_argument(
+        '--regex', action='store_true', help='OLD is a regular expression, and NEW may refer to its groups'
+    )
     parser.add_argument('--encoding', help='the encoding of characters beyond ASCII, such as utf-8 or latin-1')
 
 

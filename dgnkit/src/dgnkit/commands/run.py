@@ -24,7 +24,7 @@ refused and how it ended. OUT is there whole or not at all."""
 
 def register(words: Subparsers) -> None:
     parser = words.add_parser('run', help='run scripts and patch files with dgnedit', description=ABOUT)
-    parser.add_argument('drawing', metavar='IN')
+    parser.add_argument('drawing', metavar='IN', help='the drawing')
     parser.add_argument(
         'steps', metavar='SCRIPT', nargs='+', help='scripts and patch files, in the order in which to run them'
     )

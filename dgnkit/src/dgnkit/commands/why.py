@@ -16,7 +16,7 @@ if TYPE_CHECKING:
 
 def register(words: Subparsers) -> None:
     parser = words.add_parser('why', help='run a script or a patch file, and explain what is refused')
-    parser.add_argument('drawing', metavar='IN')
+    parser.add_argument('drawing', metavar='IN', help='the drawing')
     parser.add_argument('script', metavar='SCRIPT', help='a script or a patch file')
     parser.add_argument(
         'out', metavar='OUT', nargs='?', default=NOWHERE, help='the drawing to write; otherwise none is written'
