@@ -203,7 +203,7 @@ class Comparison {
         if (ranges !== null && ranges.every((it, axis) => it === shift[axis])) {
             this.takeRange();
         }
-        this.words.push('moved by ' + shiftSaid(this.units, shift));
+        this.words.push('moved ' + shiftSaid(this.units, shift));
     }
 
     /** Takes the range's fields of the axes that there are. */

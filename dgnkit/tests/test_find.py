@@ -214,7 +214,7 @@ class Scripts(samples.WithProgram):
             'in.dgn', with_units(drawings.drawing(plan.line(1, (0, 0), (50, 0))), 100, 1, ('m', 'cm'), (0, 0, 0))
         )
         out, _ = self.script(path, '--level', '1', '--script', 'move {n} 250 0', '-o', self.path('s'), '--dry-run')
-        self.assertIn('line 1 on level 1: moved by 2.5,0 m (250,0 units of resolution)', out)
+        self.assertIn('line 1 on level 1: moved 2.5 m east (250,0 units of resolution)', out)
         self.assertTrue(out.rstrip().endswith('dgnkit run %s %s %s' % (path, self.path('s'), self.path('in-out.dgn'))))
         self.assertFalse((self.folder / 's').exists())
 

@@ -153,7 +153,7 @@ class Jobs(OnTheTown):
         other = self.put('there.dgn', there)
         status, said, err = self.kit('merge', self.town, other, '-o', self.path('s'))
         self.assertEqual((status, err), (0, ''))
-        self.assertIn('moved by -0.25,-0.25 m', said)
+        self.assertIn('moved 0.25 m west and 0.25 m south', said)
         self.then(said)
         drawing = self.result()
         self.assertEqual(len(drawing.elements), 54 + 42)

@@ -13,7 +13,7 @@ import sys
 import unittest
 from typing import Any, List, Set
 
-from samples import EXAMPLES, PROGRAM, TOP, Drawing, Script, WithProgram, drawings, plan
+from samples import EXAMPLES, PROGRAM, TOP, Drawing, Script, WithProgram, drawings, plan, with_units
 from test_mend_at_random import AtRandom
 
 from dgnkit.drawing.mending import mending_of
@@ -141,7 +141,7 @@ class Comparing(WithProgram):
     def samples(self) -> List[str]:
         files = [it for it in drawings.DRAWINGS.values() if not it[1214] & 0x40]
         joined = drawings.drawing(*[file[1536:-2] for file in files])
-        solid = drawings.DRAWINGS['a line of three axes']
+        solid = with_units(drawings.DRAWINGS['a line of three axes'], 12, 10, ('ft', 'in'), (0, 0, 0))
         made = [self.put('joined.dgn', joined), self.put('solid.dgn', solid)]
         return made + [self.example(name + '.dgn') for name in ('plan', 'street', 'town', 'valve')]
 

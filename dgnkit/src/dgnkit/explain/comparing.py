@@ -155,7 +155,7 @@ class _Comparison:
         self.take(start, end)
         if ranges == shift:
             self.take_range()
-        self.made.add('moved', self.shift_facts(shift), 'moved by ' + self.units.shift_said(shift))
+        self.made.add('moved', self.shift_facts(shift), 'moved ' + self.units.shift_said(shift))
 
     def shift_facts(self, shift: Point) -> Dict[str, Any]:
         """A displacement in all units that are known."""

@@ -30,11 +30,11 @@ def part_said(drawing: Drawing, number: int) -> str:
 
 
 def _moved(drawing: Drawing, words: Words) -> str:
-    return 'moved by ' + drawing.units.shift_said([int(it) for it in words])
+    return 'moved ' + drawing.units.shift_said([int(it) for it in words])
 
 
 def _copied(drawing: Drawing, words: Words) -> str:
-    return 'copied, with the copy moved by ' + drawing.units.shift_said([int(it) for it in words])
+    return 'copied, with the copy moved ' + drawing.units.shift_said([int(it) for it in words])
 
 
 def _coloured(drawing: Drawing, words: Words) -> str:

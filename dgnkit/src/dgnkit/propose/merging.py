@@ -81,7 +81,7 @@ def words_of(first: Drawing, merge: Merge) -> List[str]:
     other, units = merge.drawing, first.units
     said = ['%s: %s' % (other.path, counted(len(merge.taken), 'tree is', 'trees are') + ' imported')]
     if any(merge.shift):
-        said.append('  moved by %s, since the global origins differ' % units.shift_said(merge.shift))
+        said.append('  moved %s, since the global origins differ' % units.shift_said(merge.shift))
     else:
         said.append('  not moved, since the global origins are the same')
     if merge.is_rounded:
