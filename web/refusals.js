@@ -7,9 +7,10 @@ import { mendingOf } from './mending.js';
 const PLANE_SAID = 'the design plane, -2147483648 to 2147483647';
 const FAULTS = Object.freeze({
     'not-design': 'it isn’t a design file of version 7',
-    cut: 'the element that begins at byte K reaches past the end of the file: it was cut off',
-    short: 'the element that begins at byte K is shorter than its type requires',
-    attributes: 'the attribute data of the element that begins at byte K begin where they can’t',
+    cut: 'the element that begins at byte K reaches past the end of the file: it was cut off, or is damaged',
+    short: 'the element that begins at byte K is shorter than its type requires: the file is damaged there',
+    attributes: 'the attribute data of the element that begins at byte K begin where they can’t: the file is damaged'
+        + ' there',
 });
 
 /** @typedef {{ line: string, at: number }} Done an accepted line of the script, and its number from 1 */

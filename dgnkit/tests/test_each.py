@@ -40,7 +40,7 @@ class Each(samples.WithProgram):
         told = json.loads(said)
         self.assertEqual((status, [it['status'] for it in told]), (1, [0, 4, 1]))
         self.assertEqual([it['refused'] for it in told], [0, 0, 1])
-        self.assertIn('cut at byte 1588', told[1]['ending'])
+        self.assertIn('at byte 1588 reaches past the end of the file', told[1]['ending'])
         self.assertEqual(self.written(), ['0.dgn', 'plan.dgn'])
 
     def test_a_patch_file(self) -> None:

@@ -86,7 +86,7 @@ class Info(samples.WithProgram):
         for length, offset in [(1600, 1588), (900, 0)]:
             status, _, err = self.kit('info', self.put('cut.dgn', whole[:length]))
             self.assertEqual(status, 2)
-            self.assertIn('cut at byte %d' % offset, err)
+            self.assertIn('begins at byte %d reaches past' % offset, err)
 
     def test_others_are_told_where_one_is_missing(self) -> None:
         status, out, err = self.kit('info', self.path('missing.dgn'), self.example('valve.dgn'))

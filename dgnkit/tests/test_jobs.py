@@ -131,7 +131,7 @@ class Jobs(OnTheTown):
         self.assertEqual(sorted(found), sorted(bad))
         self.assertIn('of type 0', found['zeroed.dgn'])
         self.assertIn('no end mark', found['cut-between.dgn'])
-        self.assertIn('cut at byte', found['cut-within.dgn'])
+        self.assertIn('reaches past the end of the file', found['cut-within.dgn'])
         script = self.put('s', 'color 1 3\n')
         _, said, _ = self.kit('each', script, *good, *paths, '--into', self.path('done'), '--json')
         told = json.loads(said)

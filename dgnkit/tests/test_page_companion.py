@@ -90,6 +90,23 @@ class Explaining(WithProgram):
                 self.assertEqual(said, sentences)
         self.assertGreater(len(causes), 10, causes)
 
+    def test_imports_that_do_not_open(self) -> None:
+        """An import of a file that is cut, has a short element, or attribute data that begin where they can't."""
+        valve = (EXAMPLES / 'valve.dgn').read_bytes()
+        short = valve[:1536] + bytes([1, 3, 7, 0]) + bytes(14)
+        ends = valve[:1536] + bytes([1, 3, 24, 0]) + bytes(29) + bytes([8]) + bytes(18)
+        drawing = Drawing(self.example('valve.dgn'), self.program)
+        script = Script()
+        for name, file in (('cut', valve[:1600]), ('short', short), ('ends', ends)):
+            script.add('import ' + self.put(name, file))
+        answers = self.program.edit(drawing.path, script)
+        explainer = Explainer(drawing, script.commands, answers)
+        self.assertEqual([it.cause.split()[1] for it in explainer.refused], ['cut', 'short', 'attributes'])
+        rows = [[drawing.path, [[it.text, said.cause] for it, said in zip(script.commands, answers)]]]
+        self.assertEqual(
+            asked('refusals.mjs', rows), [[self.as_the_app(explainer.sentence(it)) for it in explainer.refused]]
+        )
+
     def examples(self) -> List[bytes]:
         return [(EXAMPLES / (name + '.dgn')).read_bytes() for name in ('plan', 'street', 'town', 'valve')]
 

@@ -126,7 +126,7 @@ class Endings(samples.WithProgram):
     def test_a_drawing_that_does_not_open(self) -> None:
         script = self.put('s', 'color 1 3\n')
         cut = self.put('cut.dgn', (samples.EXAMPLES / 'valve.dgn').read_bytes()[:1600])
-        self.assertIn("doesn't open: cut at byte 1588", self.why(cut, script))
+        self.assertIn("doesn't open: the element that begins at byte 1588 reaches past the end", self.why(cut, script))
         self.assertIn('cell library', self.why(self.put('lib', b'\x08\x05\x17\x00' + bytes(600)), script))
 
     def test_a_file_that_is_too_long(self) -> None:

@@ -84,6 +84,20 @@ class PatchRefused(Ending):
         self.entry = entry
 
 
+FAULTS = {
+    'not-design': "it isn't a design file of version 7",
+    'cut': 'the element that begins at byte K reaches past the end of the file: it was cut off, or is damaged',
+    'short': 'the element that begins at byte K is shorter than its type requires: the file is damaged there',
+    'attributes': "the attribute data of the element that begins at byte K begin where they can't: the file is damaged "
+    'there',
+}
+
+
+def fault_said(fault: str, offset: int) -> str:
+    """What keeps a file from opening, in words."""
+    return FAULTS[fault].replace('K', str(offset))
+
+
 def ending_of(status: int, said: Sequence[str], drawing: str = 'the drawing') -> Ending:
     """The ending that a status and what was said stand for. It raises ListingError where they are of none."""
     last = said[-1] if said else ''
@@ -94,7 +108,7 @@ def ending_of(status: int, said: Sequence[str], drawing: str = 'the drawing') ->
         return BadScript('line %s of the script is bad' % found[1], status, said, int(found[1]))
     found = re.fullmatch(r'bad design (not-design|cut|short|attributes) at (\d+)', last)
     if status == 4 and found:
-        text = "%s doesn't open: %s at byte %s" % (drawing, found[1], found[2])
+        text = "%s doesn't open: %s" % (drawing, fault_said(found[1], int(found[2])))
         return BadDesign(text, status, said, found[1], int(found[2]))
     if status == 5:
         return ReadFault("a file couldn't be read", status, said)

@@ -140,11 +140,14 @@ class Runs:
         return Outcome(name, status, 'done' if status == 0 else 'some refused', refused, str(target))
 
     def ending(self, status: int, lines: List[str], name: str) -> str:
-        """Why the program ended without writing a drawing."""
+        """Why the program ended without writing a drawing, without the drawing's name in front."""
         ending = ending_of(status, lines, name)
-        if isinstance(ending, BadDesign) and ending.fault == 'not-design':
-            return why_bad_design(name, ending)
-        return why_not_read([name, self.script]) if isinstance(ending, ReadFault) else str(ending)
+        said = str(ending)
+        if isinstance(ending, BadDesign):
+            said = why_bad_design(name, ending)
+        elif isinstance(ending, ReadFault):
+            said = why_not_read([name, self.script])
+        return said[len(name) + 1 :] if said.startswith(name + ' ') else said
 
 
 def show_progress(done: int, count: int) -> None:

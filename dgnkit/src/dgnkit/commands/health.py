@@ -20,12 +20,6 @@ if TYPE_CHECKING:
     from ..cli import Subparsers
 
 Facts = Dict[str, Any]
-FAULTS = {
-    'not-design': '',
-    'cut': ' (the file ends inside this element)',
-    'short': ' (this element is shorter than its type and its counts require)',
-    'attributes': " (the attribute data of this element begin where they can't)",
-}
 COUNTS = 'broken_trees type_0 zeros audit twice outside end_mark behind deleted locked'.split()
 
 
@@ -147,7 +141,7 @@ def csv_row(facts: Facts) -> List[object]:
 def line_of(facts: Facts) -> str:
     """The one line of a drawing."""
     if not facts['opens']:
-        return str(facts['why']) + FAULTS[facts['fault']]
+        return str(facts['why'])
     said = ', '.join(findings_said(facts)) or 'ok'
     counts = '%s, %d deleted, %d locked' % (counted(facts['elements'], 'element'), facts['deleted'], facts['locked'])
     return '%s: %s (%s)' % (facts['file'], said, counts)

@@ -20,6 +20,7 @@ from ..errors import (
     ReadFault,
     TooLong,
     WriteFault,
+    fault_said,
 )
 from ..files import front_of, read_drawing, read_file
 from ..format.element import described
@@ -33,12 +34,6 @@ from ..program.grammar import fault_of, kinds_of
 from ..program.runs import Program
 from ..program.script import Script
 
-FAULTS = {
-    'not-design': "it doesn't begin like a design file",
-    'cut': 'the file ends inside this element: it was cut off, or is damaged there',
-    'short': 'this element is shorter than its type and its counts require: the file is damaged there',
-    'attributes': "the attribute data of this element begin where they can't: the file is damaged there",
-}
 LIMITS = {
     'design': DRAWING_LONGEST,
     'import': DRAWING_LONGEST,
@@ -126,8 +121,7 @@ def why_bad_design(drawing: str, ending: BadDesign) -> str:
         kind = 'design'
     if kind != 'design':
         return '%s is %s' % (drawing, KIND_SAID[kind])
-    said = "%s doesn't open: %s at byte %d: %s"
-    return said % (drawing, ending.fault, ending.offset, FAULTS[ending.fault])
+    return "%s doesn't open: %s" % (drawing, fault_said(ending.fault, ending.offset))
 
 
 def imports_of(script: str) -> List[str]:

@@ -9,7 +9,7 @@ from typing import Callable, Dict, Optional, Sequence, Set
 from ..drawing.broken import why_broken
 from ..drawing.drawing import Drawing
 from ..drawing.mending import mending_of
-from ..errors import BadDesign, Mistake
+from ..errors import BadDesign, Mistake, fault_said
 from ..format.element import described
 from ..format.limits import CORNERS_LEAST, CORNERS_MOST, DRAWING_LONGEST, PLANE_HIGH, PLANE_LOW
 from ..format.tcb import KIND_SAID, kind_of
@@ -141,7 +141,7 @@ class Explainer:
         name = refusal.command.text.split()[1]
         word, _, number = rest.partition(' ')
         if word in ('not-design', 'cut', 'short', 'attributes'):
-            return "%s doesn't open: %s %s" % (name, word, import_fault(name, number))
+            return "%s doesn't open: %s" % (name, import_fault(name, word, int(number.split()[-1])))
         if word == 'dimension':
             said = '%s or the displacement has another number of dimensions than the drawing, which has %d'
             return said % (name, self.drawing.axes)
@@ -149,14 +149,14 @@ class Explainer:
         return said % (imported(self.drawing, name, number), name, word)
 
 
-def import_fault(name: str, rest: str) -> str:
-    """The place of a fault of an imported file, and what it is where it is no design file at all."""
+def import_fault(name: str, fault: str, offset: int) -> str:
+    """What keeps an imported file from opening, and what it is where it is no design file at all."""
     try:
         with open(name, 'rb') as file:
             kind = kind_of(file.read(4))
     except OSError:
-        return rest
-    return rest if kind == 'design' else '%s (it is %s)' % (rest, KIND_SAID[kind])
+        kind = 'design'
+    return fault_said(fault, offset) if kind == 'design' else 'it is ' + KIND_SAID[kind]
 
 
 def imported(drawing: Drawing, name: str, number: str) -> str:
