@@ -27,6 +27,7 @@ install: build  ## installs the program, the companion dgnkit, man pages and doc
 	install -m 644 README.md CHANGELOG.md LICENSE "$(DOC)"
 	install -m 644 docs/*.md docs/*.svg docs/*.png "$(DOC)/docs"
 	cp examples/* "$(DOC)/examples"
+	test ! -f dist/dgnedit-card.html || install -m 644 dist/dgnedit-card.html "$(DOC)"
 	test ! -f dist/dgnedit.html || install -D -m 644 dist/dgnedit.html "$(APP)/dgnedit.html"
 
 uninstall:      ## removes what install has installed
