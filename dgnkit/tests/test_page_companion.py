@@ -19,6 +19,7 @@ from test_mend_at_random import AtRandom
 from dgnkit.drawing.mending import mending_of
 from dgnkit.explain.comparing import differences
 from dgnkit.explain.refusals import Explainer
+from dgnkit.format.tcb import KIND_SAID
 from dgnkit.propose.writing import patch_of
 
 NODE = shutil.which('node') or shutil.which('nodejs')
@@ -106,6 +107,13 @@ class Explaining(WithProgram):
         self.assertEqual(
             asked('refusals.mjs', rows), [[self.as_the_app(explainer.sentence(it)) for it in explainer.refused]]
         )
+
+    def test_files_that_are_no_drawings(self) -> None:
+        """The page recognises what dgnkit does, and says the same of it."""
+        said = (TOP / 'web' / 'tcb.js').read_text(encoding='utf-8')
+        for kind, words in KIND_SAID.items():
+            with self.subTest(kind):
+                self.assertIn(words.replace("n't", 'n’t'), said)
 
     def examples(self) -> List[bytes]:
         return [(EXAMPLES / (name + '.dgn')).read_bytes() for name in ('plan', 'street', 'town', 'valve')]
