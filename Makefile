@@ -8,7 +8,7 @@ MAN = $(DESTDIR)$(PREFIX)/share/man/man1
 DOC = $(DESTDIR)$(PREFIX)/share/doc/dgnedit
 APP = $(DESTDIR)$(PREFIX)/share/dgnedit
 
-.PHONY: build check examples install uninstall lib web dist clean help
+.PHONY: build check examples install uninstall lib web card dist clean help
 
 build:          ## proves and builds the program, where it isn't built or a source is newer
 	@./dgnedit --build
@@ -27,6 +27,7 @@ install: build  ## installs the program, the companion dgnkit, man pages and doc
 	install -m 644 README.md CHANGELOG.md LICENSE "$(DOC)"
 	install -m 644 docs/*.md docs/*.svg docs/*.png "$(DOC)/docs"
 	cp examples/* "$(DOC)/examples"
+	test ! -f dist/dgnedit-card.html || install -m 644 dist/dgnedit-card.html "$(DOC)"
 	test ! -f dist/dgnedit.html || install -D -m 644 dist/dgnedit.html "$(APP)/dgnedit.html"
 
 uninstall:      ## removes what install has installed
@@ -40,8 +41,12 @@ web:            ## makes the editor in a browser: dist/dgnedit.html, with the pr
 	tools/make_library web dist
 	tools/make_app
 
-dist: build web ## makes dist/: an archive of the built program, and a Debian package where dpkg-deb is
+card:           ## makes the quick card of all commands, which prints on two pages: dist/dgnedit-card.html
+	tools/make_card
+
+dist: build web card ## makes dist/: archive, Debian package where dpkg-deb is, the editor in a browser, and SHA256SUMS
 	tools/make_dist $(PROGRAM) dist
+	cd dist && find . -type f ! -name SHA256SUMS -printf '%P\n' | LC_ALL=C sort | xargs sha256sum >SHA256SUMS
 
 clean:          ## removes what was built here
 	rm -rf dist crates/*/out

@@ -1,12 +1,24 @@
-"""What the benches share: the bytes of a drawing, and the time and memory of a command."""
+"""What the benches share: the bytes of a drawing, runs in turn with their times and memory, how these are told, and the
+command line:
+
+    bench/NAME PROGRAM [FOLDER] [--small]
+
+PROGRAM is the built program (crates/dgnedit/out/dgnedit). FOLDER is where a bench makes its drawings, or else a
+temporary folder. A bench runs what it compares in turn, five times where it says nothing else, and prints the least,
+the middle and the greatest time of each in seconds, how many times the middle of another one its middle is, and its
+peak memory.
+With --small the drawings and the scripts have a 64th of their size and there is one round: that tries a bench, and
+measures nothing."""
 
 import os
+import statistics
 import struct
 import subprocess
 import sys
 import tempfile
 import time
-from typing import Callable, List, Optional, Sequence, Tuple
+from functools import partial
+from typing import Callable, Dict, List, Mapping, Optional, Sequence, Tuple
 
 sys.path.insert(0, os.path.join(os.path.dirname(os.path.dirname(os.path.abspath(__file__))), 'dgnkit', 'src'))
 
@@ -15,8 +27,16 @@ from dgnkit.format.numbers import long_bytes, range_bytes  # noqa: E402
 long, offset_long = long_bytes, range_bytes
 Point = Tuple[int, int]
 
-SIZE = 67108864
-ROUNDS = 5
+IS_SMALL = '--small' in sys.argv
+
+
+def scaled(count: int) -> int:
+    """So many, or a 64th of it for a trial."""
+    return count // 64 if IS_SMALL else count
+
+
+SIZE = scaled(67108864)
+ROUNDS = 1 if IS_SMALL else 5
 TCB = bytes([8, 9, 0xFE, 2]) + bytes(1532)
 END = b'\xff\xff'
 DATA = bytes([0, 0x80, 1, 0, 0, 0, 0, 0, 0, 0, 0, 0])  # attribute data: a linkage and a rest
@@ -90,13 +110,79 @@ def seconds(words: List[str], folder: str, made: Optional[int], said: Optional[i
     return end - start, usage.ru_maxrss / 1024
 
 
+Measure = Callable[[], Tuple[float, float]]    # one run: its seconds, and its peak memory in MB
+
+
+def command(words: List[str], folder: str, made: Optional[int], said: Optional[int]) -> Measure:
+    """A run of a command, as `seconds` has it."""
+    return partial(seconds, words, folder, made, said)
+
+
+class Took:
+    """The times of the runs of one thing, and its peak memory."""
+
+    def __init__(self, times: Sequence[float] = ()) -> None:
+        self.times: List[float] = list(times)
+        self.memory = 0.0
+
+    def add(self, time: float, memory: float) -> None:
+        self.times.append(time)
+        self.memory = max(self.memory, memory)
+
+    @property
+    def middle(self) -> float:
+        return statistics.median(self.times)
+
+    def ratios(self, other: 'Took') -> List[float]:
+        """How many times the other's each time is, turn by turn."""
+        return [a / b for a, b in zip(self.times, other.times)]
+
+
+def in_turn(runs: Mapping[str, Measure], rounds: int = ROUNDS,
+            after: Optional[Callable[[str], None]] = None) -> Dict[str, Took]:
+    """What each run took, where each round runs all of them; `after` is called with the name of each that has run."""
+    took = {name: Took() for name in runs}
+    for _ in range(rounds):
+        for name, run in runs.items():
+            took[name].add(*run())
+            if after:
+                after(name)
+    return took
+
+
+def together(parts: Sequence[Took]) -> Took:
+    """Runs of one round as one."""
+    return Took([sum(times) for times in zip(*(it.times for it in parts))])
+
+
+def three(values: Sequence[float], form: str = '%.3f') -> str:
+    """The least, the middle and the greatest."""
+    return ' '.join(form % it for it in (min(values), statistics.median(values), max(values)))
+
+
+def tell(name: str, took: Took, *others: Tuple[Took, str]) -> None:
+    """Says what a run took, and how many times each of the others its middle is."""
+    ratios = ''.join('  %.2f times %s' % (took.middle / other.middle, said) for other, said in others)
+    memory = '  %.0f MB' % took.memory if took.memory else ''
+    print('%-34s %s s%s%s' % (name, three(took.times), ratios, memory))
+
+
+def number_of(words: List[str], otherwise: int) -> int:
+    """The first number among the words, which is taken from them."""
+    found = next((it for it in words if it.isdigit()), None)
+    if found is not None:
+        words.remove(found)
+    return otherwise if found is None else int(found)
+
+
 def run_bench(bench: Callable[[str, str], None], usage: Optional[str]) -> None:
     """Runs a bench on the program and in the folder that the words name, or in a temporary folder."""
-    if len(sys.argv) not in (2, 3):
+    words = [it for it in sys.argv[1:] if it != '--small']
+    if len(words) not in (1, 2):
         raise SystemExit(usage)
-    program = os.path.abspath(sys.argv[1])
-    if len(sys.argv) == 3:
-        bench(program, sys.argv[2])
+    program = os.path.abspath(words[0])
+    if len(words) == 2:
+        bench(program, words[1])
     else:
-        with tempfile.TemporaryDirectory() as folder:
+        with tempfile.TemporaryDirectory(prefix='dgnedit-bench-') as folder:
             bench(program, folder)

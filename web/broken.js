@@ -12,7 +12,7 @@ import { Reach } from './reach.js';
 export function whyBroken(drawing, number) {
     const { records, nesting } = drawing, pieces = [];
     if (records.has(number, FLAG.orphan)) {
-        const said = 'orphan: bit C says that it belongs to a header before it, and none takes it in';
+        const said = 'orphan: marked as part of a group (bit C), but no group claims it';
         const isGroup = CLASS_OF[records.type[number]] === CLASS.counted && records.has(number, FLAG.group);
         const below = nesting.end[number] - number - 1;
         pieces.push(isGroup ? said + ' (its own total is right: ' + counted(below, 'member') + ')' : said);

@@ -46,17 +46,18 @@ export class ChangesPanel {
         const kept = this.rows.filter((row) => hasWords(row, wanted));
         fill(byId('changes'), ...kept.slice(0, MOST_LISTED).map((row) => this.rowOf(row)));
         setHidden(byId('changes-more'), kept.length <= MOST_LISTED);
-        byId('changes-more').textContent = 'and ' + (kept.length - MOST_LISTED) + ' more: the field above finds them';
+        byId('changes-more').textContent = 'and ' + (kept.length - MOST_LISTED)
+            + ' more: search for them in the field above';
         if (kept.length === 0) {
-            fill(byId('changes'), make('li', { class: 'note' }, this.rows.length === 0 ? 'Nothing differs.'
-                : 'No change has these words.'));
+            fill(byId('changes'), make('li', { class: 'note' }, this.rows.length === 0 ? 'No differences.'
+                : 'No change contains these words.'));
         }
     }
 
     rowOf(row) {
         const button = make('button', { type: 'button', class: 'entry' },
             make('span', { class: 'kind ' + row.kind }, row.kind), make('span', {}, row.described + ': ' + row.words
-                + (row.more > 0 ? ' (and ' + row.more + ' behind it)' : '')));
+                + (row.more > 0 ? ' (and ' + row.more + ' after it)' : '')));
         button.addEventListener('click', () => this.goTo(row));
         return make('li', {}, button);
     }

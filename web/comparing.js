@@ -124,7 +124,7 @@ class Comparison {
                 words.push('level ' + (old[0] & 0x3F) + ' to ' + (made[0] & 0x3F));
             }
             if ((old[0] ^ made[0]) & 0x80) {
-                words.push('bit C ' + (made[0] & 0x80 ? 'set' : 'cleared'));
+                words.push('member mark (bit C) ' + (made[0] & 0x80 ? 'set' : 'cleared'));
             }
         }
         if (places.has(33) && !this.isSilent && (old[33] ^ made[33]) === 1) {
@@ -203,7 +203,7 @@ class Comparison {
         if (ranges !== null && ranges.every((it, axis) => it === shift[axis])) {
             this.takeRange();
         }
-        this.words.push('moved by ' + shiftSaid(this.units, shift));
+        this.words.push('moved ' + shiftSaid(this.units, shift));
     }
 
     /** Takes the range's fields of the axes that there are. */
@@ -219,8 +219,8 @@ class Comparison {
         }
         const [[low, high], [newLow, newHigh]] = this.bothCorners();
         const isWider = low.every((it, axis) => it >= newLow[axis]) && high.every((it, axis) => it <= newHigh[axis]);
-        this.words.push((isWider ? 'range widened' : 'range set') + ' from ' + low + ' ' + high + ' to ' + newLow + ' '
-            + newHigh);
+        const what = isWider ? 'range widened' : 'range changed';
+        this.words.push(what + ' from ' + low + ' ' + high + ' to ' + newLow + ' ' + newHigh);
     }
 
     /** Single points, where they have not all moved by the same. */
@@ -232,7 +232,7 @@ class Comparison {
         const changed = olds.map((_, at) => at).filter((at) => olds[at].some((it, axis) => it !== news[at][axis]));
         const [first] = changed, more = changed.length - 1;
         this.words.push('point ' + (first + 1) + ' from ' + olds[first] + ' to ' + news[first]
-            + (more > 0 ? ' and ' + counted(more, 'point') + ' more' : ''));
+            + (more > 0 ? ' and ' + counted(more, 'more point', 'more points') : ''));
     }
 
     /** Any other bytes, by their places in the element. */

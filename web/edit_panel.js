@@ -79,7 +79,7 @@ export class EditPanel {
         const { app } = this, isMissing = edit.by === null || edit.look === null;
         const hasAim = app.canEdit && (app.tools.fence.isSet || this.hasChoice);
         if (hasAim && !isMissing && app.work.isDoing) {
-            app.say('The program still works on what was done last.');
+            app.say('The program is still working on the last edit.');
         } else if (hasAim && !isMissing) {
             app.work.edit(edit);
         }
@@ -88,7 +88,7 @@ export class EditPanel {
     /** Appends an element that was drawn by its points. */
     async make(word, points) {
         if (word === 'text' && byId('make-words').value === '') {
-            this.app.notice('Type the words of the text first.');
+            this.app.notice('Type the text first.');
             byId('make-words').focus();
             return;
         }
@@ -179,13 +179,13 @@ export class EditPanel {
         const { choice, scene, tools: { fence } } = this.app;
         if (fence.isSet) {
             return fence.isKnown ? 'Edit what the fence takes: ' + counted(fence.chosen.length, 'tree')
-                : 'The program is asked what the fence takes';
+                : 'Asking the program what the fence takes';
         }
         if (!choice.isShown) {
-            return 'It isn’t shown, and so it isn’t edited here';
+            return 'It isn’t shown, so it can’t be edited here';
         }
         if (choice.numbers.length !== 1) {
-            return choice.numbers.length === 0 ? 'Edit: choose something first'
+            return choice.numbers.length === 0 ? 'Edit: select something first'
                 : 'Edit ' + choice.numbers.length + ' trees';
         }
         const { state } = scene, count = state.end[choice.last] - choice.last;
@@ -196,8 +196,8 @@ export class EditPanel {
     showMistakes() {
         const said = [];
         if (this.by() === null) {
-            said.push(byId('by-unit').value === 'master' ? 'A displacement is a number, as -2.5.'
-                : 'A displacement is a whole number of units of resolution, as -250.');
+            said.push(byId('by-unit').value === 'master' ? 'A displacement is a number, such as -2.5.'
+                : 'A displacement is a whole number of units of resolution, such as -250.');
         }
         if (this.look() === null) {
             said.push('Colour, weight and style are whole numbers; an empty field stays as it is.');

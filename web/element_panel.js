@@ -28,8 +28,8 @@ export class ElementPanel {
         fill(byId('headline'));
         if (chosen < 0) {
             fill(byId('element'), make('p', { class: 'note' },
-                'Click an element to choose its tree, click it again for the member; with Shift choose several. The '
-                + 'search field takes a number, a text, a cell’s name, or a place as 1500,560.'));
+                'Click an element to select its tree, click it again for the member; with Shift select several. The '
+                + 'search field takes a number, a text, a cell’s name, or a position such as 1500,560.'));
         } else if (count > 1) {
             fill(byId('element'), this.severalSaid(choice.numbers));
         } else {
@@ -70,16 +70,16 @@ export class ElementPanel {
             add(chosen < this.app.scene.base ? 'changed' : 'added', 'by the script');
         }
         if (records.has(record, FLAG.locked)) {
-            add('locked', 'no edit but a copy is made of it');
+            add('locked', 'it can be copied, but not edited');
         }
         if (records.has(record, FLAG.deleted) && !(change && change.kind === 'deleted')) {
-            add('deleted', 'it is marked deleted, and no longer drawn by others');
+            add('deleted', 'it is marked deleted, and other programs no longer draw it');
         } else if (state.isDead(chosen)) {
             add('deleted', 'a header above it is marked deleted');
         }
         const broken = state.brokenIn(state.rootOf(chosen));
         if (broken >= 0) {
-            add('broken', this.whyBroken(broken) + '; ‘Mend’ says whether it can be put right');
+            add('broken', this.whyBroken(broken) + '; ‘Mend’ says whether it can be mended');
         }
         return said;
     }
@@ -157,13 +157,13 @@ export class ElementPanel {
             ...termed('high corner', this.placeSaid(range.slice(axes))));
         if (words.hasMaster) {
             const size = [0, 1].map((axis) => words.lengthOf(range[axes + axis] - range[axis]));
-            list.append(...termed('wide, high', size.join(', ')));
+            list.append(...termed('width, height', size.join(', ')));
         }
     }
 
     sizeSaid(text) {
         const { words } = this.app;
-        const units = text.height + ' high, ' + text.wide + ' a sign';
+        const units = text.height + ' high, ' + text.wide + ' wide per character';
         return words.hasMaster ? units + '  (' + words.lengthOf(text.height) + ')' : units;
     }
 

@@ -95,7 +95,7 @@ export class Engine {
                     resolve(data.answer);
                 }
             };
-            worker.onerror = (event) => reject(new Error(event.message || 'the worker could not be begun'));
+            worker.onerror = (event) => reject(new Error(event.message || 'the worker couldn’t be started'));
             worker.postMessage({ ...words, bytes, does }, [bytes.buffer]);
         }).finally(() => {
             this.endRun = null;

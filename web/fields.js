@@ -29,7 +29,7 @@ export function pointsSpan({ content, type, axes }) {
  */
 export function fieldName(element, place) {
     if (CLASS_OF[element.type] === CLASS.silent && place >= 4) {
-        return 'what is not read';
+        return 'unread data';
     }
     const head = HEAD.find(([end]) => place < end);
     if (head) {

@@ -16,12 +16,12 @@ const FRONT = 'dgnedit ';
  */
 export function keep(hash, { name, lines, steps }) {
     if (hash === '') {
-        return 'The browser keeps no scripts for this page: save it before you leave.';
+        return 'The browser can’t keep the script of this page: save it before you leave.';
     }
     const held = steps.map((step) => (step.kind === 'patch' ? { ...step, bytes: base64Of(step.bytes) } : step));
     const text = JSON.stringify({ name, lines, steps: held, when: new Date().toISOString() });
     if (text.length > KEPT_MOST) {
-        return 'The script is too long to be kept in the browser: save it before you leave.';
+        return 'The script is too long for the browser to keep: save it before you leave.';
     }
     try {
         localStorage.setItem(FRONT + hash, text);

@@ -68,11 +68,11 @@ export class LevelsPanel {
         const name = 'Show level ' + level + ' only';
         const only = make('button', { 'type': 'button', 'class': 'only', 'aria-label': name }, 'only');
         only.addEventListener('click', () => this.setOnly(level));
-        const all = 'Choose all on level ' + level;
-        const choose = make('button', { 'type': 'button', 'class': 'only', 'aria-label': all }, 'choose');
+        const all = 'Select all on level ' + level;
+        const choose = make('button', { 'type': 'button', 'class': 'only', 'aria-label': all }, 'select');
         choose.addEventListener('click', () => this.chooseAll(level));
         return make('li', {}, make('label', {}, box, make('span', { class: 'level' }, String(level)),
-            make('span', { class: 'count', title: counted(count, 'element') + ' shown by it' }, String(count))), only,
+            make('span', { class: 'count', title: counted(count, 'element') + ' shown on it' }, String(count))), only,
         choose);
     }
 

@@ -8,9 +8,9 @@ import { Opener } from './opener.js';
 import { linesOf } from './session.js';
 
 const NO_PROGRAM = 'This browser can show drawings, but can’t run the program that edits them: it lacks Memory64 of '
-    + 'WebAssembly, which Chrome and Edge have from 133 on, and Firefox from 134 on.';
+    + 'WebAssembly, which Chrome and Edge have from version 133 on, and Firefox from 134 on.';
 
-const NO_PART = 'This copy of the app shows drawings alone: the program that edits them isn’t in it.';
+const NO_PART = 'This copy of the app can only show drawings: the program that edits them isn’t in it.';
 
 /** The program in its worker, or null where it can't be run here. */
 async function engineOf() {

@@ -99,7 +99,8 @@ class MendingWalk {
     /** Tells of an orphan that is no header over counted members. */
     orphan(number, isRoot) {
         if (isRoot && this.hasC(number)) {
-            this.left.push({ number, why: 'orphan: no header before it takes it in, and it is no header itself' });
+            this.left.push({ number,
+                why: 'orphan: marked as part of a group (bit C), but no group claims it, and it is not a header' });
         }
     }
 
@@ -125,19 +126,19 @@ class MendingWalk {
         const change = { number, edits: new Map(), words: [], members: behind - number - 1 };
         if (total !== reach.total) {
             change.edits.set(offset + 36, total & 0xFF).set(offset + 37, total >> 8);
-            change.words.push('its total ' + reach.total + ' becomes ' + total + ', with its own ' + 2 * reach.ownWords
+            change.words.push('total ' + reach.total + ' becomes ' + total + ', counting its own ' + 2 * reach.ownWords
                 + ' bytes of attribute data');
         }
         if (isOrphan && !this.mayBelong(number)) {
             this.loose = [];
             change.edits.set(offset, this.drawing.bytes[offset] & 0x7F);
-            change.words.push('bit C is cleared');
+            change.words.push('member mark (bit C) cleared');
         }
         if (change.edits.size > 0 && this.records.has(number, FLAG.locked)) {
-            this.left.push({ number, why: 'it is locked, and so it stays as it is, with '
+            this.left.push({ number, why: 'locked, so it is left as it is, with '
                 + counted(change.members, 'member') + ': unlock it first' });
         } else if (change.edits.size > 0) {
-            change.words.push('it has ' + counted(change.members, 'member'));
+            change.words.push('now with ' + counted(change.members, 'member'));
             this.changes.push(change);
         }
     }
@@ -149,7 +150,7 @@ class MendingWalk {
             && !this.loose.some((it) => this.holds(it, number)))) {
             return false;
         }
-        this.left.push({ number, why: 'orphan, though its members fit: it may be a member of the loose header '
+        this.left.push({ number, why: 'orphan whose own members match, but it may belong to the loose header '
             + this.loose[this.loose.length - 1] + ' before it' });
         return true;
     }

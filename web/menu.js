@@ -143,12 +143,12 @@ export class Menu {
         }
         if (applied.file === null) {
             const why = app.refusals.notRun(applied.status, byteString(applied.text).trimEnd());
-            app.notice(name + ' isn’t put on. ' + why);
+            app.notice(name + ' wasn’t applied. ' + why);
             return false;
         }
         const made = Drawing.open(app.drawing.name, applied.file);
         if (made instanceof Fault) {
-            app.notice(name + ' isn’t put on: what it makes is no drawing. ' + whyNotOpened(made, applied.file));
+            app.notice(name + ' wasn’t applied: the result isn’t a drawing. ' + whyNotOpened(made, applied.file));
             return false;
         }
         work.session.close({ kind: 'patch', name, bytes });
@@ -182,7 +182,7 @@ export class Menu {
             app.say('Saved as ' + mend + '.');
         } else if (answer === 'Mend' && await this.apply(mend, patchOf(drawing, changes))) {
             app.stage.fit();
-            app.say(counted(changes.length, 'header is', 'headers are') + ' mended by ' + mend + '.');
+            app.say(counted(changes.length, 'header is', 'headers are') + ' mended with ' + mend + '.');
         }
     }
 
@@ -209,7 +209,7 @@ export class Menu {
         if (other instanceof Fault) {
             app.notice(name + ' doesn’t open: ' + whyNotOpened(other, bytes));
         } else if (other.axes !== app.drawing.axes) {
-            app.notice(name + ' has ' + other.axes + ' axes, and this drawing has ' + app.drawing.axes + '.');
+            app.notice(name + ' has ' + other.axes + ' dimensions, and this drawing has ' + app.drawing.axes + '.');
         } else {
             const rows = compared(app.drawing, other);
             const told = new Set(rows.flatMap(({ after, more }) => (after === null ? []

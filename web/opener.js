@@ -80,8 +80,8 @@ export class Opener {
     /** Opens a drawing; what isn't saved is asked about before. */
     async openAsked(name, bytes) {
         if (this.hasUnsaved) {
-            const said = 'Another drawing is opened in place of ' + this.app.drawing.name
-                + '. Its script is kept in this browser, and offered when you open it again.';
+            const said = 'Another drawing would replace ' + this.app.drawing.name
+                + '. Its script is kept in this browser, and offered when you open the drawing again.';
             const answer = await this.app.ask('Your work isn’t saved', [make('p', {}, said)],
                 ['Open the other drawing', 'Stay']);
             if (answer !== 'Open the other drawing') {
@@ -160,9 +160,9 @@ export class Opener {
         const before = kept.steps.length > 0 ? ', and what was done before it,' : '';
         const said = 'A script of ' + counted(kept.lines.length, 'line') + before + ' is kept for this drawing, of '
             + new Date(kept.when).toLocaleString() + '. It was not saved.';
-        const answer = await app.ask('Go on where you were?', [make('p', {}, said)],
-            ['Go on', 'Not now', 'Throw it away']);
-        if (answer === 'Go on') {
+        const answer = await app.ask('Continue where you left off?', [make('p', {}, said)],
+            ['Continue', 'Not now', 'Throw it away']);
+        if (answer === 'Continue') {
             await this.restore(kept);
         } else if (answer === 'Throw it away') {
             app.work.forgetKept();

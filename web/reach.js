@@ -100,18 +100,19 @@ export class Reach {
 
     /** Why the header is loose, in words. */
     whyLoose() {
-        let said = 'loose: its total ' + this.total + ' asks for ' + bytesOfTotal(this.total) + ' bytes, and ';
-        said += this.most === 0 ? 'it alone has ' + this.size(0) + ', with no element with bit C behind it'
-            : 'it has ' + this.size(this.most) + ' with ' + counted(this.most, 'element') + ' with bit C behind it';
+        let said = 'loose: its total of ' + this.total + ' means ' + bytesOfTotal(this.total) + ' bytes, but ';
+        said += this.most === 0 ? 'it has ' + this.size(0) + ', and no element after it is marked as a member'
+            : 'with the ' + counted(this.most, 'element') + ' marked as members after it, it has '
+                + this.size(this.most);
         const fitting = this.fittingTotal();
         if (fitting !== null) {
-            return said + '; ' + fitting + ' would fit, which counts its own ' + 2 * this.ownWords
-                + ' bytes of attribute data too';
+            return said + '; ' + fitting + ' would match, counting its own ' + 2 * this.ownWords
+                + ' bytes of attribute data';
         }
         if (this.wrapped() !== null) {
-            return said + '; its members have more than ' + TOTAL_MOST + ' words, which no total can count';
+            return said + '; its members have more than ' + TOTAL_MOST + ' words, the most that a total can count';
         }
         const near = this.nearTotals();
-        return said + (near.length > 0 ? '; ' + near.join(' or ') + ' would fit' : '');
+        return said + (near.length > 0 ? '; ' + near.join(' or ') + ' would match' : '');
     }
 }

@@ -6,10 +6,11 @@ import { mendingOf } from './mending.js';
 
 const PLANE_SAID = 'the design plane, -2147483648 to 2147483647';
 const FAULTS = Object.freeze({
-    'not-design': 'it is no design file of version 7',
-    cut: 'the element that begins at byte K reaches past the end of the file: it was cut off',
-    short: 'the element that begins at byte K is shorter than its type wants',
-    attributes: 'the attribute data of the element that begins at byte K begin where they can’t',
+    'not-design': 'it isn’t a design file of version 7',
+    cut: 'the element that begins at byte K reaches past the end of the file: it was cut off, or is damaged',
+    short: 'the element that begins at byte K is shorter than its type requires: the file is damaged there',
+    attributes: 'the attribute data of the element that begins at byte K begin where they can’t: the file is damaged'
+        + ' there',
 });
 
 /** @typedef {{ line: string, at: number }} Done an accepted line of the script, and its number from 1 */
@@ -52,20 +53,20 @@ export class Refusals {
         const corners = words.length - 1;
         return {
             'unknown': (rest) => 'there is no element ' + rest + ': the drawing has 0 to ' + (count - 1)
-                + ', and what the script appends comes behind',
+                + ', and what the script appends is numbered after that',
             'broken': (rest) => this.broken(Number(rest)),
             'deleted': (rest) => whose(rest) + this.whenDeleted(Number(rest), done),
             'locked': (rest) => whose(rest) + ' is locked',
-            'dimension': () => 'the drawing has ' + axes + ' axes, and the command is given for ' + (5 - axes),
-            'floating': (rest) => whose(rest)
-                + ' has floating numbers for coordinates, which are not read, so it can not be moved',
-            'opaque': (rest) => whose(rest) + ' is of a type of which not all is read that the command would write',
-            'off-plane': (rest) => whose(rest) + ' would leave ' + PLANE_SAID + ': a smaller displacement stays on it',
-            'too-long': () => 'the drawing would have more than 67108864 bytes, and no such is read',
-            'nothing': () => 'no accepted edit before it is left to be taken back',
-            'no-fence': () => 'no fence is set: a line `fence x,y ..` before it sets one',
-            'few': () => 'a fence has at least 3 corners, and here are ' + corners,
-            'many': () => 'a fence has at most 256 corners, and here are ' + corners,
+            'dimension': () => 'the drawing has ' + axes + ' dimensions, but the command is for ' + (5 - axes),
+            'floating': (rest) => whose(rest) + ' can’t be moved or copied: its coordinates are floating-point numbers,'
+                + ' which dgnedit doesn’t read',
+            'opaque': (rest) => whose(rest) + ' is of a type that this command can’t edit',
+            'off-plane': (rest) => whose(rest) + ' would leave ' + PLANE_SAID + ': move it less far',
+            'too-long': () => 'the drawing would have more than 67108864 bytes, which is the limit',
+            'nothing': () => 'there is no accepted edit left to undo',
+            'no-fence': () => 'no fence is set: set one before, with a line such as `fence 0,0 100,0 100,100`',
+            'few': () => 'a fence needs at least 3 corners, and this one has ' + corners,
+            'many': () => 'a fence has at most 256 corners, and this one has ' + corners,
             'import': (rest, more) => this.imported(rest, words[1], more),
         };
     }
@@ -78,7 +79,7 @@ export class Refusals {
     whenDeleted(number, done) {
         const { records, nesting, count } = this.drawing;
         if (number < count && records.isDeleted(number)) {
-            return ' is marked deleted in the drawing: no edit takes that back';
+            return ' is marked deleted in the drawing, which no script can undo';
         }
         const found = done.filter(({ line }) => {
             const [word, top] = line.trim().split(/ +/), at = Number(top);
@@ -96,30 +97,31 @@ export class Refusals {
     /** How the element of the cause stands to the one that the line names. */
     whose(number, words) {
         return words.length < 2 || words[1] === number || !/^\d+$/.test(words[1]) ? ''
-            : ', which goes along with element ' + words[1] + ' or stands above it,';
+            : ', which is in the same tree as element ' + words[1] + ',';
     }
 
     broken(number) {
         if (number >= this.drawing.count) {
-            return 'the tree holds ' + this.named(number) + ' and is broken';
+            return 'its tree contains ' + this.named(number) + ' and is broken';
         }
         const { mending } = this;
         const isMended = mending.changes.some((it) => number >= it.number && number <= it.number + it.members)
             && !mending.left.some((it) => it.number === number);
-        const advice = isMended ? '‘Mend’ puts it right' : '‘Mend’ can not put it right: it says why';
+        const advice = isMended ? '‘Mend’ can mend it' : '‘Mend’ can’t mend it, and says why';
         return 'its tree is broken at ' + this.named(number) + ' (' + whyBroken(this.drawing, number) + '). ' + advice;
     }
 
     /** Why a second drawing wasn't imported. */
     imported(word, name, more) {
         if (word in FAULTS) {
-            return name + ' does not open: ' + faultSaid(word, Number(more[1]));
+            return name + ' doesn’t open: ' + faultSaid(word, Number(more[1]));
         }
         if (word === 'dimension') {
-            return name + ', or the displacement, has other axes than the drawing, which has ' + this.drawing.axes;
+            return name + ' or the displacement has another number of dimensions than the drawing, which has '
+                + this.drawing.axes;
         }
-        return 'of ' + name + ' the element ' + more[0] + ' can not be moved (' + word
-            + '). Without a displacement it would be taken as it is';
+        return 'element ' + more[0] + ' of ' + name + ' can’t be moved (' + word
+            + '). Without a displacement it would be imported as it is';
     }
 
     /**
@@ -130,15 +132,15 @@ export class Refusals {
     notRun(status, said) {
         const last = said.split('\n').pop(), number = /\d+$/.exec(last);
         switch (status) {
-            case 3: return 'Line ' + number + ' is no command of a script: a wrong word or number, or a piece too few'
-                + ' or too many. Nothing was run.';
+            case 3: return 'Line ' + number + ' isn’t a command of a script: a word or a number is wrong, missing or'
+                + ' too many. Nothing was run.';
             case 5: return 'A file that an import names isn’t there.';
             case 7: return 'There was not enough memory.';
-            case 8: return 'The program says ‘' + last + '’: it is larger than the program reads.';
-            case 10: return 'The file is no patch file, or was cut off: its first bad piece begins at byte ' + number
+            case 8: return 'The program says ‘' + last + '’: it is larger than the program can read.';
+            case 10: return 'The file isn’t a patch file, or is damaged: the first bad piece begins at byte ' + number
                 + '.';
-            case 11: return 'The patch file doesn’t fit this drawing: entry ' + number + ' doesn’t find the bytes that'
-                + ' it was made for. Ask for one of the drawing as you have it.';
+            case 11: return 'The patch file doesn’t match this drawing: entry ' + number + ' doesn’t find the bytes'
+                + ' that it was made for. Ask for a patch file for the drawing as you have it.';
             default: return 'The program ended with ' + status + (said === '' ? '.' : ': ' + last + '.');
         }
     }

@@ -54,7 +54,7 @@ export class ScriptPanel {
         const said = answer === null ? [] : [make('span', { class: 'answer' }, isRefused
             ? answer.said + ': ' + refusals.sentence(line, answer.cause, work.session.doneBefore(index))
             : answer.said)];
-        const name = 'Take line ' + (index + 1) + ' out';
+        const name = 'Remove line ' + (index + 1);
         const button = make('button', { 'type': 'button', 'class': 'remove', 'aria-label': name, 'title': name }, '×');
         button.addEventListener('click', () => work.remove(index));
         return make('li', { class: isRefused ? 'refused' : 'ok' }, make('code', {}, work.said(line)), ...said, button,
@@ -73,7 +73,7 @@ export class ScriptPanel {
             .filter(([, hash]) => hash !== '');
         fill(byId('check'), make('h3', {}, 'Make it again'),
             make('p', { class: 'note' },
-                'The program makes the same drawing, byte for byte, of the files that are saved:'),
+                'The program makes the same drawing, byte for byte, from the saved files:'),
             make('output', { 'class': 'command', 'id': 'command', 'aria-label': 'Commands' }, commands.join('\n')),
             make('p', { class: 'note' }, 'SHA-256 of the drawing'),
             make('dl', { class: 'sums' }, ...sums.flatMap(([what, hash]) => [make('dt', {}, what),
@@ -84,7 +84,7 @@ export class ScriptPanel {
         const text = this.app.work.session.lines.map((line) => this.app.work.said(line) + '\n').join('');
         try {
             await navigator.clipboard.writeText(text);
-            this.app.say('The script is copied.');
+            this.app.say('The script was copied.');
         } catch {
             this.app.notice('The browser doesn’t let this page copy: save the script instead.');
         }

@@ -127,7 +127,7 @@ export class Search {
     /** Goes to one of what was found; behind the last comes the first. */
     take(index) {
         if (this.found.length === 0) {
-            this.app.say(this.field.value.trim() === '' ? '' : 'Nothing is found.');
+            this.app.say(this.field.value.trim() === '' ? '' : 'Nothing found.');
             return;
         }
         this.at = (index + this.found.length) % this.found.length;

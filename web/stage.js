@@ -93,8 +93,8 @@ export class Stage {
         const { box, outside } = this.app.scene.extent();
         this.app.view.fit(box);
         if (outside > 0) {
-            this.app.say(outside === 1 ? 'The origin of 1 cell lies outside what is shown.'
-                : 'The origins of ' + outside + ' cells lie outside what is shown.');
+            this.app.say(outside === 1 ? 'The origin of 1 cell lies outside of the view.'
+                : 'The origins of ' + outside + ' cells lie outside of the view.');
         }
         this.moved();
     }
@@ -112,7 +112,7 @@ export class Stage {
     goToBox(box) {
         const { view } = this.app;
         if (box === null) {
-            this.app.say('It has no place in the drawing.');
+            this.app.say('It has no position in the drawing.');
             return;
         }
         const side = Math.max(box[2] - box[0], box[3] - box[1]) * view.scale;

@@ -10,7 +10,7 @@ const DRAWS = Object.freeze({
     string: { isArea: false, count: Infinity, hint: 'Click the points; Enter or a double click ends the line string' },
     shape: { isArea: true, count: Infinity, hint: 'Click the corners; Enter or a double click closes the shape' },
     text: { isArea: false, count: 1, hint: 'Click where the text begins' },
-    measure: { isArea: false, count: Infinity, hint: 'Click from place to place; Escape ends measuring' },
+    measure: { isArea: false, count: Infinity, hint: 'Click from point to point; Escape ends measuring' },
 });
 const MAKES = new Set(['line', 'string', 'shape', 'text']);
 
@@ -90,8 +90,8 @@ export class Tools {
         for (const button of [...byId('tools').children, byId('drag-move'), byId('drag-copy')]) {
             button.setAttribute('aria-pressed', String(tool === (button.dataset.tool || button.id)));
         }
-        this.hint(this.draws ? this.draws.hint : tool === 'drag-move' ? 'Drag to move what is chosen'
-            : tool === 'drag-copy' ? 'Drag a copy of what is chosen' : '');
+        this.hint(this.draws ? this.draws.hint : tool === 'drag-move' ? 'Drag to move what is selected'
+            : tool === 'drag-copy' ? 'Drag a copy of what is selected' : '');
         byId('marks').classList.toggle('draws', tool !== 'choose');
         if (app.drawing !== null) {
             app.show();

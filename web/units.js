@@ -7,21 +7,35 @@ const METRES = Object.freeze({
     'mi': [1609344, 1000],
 });
 
+const WAYS = Object.freeze([['east', 'west'], ['north', 'south'], ['up', 'down']]);
+
 /**
- * A displacement in words, in master units too where these are known, and in metres where their name is.
+ * A displacement in words: how far to the east, north and up in master units where these are known, and in metres where
+ * their name is; else in units of resolution.
  * @param {import('./tcb.js').Units} units
  * @param {number[]} shift
  */
 export function shiftSaid({ subunits, resolution, master }, shift) {
-    const said = shift.join(','), inMaster = subunits * resolution;
+    const said = shift.join(',') + ' units of resolution', inMaster = subunits * resolution;
     if (inMaster === 0) {
-        return said + ' units of resolution';
+        return 'by ' + said;
     }
-    const masters = shift.map((it) => shortest(it / inMaster)).join(',');
+    const told = shift.map((it, axis) => ({ by: Math.abs(it), way: WAYS[axis][it < 0 ? 1 : 0] }))
+        .filter(({ by }) => by !== 0);
+    const ways = told.length > 0 ? told : [{ by: 0, way: WAYS[0][0] }];
+    const masters = ways.map(({ by, way }) => shortest(by / inMaster) + ' ' + (master || 'master units') + ' ' + way);
     const [over, under] = METRES[master.toLowerCase()] || [1, 1];
-    const inMetres = over === under ? ''
-        : ', ' + shift.map((it) => shortest(it * over / (under * inMaster))).join(',') + ' m';
-    return masters + ' ' + (master || 'master units') + inMetres + ' (' + said + ' units of resolution)';
+    const more = over === under ? ''
+        : ', or ' + listed(ways.map(({ by }) => shortest(by * over / (under * inMaster)) + ' m'));
+    return listed(masters) + more + ' (' + said + ')';
+}
+
+/**
+ * Words as a row of them is spoken: '1', '1 and 2', '1, 2 and 3'.
+ * @param {string[]} words
+ */
+function listed(words) {
+    return words.length === 1 ? words[0] : words.slice(0, -1).join(', ') + ' and ' + words[words.length - 1];
 }
 
 /**

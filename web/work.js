@@ -222,7 +222,7 @@ export class Work {
     /** Asks for the second files that lines import and that aren't there; says whether all are there then. */
     async askForFiles(lines) {
         for (const name of this.session.missing(lines)) {
-            const answer = await this.app.ask('A second drawing is wanted', [make('p', {}, 'The script imports ' + name
+            const answer = await this.app.ask('A second drawing is needed', [make('p', {}, 'The script imports ' + name
                 + ', which the page doesn’t have.')], ['Choose it', 'Leave it']);
             const file = answer === 'Choose it' ? await chosenFile('.dgn') : null;
             if (file === null) {
@@ -236,7 +236,7 @@ export class Work {
     undo() {
         return this.inTurn(async () => {
             if (this.session.groups.length > 0) {
-                this.showIf(await this.trying(() => this.session.undo()), 'Taken back.');
+                this.showIf(await this.trying(() => this.session.undo()), 'Undone.');
             }
         });
     }
@@ -244,7 +244,7 @@ export class Work {
     redo() {
         return this.inTurn(async () => {
             if (this.session.undone.length > 0) {
-                this.showIf(await this.trying(() => this.session.redo()), 'Done again.');
+                this.showIf(await this.trying(() => this.session.redo()), 'Redone.');
             }
         });
     }
@@ -254,7 +254,7 @@ export class Work {
         const line = this.session.lines[index];
         return this.inTurn(async () => {
             if (this.session.lines[index] === line) {
-                this.showIf(await this.trying(() => this.session.remove(index)), 'Taken out: ' + this.said(line));
+                this.showIf(await this.trying(() => this.session.remove(index)), 'Removed: ' + this.said(line));
             }
         });
     }
@@ -310,7 +310,7 @@ export class Work {
         const boxes = told.filter((it) => it < state.count).map((it) => scene.boxOfPart(state, it));
         const box = joined(boxes);
         if (box !== null && !stage.isSeen(box)) {
-            app.notice((made.length > 0 ? 'What was added' : 'What was edited') + ' lies out of sight.',
+            app.notice((made.length > 0 ? 'What was added' : 'What was edited') + ' is out of sight.',
                 ['Go to it', () => stage.goToBox(box)]);
         }
     }
@@ -332,7 +332,7 @@ export class Work {
         } else if (why instanceof NotRun) {
             this.app.notice(this.app.refusals.notRun(why.status, why.said));
         } else {
-            this.app.notice('The program came to an end that was not foreseen: ' + why.message);
+            this.app.notice('The program ended unexpectedly: ' + why.message);
         }
     }
 

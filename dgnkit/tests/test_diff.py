@@ -49,6 +49,22 @@ class Diff(samples.WithProgram):
         solid = drawings.DRAWINGS['a line of three axes']
         self.assertEqual(self.by_edit(solid, 'move 1 5 0 -5')[1]['moved']['resolution'], [5, 0, -5])
 
+    def words(self, before: bytes, *lines: str) -> str:
+        """What is said of the first element that differs after these edits."""
+        names = self.put('a.dgn', before), self.put('b.dgn', self.edited(before, *lines))
+        return self.said('diff', *names, status=1).split('\n')[0].partition(': ')[2]
+
+    def test_a_displacement_in_words(self) -> None:
+        self.assertEqual(self.words(self.valve, 'move 1 50 -10'), 'moved by 50,-10 units of resolution')
+        metric = with_units(self.valve, *METRIC)
+        self.assertEqual(self.words(metric, 'move 1 0 -250'), 'moved 2.5 m south (0,-250 units of resolution)')
+        feet = with_units(self.valve, 10, 10, ('ft', 'x'), (0, 0, 0))
+        said = 'moved 2.5 ft west and 1 ft north, or 0.762 m and 0.3048 m (-250,100 units of resolution)'
+        self.assertEqual(self.words(feet, 'move 1 -250 100'), said)
+        solid = with_units(drawings.DRAWINGS['a line of three axes'], *METRIC)
+        said = 'moved 1 m east, 2 m north and 3 m down (100,200,-300 units of resolution)'
+        self.assertEqual(self.words(solid, 'move 1 100 200 -300'), said)
+
     def test_a_moved_member_widens_its_header(self) -> None:
         found = self.by_edit(self.valve, 'move 3 100 0')
         self.assertEqual(found[2], {'widened': {'from': [[480, -20], [520, 20]], 'to': [[480, -20], [620, 20]]}})
@@ -145,7 +161,8 @@ class Diff(samples.WithProgram):
 
     def test_the_tail(self) -> None:
         self.assertEqual(
-            self.found(self.valve, self.valve + b'x')['tail'], ['behind the elements: 2 bytes, and then 3 bytes']
+            self.found(self.valve, self.valve + b'x')['tail'],
+            ['after the elements: 2 bytes in the first, 3 bytes in the second'],
         )
 
     def test_every_byte_that_differs_is_told(self) -> None:

@@ -49,8 +49,8 @@ class Draw(samples.WithProgram):
 
     def test_a_long_line_is_cut_where_that_is_asked_for(self) -> None:
         rows = 'x,y\n' + ''.join('%d,0\n' % it for it in range(250))
-        self.refused(rows, 'has 250 points, and a line string at most 101: --cut')
-        self.refused(rows, 'it can not be cut', '--as', 'shape', '--cut')
+        self.refused(rows, 'has 250 points, and a line string has at most 101: --cut')
+        self.refused(rows, "it can't be cut", '--as', 'shape', '--cut')
         drawing = self.made(['draw', self.sheet(), self.table(rows), '--cut'])
         pieces = [it.points for it in drawing.elements[2:]]
         self.assertEqual([len(it) for it in pieces], [101, 101, 50])
@@ -96,7 +96,7 @@ class Draw(samples.WithProgram):
     def test_a_dry_run_and_a_script_on_standard_output(self) -> None:
         words = ['draw', self.sheet(), self.table('x,y,text,height\n1,2,AB,6\n')]
         said = self.said(*words, '--dry-run', '-o', self.path('s.txt'))
-        self.assertIn("row 2: a text 'AB', 6 m high on level 1, from 1,2 m on", said)
+        self.assertIn("row 2: a text 'AB', 6 m high on level 1, starting at 1,2 m", said)
         self.assertEqual(sorted(it.name for it in self.folder.iterdir()), ['in.dgn', 't.csv'])
         status, out, err = self.kit(*words)
         self.assertEqual((status, out), (0, 'text 1 0 0 0 1 0 1000000 1000000 -4000,9000 AB\n'))
@@ -106,14 +106,14 @@ class Draw(samples.WithProgram):
         for rows, word in [
             ('x,y\n1,2\n', 'the only point of its line'),
             ('x,y,text\n1,2,AB\n', 'no height'),
-            ('x,y,text,height\n1,2,AB,0\n', 'can not be 0 m high'),
-            ('x,y,level\n1,2,64\n2,3,1\n', "row 2: '64' is no level"),
+            ('x,y,text,height\n1,2,AB,0\n', "can't be 0 m high"),
+            ('x,y,level\n1,2,64\n2,3,1\n', "row 2: '64' isn't a valid level"),
             ('x,y,kind\n1,2,arc\n', "'arc' is not one of"),
             ('a,b\n1,2\n', 'no columns x and y'),
-            ('x,y\n', 'no row but its head'),
-            ('7,1,2\n8,1,2\n', 'name the columns'),
-            ('x,y\n1,2\n3,4,5\n', 'row 3: it has 3 fields, and the first row has 2'),
-            ('x,y\n1,2\n99999999,4\n', 'not on the design plane'),
+            ('x,y\n', 'no rows below its heading'),
+            ('7,1,2\n8,1,2\n', 'in a first row, such as x,y'),
+            ('x,y\n1,2\n3,4,5\n', 'row 3: it has 3 fields, but the first row has 2'),
+            ('x,y\n1,2\n99999999,4\n', "isn't on the design plane"),
             ('x,y,text,height\n1,2,%s,1\n' % ('A' * 256), 'at most 255'),
         ]:
             self.refused(rows, word)

@@ -40,7 +40,7 @@ class Each(samples.WithProgram):
         told = json.loads(said)
         self.assertEqual((status, [it['status'] for it in told]), (1, [0, 4, 1]))
         self.assertEqual([it['refused'] for it in told], [0, 0, 1])
-        self.assertIn('cut at byte 1588', told[1]['ending'])
+        self.assertIn('at byte 1588 reaches past the end of the file', told[1]['ending'])
         self.assertEqual(self.written(), ['0.dgn', 'plan.dgn'])
 
     def test_a_patch_file(self) -> None:
@@ -79,7 +79,7 @@ class Each(samples.WithProgram):
         (self.folder / 'out').mkdir()
         script = self.put('out/0.dgn', 'color 1 3\n')
         status, _, err = self.kit('each', script, self.names[0], '--into', self.into, '--force')
-        self.assertEqual((status, 'is read, and is not written over' in err), (2, True))
+        self.assertEqual((status, "is an input, and isn't overwritten" in err), (2, True))
         self.assertEqual((self.folder / 'out/0.dgn').read_text(), 'color 1 3\n')
 
     def test_nothing_is_left_where_it_is_stopped(self) -> None:

@@ -25,25 +25,27 @@ class FieldEdits(samples.WithProgram):
         offsets = [it.offset for it in self.opened(self.plan_file).elements]
         changed, err = self.changed('relevel', self.plan_file, '--to', 21, '--level', 10, '--members')
         self.assertEqual(changed, {offsets[it]: (10, 21) for it in (5, 6, 9)})
-        self.assertIn('stay as they are: 4 elements below chosen headers, on level 11: 7, 8, 10, 11', err)
+        self.assertIn('not changed: 4 members of chosen headers, on level 11: 7, 8, 10, 11', err)
         # the valves 6 and 9 take their lines along, which are on another level and have bit C
         changed, err = self.changed('relevel', self.plan_file, '--to', 21, '--level', 10)
         lines = {offsets[it]: (128 + 11, 128 + 21) for it in (7, 8, 10, 11)}
         self.assertEqual(changed, {**{offsets[it]: (10, 21) for it in (5, 6, 9)}, **lines})
-        self.assertIn('go along: 4 elements below chosen headers, on level 11: 7, 8, 10, 11', err)
+        self.assertIn('4 members will change with their header, on level 11: 7, 8, 10, 11', err)
 
     def test_what_belongs_to_a_broken_tree_is_told_to_stay(self) -> None:
         # a parcel as GDAL writes it: its rings, which are on level 0, are no members before it is mended
         file = (samples.EXAMPLES / 'town.dgn').read_bytes()
         changed, err = self.changed('relevel', file, '--to', 21, '--level', 20)
         self.assertEqual(list(changed.values()), [(20, 21)] * 3)
-        self.assertIn('of 3 chosen elements in broken trees only they change', err)
+        self.assertIn('in broken trees only the chosen elements change', err)
         self.assertIn('`dgnkit mend` first', err)
 
     def test_what_of_a_tree_stays_is_told(self) -> None:
         changed, err = self.changed('relevel', self.plan_file, '--to', 21, '--number', 7)
         self.assertEqual(list(changed.values()), [(139, 149)])
-        self.assertIn('7 is a part of cell 6 VLV on level 10, and the rest of it stays (--trees takes it)', err)
+        self.assertIn(
+            '7 is a member of cell 6 VLV on level 10, and the rest of its tree stays (--trees changes it too)', err
+        )
 
     def test_bit_c_and_the_reserved_bit_stay(self) -> None:
         line = drawings.line(True)
@@ -54,7 +56,7 @@ class FieldEdits(samples.WithProgram):
     def test_what_is_no_element_of_a_level_is_left(self) -> None:
         changed, err = self.changed('relevel', self.plan_file, '--to', 21, '--level', 8)
         self.assertEqual(changed, {})
-        self.assertIn('no level of a drawing and no lock: 0', err)
+        self.assertIn('without a level or a lock): 0', err)
 
     def test_what_is_locked_is_left(self) -> None:
         changed, err = self.changed('relevel', self.plan_file, '--to', 21, '--level', '1-2', '--type', 'shape')
@@ -82,7 +84,7 @@ class FieldEdits(samples.WithProgram):
         file = drawings.drawing(plan.text(3, (0, 0), b'DN 50'), plan.text(3, (0, 0), b'DN 50 cm'))
         changed, err = self.changed('retext', file, 'DN 50', 'DN 1000')
         self.assertEqual(changed, {})
-        self.assertIn('2 elements, the new text is longer than the old one', err)
+        self.assertIn('2 elements (the new text is longer than the old one)', err)
         _, err = self.changed('retext', file, 'DN 50', '', '--number', '1')
         self.assertIn('delete it instead', err)
 
@@ -120,7 +122,7 @@ class FieldEdits(samples.WithProgram):
         changed, _ = self.changed('unlock', locked, '--locked')
         self.assertEqual(changed, {1536 + 33: (0x09, 0x08)})
         changed, err = self.changed('unlock', drawings.drawing(line), '--level', 1)
-        self.assertEqual((changed, 'unlocked already' in err), ({}, True))
+        self.assertEqual((changed, 'already unlocked' in err), ({}, True))
 
     def test_broken_trees_may_be_edited_field_by_field(self) -> None:
         file = drawings.DRAWINGS['a complex chain of the line 2, with bit C']

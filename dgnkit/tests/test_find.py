@@ -181,8 +181,8 @@ class Scripts(samples.WithProgram):
         path = self.put('in.dgn', made + b'')
         out, err = self.script(path, '--level', '1', '--script', 'move {n} 5 5')
         self.assertEqual(out, 'move 1 5 5\n')
-        self.assertIn('left out: 1 element, they are locked, or what goes along is', err)
-        self.assertIn('floating numbers: 3', err)
+        self.assertIn('left out: 1 element (locked, or its header or a member is', err)
+        self.assertIn('or with such a member): 3', err)
         out, _ = self.script(path, '--level', '1', '--script', 'sym {n} 3 2 -')
         self.assertEqual(out, 'sym 1 3 2 -\nsym 3 3 2 -\n')
 
@@ -192,21 +192,21 @@ class Scripts(samples.WithProgram):
         self.assertEqual(out, 'move 2 0 7\n')
         out, err = self.script(valve, '--inside', '400,-100', '600,100', '--members', '--script', 'move {n} 0 7')
         self.assertEqual(out, 'move 2 0 7\n')
-        self.assertIn('stand below another one that is chosen', err)
+        self.assertIn('a member of another one that is chosen', err)
 
     def test_a_chosen_member_takes_its_whole_tree_along_unless_members_are_asked_for(self) -> None:
         valve = self.example('valve.dgn')
         out, err = self.script(valve, '--level', '11', '--script', 'move {n} 0 7')
         self.assertEqual(out, 'move 2 0 7\n')
-        self.assertIn('3 and 4 are parts of cell 2 VLV on level 10, which is taken whole', err)
+        self.assertIn('3 and 4 are members of cell 2 VLV on level 10, and the whole tree is edited', err)
         out, err = self.script(valve, '--number', '3', '--members', '--script', 'move {n} 0 7')
         self.assertEqual(out, 'move 3 0 7\n')
-        self.assertIn('3 is a part of cell 2 VLV on level 10, and the rest of it stays', err)
+        self.assertIn('3 is a member of cell 2 VLV on level 10, and the rest of its tree stays', err)
 
     def test_what_goes_along_is_told(self) -> None:
         out, err = self.script(self.example('valve.dgn'), '--level', '10', '--script', 'color {n} 3')
         self.assertEqual(out, 'color 1 3\ncolor 2 3\n')
-        self.assertIn('goes along: 2 elements', err)
+        self.assertIn('2 members will change with their headers', err)
         self.assertIn('3, 4', err)
 
     def test_a_dry_run_says_it_in_words(self) -> None:
@@ -214,7 +214,7 @@ class Scripts(samples.WithProgram):
             'in.dgn', with_units(drawings.drawing(plan.line(1, (0, 0), (50, 0))), 100, 1, ('m', 'cm'), (0, 0, 0))
         )
         out, _ = self.script(path, '--level', '1', '--script', 'move {n} 250 0', '-o', self.path('s'), '--dry-run')
-        self.assertIn('line 1 on level 1: moved by 2.5,0 m (250,0 units of resolution)', out)
+        self.assertIn('line 1 on level 1: moved 2.5 m east (250,0 units of resolution)', out)
         self.assertTrue(out.rstrip().endswith('dgnkit run %s %s %s' % (path, self.path('s'), self.path('in-out.dgn'))))
         self.assertFalse((self.folder / 's').exists())
 

@@ -109,13 +109,13 @@ class Scripts(samples.WithProgram):
 
     def test_what_can_not_be_read(self) -> None:
         for content, words, why in [
-            ('number\n5\nx\n', ['color {n} 3'], "row 3: 'x' is no number"),
-            ('level\n5\n', ['color {n} 3'], "no column is called 'number'"),
-            ('5\n', ['color {n} red'], "'red' is not a colour"),
+            ('number\n5\nx\n', ['color {n} 3'], "row 3: 'x' isn't an element number"),
+            ('level\n5\n', ['color {n} 3'], "there is no column 'number'"),
+            ('5\n', ['color {n} red'], "'red' isn't a colour"),
             ('5\n', ['color 5 3'], '{n}'),
             ('6\n7\n', ['move {n} 5 5'], 'would be edited twice'),
-            ('5\n99\n', ['color {n} 3', '--drawing', self.example('plan.dgn')], 'none 99'),
-            ('{"features": 3}', ['color {n} 3'], 'no GeoJSON'),
+            ('5\n99\n', ['color {n} 3', '--drawing', self.example('plan.dgn')], 'but not 99'),
+            ('{"features": 3}', ['color {n} 3'], "isn't a GeoJSON"),
             ('{"features": [{"properties": {"number": "a"}}]}', ['color {n} 3'], 'feature 1'),
         ]:
             status, out, err = self.kit('script', '--numbers', self.put('n', content), *words)

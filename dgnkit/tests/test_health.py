@@ -68,7 +68,7 @@ class Health(samples.WithProgram):
     def test_an_orphan_and_why(self) -> None:
         facts = self.facts(drawings.DRAWINGS['a complex chain of the line 2, with bit C'])
         self.assertEqual((facts['broken_trees'], [it['element'] for it in facts['broken']]), (1, [1]))
-        self.assertIn('orphan: bit C', facts['broken'][0]['why'])
+        self.assertIn('orphan: marked as part of a group (bit C)', facts['broken'][0]['why'])
         self.assertIn('its own total is right: 1 member', facts['broken'][0]['why'])
 
     def test_a_loose_header_its_total_and_what_would_fit(self) -> None:
@@ -76,12 +76,14 @@ class Health(samples.WithProgram):
         self.assertEqual([it['element'] for it in facts['broken']], [1, 2])
         why = facts['broken'][0]['why']
         # 38 + 2 * 54 bytes are asked for; the cell has 92 bytes and its line 52
-        self.assertIn('its total 54 asks for 146 bytes, and it has 144 with 1 element with bit C', why)
-        self.assertIn('53 (1 member) would fit', why)
+        self.assertIn(
+            'its total of 54 means 146 bytes, but with the 1 element marked as members after it, it has 144', why
+        )
+        self.assertIn('53 (1 member) would match', why)
 
     def test_a_total_without_the_header_s_attribute_data(self) -> None:
         facts = self.facts(drawings.drawing(linked_cell(8, 53)))
-        self.assertIn('57 would fit, which counts its own 8 bytes of attribute data too', facts['broken'][0]['why'])
+        self.assertIn('57 would match, counting its own 8 bytes of attribute data', facts['broken'][0]['why'])
 
     def test_many_drawings_and_one_that_is_missing(self) -> None:
         status, out, err = self.kit('health', self.example('valve.dgn'), self.put('cut.dgn', VALVE[:1600]))

@@ -37,14 +37,14 @@ class Hostile(samples.WithProgram):
 
     def test_numbers_of_thousands_of_digits(self) -> None:
         plan_file, many = self.example('plan.dgn'), '9' * 5000
-        self.one_line(['find', plan_file, '--number', many], 'is no number of an element')
-        self.one_line(['find', plan_file, '--near', many + ',1', '--within', 1], 'is no number')
-        self.one_line(['find', plan_file, '--size', many], 'is no size')
-        self.one_line(['place', plan_file, 'VLV', self.put('p.csv', many + ',1\n'), '--number', 6], 'is no number')
-        self.one_line(['place', plan_file, 'VLV', self.path('p.csv'), '--number', many], 'is no number of an element')
+        self.one_line(['find', plan_file, '--number', many], "isn't a valid element number")
+        self.one_line(['find', plan_file, '--near', many + ',1', '--within', 1], "isn't a number")
+        self.one_line(['find', plan_file, '--size', many], "isn't a size")
+        self.one_line(['place', plan_file, 'VLV', self.put('p.csv', many + ',1\n'), '--number', 6], "isn't a number")
+        self.one_line(['place', plan_file, 'VLV', self.path('p.csv'), '--number', many], "isn't a valid element number")
         self.one_line(['each', self.put('s', ''), plan_file, '--into', self.path('o'), '--jobs', many], 'jobs')
         status, out, _ = self.kit('why', plan_file, self.put('s', 'move 1 %s 0\n' % many))
-        self.assertEqual((status, 'is not from' in out), (1, True))
+        self.assertEqual((status, 'is out of range' in out), (1, True))
 
     def test_names_that_no_file_can_have(self) -> None:
         plan_file, long = self.example('plan.dgn'), self.path('a' * 300)
@@ -63,7 +63,7 @@ class Hostile(samples.WithProgram):
     def test_patterns_that_do_not_compile(self) -> None:
         plan_file = self.example('plan.dgn')
         for pattern in ('a{1,99999999999}', '(' * 5000, '(?P<n', '[z-a]'):
-            self.one_line(['find', plan_file, '--pattern', pattern], 'is no regular expression')
+            self.one_line(['find', plan_file, '--pattern', pattern], "isn't a regular expression")
 
     def test_a_pattern_that_never_ends_is_stopped(self) -> None:
         path = self.put('in.dgn', drawings.drawing(plan.text(3, (0, 0), b'a' * 40 + b'!')))
@@ -81,15 +81,15 @@ class Hostile(samples.WithProgram):
         plan_file = self.example('plan.dgn')
         feature = '{"features": [{"properties": {"number": %s}}]}'
         wrong: List[Tuple[Union[str, bytes], str]] = [
-            (feature % 'NaN', 'no GeoJSON'),
-            (feature % '1e400', 'no number of an element'),
-            (feature % '1e30', 'no number of an element'),
-            (feature % '4.5', 'no number of an element'),
-            ('[' * 100000, 'no GeoJSON'),
-            ('{"a":' * 100000, 'no GeoJSON'),
-            ('number\n\u00b2\n', 'no number of an element'),
+            (feature % 'NaN', "isn't a GeoJSON"),
+            (feature % '1e400', "isn't an element number"),
+            (feature % '1e30', "isn't an element number"),
+            (feature % '4.5', "isn't an element number"),
+            ('[' * 100000, "isn't a GeoJSON"),
+            ('{"a":' * 100000, "isn't a GeoJSON"),
+            ('number\n\u00b2\n', "isn't an element number"),
             ('number\n5,7\n', 'row 2: it has 2 fields'),
-            (b'number\n\xff\n', 'not in UTF-8'),
+            (b'number\n\xff\n', "isn't UTF-8"),
         ]
         for content, word in wrong:
             self.one_line(['find', plan_file, '--numbers', self.put('n', content), '--csv'], word)
@@ -101,7 +101,7 @@ class Hostile(samples.WithProgram):
         places, script, word = (
             self.put('p.csv', '1,2\n'),
             self.put('s', 'color 5 3\n'),
-            'is read, and is not written over',
+            "is an input, and isn't overwritten",
         )
         os.link(numbers, self.path('other-name'))
         before = {it.name: it.read_bytes() for it in self.folder.iterdir()}
@@ -114,7 +114,7 @@ class Hostile(samples.WithProgram):
         self.one_line(['lock', plan_file, numbers, '--numbers', numbers], word)
         self.one_line(['script', '--numbers', numbers, 'color {n} 3', '-o', numbers], word)
         self.one_line(['geojson', plan_file, '-o', plan_file], word)
-        self.one_line(['page', plan_file, '--script', script, '-o', script], 'is read')
+        self.one_line(['page', plan_file, '--script', script, '-o', script], 'is an input')
         self.one_line(['run', plan_file, script, script], word)
         self.one_line(['run', plan_file, script, plan_file], word)
         self.assertEqual({it.name: it.read_bytes() for it in self.folder.iterdir()}, before)
@@ -221,7 +221,7 @@ class Liars(samples.WithProgram):
         with mock.patch.dict(os.environ, {'DGNEDIT': stub}):
             status, out, err = self.kit('info', self.example('valve.dgn'))
             self.assertEqual((status, out, err.count('\n')), (2, '', 1))
-            self.assertIn('do not fill the file', err)
+            self.assertIn("don't fill the file", err)
 
     def test_one_that_writes_nothing(self) -> None:
         valve, script = self.example('valve.dgn'), self.put('s', 'color 1 3\n')
@@ -245,7 +245,7 @@ class Liars(samples.WithProgram):
                 self.example('valve.dgn')
                 status, _, err = self.kit(word, valve)
                 self.assertEqual((status, err.count('\n')), (2, 1), err)
-                self.assertIn('was changed while it was read', err)
+                self.assertIn('changed while it was being read', err)
 
 
 if __name__ == '__main__':

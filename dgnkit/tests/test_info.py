@@ -40,7 +40,7 @@ class Info(samples.WithProgram):
         self.assertEqual(self.facts(feet)['units']['master_metres'], 0.3048)
         odd = with_units(drawings.drawing(), 10, 10, ('MU', 'SU'), (0, 0, 0))
         self.assertIsNone(self.facts(odd)['units']['master_metres'])
-        self.assertIn('MU is no unit whose metres are known', self.said('info', self.put('odd.dgn', odd)))
+        self.assertIn("it isn't known how long 1 MU is", self.said('info', self.put('odd.dgn', odd)))
 
     def test_a_bare_tcb_has_no_units(self) -> None:
         facts = self.facts(drawings.drawing(plan.line(1, (3, 4), (5, 6))))
@@ -75,7 +75,7 @@ class Info(samples.WithProgram):
         for front, word in [
             (b'\xd0\xcf\x11\xe0', 'version 8'),
             (b'\x08\x05\x17\x00', 'cell library'),
-            (b'abc', 'no design'),
+            (b'abc', 'not a design file'),
         ]:
             status, out, err = self.kit('info', self.put('odd', front + bytes(2000)))
             self.assertEqual((status, out, err.count('\n')), (2, '', 1))
@@ -86,7 +86,7 @@ class Info(samples.WithProgram):
         for length, offset in [(1600, 1588), (900, 0)]:
             status, _, err = self.kit('info', self.put('cut.dgn', whole[:length]))
             self.assertEqual(status, 2)
-            self.assertIn('cut at byte %d' % offset, err)
+            self.assertIn('begins at byte %d reaches past' % offset, err)
 
     def test_others_are_told_where_one_is_missing(self) -> None:
         status, out, err = self.kit('info', self.path('missing.dgn'), self.example('valve.dgn'))

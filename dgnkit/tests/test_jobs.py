@@ -127,11 +127,11 @@ class Jobs(OnTheTown):
         paths = [self.put(name, content) for name, content in bad.items()]
         _, said, _ = self.kit('health', *good, *paths)
         self.assertEqual(said.count(': ok ('), 20)
-        found = {it.split('/')[-1].split(' is')[0].split(':')[0]: it for it in said.rstrip().split('\n')[20:]}
+        found = {it.split('/')[-1].split(" doesn't")[0].split(':')[0]: it for it in said.rstrip().split('\n')[20:]}
         self.assertEqual(sorted(found), sorted(bad))
         self.assertIn('of type 0', found['zeroed.dgn'])
         self.assertIn('no end mark', found['cut-between.dgn'])
-        self.assertIn('cut at byte', found['cut-within.dgn'])
+        self.assertIn('reaches past the end of the file', found['cut-within.dgn'])
         script = self.put('s', 'color 1 3\n')
         _, said, _ = self.kit('each', script, *good, *paths, '--into', self.path('done'), '--json')
         told = json.loads(said)
@@ -144,7 +144,7 @@ class Jobs(OnTheTown):
         said = self.said('find', self.path('wide.dgn'), '--wrong-range', '--script', 'fit {n}', '-o', self.path('s'))
         self.then(said)
         said = self.said('diff', self.path('wide.dgn'), self.path('wide-out.dgn'), status=1)
-        self.assertIn('cell 51 VLV on level 10: range set from', said)
+        self.assertIn('cell 51 VLV on level 10: range changed from', said)
         self.assertEqual((self.folder / 'wide-out.dgn').read_bytes(), (self.folder / 'sheet.dgn').read_bytes())
 
     def test_merge_two_sheets(self) -> None:
@@ -153,7 +153,7 @@ class Jobs(OnTheTown):
         other = self.put('there.dgn', there)
         status, said, err = self.kit('merge', self.town, other, '-o', self.path('s'))
         self.assertEqual((status, err), (0, ''))
-        self.assertIn('moved by -0.25,-0.25 m', said)
+        self.assertIn('moved 0.25 m west and 0.25 m south', said)
         self.then(said)
         drawing = self.result()
         self.assertEqual(len(drawing.elements), 54 + 42)
@@ -164,10 +164,10 @@ class Jobs(OnTheTown):
 
     def test_understand_a_refusal_and_an_ending(self) -> None:
         said = self.said('why', self.raw, self.put('s', 'color 35 2\n'), status=1)
-        self.assertIn('121 would fit, which counts its own 32 bytes', said)
+        self.assertIn('121 would match, counting its own 32 bytes', said)
         self.assertIn('`dgnkit mend` writes a patch file that mends it', said)
         said = self.said('why', self.raw, self.put('s', 'import %s\n' % self.path('none.dgn')), status=1)
-        self.assertTrue(re.search(r'none\.dgn can not be read: no such file', said))
+        self.assertTrue(re.search("none\\.dgn can't be read: no such file", said))
 
 
 class MoreJobs(OnTheTown):
@@ -179,7 +179,7 @@ class MoreJobs(OnTheTown):
 
     def test_rotate_is_said_to_be_none_of_it(self) -> None:
         said = self.said('why', self.town, self.put('s', 'rotate 45 30\n'), status=1)
-        self.assertIn("'rotate' is no command: dgnedit and dgnkit can not rotate elements", said)
+        self.assertIn("'rotate' isn't a command: dgnedit and dgnkit can't rotate elements", said)
 
     def test_copy_by_a_fence(self) -> None:
         words = ['--inside', '1135,2075', '1160,2095', '--script', 'copy {n} {20} {-5}']

@@ -67,14 +67,16 @@ class Mend(samples.WithProgram):
         chain_at = 1536 + 100 + len(long_member)
         self.assertEqual(changed, {chain_at: (0x81, 0x01)})
         self.assertEqual(self.broken(), [1, 2])
-        self.assertIn('left: cell 1 ABC on level 20: loose: its total 53 asks for 144 bytes', err)
-        self.assertIn('left: line 2 on level 1: orphan', err)
+        self.assertIn('not mended: cell 1 ABC on level 20: loose: its total of 53 means 144 bytes', err)
+        self.assertIn('not mended: line 2 on level 1: orphan', err)
 
     def test_a_chain_in_the_range_of_a_loose_cell_may_be_its_member(self) -> None:
         long_member = drawings.line(True, drawings.LINKED, drawings.LINKAGES)
         changed, err = self.mended(drawings.drawing(linked_cell(8, 53, long_member, C_CHAIN)))
         self.assertEqual((changed, self.broken()), ({}, [1, 2, 3]))
-        self.assertIn('left: complex chain 3 on level 1: orphan, though its members fit: it may be a member of', err)
+        self.assertIn(
+            'not mended: complex chain 3 on level 1: orphan whose own members match, but it may belong to', err
+        )
         # behind a chain that is none, nothing is a member any more
         changed, _ = self.mended(drawings.drawing(linked_cell(8, 53, long_member), beside(C_CHAIN), C_CHAIN))
         self.assertEqual((list(changed.values()), self.broken()), ([(0x81, 0x01)] * 2, [1, 2]))
@@ -83,7 +85,7 @@ class Mend(samples.WithProgram):
         inner = drawings.with_bit_c(drawings.cell(drawings.line(True)))
         changed, err = self.mended(drawings.drawing(linked_cell(8, 60), inner))
         self.assertEqual(changed, {})
-        self.assertIn('may be a member of the loose header 1', err)
+        self.assertIn('may belong to the loose header 1', err)
         changed, _ = self.mended(drawings.drawing(linked_cell(8, 60), drawings.line(), inner))
         self.assertEqual(list(changed.values()), [(0x81, 0x01)])
 
@@ -116,7 +118,7 @@ class Mend(samples.WithProgram):
         source = self.put('in.dgn', drawings.DRAWINGS['a complex chain of the line 2, with bit C'])
         said = self.said('mend', source, self.path('p'), '--dry-run')
         self.assertFalse((self.folder / 'p').exists())
-        self.assertIn('complex chain 1 on level 1: bit C is cleared', said)
+        self.assertIn('complex chain 1 on level 1: member mark (bit C) cleared', said)
         self.assertTrue(
             said.rstrip().endswith('dgnkit run %s %s %s' % (source, self.path('p'), self.path('in-out.dgn')))
         )

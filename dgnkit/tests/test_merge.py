@@ -45,15 +45,15 @@ class Merge(samples.WithProgram):
 
     def test_what_does_not_overlap(self) -> None:
         far = sheet((0, 0, 0), plan.line(2, (90000, 0), (90001, 0)))
-        self.assertIn('they do not overlap', self.merged(sheet((0, 0, 0), drawings.line()), far)[2])
+        self.assertIn("they don't overlap", self.merged(sheet((0, 0, 0), drawings.line()), far)[2])
 
     def test_broken_and_deleted_trees_are_told(self) -> None:
         chain = drawings.with_bit_c(drawings.chain()) + drawings.line(True)
         other = sheet((0, 0, 0), drawings.line(), chain, drawings.deleted(drawings.line()))
         drawing, _, said = self.merged(sheet((0, 0, 0), drawings.line()), other)
         self.assertEqual(len(drawing.elements), 3)
-        self.assertIn('left out: 1 broken tree, at 2; `dgnkit mend` first', said)
-        self.assertIn('left out: 1 tree marked deleted, at 4', said)
+        self.assertIn('left out: 1 broken tree (2); run `dgnkit mend` first', said)
+        self.assertIn('left out: 1 tree marked deleted (4)', said)
 
     def test_more_than_four_go_to_several_scripts(self) -> None:
         a = self.put('a.dgn', sheet((0, 0, 0), drawings.line()))
@@ -71,17 +71,17 @@ class Merge(samples.WithProgram):
 
     def test_other_units_are_refused_by_name(self) -> None:
         metres, feet = sheet((0, 0, 0)), sheet((0, 0, 0), units=(12, 1000, ('ft', 'in')))
-        self.assertIn('there 1 ft = 12 in', self.refused(metres, feet))
-        self.assertIn('none are set', self.refused(metres, drawings.drawing()))
-        self.assertIn('other units', self.refused(metres, sheet((0, 0, 0), units=(100, 1, M))))
+        self.assertIn(': 1 ft = 12 in', self.refused(metres, feet))
+        self.assertIn('not set (the TCB', self.refused(metres, drawings.drawing()))
+        self.assertIn('different units', self.refused(metres, sheet((0, 0, 0), units=(100, 1, M))))
         odd = sheet((0, 0, 0), units=(100, 10, ('qq', 'cm')))
         self.assertIn('1 qq = 100 cm', self.refused(metres, odd))
 
     def test_other_refusals(self) -> None:
         flat, solid = sheet((0, 0, 0)), drawings.DRAWINGS['a line of three axes']
-        self.assertIn('3 axes', self.refused(flat, solid))
+        self.assertIn('3 dimensions', self.refused(flat, solid))
         arc = sheet((5, 0, 0), drawings.element(16, 1, 72))
-        self.assertIn('arc 1 on level 1 can not (floating)', self.refused(flat, arc))
+        self.assertIn("arc 1 on level 1 can't be (floating)", self.refused(flat, arc))
         self.assertIn('a_b.dgn', self.refused(flat, sheet((0, 0, 0)), 'a b.dgn'))
 
     def test_a_dry_run_writes_nothing(self) -> None:
@@ -90,7 +90,7 @@ class Merge(samples.WithProgram):
         )
         said = self.said('merge', a, b, '-o', self.path('s'), '--dry-run')
         self.assertFalse((self.folder / 's').exists())
-        self.assertIn('1 tree is taken', said)
+        self.assertIn('1 tree is imported', said)
         self.assertTrue(said.rstrip().endswith('dgnkit run %s %s %s' % (a, self.path('s'), self.path('a-out.dgn'))))
 
 

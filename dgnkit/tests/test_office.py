@@ -32,7 +32,7 @@ class Runs(samples.WithProgram):
     def test_the_range_of_an_appended_text_is_told(self) -> None:
         valve, script = self.example('valve.dgn'), self.put('s', 'text 1 0 0 0 1 0 900 900 5,5 AB\n')
         err = self.kit('run', valve, script, self.path('o.dgn'))[2]
-        self.assertIn('1 appended text has a range that is a point', err)
+        self.assertIn('1 appended text has only a point for a range', err)
         said = self.said('text', valve, '5,5', 'AB', '--height', '60', '-o', self.path('t'))
         self.assertEqual(self.kit(*said.rstrip().split('next: dgnkit ')[1].split())[2], '')
 
@@ -52,14 +52,14 @@ class Runs(samples.WithProgram):
         self.program.run('pack', valve, good, self.path('p'))
         other = self.put('other.dgn', drawings.drawing(drawings.line()))
         cases: List[List[object]] = [
-            [valve, good, bad, out, "'red' is not a colour from 0 to 255"],
-            [self.path('none'), good, out, 'can not be read: no such file'],
-            [valve, self.path('none'), out, 'can not be read: no such file'],
+            [valve, good, bad, out, "'red' isn't a colour: give a whole number from 0 to 255"],
+            [self.path('none'), good, out, "can't be read: no such file"],
+            [valve, self.path('none'), out, "can't be read: no such file"],
             [valve, good, self.path('nowhere/out.dgn'), 'there is no folder'],
             [valve, good, str(self.folder), 'it is a folder'],
-            [other, self.path('p'), out, 'does not stand on'],
-            [valve, self.put('long', '#' * 1048577), out, 'at most 1048576 are read'],
-            [valve, self.put('import', 'import none.dgn\n'), out, 'none.dgn can not be read'],
+            [other, self.path('p'), out, "doesn't match"],
+            [valve, self.put('long', '#' * 1048577), out, 'and the limit is 1048576'],
+            [valve, self.put('import', 'import none.dgn\n'), out, "none.dgn can't be read"],
         ]
         for *words, why in cases:
             status, said, err = self.kit('run', *words)
@@ -116,7 +116,7 @@ class Runs(samples.WithProgram):
         self.addCleanup(os.environ.__setitem__, 'DGNEDIT', kept)
         os.environ['DGNEDIT'] = slow
         status, out, _ = self.kit('each', script, valve, '--into', self.path('into'))
-        self.assertEqual((status, 'is there already' in out), (1, True))
+        self.assertEqual((status, 'already exists' in out), (1, True))
         self.assertEqual((self.folder / 'into/valve.dgn').read_bytes(), (samples.EXAMPLES / 'plan.dgn').read_bytes())
 
     def test_each_says_what_a_file_of_another_kind_is(self) -> None:
@@ -141,11 +141,11 @@ class Fields(samples.WithProgram):
         self.assertEqual(made[: 1588 + 38] + made[1588 + 42 :], file[: 1588 + 38] + file[1588 + 42 :])
         for name in ('TOOLONG', '', 'A_B', 'STRA\u00dfE'):
             status, _, err = self.kit('rename', self.path('in.dgn'), self.path('q'), 'VLV', name)
-            self.assertEqual((status, 'is no name of a cell' in err), (2, True))
+            self.assertEqual((status, "isn't a cell name" in err), (2, True))
         _, _, err = self.kit('rename', self.path('in.dgn'), self.path('q'), 'PUMP', 'X')
-        self.assertIn('there are VLV', err)
+        self.assertIn('the cells are VLV', err)
         _, _, err = self.kit('retext', self.path('in.dgn'), self.path('q'), 'VLV', 'X')
-        self.assertIn('`dgnkit rename` changes the name', err)
+        self.assertIn('use `dgnkit rename`', err)
 
     def test_deletions_are_taken_back(self) -> None:
         file = (samples.EXAMPLES / 'plan.dgn').read_bytes()
@@ -166,7 +166,7 @@ class Fields(samples.WithProgram):
     def test_what_is_locked_stays_deleted(self) -> None:
         file = drawings.drawing(drawings.deleted(drawings.locked(drawings.line())))
         self.assertEqual(self.patched(file, 'undelete', '--number', 1), file)
-        self.assertIn('they are locked', self.kit_err)
+        self.assertIn('(locked;', self.kit_err)
 
     kit_err = ''
 
@@ -218,7 +218,7 @@ class Finds(samples.WithProgram):
         )
         self.assertIn('line string 5 on level 10: locked', said)
         status, _, err = self.kit('find', path, '--numbers', self.put('n', '99\n'), '--csv')
-        self.assertEqual((status, 'and none 99' in err), (2, True))
+        self.assertEqual((status, 'but not 99' in err), (2, True))
 
     def test_csv(self) -> None:
         text = bytearray(plan.text(3, (1000, 2500), b'a "b", c'))
@@ -231,13 +231,13 @@ class Finds(samples.WithProgram):
 
     def test_what_members_there_are_is_told(self) -> None:
         _, _, err = self.kit('find', self.example('valve.dgn'), '--level', 11)
-        self.assertIn('3 and 4 are parts of cell 2 VLV on level 10', err)
+        self.assertIn('3 and 4 are members of cell 2 VLV on level 10', err)
 
     def test_what_nothing_meets_is_told(self) -> None:
         plan_file = self.example('plan.dgn')
         _, _, err = self.kit('find', plan_file, '--level', 40, '--cell', 'PUMP')
-        self.assertIn('nothing meets --level 40 --cell PUMP; there are elements on the levels 1, 2, 3, 8, 10, 11', err)
-        self.assertIn('there are VLV', err)
+        self.assertIn('nothing matches --level 40 --cell PUMP; there are elements on levels 1, 2, 3, 8, 10, 11', err)
+        self.assertIn('the cells are VLV', err)
 
     def test_lengths_places_and_heights_of_a_template(self) -> None:
         origin = (100, 10, ('m', 'cm'), (-1000, 500, 0))
@@ -246,7 +246,7 @@ class Finds(samples.WithProgram):
         self.assertEqual(self.said(*words, 'move {n} {2.5} {-1}'), 'move 1 2500 -1000\n')
         for wrong in ('move {n} {2,5} 0', 'move {n} {x} 0', 'move {n} {2.5 0'):
             status, _, err = self.kit(*words, wrong)
-            self.assertEqual((status, 'it is written {2.5}' in err), (2, True), err)
+            self.assertEqual((status, 'write {2.5}' in err), (2, True), err)
         text = self.said(*words, 'text 1 0 0 0 1 0 {3} {3} {1.5},{2} NO {n}')
         self.assertEqual(text, 'text 1 0 0 0 1 0 500000 500000 500,2500 NO 1\n')
 
@@ -301,13 +301,13 @@ class Sums(samples.WithProgram):
         path = self.put('in.dgn', drawings.drawing(*lines))
         self.said('health', path, '--frame', '-10,-10', '500,500')
         said = self.said('health', '-v', path, '--frame', '-10,-10', '100,100', status=1)
-        self.assertIn('2 trees outside of the frame', said)
-        self.assertIn('line 2 on level 1 is not inside of the frame\n  line 3 on level 1', said)
+        self.assertIn('2 trees outside the frame', said)
+        self.assertIn("line 2 on level 1 isn't inside the frame\n  line 3 on level 1", said)
 
     def test_ranges_are_said_in_master_units(self) -> None:
         small = drawings.drawing(drawings.cell(drawings.line_of_small_range()))
         said = self.said('health', '-v', self.put('in.dgn', with_units(small, *METRIC)), status=1)
-        self.assertIn('its range is 0,0 0.01,0.01, and it holds 0,0 0.1,0.05 m', said)
+        self.assertIn('its range is 0,0 0.01,0.01, and should be 0,0 0.1,0.05 m', said)
 
 
 class OutOfTheDrawing(samples.WithProgram):
@@ -315,7 +315,7 @@ class OutOfTheDrawing(samples.WithProgram):
         valve = self.example('valve.dgn')
         made = json.loads(self.said('geojson', valve, '--crs', 'epsg:25832'))
         self.assertEqual(made['crs']['properties']['name'], 'urn:ogc:def:crs:EPSG::25832')
-        self.assertIn('may take the places for degrees', self.kit('geojson', valve)[2])
+        self.assertIn('may take the numbers for degrees', self.kit('geojson', valve)[2])
         self.assertEqual(self.kit('geojson', valve, '--crs', 'UTM 32')[0], 2)
 
     def test_the_origin_of_a_cell_does_not_widen_what_is_drawn(self) -> None:
@@ -326,8 +326,8 @@ class OutOfTheDrawing(samples.WithProgram):
     def test_places_that_can_not_be_told_apart(self) -> None:
         path = self.put('in.dgn', with_units((samples.EXAMPLES / 'valve.dgn').read_bytes(), *METRIC))
         for rows, word in [
-            ('1,430010,440020\n', 'it has 3 columns, and the drawing 2 axes'),
-            ('x,y\n1010,5,2030,5\n', 'row 2: it has 4 fields, and the first row has 2'),
+            ('1,430010,440020\n', 'it has 3 columns, but the drawing has 2 dimensions'),
+            ('x,y\n1010,5,2030,5\n', 'row 2: it has 4 fields, but the first row has 2'),
             ('a,b\n1,2\n', 'easting and northing'),
         ]:
             status, _, err = self.kit('place', path, 'VLV', self.put('p.csv', rows), '-o', self.path('s'))
@@ -336,7 +336,7 @@ class OutOfTheDrawing(samples.WithProgram):
         said = self.said(*words, '--dry-run')
         self.assertIn('row 2: cell 2 VLV on level 10 to 0.5,0.01 m', said)
         self.assertIn(
-            'outside of what is drawn (0,-0.02 to 1,0.02 m): 1 of 2 places, rows 3, the first at 9,9 m',
+            '1 of 2 positions are outside of what is drawn (0,-0.02 to 1,0.02 m): rows 3, the first at 9,9 m',
             self.kit(*words)[2],
         )
 

@@ -363,9 +363,9 @@ class Opening(WithBrowser):
 
     def test_what_is_no_drawing_is_told_by_name(self) -> None:
         self.assertIn('DGN version 8', self.fault('new.dgn', bytes.fromhex('d0cf11e0a1b11ae1') + bytes(2000)))
-        self.assertIn('a cell library', self.fault('cells.cel', bytes.fromhex('08051700') + bytes(2000)))
+        self.assertIn('a MicroStation cell library', self.fault('cells.cel', bytes.fromhex('08051700') + bytes(2000)))
         self.assertIn('an empty file', self.fault('empty.dgn', b''))
-        self.assertIn('does not begin as one', self.fault('notes.dgn', b'hello'))
+        self.assertIn('doesn’t begin like one', self.fault('notes.dgn', b'hello'))
 
     def test_a_fault_is_told_with_its_byte(self) -> None:
         file = (EXAMPLES / 'valve.dgn').read_bytes()
@@ -462,7 +462,7 @@ class Refusing(WithProgram):
         page = self.path('page.html')
         self.assertIn('missing.dgn', self.refused(self.path('missing.dgn'), '-o', page))
         self.assertIn('missing.txt', self.refused(made, '--script', self.path('missing.txt'), '-o', page))
-        self.assertIn('axes', self.refused(made, '--after', solid, '-o', page))
+        self.assertIn('dimensions', self.refused(made, '--after', solid, '-o', page))
         self.assertIn(made, self.refused(made, '-o', made))
         self.assertIn('nowhere', self.refused(made, '-o', self.path('nowhere/page.html')))
         self.assertIn('design file', self.refused(bad, '-o', page))
@@ -480,7 +480,7 @@ class Refusing(WithProgram):
         opened.assert_called_once_with(Path(os.environ['DGNEDIT_APP']).as_uri())
         with mock.patch('webbrowser.open', return_value=False):
             said = self.said('open', made, status=1)
-        self.assertIn('no browser is found', said)
+        self.assertIn('no browser was found', said)
         shutil.rmtree(Path(said.split(': ')[0]).parent)
 
     def test_a_file_that_is_no_page_is_left(self) -> None:

@@ -13,12 +13,13 @@ import sys
 import unittest
 from typing import Any, List, Set
 
-from samples import EXAMPLES, PROGRAM, TOP, Drawing, Script, WithProgram, drawings, plan
+from samples import EXAMPLES, PROGRAM, TOP, Drawing, Script, WithProgram, drawings, plan, with_units
 from test_mend_at_random import AtRandom
 
 from dgnkit.drawing.mending import mending_of
 from dgnkit.explain.comparing import differences
 from dgnkit.explain.refusals import Explainer
+from dgnkit.format.tcb import KIND_SAID
 from dgnkit.propose.writing import patch_of
 
 NODE = shutil.which('node') or shutil.which('nodejs')
@@ -65,8 +66,10 @@ class Explaining(WithProgram):
     """The app says of a refusal what `dgnkit why` says, but for what one can do there."""
 
     ADVICE = (
-        ('`dgnkit mend` writes a patch file that mends it', '‘Mend’ puts it right'),
-        ('`dgnkit mend` can not mend it: it says why', '‘Mend’ can not put it right: it says why'),
+        ('`dgnkit mend` writes a patch file that mends it', '‘Mend’ can mend it'),
+        ("`dgnkit mend` can't mend it, and says why", '‘Mend’ can’t mend it, and says why'),
+        (' (`dgnkit undelete` can)', ''),
+        ("n't", 'n’t'),
     )
 
     def test_refusals_of_every_kind(self) -> None:
@@ -87,6 +90,30 @@ class Explaining(WithProgram):
             with self.subTest(path, lines=lines):
                 self.assertEqual(said, sentences)
         self.assertGreater(len(causes), 10, causes)
+
+    def test_imports_that_do_not_open(self) -> None:
+        """An import of a file that is cut, has a short element, or attribute data that begin where they can't."""
+        valve = (EXAMPLES / 'valve.dgn').read_bytes()
+        short = valve[:1536] + bytes([1, 3, 7, 0]) + bytes(14)
+        ends = valve[:1536] + bytes([1, 3, 24, 0]) + bytes(29) + bytes([8]) + bytes(18)
+        drawing = Drawing(self.example('valve.dgn'), self.program)
+        script = Script()
+        for name, file in (('cut', valve[:1600]), ('short', short), ('ends', ends)):
+            script.add('import ' + self.put(name, file))
+        answers = self.program.edit(drawing.path, script)
+        explainer = Explainer(drawing, script.commands, answers)
+        self.assertEqual([it.cause.split()[1] for it in explainer.refused], ['cut', 'short', 'attributes'])
+        rows = [[drawing.path, [[it.text, said.cause] for it, said in zip(script.commands, answers)]]]
+        self.assertEqual(
+            asked('refusals.mjs', rows), [[self.as_the_app(explainer.sentence(it)) for it in explainer.refused]]
+        )
+
+    def test_files_that_are_no_drawings(self) -> None:
+        """The page recognises what dgnkit does, and says the same of it."""
+        said = (TOP / 'web' / 'tcb.js').read_text(encoding='utf-8')
+        for kind, words in KIND_SAID.items():
+            with self.subTest(kind):
+                self.assertIn(words.replace("n't", 'n’t'), said)
 
     def examples(self) -> List[bytes]:
         return [(EXAMPLES / (name + '.dgn')).read_bytes() for name in ('plan', 'street', 'town', 'valve')]
@@ -139,7 +166,7 @@ class Comparing(WithProgram):
     def samples(self) -> List[str]:
         files = [it for it in drawings.DRAWINGS.values() if not it[1214] & 0x40]
         joined = drawings.drawing(*[file[1536:-2] for file in files])
-        solid = drawings.DRAWINGS['a line of three axes']
+        solid = with_units(drawings.DRAWINGS['a line of three axes'], 12, 10, ('ft', 'in'), (0, 0, 0))
         made = [self.put('joined.dgn', joined), self.put('solid.dgn', solid)]
         return made + [self.example(name + '.dgn') for name in ('plan', 'street', 'town', 'valve')]
 

@@ -105,7 +105,7 @@ class Comparing(WithBrowser):
 
     def test_the_same_drawing(self) -> None:
         self.page(str(EXAMPLES / 'plan.dgn'), '--after', str(EXAMPLES / 'plan.dgn'))
-        self.assertIn('Nothing differs', self.seen.text('#changes'))
+        self.assertIn('No differences', self.seen.text('#changes'))
 
 
 @unittest.skipUnless(HAS_PROGRAM, NO_PROGRAM)

@@ -192,7 +192,7 @@ class Editing(WithEditor):
         self.click_at(980, 520)
         self.seen.type('#by-x', '90000')
         self.do('#edit-copy')
-        self.assertIn('What was added lies out of sight', self.notice())
+        self.assertIn('What was added is out of sight', self.notice())
         self.seen.click('#notice button')
         left, top = self.screen(91000, 500)
         self.assertTrue(200 < left < 940 and 50 < top < 770)
@@ -323,7 +323,7 @@ class Refused(WithEditor):
         self.assertIn('shape 1 on level', self.answers()[0])
         self.compare(made, ['color 1 4', 'color 5 1'])
         self.typed('color 5')
-        self.assertIn('Line 3 is no command', self.notice())
+        self.assertIn('Line 3 isn’t a command', self.notice())
         self.assertEqual(self.script_lines(), ['color 1 4', 'color 5 1'])
 
     def test_a_script_is_opened_and_answered_line_by_line(self) -> None:
@@ -381,7 +381,7 @@ class Fences(WithEditor):
         self.focus()
         self.seen.key('Escape')
         self.seen.settle()
-        self.assertIn('choose something', self.seen.text('#edits-legend').lower())
+        self.assertIn('select something', self.seen.text('#edits-legend').lower())
 
     def test_what_cannot_be_edited_is_left_out(self) -> None:
         made = self.example('plan.dgn')
@@ -404,7 +404,7 @@ class Fences(WithEditor):
         self.draw((700, 800), (2700, 800))
         self.focus()
         self.seen.key('Enter')
-        self.assertIn('at least 3 corners, and here are 2', self.notice())
+        self.assertIn('at least 3 corners, and this one has 2', self.notice())
 
     def test_a_fence_becomes_a_choice(self) -> None:
         self.open(str(EXAMPLES / 'plan.dgn'))
@@ -415,7 +415,7 @@ class Fences(WithEditor):
 
     def test_a_whole_level_is_chosen(self) -> None:
         self.open(str(EXAMPLES / 'plan.dgn'))
-        self.do('[aria-label="Choose all on level 11"]')
+        self.do('[aria-label="Select all on level 11"]')
         self.assertEqual(self.seen.run('return page.choice.numbers'), [6, 9])
 
 
@@ -444,9 +444,9 @@ class Files(WithEditor):
     def test_an_import_that_is_refused_is_told(self) -> None:
         self.open(str(EXAMPLES / 'plan.dgn'))
         self.second('import', self.put('solid.dgn', drawings.DRAWINGS['a line of three axes']))
-        self.assertIn('other axes than the drawing', self.notice())
+        self.assertIn('another number of dimensions', self.notice())
         self.second('import', self.put('notes.dgn', b'hello'))
-        self.assertIn('notes.dgn does not open', self.notice())
+        self.assertIn('notes.dgn doesn’t open', self.notice())
         self.assertEqual(self.script_lines(), [])
 
     def test_a_patch_file_is_saved_and_put_on(self) -> None:
@@ -486,7 +486,7 @@ class Files(WithEditor):
         self.open(made)
         self.more('mend')
         said = self.dialog('Mend')
-        self.assertIn('complex chain 17 on level 12: bit C is cleared, it has 2 members', said)
+        self.assertIn('complex chain 17 on level 12: member mark (bit C) cleared, now with 2 members', said)
         self.seen.wait('page.work.session.steps.length === 1')
         self.typed('move 17 0 100')
         self.said('mend', made, self.path('wanted.patch'))
@@ -598,7 +598,7 @@ class Keeping(WithEditor):
         self.seen.run('page.work.session.isSaved = true')
         self.seen.open(str(self.app))
         self.seen.choose_file('#open-file', made)
-        self.assertIn('A script of 2 lines', self.dialog('Go on'))
+        self.assertIn('A script of 2 lines', self.dialog('Continue'))
         self.seen.wait('page.work.session.lines.length === 2')
         self.compare(made, ['color 5 1', 'move 6 10 10'])
         self.seen.open(str(self.app))
@@ -616,7 +616,7 @@ class Keeping(WithEditor):
         self.seen.run('page.work.session.isSaved = true')
         self.seen.open(str(self.app))
         self.seen.choose_file('#open-file', made)
-        self.dialog('Go on')
+        self.dialog('Continue')
         self.seen.wait('page.work.session.lines.length === 1')
         self.assertEqual(self.seen.run('return [...page.work.session.lines, page.work.session.steps.length]'), wanted)
 

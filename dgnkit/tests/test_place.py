@@ -57,7 +57,7 @@ class Place(samples.WithProgram):
         plan_file = self.example('plan.dgn')
         status, out, err = self.kit('place', plan_file, 'VLV', self.put('p.csv', '0,0\n'))
         self.assertEqual((status, out), (0, 'copy 6 -1000 -500\n'))
-        self.assertIn('first of 2 cells VLV, element 6', err)
+        self.assertIn('first of 2 cells VLV is copied, element 6', err)
         self.assertEqual(self.said('place', plan_file, 'VLV', self.path('p.csv'), '--number', 9), 'copy 9 -3000 -650\n')
 
     def test_a_dry_run(self) -> None:
@@ -67,13 +67,13 @@ class Place(samples.WithProgram):
 
     def test_rows_that_can_not_be_read(self) -> None:
         for rows, why in [
-            ('1,2\n3,x\n', "row 2: 'x' is no number"),
+            ('1,2\n3,x\n', "row 2: 'x' isn't a number"),
             ('x,y\n1,2\n\n3\n', 'row 4: there is no column 2'),
-            ('name,east\npump,1\n', 'row 1: it names no columns x and y'),
-            ('1,9999999999\n', 'row 1: 1,9999999999 is not on the design plane'),
+            ('name,east\npump,1\n', 'row 1: it has no columns x and y'),
+            ('1,9999999999\n', "row 1: 1,9999999999 isn't on the design plane"),
             ('1,"2\n', 'row 1: '),
             ('', 'has no row'),
-            ('1,2\n2147483640,0\n', 'row 2: cell 2 VLV on level 10 can not be copied there (off-plane 2)'),
+            ('1,2\n2147483640,0\n', "row 2: cell 2 VLV on level 10 can't be copied there (off-plane 2)"),
         ]:
             status, out, err = self.kit('place', self.valve, 'VLV', self.put('p.csv', rows), '-o', self.path('s'))
             self.assertEqual((status, out, err.count('\n')), (2, '', 1), rows)
@@ -84,7 +84,7 @@ class Place(samples.WithProgram):
     def test_cells_that_can_not_be_copied(self) -> None:
         rows = self.put('p.csv', '1,2\n')
         self.assertIn('no cell is called', self.kit('place', self.valve, 'PUMP', rows)[2])
-        self.assertIn('there are VLV', self.kit('place', self.valve, 'PUMP', rows)[2])
+        self.assertIn('the cells are VLV', self.kit('place', self.valve, 'PUMP', rows)[2])
         self.assertIn('no such file', self.kit('place', self.valve, 'VLV', self.path('none.csv'))[2])
         broken = self.put('b.dgn', drawings.DRAWINGS['a cell header whose total counts more than what is behind it'])
         self.assertIn('broken', self.kit('place', broken, 'ABC', rows)[2])

@@ -129,7 +129,7 @@ class Finding(samples.WithProgram):
         with mock.patch.dict(os.environ, {'DGNEDIT': odd}):
             status, out, err = self.kit('info', self.put('in.dgn', drawings.drawing()))
         self.assertEqual((status, out, err.count('\n')), (2, '', 1))
-        self.assertIn('not understood', err)
+        self.assertIn("doesn't understand", err)
 
 
 if __name__ == '__main__':

@@ -72,7 +72,7 @@ class AsAProcess(samples.WithProgram):
             resource.setrlimit(resource.RLIMIT_AS, (100 << 20, 100 << 20))
 
         status, _, err = self.shell('exec "$@"', 'find', path, '--level', '1-63', '--json', limit=limit)
-        self.assertEqual((status, err.rstrip().split('\n')[-1]), (2, 'dgnkit: there was no memory for it'))
+        self.assertEqual((status, err.rstrip().split('\n')[-1]), (2, 'dgnkit: there is not enough memory for it'))
         self.assertEqual(sorted(it.name for it in self.folder.iterdir()), ['gen.dgn'])
 
     def test_a_word_that_is_not_in_utf_8(self) -> None:
@@ -113,7 +113,7 @@ class AsAProcess(samples.WithProgram):
 
     def test_a_piped_drawing_is_refused(self) -> None:
         valve = (samples.EXAMPLES / 'valve.dgn').read_bytes()
-        self.one_line(self.shell('cat | "$@"', 'info', '/dev/stdin', given=valve), 'no file on disk')
+        self.one_line(self.shell('cat | "$@"', 'info', '/dev/stdin', given=valve), "isn't a file on disk")
 
     def stopped(self, number: int, wait: float) -> int:
         """The status of a command that is stopped by a signal once its program is at work, or after so many seconds."""
@@ -147,7 +147,7 @@ class AsAProcess(samples.WithProgram):
             stderr=subprocess.PIPE,
         )
         self.assertEqual((ran.returncode, ran.stdout), (0, b'1\n2\n'))
-        self.assertIn('dgnedit is at work on %s, for 2 seconds now' % valve, ran.stderr.decode())
+        self.assertIn('dgnedit is working on %s (2 seconds so far)' % valve, ran.stderr.decode())
 
     def test_signals_leave_nothing(self) -> None:
         for number in (signal.SIGINT, signal.SIGTERM, signal.SIGHUP):

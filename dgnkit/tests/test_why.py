@@ -46,16 +46,16 @@ class Why(samples.WithProgram):
         for out in (os.path.join(str(self.folder), '.', 'valve.dgn'), script, self.path('plan.dgn')):
             for word in ('why', 'run'):
                 status, _, err = self.kit(word, source, script, out)
-                self.assertEqual((status, 'is read, and is not written over' in err), (2, True))
+                self.assertEqual((status, "is an input, and isn't overwritten" in err), (2, True))
         self.assertEqual({it.name: it.read_bytes() for it in self.folder.iterdir()}, before)
 
     def test_locked_deleted_and_unknown(self) -> None:
         said = self.why(drawings.DRAWINGS[MEMBER_LOCKED], 'move 1 5 5', 'color 2 1')
-        self.assertIn('line 2 on level 1, which goes along with element 1 or stands above it, is locked', said[0])
+        self.assertIn('line 2 on level 1, which is in the same tree as element 1, is locked', said[0])
         self.assertTrue(said[1].startswith('line 2 on level 1 is locked.'), said[1])
         valve = (samples.EXAMPLES / 'valve.dgn').read_bytes()
         self.assertIn(
-            'cell 2 VLV on level 10, which goes along with element 3 or stands above it, was marked deleted by line 1',
+            'cell 2 VLV on level 10, which is in the same tree as element 3, was marked deleted by line 1',
             self.only(valve, 'delete 2', 'color 3 1'),
         )
         gone = drawings.drawing(drawings.deleted(drawings.line()))
@@ -64,43 +64,41 @@ class Why(samples.WithProgram):
     def test_broken_says_why_and_whether_it_can_be_mended(self) -> None:
         chain = drawings.DRAWINGS['a complex chain of the line 2, with bit C']
         said = self.only(chain, 'color 2 1')
-        self.assertIn('broken at complex chain 1 on level 1 (orphan: bit C', said)
+        self.assertIn('broken at complex chain 1 on level 1 (orphan: marked as part of a group (bit C)', said)
         self.assertIn('`dgnkit mend` writes a patch file that mends it', said)
         loose = drawings.DRAWINGS['a cell header whose total counts more than what is behind it']
         said = self.only(loose, 'color 1 1')
-        self.assertIn('its total 54 asks for 146 bytes', said)
-        self.assertIn('can not mend it', said)
+        self.assertIn('its total of 54 means 146 bytes', said)
+        self.assertIn("can't mend it", said)
 
     def test_a_stray_orphan_behind_what_can_be_mended_is_not_mended(self) -> None:
         chain = drawings.DRAWINGS['a complex chain of the line 2, with bit C']
         said = self.only(chain[:-2] + drawings.line(True) + b'\xff\xff', 'color 3 1')
-        self.assertIn('can not mend it', said)
+        self.assertIn("can't mend it", said)
 
     def test_causes_of_types(self) -> None:
         arc = drawings.DRAWINGS['a cell of the line 2 and the arc 3']
-        self.assertIn('arc 3 on level 1, which goes along with element 1', self.only(arc, 'move 1 5 5'))
-        self.assertIn('floating numbers', self.only(arc, 'move 1 5 5'))
+        self.assertIn('arc 3 on level 1, which is in the same tree as element 1', self.only(arc, 'move 1 5 5'))
+        self.assertIn('floating-point numbers', self.only(arc, 'move 1 5 5'))
         self.assertIn('design file header 0 on level 8 is of a type', self.only(arc, 'color 0 1'))
 
     def test_other_causes(self) -> None:
         line = drawings.drawing(drawings.line())
-        self.assertIn('has 2 axes, and the command is given for 3', self.only(line, 'move 1 5 5 5'))
+        self.assertIn('has 2 dimensions, but the command is for 3', self.only(line, 'move 1 5 5 5'))
         self.assertIn('would leave the design plane', self.only(line, 'move 1 2147483600 0'))
         self.assertIn('no accepted edit', self.only(line, 'undo'))
         self.assertIn('no fence is set', self.only(line, 'fmove inside 1 1'))
-        self.assertIn('at least 3 corners, and here are 2', self.only(line, 'fence 0,0 1,1'))
+        self.assertIn('at least 3 corners, and this one has 2', self.only(line, 'fence 0,0 1,1'))
         corners = ' '.join('%d,%d' % (it, it * it) for it in range(257))
-        self.assertIn('at most 256 corners, and here are 257', self.only(line, 'fence ' + corners))
+        self.assertIn('at most 256 corners, and this one has 257', self.only(line, 'fence ' + corners))
 
     def test_imports(self) -> None:
         line = drawings.drawing(drawings.line())
         solid = self.put('solid.dgn', drawings.DRAWINGS['a line of three axes'])
         arc = self.put('arc.dgn', drawings.DRAWINGS['a cell of the line 2 and the arc 3'])
         v8 = self.put('v8.dgn', b'\xd0\xcf\x11\xe0' + bytes(600))
-        self.assertIn('has other axes', self.only(line, 'import ' + solid))
-        self.assertIn(
-            'the element arc 3 on level 1 can not be moved (floating)', self.only(line, 'import %s 5 5' % arc)
-        )
+        self.assertIn('another number of dimensions', self.only(line, 'import ' + solid))
+        self.assertIn("can't be moved (floating)", self.only(line, 'import %s 5 5' % arc))
         self.assertIn('version 8', self.only(line, 'import ' + v8))
 
 
@@ -111,14 +109,14 @@ class Endings(samples.WithProgram):
     def test_a_bad_line(self) -> None:
         said = self.why(self.example('valve.dgn'), self.put('s', 'color 1 3\n\nmove 1 05 0\n'))
         self.assertIn(
-            "line 3 of %s is bad, so nothing has run: 'move 1 05 0': '05' is not a displacement" % self.path('s'), said
+            "line 3 of %s is bad, so nothing has run: 'move 1 05 0': '05' isn't a displacement" % self.path('s'), said
         )
 
     def test_a_file_that_can_not_be_read_is_named(self) -> None:
         valve, script = self.example('valve.dgn'), self.put('s', 'import %s\n' % self.path('none.dgn'))
-        self.assertIn('missing.dgn can not be read: no such file', self.why(self.path('missing.dgn'), script))
-        self.assertIn('none can not be read: no such file', self.why(valve, self.path('none')))
-        self.assertIn('none.dgn can not be read: no such file', self.why(valve, script))
+        self.assertIn("missing.dgn can't be read: no such file", self.why(self.path('missing.dgn'), script))
+        self.assertIn("none can't be read: no such file", self.why(valve, self.path('none')))
+        self.assertIn("none.dgn can't be read: no such file", self.why(valve, script))
 
     def test_a_file_that_can_not_be_written(self) -> None:
         valve, script = self.example('valve.dgn'), self.put('s', 'color 1 3\n')
@@ -128,12 +126,12 @@ class Endings(samples.WithProgram):
     def test_a_drawing_that_does_not_open(self) -> None:
         script = self.put('s', 'color 1 3\n')
         cut = self.put('cut.dgn', (samples.EXAMPLES / 'valve.dgn').read_bytes()[:1600])
-        self.assertIn("the fault 'cut' at byte 1588", self.why(cut, script))
+        self.assertIn("doesn't open: the element that begins at byte 1588 reaches past the end", self.why(cut, script))
         self.assertIn('cell library', self.why(self.put('lib', b'\x08\x05\x17\x00' + bytes(600)), script))
 
     def test_a_file_that_is_too_long(self) -> None:
         long_script = self.put('s', '#' * 1048577)
-        self.assertIn('has 1048577 bytes, and at most 1048576', self.why(self.example('valve.dgn'), long_script))
+        self.assertIn('has 1048577 bytes, and the limit is 1048576', self.why(self.example('valve.dgn'), long_script))
 
 
 class Patches(samples.WithProgram):
@@ -149,15 +147,13 @@ class Patches(samples.WithProgram):
         return out
 
     def test_one_that_stands(self) -> None:
-        self.assertIn('all stands', self.said('why', self.valve, self.patch))
+        self.assertIn('every entry matched', self.said('why', self.valve, self.patch))
 
     def test_other_bytes(self) -> None:
         said = self.said('why', self.changed('color 1 3'), self.patch, status=1)
         self.assertIn('entry 1 of 2', said)
         # the line begins at 1536, and its weight and style stand at 34
-        self.assertIn(
-            'at byte 1570 it wants 00 00, and there stands 00 03, which is byte 34 of line 1 on level 10', said
-        )
+        self.assertIn('at byte 1570 it expects 00 00, but finds 00 03, which is byte 34 of line 1 on level 10', said)
 
     def test_an_entry_behind_others(self) -> None:
         said = self.said('why', self.changed('move 3 0 7'), self.patch, status=1)

@@ -2,6 +2,7 @@
 and patch files. It never writes a drawing: dgnedit alone does."""
 
 from importlib import import_module
+from pkgutil import get_data
 from typing import TYPE_CHECKING, Any
 
 if TYPE_CHECKING:
@@ -31,7 +32,7 @@ if TYPE_CHECKING:
     from .program.runs import Program
     from .program.script import Command, Script
 
-__version__ = '0.1.0'
+__version__: str  # which the file VERSION has, that of the sources or of the package
 
 # Where each name of the package is defined; a module is loaded once a name of it is wanted.
 PLACES = {
@@ -51,6 +52,11 @@ PLACES = {
 
 
 def __getattr__(name: str) -> Any:
+    if name == '__version__':
+        try:
+            return (get_data('dgnkit', 'VERSION') or b'').decode('ascii').strip()
+        except OSError:  # of modules that were copied without it
+            return 'unknown'
     for place, names in PLACES.items():
         if name in names.split():
             return getattr(import_module('dgnkit.' + place), name)

@@ -31,9 +31,13 @@ ORDER = (
     'info health find why run diff mend relevel retext rename lock unlock undelete draw text merge place each '
     'geojson script page'
 ).split()
+ABOUT = (
+    'Finds elements in design files, explains, mends and compares them, and writes scripts and patch files, from which '
+    'dgnedit makes drawings.'
+)
 ENDED = 2  # the status of what can't be done
 STOPPED = 130
-LONGEST = 700  # signs of a line that says why
+LONGEST = 700  # characters of a line that says why
 SIGNALS = ('SIGTERM', 'SIGHUP')
 
 
@@ -63,7 +67,7 @@ def module_names() -> List[str]:
 
 def parser_of(names: Sequence[str]) -> Parser:
     """The parser of these commands."""
-    parser = Parser(prog='dgnkit', description='Finds, explains, mends and compares design files; dgnedit writes them.')
+    parser = Parser(prog='dgnkit', description=ABOUT)
     parser.add_argument('--version', action='version', version='dgnkit ' + __version__)
     words = parser.add_subparsers(dest='word', metavar='WORD', required=True)
     for name in names:
@@ -131,17 +135,17 @@ def reason_of(why: Exception) -> str:
     if isinstance(why, Mistake):
         return str(why)
     if isinstance(why, MemoryError):
-        return 'there was no memory for it'
+        return 'there is not enough memory for it'
     if isinstance(why, RecursionError):
-        return 'what is read is nested too deep'
+        return 'the input is nested too deeply'
     if isinstance(why, UnicodeError):
-        return 'a name or a text has signs that can not be written: %s' % why
+        return "a name or a text has characters that can't be written: %s" % why
     if isinstance(why, OSError):
         reason = (why.strerror or str(why)).lower()
         return reason if why.filename is None else '%s: %s' % (why.filename, reason)
     if isinstance(why, EXPECTED):
         return str(why).split('\n')[0]
-    return 'a fault of dgnkit itself: %r' % why
+    return 'a fault in dgnkit itself: %r' % why
 
 
 def drop_output() -> None:

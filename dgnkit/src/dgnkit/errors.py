@@ -84,34 +84,48 @@ class PatchRefused(Ending):
         self.entry = entry
 
 
+FAULTS = {
+    'not-design': "it isn't a design file of version 7",
+    'cut': 'the element that begins at byte K reaches past the end of the file: it was cut off, or is damaged',
+    'short': 'the element that begins at byte K is shorter than its type requires: the file is damaged there',
+    'attributes': "the attribute data of the element that begins at byte K begin where they can't: the file is damaged "
+    'there',
+}
+
+
+def fault_said(fault: str, offset: int) -> str:
+    """What keeps a file from opening, in words."""
+    return FAULTS[fault].replace('K', str(offset))
+
+
 def ending_of(status: int, said: Sequence[str], drawing: str = 'the drawing') -> Ending:
     """The ending that a status and what was said stand for. It raises ListingError where they are of none."""
     last = said[-1] if said else ''
     if status == 2 and last.startswith('usage: '):
-        return BadUsage('dgnedit was called with arguments that it does not take', status, said)
+        return BadUsage("dgnedit was called with arguments that it doesn't accept", status, said)
     found = re.fullmatch(r'bad script line (\d+)', last)
     if status == 3 and found:
         return BadScript('line %s of the script is bad' % found[1], status, said, int(found[1]))
     found = re.fullmatch(r'bad design (not-design|cut|short|attributes) at (\d+)', last)
     if status == 4 and found:
-        text = '%s is no design file: %s at byte %s' % (drawing, found[1], found[2])
+        text = "%s doesn't open: %s" % (drawing, fault_said(found[1], int(found[2])))
         return BadDesign(text, status, said, found[1], int(found[2]))
     if status == 5:
-        return ReadFault('a file could not be read', status, said)
+        return ReadFault("a file couldn't be read", status, said)
     if status == 6:
-        return WriteFault('a file could not be written', status, said)
+        return WriteFault("a file couldn't be written", status, said)
     if status == 7:
-        return OutOfMemory('there was no memory', status, said)
+        return OutOfMemory('there was not enough memory', status, said)
     found = re.fullmatch(r'too long (design|script|import|patch)', last)
     if status == 8 and found:
-        return TooLong('too long: the %s has more bytes than are read' % found[1], status, said, found[1])
+        return TooLong('too long: the %s has more bytes than dgnedit reads' % found[1], status, said, found[1])
     found = re.fullmatch(r'bad patch at (\d+)', last)
     if status == 10 and found:
         return BadPatch(
-            'the patch file is none: its first bad piece begins at byte %s' % found[1], status, said, int(found[1])
+            "it isn't a patch file: the first bad piece begins at byte %s" % found[1], status, said, int(found[1])
         )
     found = re.fullmatch(r'refused entry (\d+)', last)
     if status == 11 and found:
-        text = 'entry %s of the patch file does not stand on %s' % (found[1], drawing)
+        text = "entry %s of the patch file doesn't match %s" % (found[1], drawing)
         return PatchRefused(text, status, said, int(found[1]))
-    raise ListingError('dgnedit ended with %d and said %r last, which is not understood' % (status, last))
+    raise ListingError("dgnedit ended with %d and last printed %r, which dgnkit doesn't understand" % (status, last))

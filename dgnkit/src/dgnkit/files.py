@@ -32,7 +32,7 @@ def read_file(path: Name, longest: int = TABLE_LONGEST) -> bytes:
     except (OSError, ValueError) as why:
         raise mistake_of(path, why)
     if len(content) > longest:
-        raise Mistake('%s has more than %d bytes, and no such is read' % (printable(str(path)), longest))
+        raise Mistake('%s has more than %d bytes, which is the limit' % (printable(str(path)), longest))
     return content
 
 
@@ -47,7 +47,7 @@ def read_drawing(path: Name) -> bytes:
     """The bytes of a drawing. It raises Mistake where it is no file that the program can read once more."""
     try:
         if not stat.S_ISREG(os.stat(path).st_mode) and not os.path.isdir(path):
-            raise Mistake('%s is no file on disk, and a drawing is read more than once' % printable(str(path)))
+            raise Mistake("%s isn't a file on disk, and a drawing has to be read more than once" % printable(str(path)))
     except (OSError, ValueError) as why:
         raise mistake_of(path, why)
     return read_file(path, DRAWING_LONGEST)
@@ -82,7 +82,7 @@ def ask_target(path: Name) -> None:
     except (OSError, ValueError):
         return
     if (facts.st_dev, facts.st_ino) in READ and stat.S_ISREG(facts.st_mode):
-        raise Mistake('%s is read, and is not written over: name another file' % printable(str(path)))
+        raise Mistake("%s is an input, and isn't overwritten: name another file" % printable(str(path)))
     if not stat.S_ISREG(facts.st_mode):
         return
     try:
@@ -91,7 +91,7 @@ def ask_target(path: Name) -> None:
     except OSError as why:
         raise mistake_of(path, why)
     if kind in ('design', 'v8', 'library'):
-        raise Mistake('%s is a drawing, and is not written over' % printable(str(path)))
+        raise Mistake("%s is a drawing, and isn't overwritten" % printable(str(path)))
 
 
 def write_file(path: Name, content: bytes) -> None:
@@ -169,7 +169,7 @@ def put_in_place(made: Name, target: Name, may_replace: bool) -> None:
             _linked(made, target)
             os.unlink(made)
     except FileExistsError:
-        raise Mistake('%s is there already, and is not written over' % printable(str(target)))
+        raise Mistake("%s already exists, and isn't overwritten" % printable(str(target)))
     except (OSError, ValueError) as why:
         raise mistake_of(target, why)
 

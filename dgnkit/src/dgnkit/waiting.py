@@ -30,7 +30,7 @@ def stopped_after(what: str) -> Iterator[None]:
         return
 
     def stop(number: int, frame: Optional[FrameType]) -> None:
-        raise Mistake('%s takes more than %g seconds, and was stopped' % (what, PATIENCE))
+        raise Mistake('%s took more than %g seconds, and was stopped' % (what, PATIENCE))
 
     kept = signal.signal(signal.SIGALRM, stop)
     signal.setitimer(signal.ITIMER_REAL, PATIENCE)
@@ -44,7 +44,7 @@ def stopped_after(what: str) -> Iterator[None]:
 class Work:
     """What a command is at, which `watch` says where it takes long."""
 
-    at = 'still at work'
+    at = 'still working'
     is_told = False  # whether the command says itself how far it is
 
 
@@ -67,7 +67,7 @@ def watch() -> None:
         while True:
             if not Work.is_told:
                 with contextlib.suppress(OSError, ValueError):
-                    note('%s, for %d seconds now' % (Work.at, time.monotonic() - began))
+                    note('%s (%d seconds so far)' % (Work.at, time.monotonic() - began))
             time.sleep(OFTEN)
 
     threading.Thread(target=look, daemon=True).start()

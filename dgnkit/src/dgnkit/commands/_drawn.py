@@ -18,18 +18,20 @@ from ..propose.writing import next_command, script_names
 
 def add_looks(parser: argparse.ArgumentParser) -> None:
     """Adds the options of what is drawn."""
-    parser.add_argument('--level', metavar='LV', default='1', help='on this level, where a row says none')
-    parser.add_argument('--color', '--colour', metavar='C', default='0', help='in this colour')
-    parser.add_argument('--weight', metavar='W', default='0', help='of this weight')
-    parser.add_argument('--style', metavar='S', default='0', help='of this style')
-    parser.add_argument('--height', metavar='H', default='', help='how high texts are')
-    parser.add_argument('--angle', metavar='DEGREES', default='0', help='how far texts are turned, against the clock')
-    parser.add_argument('--encoding', default='', help='how signs beyond ASCII are spelled, as utf-8 or latin-1')
+    parser.add_argument('--level', metavar='LV', default='1', help="the level, if a row doesn't give one")
+    parser.add_argument('--color', '--colour', metavar='C', default='0', help='the colour')
+    parser.add_argument('--weight', metavar='W', default='0', help='the weight')
+    parser.add_argument('--style', metavar='S', default='0', help='the style')
+    parser.add_argument('--height', metavar='H', default='', help='the height of texts')
+    parser.add_argument('--angle', metavar='DEGREES', default='0', help='the rotation of texts, anticlockwise')
     parser.add_argument(
-        '--units', choices=('auto', 'master', 'resolution'), default='auto', help='of places and heights'
+        '--encoding', default='', help='the encoding of characters beyond ASCII, such as utf-8 or latin-1'
     )
-    parser.add_argument('-o', '--output', metavar='SCRIPT', default='', help='the script, else standard output')
-    parser.add_argument('--dry-run', action='store_true', help='say what it would do, and write nothing')
+    parser.add_argument(
+        '--units', choices=('auto', 'master', 'resolution'), default='auto', help='the units of positions and heights'
+    )
+    parser.add_argument('-o', '--output', metavar='SCRIPT', default='', help='the script; otherwise it is printed')
+    parser.add_argument('--dry-run', action='store_true', help='say what would be done, and write nothing')
 
 
 def defaults_of(arguments: argparse.Namespace, kind: str) -> Defaults:
@@ -74,8 +76,8 @@ def patch_name(script: str) -> str:
 def give_lines(made: Appending, names: list[str]) -> None:
     """Says the script on standard output, where it can be said."""
     if len(names) > 1 or not made.script.text.isascii():
-        raise Mistake('the script is long or has signs beyond ASCII: name a file for it by -o')
+        raise Mistake('the script is long or has characters beyond ASCII: name a file for it with -o')
     for line in made.script.lines:
         say_raw(line.decode('ascii'))
     if made.patch is not None:
-        note('texts are left level, and their ranges are points: with -o a patch file turns them and sets their ranges')
+        note("texts aren't rotated and their ranges are points; with -o a patch file rotates them and sets the ranges")

@@ -38,17 +38,17 @@ class Word:
 def register_edit(words: Subparsers, word: Word) -> Parser:
     """Adds the parser of such a command."""
     parser = words.add_parser(word.name, help=word.text)
-    parser.add_argument('drawing', metavar='IN')
-    parser.add_argument('patch', metavar='PATCH')
+    parser.add_argument('drawing', metavar='IN', help='the drawing')
+    parser.add_argument('patch', metavar='PATCH', help='the patch file to write')
     add_conditions(parser)
-    parser.add_argument('--dry-run', action='store_true', help='say what it would do, and write nothing')
+    parser.add_argument('--dry-run', action='store_true', help='say what would be done, and write nothing')
     parser.set_defaults(run=lambda arguments: run_edit(arguments, word))
     return parser
 
 
 def run_edit(arguments: argparse.Namespace, word: Word) -> int:
     if word.asks and not has_conditions(arguments):
-        raise Mistake('which elements? give at least one condition, as --level 12')
+        raise Mistake('which elements? give at least one condition, such as --level 12')
     drawing = Drawing(arguments.drawing)
     conditions = Conditions(drawing, arguments)
     numbers = taken(conditions, word.takes_parts)
@@ -57,8 +57,8 @@ def run_edit(arguments: argparse.Namespace, word: Word) -> int:
     made = word.edit(drawing, numbers, arguments)
     note_left(made.left)
     words = [printable(it.in_words()) for it in made.changes]
-    said = 'would be changed' if arguments.dry_run else 'changed'
-    say('%d of %s: %s' % (len(made.changes), counted(len(drawing.elements), 'element'), said))
+    said = 'would change' if arguments.dry_run else 'changed'
+    say('%d of %s %s' % (len(made.changes), counted(len(drawing.elements), 'element'), said))
     propose_patch(drawing, made.changes, words, arguments.patch, arguments.dry_run)
     return 0
 
@@ -74,11 +74,11 @@ def taken(conditions: Conditions, takes_parts: bool) -> List[int]:
     below = {it for top in chosen for it in nesting.part(top) if it not in dead or top in dead}
     more = sorted(below.difference(chosen))
     if conditions.takes_members:
-        tell(more, 'stay as they are', drawing)
+        tell(more, 'not changed: %s of chosen headers', drawing)
         return chosen
-    tell(more, 'go along', drawing)
+    tell(more, '%s will change with their header', drawing)
     for said in parts_said(drawing, chosen, TOLD):
-        note(said + ', and the rest of it stays (--trees takes it)')
+        note(said + ', and the rest of its tree stays (--trees changes it too)')
     return sorted(below)
 
 
@@ -88,14 +88,14 @@ def tell_broken(conditions: Conditions, chosen: Sequence[int]) -> None:
     roots = conditions.drawing.nesting.roots
     broken = [it for it in chosen if roots[it] in conditions.broken_roots]
     if broken:
-        said = 'of %s in broken trees only they change, since it is not known what belongs to them'
-        note((said + ' (%s): `dgnkit mend` first') % (counted(len(broken), 'chosen element'), few(broken)))
+        said = 'in broken trees only the chosen elements change, since it is not known what belongs to them'
+        note((said + ' (%s): run `dgnkit mend` first') % few(broken))
 
 
 def tell(numbers: Sequence[int], what: str, drawing: Drawing) -> None:
     """Says what becomes of elements below chosen ones that meet no condition by themselves, and on which levels."""
     if numbers:
         levels = sorted({drawing.elements[it].level for it in numbers})
-        said = '%s: %s below chosen headers, on %s %s: %s'
         level = 'level' if len(levels) == 1 else 'levels'
-        note(said % (what, counted(len(numbers), 'element'), level, few(levels), few(numbers)))
+        members = what % counted(len(numbers), 'member')
+        note('%s, on %s %s: %s' % (members, level, few(levels), few(numbers)))

@@ -34,7 +34,7 @@ def ask_out(drawing: str, steps: Sequence[str], out: str) -> None:
     """It raises Mistake where the drawing would be written over a file that is read, or that a script imports."""
     for name in [drawing, *steps, *(it for step in steps if not is_patch(step) for it in imports_of(step))]:
         if os.path.exists(name) and os.path.exists(out) and os.path.samefile(name, out) and os.path.isfile(out):
-            raise Mistake('%s is read, and is not written over: name another file' % out)
+            raise Mistake("%s is an input, and isn't overwritten: name another file" % out)
 
 
 @contextlib.contextmanager
@@ -74,9 +74,9 @@ class Step:
             self.status, self.said = ran.status, ran.said
             return why_ended(self.program, ending, self.drawing, self.name, said_out or self.out)
         if not os.path.exists(self.out):
-            raise ListingError('dgnedit said that it was done, and there is no %s' % self.out)
+            raise ListingError('dgnedit said that it was done, but there is no %s' % self.out)
         if self.is_patch:
-            self.end = '%s: all stands on the drawing' % ran.said[0]
+            self.end = '%s: every entry matched the drawing' % ran.said[0]
             return ''
         self.script = Script.read(self.name)
         self.answers = self.script.answers(ran.said)

@@ -18,7 +18,7 @@ if TYPE_CHECKING:
     from ..cli import Subparsers
 
 COUNTED = {
-    'bit_c': 'with another bit C',
+    'bit_c': 'with another member mark (bit C)',
     'bytes': 'with other bytes',
     'level': 'on another level',
     'looks': 'of another weight or style',
@@ -33,12 +33,12 @@ BACK = {'deleted': 'no longer deleted', 'locked': 'unlocked'}
 
 def register(words: Subparsers) -> None:
     parser = words.add_parser('diff', help='say in words how two drawings differ')
-    parser.add_argument('first', metavar='A')
-    parser.add_argument('second', metavar='B')
+    parser.add_argument('first', metavar='A', help='the first drawing')
+    parser.add_argument('second', metavar='B', help='the second drawing')
     form = parser.add_mutually_exclusive_group()
-    form.add_argument('--json', action='store_true', help='say it as JSON')
-    form.add_argument('--csv', action='store_true', help='say it as CSV')
-    form.add_argument('--script', action='store_true', help='write the script that makes of A what it can of B')
+    form.add_argument('--json', action='store_true', help='print it as JSON')
+    form.add_argument('--csv', action='store_true', help='print it as CSV')
+    form.add_argument('--script', action='store_true', help='write the script that makes A as much like B as it can')
     parser.add_argument('-o', '--output', metavar='SCRIPT', default='', help='the file for --script')
     parser.set_defaults(run=run)
 
@@ -46,7 +46,7 @@ def register(words: Subparsers) -> None:
 def run(arguments: argparse.Namespace) -> int:
     """The status is 0 where the drawings are the same, byte by byte, else 1; with --script 0."""
     if arguments.output and not arguments.script:
-        raise Mistake('-o goes with --script')
+        raise Mistake('-o needs --script')
     program = Program.find()
     first, second = Drawing(arguments.first, program), Drawing(arguments.second, program)
     found = differences(first, second)
@@ -72,9 +72,9 @@ def give_redoing(first: Drawing, second: Drawing, found: List[Difference], path:
     """Gives the script, and says what still differs once it has run."""
     made = redoing_of(first, second, found)
     for it in made.left[:20]:
-        note('left: %s: %s' % (name_of(it), '; '.join(it.words)))
+        note('not covered: %s: %s' % (name_of(it), '; '.join(it.words)))
     if len(made.left) > 20:
-        note('left: and %d more' % (len(made.left) - 20))
+        note('not covered: and %d more' % (len(made.left) - 20))
     note('after the script %s' % (summary(made.left) if made.left else 'no element differs'))
     words = (command_said(first, it.text) for it in made.script.commands)
     give_script(first.path, made.script, words, path, False)
@@ -94,7 +94,10 @@ def tail_said(first: Drawing, second: Drawing) -> List[str]:
     """How what stands behind the elements differs."""
     if first.tail == second.tail:
         return []
-    return ['behind the elements: %s, and then %s' % tuple(counted(len(it.tail), 'byte') for it in (first, second))]
+    return [
+        'after the elements: %s in the first, %s in the second'
+        % tuple(counted(len(it.tail), 'byte') for it in (first, second))
+    ]
 
 
 def summary(found: List[Difference]) -> str:

@@ -14,21 +14,19 @@ from ._drawn import add_looks, defaults_of, give
 if TYPE_CHECKING:
     from ..cli import Subparsers
 
-ABOUT = """Writes the script that draws what a table says. Each row is a point; rows one behind the other with the same
-element are one line, line string or shape, and each row with a text is a text. The first row names the columns: x and
-y, or easting and northing, z, element, kind, level, color, weight, style, text, height, angle; all but the places may
-be missing. Texts want a patch file behind the script, which -o names as SCRIPT with .patch."""
+ABOUT = """Writes the script that draws what a table says. Each row is a point; consecutive rows with the same element
+are one line, line string or shape, and each row with a text is a text. The first row names the columns: x and y, or
+easting and northing; and, if wanted, z, element, kind, level, color, weight, style, text, height, angle. Texts need a
+patch file after the script; -o SCRIPT writes it too, with the name of the script and .patch."""
 
 
 def register(words: Subparsers) -> None:
     parser = words.add_parser('draw', help='write the script that draws what a table says', description=ABOUT)
-    parser.add_argument('drawing', metavar='IN')
-    parser.add_argument('table', metavar='CSV', help='rows of places')
+    parser.add_argument('drawing', metavar='IN', help='the drawing')
+    parser.add_argument('table', metavar='CSV', help='a table of positions')
     kinds = ('line', 'string', 'shape', 'text')
-    parser.add_argument(
-        '--as', dest='kind', choices=kinds, default='', help='what is drawn, where a row does not say it'
-    )
-    parser.add_argument('--cut', action='store_true', help='cut lines that are too long into pieces')
+    parser.add_argument('--as', dest='kind', choices=kinds, default='', help="what is drawn, if a row doesn't say")
+    parser.add_argument('--cut', action='store_true', help='cut lines of too many points into pieces')
     add_looks(parser)
     parser.set_defaults(run=run)
 

@@ -45,13 +45,13 @@ class Outcome:
 def register(words: Subparsers) -> None:
     parser = words.add_parser('each', help='run one script or patch file over many drawings at once')
     parser.add_argument('script', metavar='SCRIPT', help='a script or a patch file')
-    parser.add_argument('drawings', metavar='IN', nargs='+')
+    parser.add_argument('drawings', metavar='IN', nargs='+', help='the drawings')
     parser.add_argument('--into', metavar='DIR', required=True, help='the folder that the new drawings are written to')
-    parser.add_argument('--jobs', metavar='N', default=str(os.cpu_count() or 1), help='so many at a time')
-    parser.add_argument('--force', action='store_true', help='write over drawings of that name in DIR')
+    parser.add_argument('--jobs', metavar='N', default=str(os.cpu_count() or 1), help='how many at a time')
+    parser.add_argument('--force', action='store_true', help='overwrite drawings of that name in DIR')
     form = parser.add_mutually_exclusive_group()
-    form.add_argument('--json', action='store_true', help='say it as JSON')
-    form.add_argument('--csv', action='store_true', help='say it as CSV')
+    form.add_argument('--json', action='store_true', help='print it as JSON')
+    form.add_argument('--csv', action='store_true', help='print it as CSV')
     parser.set_defaults(run=run)
 
 
@@ -61,7 +61,7 @@ def run(arguments: argparse.Namespace) -> int:
     tells_itself()
     jobs = number_of(arguments.jobs, 'number of jobs', JOBS_MOST)
     if jobs < 1:
-        raise Mistake('--jobs is at least 1')
+        raise Mistake('--jobs must be at least 1')
     targets = targets_of(arguments.drawings, arguments.into, arguments.force)
     for target in targets:
         ask_out(arguments.script, [], str(target))
@@ -90,9 +90,9 @@ def targets_of(drawings: Sequence[str], folder: str, may_replace: bool) -> List[
         if target.name in by_name:
             raise Mistake('%s and %s would both be written to %s' % (by_name[target.name], name, target))
         if target.exists() and os.path.exists(name) and os.path.samefile(name, target):
-            raise Mistake('%s stands in %s itself: name another folder' % (name, folder))
+            raise Mistake('%s is itself in %s: name another folder' % (name, folder))
         if target.exists() and not may_replace:
-            raise Mistake('%s is there already: --force writes over it' % target)
+            raise Mistake('%s already exists: --force overwrites it' % target)
         by_name[target.name] = name
     return [Path(folder) / name for name in by_name]
 
@@ -127,7 +127,7 @@ class Runs:
         """What became of a drawing, whose file is put in its place where it is whole."""
         name, target = self.drawings[index], self.targets[index]
         if status < 0:
-            return Outcome(name, status, 'ended by the signal %d' % -status, 0, '')
+            return Outcome(name, status, 'stopped by signal %d' % -status, 0, '')
         try:
             lines = lines_of(said)
             if status not in (0, 1):
@@ -140,11 +140,14 @@ class Runs:
         return Outcome(name, status, 'done' if status == 0 else 'some refused', refused, str(target))
 
     def ending(self, status: int, lines: List[str], name: str) -> str:
-        """Why the program ended without writing a drawing."""
+        """Why the program ended without writing a drawing, without the drawing's name in front."""
         ending = ending_of(status, lines, name)
-        if isinstance(ending, BadDesign) and ending.fault == 'not-design':
-            return why_bad_design(name, ending)
-        return why_not_read([name, self.script]) if isinstance(ending, ReadFault) else str(ending)
+        said = str(ending)
+        if isinstance(ending, BadDesign):
+            said = why_bad_design(name, ending)
+        elif isinstance(ending, ReadFault):
+            said = why_not_read([name, self.script])
+        return said[len(name) + 1 :] if said.startswith(name + ' ') else said
 
 
 def show_progress(done: int, count: int) -> None:

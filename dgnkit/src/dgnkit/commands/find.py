@@ -24,27 +24,29 @@ TOLD = 8  # so many headers with chosen members are told
 
 def register(words: Subparsers) -> None:
     parser = words.add_parser('find', help='find elements that meet conditions, and write a script for them')
-    parser.add_argument('drawing', metavar='IN')
+    parser.add_argument('drawing', metavar='IN', help='the drawing')
     parser.add_argument(
         '--numbers',
         metavar='FILE',
         nargs='?',
         const='',
-        help='with the numbers in this file; without a name: say the numbers alone, one a line',
+        help='with the numbers listed in FILE; without FILE: print only the numbers, one per line',
     )
     add_conditions(parser, has_numbers=False)
     form = parser.add_mutually_exclusive_group()
-    form.add_argument('--json', action='store_true', help='say them as JSON')
-    form.add_argument('--csv', action='store_true', help='say them as CSV')
+    form.add_argument('--json', action='store_true', help='print them as JSON')
+    form.add_argument('--csv', action='store_true', help='print them as CSV')
     form.add_argument('--script', metavar='LINE', dest='line', help=LINE_HELP)
     parser.add_argument('-o', '--output', metavar='SCRIPT', default='', help='the file for --script')
-    parser.add_argument('--dry-run', action='store_true', help='say in words what the script would do')
+    parser.add_argument(
+        '--dry-run', action='store_true', help='say in words what the script would do, and write nothing'
+    )
     parser.set_defaults(run=run)
 
 
 def run(arguments: argparse.Namespace) -> int:
     if (arguments.output or arguments.dry_run) and arguments.line is None:
-        raise Mistake('-o and --dry-run go with --script')
+        raise Mistake('-o and --dry-run need --script')
     arguments.numbers_file = arguments.numbers
     drawing = Drawing(arguments.drawing)
     conditions = Conditions(drawing, arguments)
@@ -124,14 +126,14 @@ def csv_row(conditions: Conditions, element: Element) -> Dict[str, Any]:
     return {name: int(it) if isinstance(it, bool) else it for name, it in row.items()}
 
 
-HEAD = ['number', 'root', 'type', 'level', 'colour', 'weight', 'style', 'standing', 'text or cell']
+HEAD = ['number', 'root', 'type', 'level', 'colour', 'weight', 'style', 'state', 'text or cell']
 
 
 def table_of(conditions: Conditions, chosen: Sequence[int]) -> List[str]:
     """The table of the chosen elements, with their distances where a place was asked for."""
     head = [*HEAD[:1], 'distance', *HEAD[1:]] if conditions.nearness is not None else HEAD
     rows = [cells_of(conditions, conditions.drawing.elements[it]) for it in chosen]
-    return table(head, rows, left=('type', 'colour', 'standing'))
+    return table(head, rows, left=('type', 'colour', 'state'))
 
 
 def cells_of(conditions: Conditions, element: Element) -> List[object]:

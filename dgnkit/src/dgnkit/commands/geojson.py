@@ -24,11 +24,13 @@ SYSTEM = re.compile(r'(EPSG):(\d{4,6})', re.IGNORECASE)
 
 def register(words: Subparsers) -> None:
     parser = words.add_parser('geojson', help='write a drawing as GeoJSON, for QGIS')
-    parser.add_argument('drawing', metavar='IN')
-    parser.add_argument('--crs', metavar='EPSG:CODE', help='the system of coordinates that the places are in')
-    parser.add_argument('--units', choices=('auto', 'master', 'resolution'), default='auto', help='of its places')
-    parser.add_argument('--members', action='store_true', help='the members of complex chains and shapes too')
-    parser.add_argument('-o', '--output', metavar='FILE', default='', help='the file, else standard output')
+    parser.add_argument('drawing', metavar='IN', help='the drawing')
+    parser.add_argument('--crs', metavar='EPSG:CODE', help='the coordinate system of the drawing')
+    parser.add_argument(
+        '--units', choices=('auto', 'master', 'resolution'), default='auto', help='the units of its positions'
+    )
+    parser.add_argument('--members', action='store_true', help='also write the members of complex chains and shapes')
+    parser.add_argument('-o', '--output', metavar='FILE', default='', help='the file; otherwise it is printed')
     parser.set_defaults(run=run)
 
 
@@ -47,7 +49,7 @@ def run(arguments: argparse.Namespace) -> int:
         sys.stdout.writelines(lines)
     note('%d features in %s' % (count.features, scale.name))
     if system is None:
-        note('no system of coordinates is named: a reader may take the places for degrees; name it by --crs EPSG:CODE')
+        note('no coordinate system is given: a reader may take the numbers for degrees; give it with --crs EPSG:CODE')
     return 0
 
 
@@ -57,7 +59,7 @@ def system_of(word: Optional[str]) -> Optional[str]:
         return None
     found = SYSTEM.fullmatch(word.strip())
     if not found:
-        raise Mistake('%r is no system of coordinates: it is written EPSG:25832' % word)
+        raise Mistake("%r isn't a coordinate system: write it as EPSG:25832" % word)
     return 'urn:ogc:def:crs:EPSG::' + found[2]
 
 

@@ -20,24 +20,22 @@ if TYPE_CHECKING:
     from ..cli import Subparsers
 
 Facts = Dict[str, Any]
-FAULTS = {
-    'not-design': '',
-    'cut': ' (the file ends before this element does)',
-    'short': ' (this element has fewer bytes than its type and its counts ask for)',
-    'attributes': ' (the attribute data of this element do not begin within it, behind its body)',
-}
 COUNTS = 'broken_trees type_0 zeros audit twice outside end_mark behind deleted locked'.split()
 
 
 def register(words: Subparsers) -> None:
-    parser = words.add_parser('health', help='say of drawings what is damaged, broken or odd')
-    parser.add_argument('drawings', metavar='IN', nargs='+')
-    parser.add_argument('--frame', metavar='X,Y', nargs=2, help='ask for what is not inside the box with these corners')
-    parser.add_argument('--units', choices=('auto', 'master', 'resolution'), default='auto', help='of places')
-    parser.add_argument('-v', '--verbose', action='store_true', help='say each finding')
+    parser = words.add_parser('health', help='report what is damaged, broken or odd in drawings')
+    parser.add_argument('drawings', metavar='IN', nargs='+', help='the drawings')
+    parser.add_argument(
+        '--frame', metavar='X,Y', nargs=2, help="also report what isn't inside the box with these corners"
+    )
+    parser.add_argument(
+        '--units', choices=('auto', 'master', 'resolution'), default='auto', help='the units of positions'
+    )
+    parser.add_argument('-v', '--verbose', action='store_true', help='print each finding')
     form = parser.add_mutually_exclusive_group()
-    form.add_argument('--json', action='store_true', help='say it as JSON')
-    form.add_argument('--csv', action='store_true', help='say it as CSV, a row for each drawing')
+    form.add_argument('--json', action='store_true', help='print it as JSON')
+    form.add_argument('--csv', action='store_true', help='print it as CSV, a row for each drawing')
     parser.set_defaults(run=run)
 
 
@@ -124,10 +122,10 @@ def findings_said(facts: Facts) -> List[str]:
         (of_nothing, counted(of_nothing, 'element') + ' of type 0'),
         (len(facts['zeros']), counted(len(facts['zeros']), 'run') + ' of zeros'),
         (len(facts['audit']), counted(len(facts['audit']), 'wrong range')),
-        (twice, counted(twice, 'tree is there', 'trees are there') + ' more than once'),
-        (len(facts['outside']), counted(len(facts['outside']), 'tree') + ' outside of the frame'),
+        (twice, counted(twice, 'duplicate tree')),
+        (len(facts['outside']), counted(len(facts['outside']), 'tree') + ' outside the frame'),
         (not facts['end_mark'], 'no end mark'),
-        (facts['behind'], counted(facts['behind'], 'byte') + ' behind the end mark'),
+        (facts['behind'], counted(facts['behind'], 'byte') + ' after the end mark'),
     ]
     return [text for count, text in said if count]
 
@@ -143,7 +141,7 @@ def csv_row(facts: Facts) -> List[object]:
 def line_of(facts: Facts) -> str:
     """The one line of a drawing."""
     if not facts['opens']:
-        return str(facts['why']) + FAULTS[facts['fault']]
+        return str(facts['why'])
     said = ', '.join(findings_said(facts)) or 'ok'
     counts = '%s, %d deleted, %d locked' % (counted(facts['elements'], 'element'), facts['deleted'], facts['locked'])
     return '%s: %s (%s)' % (facts['file'], said, counts)
@@ -157,15 +155,15 @@ def details_of(facts: Facts, scale: Optional[Scale]) -> List[str]:
     for what, stretches in [('of type 0', facts['type_0']), ('with a run of zeros', facts['zeros'])]:
         lines += [stretch_said(it, what) for it in stretches]
     for it in facts['audit']:
-        said = 'element %d: its range is %s, and it holds %s %s'
+        said = 'element %d: its range is %s, and should be %s %s'
         lines.append(said % (it['element'], box_said(it['stored'], scale), box_said(it['hull'], scale), scale.name))
     for it in facts['twice']:
         lines.append('%s is there %d times: %s' % (it['is'], len(it['elements']), listed(it['elements'])))
-    lines += ['%s is not inside of the frame' % it for it in facts['outside']]
+    lines += ["%s isn't inside the frame" % it for it in facts['outside']]
     if not facts['end_mark']:
-        lines.append('no end mark: the file ends between two elements, and may have been cut there')
+        lines.append('no end mark: the file ends between two elements, and may have been cut off there')
     if facts['behind']:
-        lines.append('%s behind the end mark, which no reader looks at' % counted(facts['behind'], 'byte'))
+        lines.append('%s after the end mark, which programs ignore' % counted(facts['behind'], 'byte'))
     return lines
 
 

@@ -24,12 +24,12 @@ MEASURES = ['lines', 'length', 'shapes', 'outline', 'area']
 
 
 def register(words: Subparsers) -> None:
-    parser = words.add_parser('info', help='say what drawings are, their units and what they have')
-    parser.add_argument('drawings', metavar='IN', nargs='+')
-    parser.add_argument('--lengths', action='store_true', help='sum up lengths and areas by level')
+    parser = words.add_parser('info', help='report the units and the contents of drawings')
+    parser.add_argument('drawings', metavar='IN', nargs='+', help='the drawings')
+    parser.add_argument('--lengths', action='store_true', help='add up lengths and areas by level')
     form = parser.add_mutually_exclusive_group()
-    form.add_argument('--json', action='store_true', help='say it as JSON')
-    form.add_argument('--csv', action='store_true', help='say the table of levels as CSV')
+    form.add_argument('--json', action='store_true', help='print it as JSON')
+    form.add_argument('--csv', action='store_true', help='print the table of levels as CSV')
     parser.set_defaults(run=run)
 
 
@@ -140,9 +140,11 @@ def lines_of(facts: Dict[str, Any]) -> List[str]:
     more += ['%d may attach a reference' % facts['references']] if facts['references'] else []
     lines.append('  elements   %d, of which %s' % (facts['elements'], ', '.join(more)))
     for it in facts['reference_files']:
-        names = ', '.join(it['names']) or 'no name is read in it'
+        names = ', '.join(it['names']) or 'no file name found in it'
         lines.append('  reference  element %d%s: %s' % (it['element'], ', deleted' * it['deleted'], names))
-    lines.append('  colours    %s' % ('a table of its own' if facts['own_colours'] else 'no table of its own'))
+    lines.append(
+        '  colours    %s' % ('its own colour table' if facts['own_colours'] else "MicroStation's default table")
+    )
     lines += ['  ' + line for line in table(['level', 'elements', 'types'], [it[:3] for it in rows_of(facts)])]
     return lines + measures_said(facts, name if units['known'] else 'units of resolution')
 

@@ -23,18 +23,20 @@ if TYPE_CHECKING:
 
 def register(words: Subparsers) -> None:
     parser = words.add_parser('mend', help='write a patch file that mends broken trees')
-    parser.add_argument('drawing', metavar='IN')
-    parser.add_argument('patch', metavar='PATCH', nargs='?', default='', help='none is wanted with --dry-run')
-    parser.add_argument('--dry-run', action='store_true', help='say what it would do, and write nothing')
+    parser.add_argument('drawing', metavar='IN', help='the drawing')
+    parser.add_argument(
+        'patch', metavar='PATCH', nargs='?', default='', help='the patch file to write; not needed with --dry-run'
+    )
+    parser.add_argument('--dry-run', action='store_true', help='say what would be done, and write nothing')
     form = parser.add_mutually_exclusive_group()
-    form.add_argument('--json', action='store_true', help='say it as JSON')
-    form.add_argument('--csv', action='store_true', help='say it as CSV')
+    form.add_argument('--json', action='store_true', help='print it as JSON')
+    form.add_argument('--csv', action='store_true', help='print it as CSV')
     parser.set_defaults(run=run)
 
 
 def run(arguments: argparse.Namespace) -> int:
     if not arguments.patch and not arguments.dry_run:
-        raise Mistake('name the patch file that is to be written: dgnkit mend %s PATCH' % arguments.drawing)
+        raise Mistake('name the patch file to write: dgnkit mend %s PATCH' % arguments.drawing)
     drawing = Drawing(arguments.drawing)
     mending = mending_of(drawing)
     words = [it.in_words() for it in mending.changes]
@@ -51,7 +53,7 @@ def run(arguments: argparse.Namespace) -> int:
         for line in words:
             say(line)
     for it in mending.left:
-        note('left: %s: %s' % (described(it.element), it.why))
+        note('not mended: %s: %s' % (described(it.element), it.why))
     if not arguments.json and not arguments.csv:
         say('%s before, %d after' % (counted(before, 'broken tree'), after))
         propose_patch(drawing, mending.changes, [], arguments.patch, arguments.dry_run)

@@ -20,10 +20,10 @@ if TYPE_CHECKING:
 
 def register(words: Subparsers) -> None:
     parser = words.add_parser('merge', help='write the script that imports other drawings')
-    parser.add_argument('drawing', metavar='A')
-    parser.add_argument('others', metavar='B', nargs='+')
-    parser.add_argument('-o', '--output', metavar='SCRIPT', default='', help='the script, else standard output')
-    parser.add_argument('--dry-run', action='store_true', help='say what it would do, and write nothing')
+    parser.add_argument('drawing', metavar='A', help='the drawing to import into')
+    parser.add_argument('others', metavar='B', nargs='+', help='the drawings to import')
+    parser.add_argument('-o', '--output', metavar='SCRIPT', default='', help='the script; otherwise it is printed')
+    parser.add_argument('--dry-run', action='store_true', help='say what would be done, and write nothing')
     parser.set_defaults(run=run)
 
 
@@ -49,12 +49,11 @@ def ask_import(first: Drawing, merge: Merge) -> None:
     answer = first.program.edit(first.path, Script().add(merge.line))[0]
     if answer.cause is None:
         if answer.count != len(merge.taken):
-            raise Mistake(
-                '%s: dgnedit takes %s trees, and not %d' % (merge.drawing.path, answer.count, len(merge.taken))
-            )
+            said = '%s: dgnedit imports %s trees, not %d'
+            raise Mistake(said % (merge.drawing.path, answer.count, len(merge.taken)))
         return
     words = answer.cause.split(' ')
     if len(words) == 3 and words[1] in ('floating', 'opaque', 'off-plane'):
-        said = '%s can not be imported: its origin is another one, so all has to be moved, and %s can not (%s)'
+        said = "%s can't be imported: its global origin differs, so all of it has to be moved, and %s can't be (%s)"
         raise Mistake(said % (merge.drawing.path, described(merge.drawing.elements[int(words[2])]), words[1]))
-    raise Mistake('%s can not be imported: dgnedit says %r' % (merge.drawing.path, answer.cause))
+    raise Mistake("%s can't be imported: dgnedit says %r" % (merge.drawing.path, answer.cause))

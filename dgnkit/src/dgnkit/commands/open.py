@@ -16,8 +16,8 @@ from .page import page_text
 if TYPE_CHECKING:
     from ..cli import Subparsers
 
-ABOUT = """Opens a drawing in a browser, in the app dgnedit.html; without one the app alone. The page stands in a
-temporary folder, which stays for as long as the browser may want it; IN is read and never written."""
+ABOUT = """Opens a drawing in a browser, in the app dgnedit.html; without IN it opens the app alone. The page is written
+to a temporary folder and kept there, since the browser may need it later. IN is read, and never written."""
 
 
 def register(words: Subparsers) -> None:
@@ -30,7 +30,7 @@ def run(arguments: argparse.Namespace) -> int:
     """Has the browser open the page, and says where it stands; 1 where there is no browser."""
     place = page_of_drawing(arguments.drawing) if arguments.drawing else app_place()
     is_open = webbrowser.open(place.resolve().as_uri())
-    say('%s: %s' % (place, 'it is opened in a browser' if is_open else 'no browser is found; open it in one'))
+    say('%s: %s' % (place, 'opened in a browser' if is_open else 'no browser was found; open it in one'))
     return 0 if is_open else 1
 
 

@@ -17,17 +17,17 @@ if TYPE_CHECKING:
     from ..cli import Subparsers
 
 ABOUT = """Writes one HTML file that a browser opens from disk: the app dgnedit.html with the drawing in it, to look at,
-to edit and to save. With --after it shows what differs in another drawing; with --script it runs a script on it."""
+edit and save. With --after it shows what differs in another drawing; with --script it runs a script on it."""
 
 
 def register(words: Subparsers) -> None:
     parser = words.add_parser('page', help='write a drawing as a page for a browser', description=ABOUT)
     parser.add_argument('drawing', metavar='IN', help='the drawing')
     other = parser.add_mutually_exclusive_group()
-    other.add_argument('--after', metavar='OUT', help='what became of it, to be compared')
+    other.add_argument('--after', metavar='OUT', help='another drawing to compare it with')
     other.add_argument('--script', metavar='SCRIPT', help='a script that the page runs when it is opened')
     parser.add_argument(
-        '-o', '--output', metavar='PAGE', help="the page; otherwise IN's name with .html, in this folder"
+        '-o', '--output', metavar='PAGE', help="the page; otherwise IN's name with .html, in the current folder"
     )
     parser.set_defaults(run=run)
 
@@ -50,7 +50,7 @@ def page_text(name: str, after: Optional[str] = None, script: Optional[str] = No
         other = Drawing(after, drawing.program)
         drawing.program.check(after)
         if drawing.axes != other.axes:
-            raise Mistake('%s has %d axes, and %s has %d' % (name, drawing.axes, after, other.axes))
+            raise Mistake('%s has %d dimensions, and %s has %d' % (name, drawing.axes, after, other.axes))
         parts.append(('after', os.path.basename(after), other.data))
     if script:
         parts.append(('script', os.path.basename(script), read_file(script)))
@@ -67,9 +67,9 @@ def page_place(arguments: argparse.Namespace) -> Path:
     read: List[Optional[str]] = [arguments.drawing, arguments.after, arguments.script]
     for name in read:
         if name and place.exists() and os.path.exists(name) and place.samefile(name):
-            raise Mistake('%s is read, and the page would be written over it: name another one by -o' % place)
+            raise Mistake('%s is an input, and the page would overwrite it: name another file with -o' % place)
     if not arguments.output and place.exists() and not is_page(place):
-        raise Mistake('%s is there and is no page of dgnkit: name the page by -o' % place)
+        raise Mistake("%s exists and isn't a page of dgnkit: name the page with -o" % place)
     return place
 
 

@@ -35,19 +35,21 @@ class Spot:
 
 def register(words: Subparsers) -> None:
     parser = words.add_parser('place', help='write the script that copies a cell to places')
-    parser.add_argument('drawing', metavar='IN')
-    parser.add_argument('cell', metavar='CELL', help="the cell's name, as a person writes it")
-    parser.add_argument('places', metavar='CSV', help='rows x,y or x,y,z; a first row may name the columns')
-    parser.add_argument('--number', help='the number of the cell to copy, where several have the name')
-    parser.add_argument('--units', choices=('auto', 'master', 'resolution'), default='auto', help='of the places')
-    parser.add_argument('-o', '--output', metavar='SCRIPT', default='', help='the script, else standard output')
-    parser.add_argument('--dry-run', action='store_true', help='say what it would do, and write nothing')
+    parser.add_argument('drawing', metavar='IN', help='the drawing')
+    parser.add_argument('cell', metavar='CELL', help="the cell's name, such as MHOLE")
+    parser.add_argument('places', metavar='CSV', help='rows of x,y or x,y,z; the first row may name the columns')
+    parser.add_argument('--number', help='the number of the cell to copy, if several have the name')
+    parser.add_argument(
+        '--units', choices=('auto', 'master', 'resolution'), default='auto', help='the units of the positions'
+    )
+    parser.add_argument('-o', '--output', metavar='SCRIPT', default='', help='the script; otherwise it is printed')
+    parser.add_argument('--dry-run', action='store_true', help='say what would be done, and write nothing')
     parser.set_defaults(run=run)
 
 
 def run(arguments: argparse.Namespace) -> int:
     drawing = Drawing(arguments.drawing)
-    number = None if arguments.number is None else number_of(arguments.number, 'number of an element', ELEMENTS_MOST)
+    number = None if arguments.number is None else number_of(arguments.number, 'element number', ELEMENTS_MOST)
     cell = cell_of(drawing, arguments.cell, number)
     scale = Scale(drawing.units, arguments.units)
     spots = spots_of(drawing, arguments.places, scale)
@@ -68,11 +70,13 @@ def cell_of(drawing: Drawing, name: str, number: Optional[int]) -> Element:
     whole = [it for it in named if roots[it.number] not in broken and number in (None, it.number)]
     numbers = few([it.number for it in named])
     if not whole and number is not None:
-        raise Mistake('element %d is no cell %s that can be copied: these are %s' % (number, name, numbers))
+        raise Mistake(
+            "element %d isn't a cell %s that can be copied: the cells of this name are %s" % (number, name, numbers)
+        )
     if not whole:
-        raise Mistake('all cells %s are in broken trees (%s): `dgnkit mend` first' % (name, numbers))
+        raise Mistake('all cells %s are in broken trees (%s): run `dgnkit mend` first' % (name, numbers))
     if len(whole) > 1:
-        note('copied is the first of %d cells %s, element %d' % (len(whole), name, whole[0].number))
+        note('the first of %d cells %s is copied, element %d' % (len(whole), name, whole[0].number))
     return whole[0]
 
 
@@ -83,13 +87,13 @@ def spots_of(drawing: Drawing, file: str, scale: Scale) -> List[Spot]:
     if is_head(rows[0]):
         columns = columns_of(rows[0], PLACES[: drawing.axes])
         if columns[0] is None or columns[1] is None:
-            said = 'it names no columns x and y, or easting and northing: %s'
+            said = 'it has no columns x and y, or easting and northing: %s'
             raise rows[0].mistake(said % ', '.join(rows[0].fields))
         rows = rows[1:]
     else:
         for row in rows:
             if row.width > drawing.axes:
-                said = 'it has %d columns, and the drawing %d axes: name the columns in a first row, as x,y'
+                said = 'it has %d columns, but the drawing has %d dimensions: name them in a first row, such as x,y'
                 raise row.mistake(said % (row.width, drawing.axes))
     made = []
     for row in rows:
@@ -122,8 +126,8 @@ def ask(drawing: Drawing, cell: Element, script: Script, spots: Sequence[Spot]) 
     """It raises Mistake where the program refuses a copy."""
     for cause, spot in zip(causes(drawing, script.lines), spots):
         if cause:
-            reason = REASONS.get(cause.split(' ')[0], cause).replace('they', 'it', 1)
-            raise spot.row.mistake('%s can not be copied there (%s): %s' % (described(cell), cause, reason))
+            reason = REASONS.get(cause.split(' ')[0], cause)
+            raise spot.row.mistake("%s can't be copied there (%s): %s" % (described(cell), cause, reason))
 
 
 def tell_outside(drawing: Drawing, scale: Scale, spots: Sequence[Spot]) -> None:
@@ -134,7 +138,7 @@ def tell_outside(drawing: Drawing, scale: Scale, spots: Sequence[Spot]) -> None:
     low, high = extent
     far = [it for it in spots if not all(a <= at <= b for a, at, b in zip(low, it.point[:2], high))]
     if far:
-        said = 'outside of what is drawn (%s to %s): %d of %d places, rows %s, the first at %s'
+        said = '%d of %d positions are outside of what is drawn (%s to %s): rows %s, the first at %s'
         corners = scale.place_said(low, False), scale.place_said(high)
         rows = few([it.row.line for it in far])
-        note(said % (*corners, len(far), len(spots), rows, scale.place_said(far[0].point)))
+        note(said % (len(far), len(spots), *corners, rows, scale.place_said(far[0].point)))

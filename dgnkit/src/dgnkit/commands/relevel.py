@@ -18,7 +18,7 @@ if TYPE_CHECKING:
 def register(words: Subparsers) -> None:
     word = Word('relevel', 'write a patch file that puts elements on another level', edit)
     parser = register_edit(words, word)
-    parser.add_argument('--to', metavar='LEVEL', required=True, help='the level that they are put on')
+    parser.add_argument('--to', metavar='LEVEL', required=True, help='the new level')
 
 
 def edit(drawing: Drawing, numbers: Sequence[int], arguments: argparse.Namespace) -> FieldEdits:

@@ -19,8 +19,8 @@ if TYPE_CHECKING:
 def register(words: Subparsers) -> None:
     text = 'write a patch file that gives cells another name'
     parser = register_edit(words, Word('rename', text, edit, asks=False, takes_parts=False))
-    parser.add_argument('old', metavar='OLD', help='what the cells are called')
-    parser.add_argument('new', metavar='NEW', help='what they are to be called, at most 6 signs')
+    parser.add_argument('old', metavar='OLD', help='the present name')
+    parser.add_argument('new', metavar='NEW', help='the new name, of at most 6 characters')
 
 
 def edit(drawing: Drawing, numbers: Sequence[int], arguments: argparse.Namespace) -> FieldEdits:

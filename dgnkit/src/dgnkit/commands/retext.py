@@ -18,20 +18,22 @@ if TYPE_CHECKING:
 
 
 def register(words: Subparsers) -> None:
-    text = 'write a patch file that exchanges characters of texts'
+    text = 'write a patch file that replaces words in texts'
     parser = register_edit(words, Word('retext', text, edit, asks=False, takes_parts=False))
-    parser.add_argument('old', metavar='OLD', help='the word to be replaced, not in the midst of another one')
-    parser.add_argument('new', metavar='NEW', help='what stands in its place')
-    parser.add_argument('--regex', action='store_true', help='OLD is a regular expression, and NEW may name its groups')
-    parser.add_argument('--encoding', help='how signs beyond ASCII are spelled, as utf-8 or latin-1')
+    parser.add_argument('old', metavar='OLD', help='what to replace, as a whole word')
+    parser.add_argument('new', metavar='NEW', help='what to put there instead')
+    parser.add_argument(
+        '--regex', action='store_true', help='OLD is a regular expression, and NEW may refer to its groups'
+    )
+    parser.add_argument('--encoding', help='the encoding of characters beyond ASCII, such as utf-8 or latin-1')
 
 
 def edit(drawing: Drawing, numbers: Sequence[int], arguments: argparse.Namespace) -> FieldEdits:
     form = (form_of if arguments.regex else word_form)(arguments.old, arguments.ignore_case)
     new = arguments.new if arguments.regex else arguments.new.replace('\\', '\\\\')
-    with stopped_after('the search of texts'):
+    with stopped_after('the text search'):
         made = retext(drawing, numbers, Replacement(form, new, arguments.encoding))
         named = {it.cell_name or '' for it in cells_of(drawing) if form.search(it.cell_name or '')}
     if named and not made.changes:
-        note('no text is changed; of cells that are called so, as %s, `dgnkit rename` changes the name' % min(named))
+        note('no text is changed; to change the name of a cell such as %s, use `dgnkit rename`' % min(named))
     return made

@@ -18,18 +18,20 @@ from ._runs import HEAD, Step, ask_out, on_disk
 if TYPE_CHECKING:
     from ..cli import Subparsers
 
-ABOUT = """Has dgnedit run scripts and patch files on a drawing, one behind the other, and says in sentences how that
-ended and what was refused. OUT is there whole or not at all."""
+ABOUT = """Has dgnedit run scripts and patch files on a drawing, one after the other, and says in sentences what was
+refused and how it ended. OUT is there whole or not at all."""
 
 
 def register(words: Subparsers) -> None:
-    parser = words.add_parser('run', help='have dgnedit run scripts and patch files', description=ABOUT)
-    parser.add_argument('drawing', metavar='IN')
-    parser.add_argument('steps', metavar='SCRIPT', nargs='+', help='scripts and patch files, in their order')
-    parser.add_argument('out', metavar='OUT', help='the drawing that is written')
+    parser = words.add_parser('run', help='run scripts and patch files with dgnedit', description=ABOUT)
+    parser.add_argument('drawing', metavar='IN', help='the drawing')
+    parser.add_argument(
+        'steps', metavar='SCRIPT', nargs='+', help='scripts and patch files, in the order in which to run them'
+    )
+    parser.add_argument('out', metavar='OUT', help='the drawing to write')
     form = parser.add_mutually_exclusive_group()
-    form.add_argument('--json', action='store_true', help='say it as JSON')
-    form.add_argument('--csv', action='store_true', help='say the refused lines as CSV')
+    form.add_argument('--json', action='store_true', help='print it as JSON')
+    form.add_argument('--csv', action='store_true', help='print the refused lines as CSV')
     parser.set_defaults(run=run)
 
 
@@ -37,7 +39,7 @@ def run(arguments: argparse.Namespace) -> int:
     """The status is 0 where nothing was refused, 1 where a command was; it raises Mistake where nothing was written."""
     out = arguments.out
     if os.path.isdir(out):
-        raise Mistake('%s can not be written: it is a folder' % out)
+        raise Mistake("%s can't be written: it is a folder" % out)
     program, steps = Program.find(), []
     with contextlib.ExitStack() as stack:
         names = [stack.enter_context(on_disk(it)) for it in arguments.steps]
@@ -66,9 +68,7 @@ def tell_texts(steps: List[Step]) -> None:
         named = zip(step.script.commands, step.answers)
         count = 0 if step.is_patch else count + sum(it.name == 'text' and not made.is_refused for it, made in named)
     if count:
-        said = (
-            '%s a range that is a point, which fences and --near miss: `dgnkit text` and `draw` set it by a patch file'
-        )
+        said = '%s only a point for a range, so fences and --near miss it; `dgnkit text` and `draw` set the range too'
         note(said % counted(count, 'appended text has', 'appended texts have'))
 
 
@@ -78,7 +78,7 @@ def folder_beside(out: str) -> contextlib.AbstractContextManager[str]:
     if os.path.exists(out) and not os.path.isfile(out):
         return tempfile.TemporaryDirectory(prefix='dgnkit-')
     if not os.path.isdir(place):
-        raise Mistake('%s can not be written: there is no folder %s' % (out, place))
+        raise Mistake("%s can't be written: there is no folder %s" % (out, place))
     try:
         return tempfile.TemporaryDirectory(prefix='.dgnkit-', dir=place)
     except OSError as why:

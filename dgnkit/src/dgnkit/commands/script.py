@@ -21,13 +21,15 @@ TWICE = ('move', 'copy')  # what an edit of a header does to its members, and do
 
 
 def register(words: Subparsers) -> None:
-    parser = words.add_parser('script', help='write a script for elements whose numbers a file has')
+    parser = words.add_parser('script', help='write a script for the elements whose numbers are in a file')
     parser.add_argument('line', metavar='LINE', help=LINE_HELP)
-    parser.add_argument('--numbers', metavar='FILE', required=True, help='a list, a CSV or a GeoJSON file with them')
-    parser.add_argument('--field', default='number', help='the field that has them')
-    parser.add_argument('--drawing', metavar='IN', help='the drawing, to leave out what it would refuse')
-    parser.add_argument('-o', '--output', metavar='SCRIPT', default='', help='the script, else standard output')
-    parser.add_argument('--dry-run', action='store_true', help='say what it would do, and write nothing')
+    parser.add_argument(
+        '--numbers', metavar='FILE', required=True, help='a list, a CSV or a GeoJSON file with the numbers'
+    )
+    parser.add_argument('--field', default='number', help='the field with the numbers')
+    parser.add_argument('--drawing', metavar='IN', help='the drawing, to leave out what dgnedit would refuse')
+    parser.add_argument('-o', '--output', metavar='SCRIPT', default='', help='the script; otherwise it is printed')
+    parser.add_argument('--dry-run', action='store_true', help='say what would be done, and write nothing')
     parser.set_defaults(run=run)
 
 
@@ -42,12 +44,14 @@ def run(arguments: argparse.Namespace) -> int:
         return 0
     template = template_of(arguments.line, None)
     if template.split()[0] in TWICE:
-        raise Mistake('%s wants --drawing: what stands below another one would be edited twice' % template.split()[0])
+        raise Mistake(
+            '%s needs --drawing: a member would be edited twice if its header is listed too' % template.split()[0]
+        )
     script = Script(line_of(template, it) for it in numbers)
     for line in script.lines[:1]:
         fault = fault_of(line)
         if fault or line.lstrip().startswith(b'#'):
-            raise Mistake('%r is no line of a script: %s' % (arguments.line, fault or 'it is a comment'))
+            raise Mistake("%r isn't a command of a script: %s" % (arguments.line, fault or 'it is a comment'))
     words = ['element %d: %s' % (number, line.decode('utf-8')) for number, line in zip(numbers, script.lines)]
     give_script('IN.dgn', script, words, arguments.output, arguments.dry_run)
     return 0

@@ -17,9 +17,9 @@ if TYPE_CHECKING:
 
 def register(words: Subparsers) -> None:
     parser = words.add_parser('text', help='write the script that appends a text')
-    parser.add_argument('drawing', metavar='IN')
-    parser.add_argument('place', metavar='X,Y', help='where the text begins: its lower left corner')
-    parser.add_argument('text', metavar='CHARACTERS')
+    parser.add_argument('drawing', metavar='IN', help='the drawing')
+    parser.add_argument('place', metavar='X,Y', help='the lower left corner of the text')
+    parser.add_argument('text', metavar='CHARACTERS', help='the text')
     add_looks(parser)
     parser.set_defaults(run=run)
 

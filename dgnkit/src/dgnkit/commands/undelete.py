@@ -14,7 +14,7 @@ if TYPE_CHECKING:
 
 
 def register(words: Subparsers) -> None:
-    parser = register_edit(words, Word('undelete', 'write a patch file that takes deletions back', edit))
+    parser = register_edit(words, Word('undelete', 'write a patch file that undeletes elements', edit))
     parser.set_defaults(deleted=True)
 
 

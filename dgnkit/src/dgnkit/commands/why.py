@@ -16,12 +16,14 @@ if TYPE_CHECKING:
 
 def register(words: Subparsers) -> None:
     parser = words.add_parser('why', help='run a script or a patch file, and explain what is refused')
-    parser.add_argument('drawing', metavar='IN')
+    parser.add_argument('drawing', metavar='IN', help='the drawing')
     parser.add_argument('script', metavar='SCRIPT', help='a script or a patch file')
-    parser.add_argument('out', metavar='OUT', nargs='?', default=NOWHERE, help='the drawing to write, none without it')
+    parser.add_argument(
+        'out', metavar='OUT', nargs='?', default=NOWHERE, help='the drawing to write; otherwise none is written'
+    )
     form = parser.add_mutually_exclusive_group()
-    form.add_argument('--json', action='store_true', help='say it as JSON')
-    form.add_argument('--csv', action='store_true', help='say the refused lines as CSV')
+    form.add_argument('--json', action='store_true', help='print it as JSON')
+    form.add_argument('--csv', action='store_true', help='print the refused lines as CSV')
     parser.set_defaults(run=run)
 
 

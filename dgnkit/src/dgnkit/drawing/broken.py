@@ -29,7 +29,7 @@ def why_broken(drawing: Drawing, number: int) -> str:
 
 def why_orphan(drawing: Drawing, element: Element) -> str:
     """Why an orphan is one, in words."""
-    said = 'orphan: bit C says that it belongs to a header before it, and none takes it in'
+    said = 'orphan: marked as part of a group (bit C), but no group claims it'
     below = len(drawing.nesting.part(element.number)) - 1
     if element.type in classes.COUNTED and drawing.nesting.knot(element.number) == 'group':
         return '%s (its own total is right: %s)' % (said, counted(below, 'member'))
@@ -38,18 +38,16 @@ def why_orphan(drawing: Drawing, element: Element) -> str:
 
 def why_loose(reach: Reach) -> str:
     """Why a header is loose, with its total and what would fit."""
-    said = 'loose: its total %d asks for %d bytes, and ' % (reach.total, bytes_of(reach.total))
+    said = 'loose: its total of %d means %d bytes, but ' % (reach.total, bytes_of(reach.total))
     if reach.most == 0:
-        said += 'it alone has %d, with no element with bit C behind it' % reach.size(0)
+        said += 'it has %d, and no element after it is marked as a member' % reach.size(0)
     else:
-        said += 'it has %d with %s with bit C behind it' % (reach.size(reach.most), counted(reach.most, 'element'))
+        marked = counted(reach.most, 'element')
+        said += 'with the %s marked as members after it, it has %d' % (marked, reach.size(reach.most))
     fitting = reach.fitting_total()
     if fitting is not None:
-        return said + '; %d would fit, which counts its own %d bytes of attribute data too' % (
-            fitting,
-            2 * reach.own_words,
-        )
+        return said + '; %d would match, counting its own %d bytes of attribute data' % (fitting, 2 * reach.own_words)
     if reach.wrapped() is not None:
-        return said + '; its members have more than %d words, which no total can count' % TOTAL_MOST
+        return said + '; its members have more than %d words, the most that a total can count' % TOTAL_MOST
     near = ['%d (%s)' % (total, counted(members, 'member')) for total, members in reach.near_totals()]
-    return said + ('; %s would fit' % ' or '.join(near) if near else '')
+    return said + ('; %s would match' % ' or '.join(near) if near else '')

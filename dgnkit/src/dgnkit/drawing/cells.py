@@ -20,8 +20,8 @@ def names_said(drawing: Drawing) -> str:
     """What cells there are, in words."""
     names = sorted({it.cell_name or '(no name)' for it in cells_of(drawing)})
     if not names:
-        return 'there is no cell'
-    return 'there are ' + ', '.join(names[:20]) + (' and %d more' % (len(names) - 20) if len(names) > 20 else '')
+        return 'the drawing has no cells'
+    return 'the cells are ' + ', '.join(names[:20]) + (' and %d more' % (len(names) - 20) if len(names) > 20 else '')
 
 
 def cells_called(drawing: Drawing, name: str, takes_deleted: bool = False) -> List[Element]:

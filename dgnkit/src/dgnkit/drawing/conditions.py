@@ -50,7 +50,7 @@ class Conditions:
         """The numbers of the elements that meet all conditions, or with --trees of the roots of their trees, in file
         order."""
         met: Iterable[Element] = self._likely()
-        with stopped_after('the search of texts'):
+        with stopped_after('the text search'):
             for test in self.tests:
                 met = [it for it in met if test(it)]
             found = [it.number for it in met]
@@ -149,14 +149,14 @@ def ask_numbers(drawing: Drawing, numbers: Sequence[int], file: str) -> None:
     unknown = [it for it in numbers if it >= len(drawing.elements)]
     if unknown:
         last = len(drawing.elements) - 1
-        raise Mistake('%s: %s has elements 0 to %d, and none %s' % (file, drawing.path, last, few(unknown)))
+        raise Mistake('%s: %s has elements 0 to %d, but not %s' % (file, drawing.path, last, few(unknown)))
 
 
 def plain_tests(arguments: argparse.Namespace, scale: Scale) -> List[Test]:
     """The conditions that ask an element alone."""
     tests: List[Test] = []
     if arguments.number:
-        numbers = Spans.read('number of an element', arguments.number, ELEMENTS_MOST - 1)
+        numbers = Spans.read('element number', arguments.number, ELEMENTS_MOST - 1)
         tests.append(lambda it: it.number in numbers)
     if arguments.level:
         levels = Spans.read('level', arguments.level, LEVEL_MOST)
@@ -215,13 +215,13 @@ def form_of(pattern: str, ignores_case: bool) -> re.Pattern[str]:
     try:
         return re.compile(pattern, re.IGNORECASE if ignores_case else 0)
     except (re.error, OverflowError, RecursionError, ValueError) as why:
-        raise Mistake('%r is no regular expression: %s' % (pattern, why))
+        raise Mistake("%r isn't a regular expression: %s" % (pattern, why))
 
 
 def word_form(word: str, ignores_case: bool) -> re.Pattern[str]:
     """What finds a word, not in the midst of another one. It raises Mistake where there is none."""
     if not word:
-        raise Mistake('a word to look for has at least one sign')
+        raise Mistake("the word to look for can't be empty")
     front = r'(?<!\w)' if re.match(r'\w', word) else ''
     back = r'(?!\w)' if re.search(r'\w\Z', word) else ''
     return form_of(front + re.escape(word) + back, ignores_case)
@@ -232,7 +232,7 @@ def types_of(words: Sequence[str]) -> frozenset[int]:
     try:
         return frozenset(classes.kind_by_name(it) for it in ','.join(words).split(','))
     except ValueError as why:
-        raise Mistake('%s: there are numbers from 0 to %d, and %s' % (why, classes.MOST, TYPES_SAID))
+        raise Mistake('%s: give a number from 0 to %d, or one of %s' % (why, classes.MOST, TYPES_SAID))
 
 
 TYPES_SAID = ', '.join(classes.TYPE_NAMES[it] for it in sorted(classes.LOUD) if it in classes.TYPE_NAMES)
@@ -242,10 +242,10 @@ def nearness_of(drawing: Drawing, arguments: argparse.Namespace, scale: Scale) -
     """How far elements are from the place of --near, none without it. It raises Mistake where something is missing."""
     reach, count = arguments.within, arguments.nearest
     if arguments.near is None and (reach is not None or count is not None):
-        raise Mistake('--within and --nearest go with --near, the place')
+        raise Mistake('--within and --nearest need --near X,Y')
     if arguments.near is None:
         return None
     if reach is None and count is None:
-        raise Mistake('--near goes with --within, how near, or --nearest, how many')
+        raise Mistake('--near needs --within (how far) or --nearest (how many)')
     within: Optional[Fraction] = None if reach is None else scale.length(reach)
     return Nearness(drawing, scale.nearest(coordinates(arguments.near)), within)

@@ -71,7 +71,7 @@ class Drawing:
 
     def _ask_unchanged(self) -> None:
         if self._stamped() != self._stamp:
-            raise Mistake('%s was changed while it was read: run this again' % self.path)
+            raise Mistake('%s changed while it was being read: try again' % self.path)
 
     @cached_property
     def tcb(self) -> Tcb:
@@ -94,7 +94,7 @@ class Drawing:
     def elements(self) -> Elements:
         """All elements, each at its number."""
         made = self.program.elements(self.path, self.data, self.axes)
-        doing('%s is read, which has %d elements' % (self.path, len(made)))
+        doing('reading %s, which has %d elements' % (self.path, len(made)))
         self._ask_unchanged()
         return made
 
@@ -131,7 +131,7 @@ class Drawing:
         """It raises ListingError where a listing names an element that isn't there."""
         for number in numbers:
             if number >= len(self.elements):
-                raise ListingError('dgnedit names element %d of %s, which has none such' % (number, self.path))
+                raise ListingError("dgnedit named element %d of %s, which doesn't exist" % (number, self.path))
 
     @cached_property
     def nesting(self) -> Nesting:

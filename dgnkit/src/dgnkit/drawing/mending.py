@@ -95,7 +95,11 @@ class _Walk:
     def orphan(self, element: Element, is_root: bool) -> None:
         """Tells of an orphan that is no header over counted members."""
         if is_root and element.has_c:
-            self.made.left.append(Left(element, 'orphan: no header before it takes it in, and it is no header itself'))
+            self.made.left.append(
+                Left(
+                    element, 'orphan: marked as part of a group (bit C), but no group claims it, and it is not a header'
+                )
+            )
 
     def header(self, element: Element, end: int, is_root: bool) -> None:
         """Mends a counted header where it can, walks its members, and gives where they end."""
@@ -116,17 +120,17 @@ class _Walk:
         change = Change(element, {}, [], behind - element.number - 1)
         if total != element.total:
             change.edits.update({element.offset + 36: total & 0xFF, element.offset + 37: total >> 8})
-            said = 'its total %d becomes %d, with its own %d bytes of attribute data'
+            said = 'total %d becomes %d, counting its own %d bytes of attribute data'
             change.words.append(said % (element.total or 0, total, element.size - element.linkage_place))
         if is_orphan and not self.may_belong(element):
             self.loose = []
             change.edits[element.offset] = element.content[0] & 0x7F
-            change.words.append('bit C is cleared')
+            change.words.append('member mark (bit C) cleared')
         if change.edits and element.is_locked:
-            said = 'it is locked, and so it stays as it is, with %s: unlock it first'
+            said = 'locked, so it is left as it is, with %s: unlock it first'
             self.made.left.append(Left(element, said % counted(change.members, 'member')))
         elif change.edits:
-            change.words.append('it has ' + counted(change.members, 'member'))
+            change.words.append('now with ' + counted(change.members, 'member'))
             self.made.changes.append(change)
 
     def may_belong(self, element: Element) -> bool:
@@ -134,7 +138,7 @@ class _Walk:
         surface or solid that doesn't lie in that header's range is none; GDAL sets bit C of each such at the root."""
         if not self.loose or (element.type in classes.COMPLEX and not any(holds(it, element) for it in self.loose)):
             return False
-        said = 'orphan, though its members fit: it may be a member of the loose header %d before it'
+        said = 'orphan whose own members match, but it may belong to the loose header %d before it'
         self.made.left.append(Left(element, said % self.loose[-1].number))
         return True
 

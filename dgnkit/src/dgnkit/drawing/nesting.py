@@ -117,7 +117,7 @@ def _trees(ask: Callable[[Script], List[Answer]], elements: Elements, numbers: S
     for number, answer in zip(numbers, ask(script)):
         tree = nodes_of(answer.lines)
         if [it.number for it in tree] != list(range(number, number + len(tree))) or not tree:
-            raise ListingError('dgnedit listed another tree of element %d than it can have' % number)
+            raise ListingError("dgnedit listed a tree for element %d that it can't have" % number)
         if tree[-1].number >= len(elements):
-            raise ListingError('dgnedit listed element %d, which is not there' % tree[-1].number)
+            raise ListingError("dgnedit listed element %d, which doesn't exist" % tree[-1].number)
         yield tree

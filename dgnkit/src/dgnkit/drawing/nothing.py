@@ -18,15 +18,15 @@ def nothing_said(conditions: Conditions) -> str:
     """Which conditions nothing meets, and what levels, types or cells there are where these were asked for."""
     arguments, elements = conditions.arguments, conditions.drawing.elements
     asked = [name for name in NAMES if getattr(arguments, name) not in (None, False)]
-    said = ['nothing meets ' + (' '.join(asked_said(name, getattr(arguments, name)) for name in asked) or 'that')]
+    said = ['nothing matches ' + (' '.join(asked_said(name, getattr(arguments, name)) for name in asked) or 'that')]
     if arguments.level:
-        said.append('there are elements on the levels %s' % few(sorted(set(elements.levels)), 20))
+        said.append('there are elements on levels %s' % few(sorted(set(elements.levels)), 20))
     if arguments.type:
-        said.append('there are the types %s' % listed([type_name(it) for it in sorted(set(elements.types))]))
+        said.append('the types are %s' % listed([type_name(it) for it in sorted(set(elements.types))]))
     if arguments.cell is not None:
         said.append(names_said(conditions.drawing))
     if (arguments.text is not None or arguments.pattern is not None) and classes.TEXT not in elements.types:
-        said.append('there is no text')
+        said.append('there are no texts')
     return '; '.join(said)
 
 

@@ -12,35 +12,35 @@ NAMES = (
 
 def add_conditions(parser: argparse.ArgumentParser, has_numbers: bool = True) -> None:
     """Adds the conditions to a parser; --numbers may be one of the command's own."""
-    group = parser.add_argument_group('conditions', 'All that are given have to hold.')
-    group.add_argument('--number', metavar='R', action='append', help='with these numbers, as 12 or 3-5,9')
+    group = parser.add_argument_group('conditions', 'An element has to meet all that are given.')
+    group.add_argument('--number', metavar='R', action='append', help='with these numbers, such as 12 or 3-5,9')
     if has_numbers:
-        group.add_argument('--numbers', metavar='FILE', dest='numbers_file', help='with the numbers in this file')
-    group.add_argument('--field', metavar='NAME', default='number', help='the field of that file that has them')
-    group.add_argument('--level', metavar='R', action='append', help="on these levels, as 12, 3-5,9 or '>20'")
-    group.add_argument('--type', metavar='T', action='append', help='of these types, by number or name, as 3,text')
+        group.add_argument(
+            '--numbers', metavar='FILE', dest='numbers_file', help='with the numbers listed in this file'
+        )
+    group.add_argument('--field', metavar='NAME', default='number', help='the field of that file with the numbers')
+    group.add_argument('--level', metavar='R', action='append', help="on these levels, such as 12, 3-5,9 or '>20'")
+    group.add_argument('--type', metavar='T', action='append', help='of these types, by number or name, such as 3,text')
     group.add_argument('--color', '--colour', metavar='R', action='append', help='of these colours')
-    group.add_argument('--weight', metavar='R', action='append', help="of these weights, as '>3'")
+    group.add_argument('--weight', metavar='R', action='append', help="of these weights, such as '>3'")
     group.add_argument('--style', metavar='R', action='append', help='of these styles')
-    group.add_argument('--size', metavar='H', action='append', help="texts of this height, as 2.5 or '>2.5'")
-    group.add_argument('--text', metavar='WORD', help='texts that hold this word, not in the midst of another one')
-    group.add_argument('--pattern', metavar='REGEX', help='texts that hold what this regular expression finds')
-    group.add_argument('--cell', metavar='NAME', help='cells of this name, in which * and ? stand for other signs')
-    group.add_argument(
-        '--ignore-case', action='store_true', help='--text and --pattern take small letters for capitals'
-    )
-    group.add_argument('--deleted', action='store_true', help='marked deleted; else such elements are left out')
+    group.add_argument('--size', metavar='H', action='append', help="texts of this height, such as 2.5 or '>2.5'")
+    group.add_argument('--text', metavar='WORD', help='texts that contain this, as a whole word')
+    group.add_argument('--pattern', metavar='REGEX', help='texts that this regular expression matches')
+    group.add_argument('--cell', metavar='NAME', help='cells with this name, in which * and ? are wildcards')
+    group.add_argument('--ignore-case', action='store_true', help='--text and --pattern ignore upper and lower case')
+    group.add_argument('--deleted', action='store_true', help='marked deleted; otherwise such elements are left out')
     group.add_argument('--locked', action='store_true', help='locked')
-    group.add_argument('--broken', action='store_true', help='in a tree that is broken')
-    group.add_argument('--wrong-range', action='store_true', help='whose stored range is not what they hold')
+    group.add_argument('--broken', action='store_true', help='in a broken tree')
+    group.add_argument('--wrong-range', action='store_true', help='whose stored range is wrong')
     add_places(group)
 
 
 def add_places(group: argparse._ArgumentGroup) -> None:
     """Adds the conditions on places."""
-    group.add_argument('--near', metavar='X,Y', help='near this place')
-    group.add_argument('--within', metavar='D', help='how near: at most this distance')
-    group.add_argument('--nearest', metavar='N', help='the N that are nearest to the place')
+    group.add_argument('--near', metavar='X,Y', help='near this position')
+    group.add_argument('--within', metavar='D', help='at most this far away')
+    group.add_argument('--nearest', metavar='N', help='the N that are nearest to it')
     boxes = [
         (['--inside'], 'in trees that lie inside the box with these corners'),
         (['--overlap'], 'in trees with something inside the box or on its edge'),
@@ -51,9 +51,11 @@ def add_places(group: argparse._ArgumentGroup) -> None:
         group.add_argument(*names, metavar='X,Y', nargs=2, help=text)
     which = group.add_mutually_exclusive_group()
     which.add_argument('--trees', action='store_true', help='take the whole tree of each')
-    which.add_argument('--members', action='store_true', help='take each by itself, also a member without its header')
+    which.add_argument(
+        '--members', action='store_true', help='take only the elements themselves, also members without their header'
+    )
     units = ('auto', 'master', 'resolution')
-    group.add_argument('--units', choices=units, default='auto', help='of places, distances and sizes')
+    group.add_argument('--units', choices=units, default='auto', help='the units of positions, distances and sizes')
 
 
 def has_conditions(arguments: argparse.Namespace) -> bool:

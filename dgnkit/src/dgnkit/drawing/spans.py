@@ -44,14 +44,14 @@ def span_of(piece: str, what: str, most: int) -> Tuple[int, int]:
         low, high = int(found[1]), int(found[2] or found[1])
     if (compared and int(compared[2]) <= most) or low <= high <= most:
         return low, high
-    said = '%r is no %s: it is a number from 0 to %d, or two with a dash, or a comparison as >3'
+    said = "%r isn't a valid %s: give a number from 0 to %d, two with a dash, or a comparison such as >3"
     raise Mistake(said % (piece, what, most))
 
 
 def number_of(word: str, what: str, most: int) -> int:
     """One number. It raises Mistake where it is none."""
     if not (word.isascii() and word.isdecimal() and len(word) <= 12 and int(word) <= most):
-        raise Mistake('%r is no %s: it is a number from 0 to %d' % (word, what, most))
+        raise Mistake("%r isn't a valid %s: give a number from 0 to %d" % (word, what, most))
     return int(word)
 
 
@@ -61,6 +61,6 @@ def sizes_of(words: Sequence[str]) -> List[Tuple[str, str]]:
     for word in words:
         found = SIZE.fullmatch(word.strip())
         if not found:
-            raise Mistake('%r is no size: it is a number as 2.5, or a comparison as >2.5' % word)
+            raise Mistake("%r isn't a size: give a number such as 2.5, or a comparison such as >2.5" % word)
         made.append((found[1] or '', found[2]))
     return made

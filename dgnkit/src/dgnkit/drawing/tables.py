@@ -51,7 +51,7 @@ def text_of(file: str) -> str:
     try:
         return read_file(file).decode('utf-8-sig')
     except UnicodeDecodeError as why:
-        raise Mistake('%s is not in UTF-8 (byte %d): save it as that' % (file, why.start))
+        raise Mistake("%s isn't UTF-8 (byte %d): save it as UTF-8" % (file, why.start))
 
 
 def rows_of(file: str, text: Optional[str] = None) -> List[Row]:
@@ -69,11 +69,11 @@ def rows_of(file: str, text: Optional[str] = None) -> List[Row]:
     except csv.Error as why:
         raise Mistake('%s, row %d: %s' % (file, reader.line_num, why))
     if not made:
-        raise Mistake('%s has no row' % file)
+        raise Mistake('%s has no rows' % file)
     for row in made:
         if row.width > len(made[0].fields):
-            said = 'it has %d fields, and the first row has %d%s'
-            more = '; numbers with a decimal comma want semicolons between the fields' if sign == ',' else ''
+            said = 'it has %d fields, but the first row has %d%s'
+            more = '; if numbers have decimal commas, separate the fields with semicolons' if sign == ',' else ''
             raise row.mistake(said % (row.width, len(made[0].fields), more))
     return made
 
@@ -107,7 +107,7 @@ def _numbers_of_rows(file: str, text: str, field: str) -> Iterable[int]:
     if is_head(rows[0]):
         named = columns_of(rows[0], [field.lower()])[0]
         if named is None:
-            raise rows[0].mistake('no column is called %r: there are %s' % (field, ', '.join(rows[0].fields)))
+            raise rows[0].mistake('there is no column %r: the columns are %s' % (field, ', '.join(rows[0].fields)))
         column, rows = named, rows[1:]
     return [_number_of(row.field(column), row) for row in rows]
 
@@ -115,12 +115,12 @@ def _numbers_of_rows(file: str, text: str, field: str) -> Iterable[int]:
 def _number_of(word: str, row: Row) -> int:
     found = NUMBER.fullmatch(word)
     if not found:
-        raise row.mistake('%r is no number of an element' % word)
+        raise row.mistake("%r isn't an element number" % word)
     return int(found[1])
 
 
 def _no_number(word: str) -> NoReturn:
-    raise ValueError('%s is no number' % word)
+    raise ValueError("%s isn't a number" % word)
 
 
 def _numbers_of_features(file: str, text: str, field: str) -> Iterable[int]:
@@ -128,10 +128,10 @@ def _numbers_of_features(file: str, text: str, field: str) -> Iterable[int]:
         features = json.loads(text, parse_constant=_no_number)['features']
         properties: List[Dict[str, Any]] = [dict(it['properties'] or {}) for it in features]
     except (ValueError, KeyError, TypeError, RecursionError) as why:
-        raise Mistake('%s is no GeoJSON of features: %s' % (file, why))
+        raise Mistake("%s isn't a GeoJSON feature collection: %s" % (file, why))
     for index, it in enumerate(properties, 1):
         value = it.get(field)
         is_whole = isinstance(value, int) or (isinstance(value, float) and value.is_integer())
         if isinstance(value, bool) or not is_whole or not 0 <= (value or 0) < 1e12:
-            raise Mistake('%s, feature %d: its field %r is no number of an element: %r' % (file, index, field, value))
+            raise Mistake("%s, feature %d: its field %r isn't an element number: %r" % (file, index, field, value))
         yield int(value or 0)

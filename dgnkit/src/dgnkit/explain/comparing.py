@@ -106,7 +106,7 @@ class _Comparison:
             if old.level != new.level:
                 self.made.add('level', [old.level, new.level], 'level %d to %d' % (old.level, new.level))
             if old.has_c != new.has_c:
-                self.made.add('bit_c', new.has_c, 'bit C %s' % ('set' if new.has_c else 'cleared'))
+                self.made.add('bit_c', new.has_c, 'member mark (bit C) %s' % ('set' if new.has_c else 'cleared'))
         if 33 in self.places and not old.is_silent and (self.old.content[33] ^ self.new.content[33]) == 1:
             self.places.discard(33)
             self.made.add('locked', new.is_locked, 'locked' if new.is_locked else 'unlocked')
@@ -155,7 +155,7 @@ class _Comparison:
         self.take(start, end)
         if ranges == shift:
             self.take_range()
-        self.made.add('moved', self.shift_facts(shift), 'moved by ' + self.units.shift_said(shift))
+        self.made.add('moved', self.shift_facts(shift), 'moved ' + self.units.shift_said(shift))
 
     def shift_facts(self, shift: Point) -> Dict[str, Any]:
         """A displacement in all units that are known."""
@@ -179,7 +179,7 @@ class _Comparison:
         (low, high), (new_low, new_high) = corners(self.old), corners(self.new)
         is_wider = all(a >= b for a, b in zip(low, new_low)) and all(a <= b for a, b in zip(high, new_high))
         name = 'widened' if is_wider else 'range'
-        words = 'range widened' if is_wider else 'range set'
+        words = 'range widened' if is_wider else 'range changed'
         facts = {'from': [low, high], 'to': [new_low, new_high]}
         self.made.add(name, facts, '%s from %s to %s' % (words, box_said(low, high), box_said(new_low, new_high)))
 
@@ -193,7 +193,7 @@ class _Comparison:
         facts = [{'point': it + 1, 'from': olds[it], 'to': news[it]} for it in changed]
         first = changed[0]
         words = 'point %d from %s to %s' % (first + 1, point_said(olds[first]), point_said(news[first]))
-        words += ' and %s more' % counted(len(changed) - 1, 'point') if len(changed) > 1 else ''
+        words += ' and %s' % counted(len(changed) - 1, 'more point', 'more points') if len(changed) > 1 else ''
         self.made.add('points', facts, words)
 
     def total(self) -> None:

@@ -20,6 +20,7 @@ from ..errors import (
     ReadFault,
     TooLong,
     WriteFault,
+    fault_said,
 )
 from ..files import front_of, read_drawing, read_file
 from ..format.element import described
@@ -33,12 +34,6 @@ from ..program.grammar import fault_of, kinds_of
 from ..program.runs import Program
 from ..program.script import Script
 
-FAULTS = {
-    'not-design': 'it does not begin as a design file does',
-    'cut': 'the file ends within this element: it was cut, or bytes of it are damaged',
-    'short': 'this element has fewer bytes than its type and its counts ask for: bytes of it are damaged',
-    'attributes': 'the attribute data of this element do not begin within it: bytes of it are damaged',
-}
 LIMITS = {
     'design': DRAWING_LONGEST,
     'import': DRAWING_LONGEST,
@@ -51,7 +46,7 @@ DECIMAL_POINT = re.compile(r'-?\d{1,12}(\.\d{1,12})?', re.ASCII)
 def why_ended(program: Program, ending: Ending, drawing: str, script: str, out: str) -> str:
     """Why an `edit` or an `apply` ended as it did; `script` is the script or the patch file."""
     if isinstance(ending, BadUsage):
-        return 'dgnedit does not take these arguments: %s %s %s' % (drawing, script, out)
+        return "dgnedit doesn't accept these arguments: %s %s %s" % (drawing, script, out)
     if isinstance(ending, BadScript):
         return why_bad_line(drawing, script, ending.line)
     if isinstance(ending, BadDesign):
@@ -63,14 +58,12 @@ def why_ended(program: Program, ending: Ending, drawing: str, script: str, out: 
     if isinstance(ending, TooLong):
         return why_too_long(ending.what, drawing, script)
     if isinstance(ending, BadPatch):
-        return '%s is no patch file, or is damaged: the first piece that is wrong begins at byte %d of it' % (
-            script,
-            ending.offset,
-        )
+        said = "%s isn't a patch file, or is damaged: the first bad piece begins at byte %d"
+        return said % (script, ending.offset)
     if isinstance(ending, PatchRefused):
         return why_refused(program, drawing, script, ending.entry)
     if isinstance(ending, OutOfMemory):
-        return 'there was no memory for it'
+        return 'there was not enough memory for it'
     return str(ending)
 
 
@@ -78,14 +71,14 @@ def why_bad_line(drawing: str, script: str, number: int) -> str:
     """What makes the first bad line of a script bad."""
     lines = Script.read(script).lines
     if number > len(lines):
-        return 'line %d of %s was bad, and the script is another one now: run this again' % (number, script)
+        return 'line %d of %s was bad, but the script has changed since: try again' % (number, script)
     line = lines[number - 1]
     said = line.decode('latin-1')
     return 'line %d of %s is bad, so nothing has run: %r: %s' % (
         number,
         script,
         said,
-        (fault_of(line) or 'it is no command') + in_units(drawing, line),
+        (fault_of(line) or "it isn't a command") + in_units(drawing, line),
     )
 
 
@@ -128,8 +121,7 @@ def why_bad_design(drawing: str, ending: BadDesign) -> str:
         kind = 'design'
     if kind != 'design':
         return '%s is %s' % (drawing, KIND_SAID[kind])
-    said = '%s does not open, with the fault %r at byte %d: %s'
-    return said % (drawing, ending.fault, ending.offset, FAULTS[ending.fault])
+    return "%s doesn't open: %s" % (drawing, fault_said(ending.fault, ending.offset))
 
 
 def imports_of(script: str) -> List[str]:
@@ -148,22 +140,22 @@ def why_not_read(names: Sequence[str]) -> str:
             with open(name, 'rb') as file:
                 file.read(1)
         except OSError as why:
-            return '%s can not be read: %s' % (name, (why.strerror or str(why)).lower())
-    return 'reading failed, though all of %s can be read now' % ', '.join(names)
+            return "%s can't be read: %s" % (name, (why.strerror or str(why)).lower())
+    return 'reading failed, but %s can be read now' % ', '.join(names)
 
 
 def why_not_written(out: str) -> str:
     """Why a file could not be written."""
     folder = os.path.dirname(os.path.abspath(out))
     if not os.path.isdir(folder):
-        return '%s can not be written: there is no folder %s' % (out, folder)
+        return "%s can't be written: there is no folder %s" % (out, folder)
     if os.path.isdir(out):
-        return '%s can not be written: it is a folder' % out
+        return "%s can't be written: it is a folder" % out
     if os.path.exists(out) and not os.access(out, os.W_OK):
-        return '%s can not be written: it may not be written to' % out
+        return "%s can't be written: no permission to write to it" % out
     if not os.path.exists(out) and not os.access(folder, os.W_OK):
-        return '%s can not be written: the folder may not be written to' % out
-    return '%s could not be written whole, as on a full disk: look at what stands there' % out
+        return "%s can't be written: no permission to write to its folder" % out
+    return "%s couldn't be written completely, perhaps because the disk is full: check what is there" % out
 
 
 def why_too_long(what: str, drawing: str, script: str) -> str:
@@ -171,7 +163,7 @@ def why_too_long(what: str, drawing: str, script: str) -> str:
     names = {'design': [drawing], 'import': imports_of(script)}.get(what, [script])
     for name in names:
         if os.path.exists(name) and os.path.getsize(name) > LIMITS[what]:
-            return '%s has %d bytes, and at most %d are read' % (name, os.path.getsize(name), LIMITS[what])
+            return '%s has %d bytes, and the limit is %d' % (name, os.path.getsize(name), LIMITS[what])
     return 'the drawing would have more than %d bytes' % LIMITS[what]
 
 
@@ -182,18 +174,18 @@ def why_refused(program: Program, name: str, patch_name: str, number: int) -> st
     for entry in patch.entries[: number - 1]:
         put_on(body, entry)
     if number > len(patch.entries):
-        return 'entry %d of %s was refused, and the patch file is another one now: run this again' % (
+        return 'entry %d of %s was refused, but the patch file has changed since: try again' % (
             number,
             patch_name,
         )
     entry = patch.entries[number - 1]
-    front = 'entry %d of %d does not stand on %s, and nothing was written: ' % (number, len(patch.entries), name)
+    front = "entry %d of %d doesn't match %s, so nothing was written: " % (number, len(patch.entries), name)
     if entry.length != len(body):
         return front + why_length(entry, len(body))
     for field in entry.fields:
         if body[field.place : field.place + len(field.old)] != field.old:
             return front + why_bytes(drawing, body, field)
-    return front + 'the program says so'
+    return front + 'so dgnedit says'
 
 
 def put_on(body: bytearray, entry: Entry) -> None:
@@ -206,16 +198,16 @@ def put_on(body: bytearray, entry: Entry) -> None:
 def why_length(entry: Entry, length: int) -> str:
     """Why an entry does not stand on a body of another length."""
     said = 'it was made for a drawing whose elements have %d bytes, and here they have %d, %d %s. '
-    said += 'It is another drawing, or elements were appended'
+    said += 'This is another drawing, or elements were added to it'
     return said % (entry.length, length, abs(length - entry.length), 'more' if length > entry.length else 'fewer')
 
 
 def why_bytes(drawing: Drawing, body: bytearray, field: Field) -> str:
     """Why an entry does not stand where a field has other bytes."""
     there = bytes(body[field.place : field.place + len(field.old)])
-    said = 'at byte %d it wants %s, and there stands %s' % (field.place, field.old.hex(' '), there.hex(' '))
+    said = 'at byte %d it expects %s, but finds %s' % (field.place, field.old.hex(' '), there.hex(' '))
     for element in drawing.elements:
         if element.offset <= field.place < element.offset + element.size:
             place = field.place - element.offset
             said += ', which is byte %d of %s (%s)' % (place, described(element), field_name(element, place))
-    return said + '. That was changed since the patch file was made, or was put on already'
+    return said + '. This has changed since the patch file was made, or the patch file has already been applied'

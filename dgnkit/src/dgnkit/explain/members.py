@@ -20,7 +20,7 @@ def by_root(drawing: Drawing, numbers: Sequence[int]) -> Dict[int, List[int]]:
 
 
 def parts_said(drawing: Drawing, numbers: Sequence[int], most: int) -> List[str]:
-    """What members there are among elements, a line for each tree: `28 and 29 are parts of complex chain 27`."""
+    """What members there are among elements, a line for each tree: `28 and 29 are members of complex chain 27`."""
     found = by_root(drawing, numbers)
     said = [part_said(drawing, root, found[root]) for root in list(found)[:most]]
     more = list(found)[most:]
@@ -32,4 +32,8 @@ def parts_said(drawing: Drawing, numbers: Sequence[int], most: int) -> List[str]
 def part_said(drawing: Drawing, root: int, numbers: Sequence[int]) -> str:
     """Members of one tree."""
     names = listed(numbers) if len(numbers) <= 8 else few(numbers)
-    return '%s %s of %s' % (names, 'is a part' if len(numbers) == 1 else 'are parts', described(drawing.elements[root]))
+    return '%s %s of %s' % (
+        names,
+        'is a member' if len(numbers) == 1 else 'are members',
+        described(drawing.elements[root]),
+    )

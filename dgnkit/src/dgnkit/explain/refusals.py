@@ -9,7 +9,7 @@ from typing import Callable, Dict, Optional, Sequence, Set
 from ..drawing.broken import why_broken
 from ..drawing.drawing import Drawing
 from ..drawing.mending import mending_of
-from ..errors import BadDesign, Mistake
+from ..errors import BadDesign, Mistake, fault_said
 from ..format.element import described
 from ..format.limits import CORNERS_LEAST, CORNERS_MOST, DRAWING_LONGEST, PLANE_HIGH, PLANE_LOW
 from ..format.tcb import KIND_SAID, kind_of
@@ -41,7 +41,7 @@ class Explainer:
         word, _, rest = refusal.cause.partition(' ')
         explain = EXPLAIN.get(word)
         if explain is None:
-            return 'the program says %r' % refusal.cause
+            return 'dgnedit says %r' % refusal.cause
         return explain(self, refusal, rest)
 
     def named(self, rest: str) -> str:
@@ -56,26 +56,24 @@ class Explainer:
         words = refusal.command.words
         if len(words) < 2 or words[1] == rest or not words[1].isdigit():
             return ''
-        return ', which goes along with element %s or stands above it,' % words[1]
+        return ', which is in the same tree as element %s,' % words[1]
 
     def unknown(self, refusal: Refusal, rest: str) -> str:
         last = len(self.drawing.elements) - 1
-        return 'there is no element %s: the drawing has 0 to %d, and what the script appends comes behind' % (
-            rest,
-            last,
-        )
+        said = 'there is no element %s: the drawing has 0 to %d, and what the script appends is numbered after that'
+        return said % (rest, last)
 
     def broken(self, refusal: Refusal, rest: str) -> str:
         number = int(rest)
         if number >= len(self.drawing.elements):
-            return 'the tree holds %s and is broken' % self.named(rest)
+            return 'its tree contains %s and is broken' % self.named(rest)
         why = why_broken(self.drawing, number)
         return 'its tree is broken at %s (%s). %s' % (self.named(rest), why, self.advice_on_broken(number))
 
     def advice_on_broken(self, number: int) -> str:
         if number in self.mended:
             return '`dgnkit mend` writes a patch file that mends it'
-        return '`dgnkit mend` can not mend it: it says why'
+        return "`dgnkit mend` can't mend it, and says why"
 
     @cached_property
     def mended(self) -> Set[int]:
@@ -89,10 +87,8 @@ class Explainer:
         number = int(rest)
         known = number < len(self.drawing.elements)
         if known and self.drawing.elements[number].is_deleted:
-            return '%s%s is marked deleted in the drawing: no edit takes that back' % (
-                self.named(rest),
-                self.whose(refusal, rest),
-            )
+            said = '%s%s is marked deleted in the drawing, which no script can undo (`dgnkit undelete` can)'
+            return said % (self.named(rest), self.whose(refusal, rest))
         line = self.deleting_line(refusal, number)
         said = 'line %d' % line if line else 'an earlier line'
         return '%s%s was marked deleted by %s of the script' % (self.named(rest), self.whose(refusal, rest), said)
@@ -112,68 +108,55 @@ class Explainer:
         return '%s%s is locked. %s' % (self.named(rest), self.whose(refusal, rest), advice)
 
     def dimension(self, refusal: Refusal, rest: str) -> str:
-        return 'the drawing has %d axes, and the command is given for %d' % (self.drawing.axes, 5 - self.drawing.axes)
+        return 'the drawing has %d dimensions, but the command is for %d' % (self.drawing.axes, 5 - self.drawing.axes)
 
     def floating(self, refusal: Refusal, rest: str) -> str:
-        return '%s%s has floating numbers for coordinates, which are not read, so it can not be moved' % (
-            self.named(rest),
-            self.whose(refusal, rest),
-        )
+        said = "%s%s can't be moved or copied: its coordinates are floating-point numbers, which dgnedit doesn't read"
+        return said % (self.named(rest), self.whose(refusal, rest))
 
     def opaque(self, refusal: Refusal, rest: str) -> str:
-        return '%s%s is of a type of which not all is read that the command would write' % (
-            self.named(rest),
-            self.whose(refusal, rest),
-        )
+        return "%s%s is of a type that this command can't edit" % (self.named(rest), self.whose(refusal, rest))
 
     def off_plane(self, refusal: Refusal, rest: str) -> str:
-        return '%s%s would leave %s: a smaller displacement stays on it' % (
-            self.named(rest),
-            self.whose(refusal, rest),
-            PLANE_SAID,
-        )
+        return '%s%s would leave %s: move it less far' % (self.named(rest), self.whose(refusal, rest), PLANE_SAID)
 
     def too_long(self, refusal: Refusal, rest: str) -> str:
-        return 'the drawing would have more than %d bytes, and no such is read' % DRAWING_LONGEST
+        return 'the drawing would have more than %d bytes, which is the limit' % DRAWING_LONGEST
 
     def nothing(self, refusal: Refusal, rest: str) -> str:
-        return 'no accepted edit before it is left to be taken back'
+        return 'there is no accepted edit left to undo'
 
     def no_fence(self, refusal: Refusal, rest: str) -> str:
-        return 'no fence is set: a line `fence x,y ..` before it sets one'
+        return 'no fence is set: set one before, with a line such as `fence 0,0 100,0 100,100`'
 
     def few(self, refusal: Refusal, rest: str) -> str:
-        return 'a fence has at least %d corners, and here are %d' % (
-            CORNERS_LEAST,
-            len(refusal.command.text.split()) - 1,
-        )
+        corners = len(refusal.command.text.split()) - 1
+        return 'a fence needs at least %d corners, and this one has %d' % (CORNERS_LEAST, corners)
 
     def many(self, refusal: Refusal, rest: str) -> str:
-        return 'a fence has at most %d corners, and here are %d' % (CORNERS_MOST, len(refusal.command.text.split()) - 1)
+        corners = len(refusal.command.text.split()) - 1
+        return 'a fence has at most %d corners, and this one has %d' % (CORNERS_MOST, corners)
 
     def import_(self, refusal: Refusal, rest: str) -> str:
         name = refusal.command.text.split()[1]
         word, _, number = rest.partition(' ')
         if word in ('not-design', 'cut', 'short', 'attributes'):
-            return '%s does not open: %s %s' % (name, word, import_fault(name, number))
+            return "%s doesn't open: %s" % (name, import_fault(name, word, int(number.split()[-1])))
         if word == 'dimension':
-            return '%s, or the displacement, has other axes than the drawing, which has %d' % (name, self.drawing.axes)
-        return 'of %s the element %s can not be moved (%s). %s' % (
-            name,
-            imported(self.drawing, name, number),
-            word,
-            'Without a displacement it would be taken as it is',
-        )
+            said = '%s or the displacement has another number of dimensions than the drawing, which has %d'
+            return said % (name, self.drawing.axes)
+        said = "%s of %s can't be moved (%s). Without a displacement it would be imported as it is"
+        return said % (imported(self.drawing, name, number), name, word)
 
 
-def import_fault(name: str, rest: str) -> str:
-    """The place of a fault of an imported file, and what it is where it is no design file at all."""
+def import_fault(name: str, fault: str, offset: int) -> str:
+    """What keeps an imported file from opening, and what it is where it is no design file at all."""
     try:
         with open(name, 'rb') as file:
             kind = kind_of(file.read(4))
     except OSError:
-        return rest
-    return rest if kind == 'design' else '%s (it is %s)' % (rest, KIND_SAID[kind])
+        kind = 'design'
+    return fault_said(fault, offset) if kind == 'design' else 'it is ' + KIND_SAID[kind]
 
 
 def imported(drawing: Drawing, name: str, number: str) -> str:
@@ -181,7 +164,7 @@ def imported(drawing: Drawing, name: str, number: str) -> str:
     try:
         return described(Drawing(name, drawing.program).elements[int(number)])
     except (Mistake, BadDesign, IndexError, ValueError):
-        return number
+        return 'element ' + number
 
 
 EXPLAIN: Dict[str, Callable[[Explainer, Refusal, str], str]] = {

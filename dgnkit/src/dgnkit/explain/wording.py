@@ -26,15 +26,15 @@ def command_said(drawing: Drawing, text: str) -> str:
 def part_said(drawing: Drawing, number: int) -> str:
     """An element in words, with how many stand below it."""
     below = len(drawing.nesting.part(number)) - 1
-    return described(drawing.elements[number]) + (' with %s below it' % counted(below, 'element') if below else '')
+    return described(drawing.elements[number]) + (' with %s' % counted(below, 'member') if below else '')
 
 
 def _moved(drawing: Drawing, words: Words) -> str:
-    return 'moved by ' + drawing.units.shift_said([int(it) for it in words])
+    return 'moved ' + drawing.units.shift_said([int(it) for it in words])
 
 
 def _copied(drawing: Drawing, words: Words) -> str:
-    return 'copied, and the copy moved by ' + drawing.units.shift_said([int(it) for it in words])
+    return 'copied, with the copy moved ' + drawing.units.shift_said([int(it) for it in words])
 
 
 def _coloured(drawing: Drawing, words: Words) -> str:
@@ -52,7 +52,7 @@ def _deleted(drawing: Drawing, words: Words) -> str:
 
 
 def _fitted(drawing: Drawing, words: Words) -> str:
-    return 'the ranges of its tree are set to what it holds'
+    return 'the ranges in its tree are corrected'
 
 
 SAID: Dict[str, Callable[[Drawing, Words], str]] = {

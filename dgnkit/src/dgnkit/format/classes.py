@@ -85,4 +85,4 @@ def kind_by_name(word: str) -> int:
     for kind, there in TYPE_NAMES.items():
         if there.lower() == name:
             return kind
-    raise ValueError('no type is called %r' % word)
+    raise ValueError('there is no type %r' % word)

@@ -24,7 +24,7 @@ HEAD = [
 def field_name(element: Element, place: int) -> str:
     """The field that the byte `place` of an element belongs to."""
     if element.is_silent and place >= 4:
-        return 'what is not read'
+        return 'unread data'
     for start, end, name in HEAD:
         if start <= place < end:
             return name

@@ -123,4 +123,4 @@ class _Reader:
 
 def _bad(offset: int) -> BadPatch:
     said = ['bad patch at %d' % offset]
-    return BadPatch('the patch file is none: its first bad piece begins at byte %d' % offset, 10, said, offset)
+    return BadPatch("it isn't a patch file: the first bad piece begins at byte %d" % offset, 10, said, offset)

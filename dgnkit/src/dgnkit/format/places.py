@@ -18,7 +18,7 @@ DECIMAL = re.compile(r'[-+]?(\d{1,40}([.,]\d{0,40})?|[.,]\d{1,40})', re.ASCII)
 def decimal_of(word: str) -> Fraction:
     """A decimal number, exactly; its point may be a comma. It raises Mistake where it is none."""
     if not DECIMAL.fullmatch(word.strip()):
-        raise Mistake('%r is no number' % word)
+        raise Mistake("%r isn't a number" % word)
     return Fraction(word.strip().replace(',', '.'))
 
 
@@ -29,7 +29,7 @@ class Scale:
         """`wished` is master, resolution, or auto for master where they are known. It raises Mistake where they aren't
         and are wished."""
         if wished == 'master' and not units.is_known:
-            raise Mistake('the drawing does not say what a master unit is: places are units of resolution')
+            raise Mistake("the drawing doesn't say what a master unit is: use units of resolution")
         self.units = units
         self.is_master = units.is_known if wished == 'auto' else wished == 'master'
 
@@ -49,7 +49,7 @@ class Scale:
         """A place, to the nearest unit of resolution. It raises Mistake where it isn't on the design plane."""
         point = tuple(rounded(it) for it in self.exact(words))
         if not all(map(is_on_plane, point)):
-            raise Mistake('%s is not on the design plane' % ','.join(words))
+            raise Mistake("%s isn't on the design plane" % ','.join(words))
         return point
 
     def coordinate(self, word: str, axis: int) -> int:
@@ -68,14 +68,14 @@ class Scale:
         """A length in units of resolution, which may have a fraction."""
         value = self.signed_length(word)
         if value < 0:
-            raise Mistake('%r is no distance' % word)
+            raise Mistake("%r isn't a distance" % word)
         return value
 
     def multiplier(self, word: str) -> int:
         """The multiplier of a text that is so high. It raises Mistake where a text can't be so high."""
         value = rounded(self.length(word) / TEXT_UNIT)
         if not 0 < value <= MULTIPLIER_MOST:
-            raise Mistake('a text can not be %s %s high' % (word, self.name))
+            raise Mistake("a text can't be %s %s high" % (word, self.name))
         return value
 
     def place_said(self, point: Point, with_name: bool = True) -> str:
@@ -92,7 +92,7 @@ def coordinates(word: str) -> List[str]:
     """The coordinates of a place `x,y`. It raises Mistake where it is none."""
     words = word.split(',')
     if len(words) == 4:
-        raise Mistake('%r is no place: it is written x,y, with decimal points and no decimal commas' % word)
+        raise Mistake("%r isn't a position: write x,y with decimal points, not decimal commas" % word)
     if len(words) != 2:
-        raise Mistake('%r is no place: it is written x,y' % word)
+        raise Mistake("%r isn't a position: write x,y" % word)
     return words

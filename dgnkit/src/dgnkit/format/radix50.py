@@ -25,7 +25,7 @@ def words_of(name: str) -> Tuple[int, int]:
     """The two words of a cell's name. It raises ValueError where it is none."""
     signs = name.strip().upper()
     if not 1 <= len(signs) <= LONGEST or any(it not in SIGNS[1:] for it in signs):
-        raise ValueError('%r is no name of a cell: it has 1 to 6 of the signs A to Z, 0 to 9, $, . and %%' % name)
+        raise ValueError("%r isn't a cell name: that has 1 to 6 of the characters A to Z, 0 to 9, $, . and %%" % name)
     codes = [SIGNS.index(it) for it in signs.ljust(LONGEST)]
     first, second = codes[:3], codes[3:]
     return first[0] * 1600 + first[1] * 40 + first[2], second[0] * 1600 + second[1] * 40 + second[2]

@@ -39,8 +39,8 @@ def kind_of(data: bytes) -> str:
 
 
 KIND_SAID = {
-    'v8': 'a compound file, as MicroStation V8 writes (DGN version 8), and no drawing of version 7: save it as that',
-    'library': 'a cell library of MicroStation, and no drawing: attach it there, and save its cells in a drawing',
-    'empty': 'an empty file, and no drawing',
-    'other': 'no design file of version 7: it does not begin as one',
+    'v8': 'a compound file, such as MicroStation V8 writes (DGN version 8): save it as V7 DGN',
+    'library': 'a MicroStation cell library: attach it in MicroStation, and place its cells in a drawing',
+    'empty': 'an empty file',
+    'other': "not a design file of version 7: it doesn't begin like one",
 }

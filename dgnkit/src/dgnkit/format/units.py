@@ -8,7 +8,7 @@ from fractions import Fraction
 from functools import cached_property
 from typing import List, Optional, Sequence, Tuple, Union
 
-from ..output import counted, printable
+from ..output import counted, listed, printable
 from .numbers import long_at, vax_double_at
 
 # What two characters are known to stand for, in metres; a foot is the international one. Case doesn't count.
@@ -26,6 +26,7 @@ METRES = {
     'yd': Fraction(9144, 10000),
     'mi': Fraction(1609344, 1000),
 }
+WAYS = (('east', 'west'), ('north', 'south'), ('up', 'down'))  # what a displacement is along each axis
 
 
 def metres_of(name: str) -> Optional[Fraction]:
@@ -82,16 +83,14 @@ class Units:
     def said(self) -> str:
         """The units in words, in metres too where the master unit's name is known."""
         if not self.is_known:
-            said = (
-                'none are set (the TCB counts %d subunits and %d units of resolution): places are units of resolution'
-            )
+            said = 'not set (the TCB has %d subunits and %d units of resolution): positions are in units of resolution'
             return said % (self.subunits, self.resolution)
         master, sub = (printable(it) or '(no name)' for it in (self.master_name, self.sub_name))
         fine = counted(self.resolution, 'unit of resolution', 'units of resolution')
         said = '1 %s = %d %s, 1 %s = %s' % (master, self.subunits, sub, sub, fine)
         metres = self.master_metres
         if metres is None:
-            return said + '; %s is no unit whose metres are known' % master
+            return said + "; it isn't known how long 1 %s is" % master
         return said + '; 1 unit of resolution = %s m' % shortest(float(metres / self.in_master))
 
     def to_master(self, point: Sequence[int]) -> Tuple[float, ...]:
@@ -115,16 +114,18 @@ class Units:
         return said if not self.is_known else '%s %s (%s)' % (shortest(length / self.in_master), self.name, said)
 
     def shift_said(self, shift: Sequence[int]) -> str:
-        """A displacement in words, in master units too where these are known, and in metres where their name is."""
-        said = ','.join(str(it) for it in shift)
+        """A displacement in words: how far to the east, north and up in master units where these are known, and in
+        metres where their name is; else in units of resolution."""
+        said = ','.join(str(it) for it in shift) + ' units of resolution'
         if not self.is_known:
-            return said + ' units of resolution'
-        masters = ','.join(shortest(it / self.in_master) for it in shift)
+            return 'by ' + said
+        ways = [(abs(it), way[it < 0]) for it, way in zip(shift, WAYS) if it] or [(0, WAYS[0][0])]
+        masters = ['%s %s %s' % (shortest(it / self.in_master), self.name, way) for it, way in ways]
         metres = self.master_metres
-        in_metres = ''
+        more = ''
         if metres is not None and metres != 1:
-            in_metres = ', ' + ','.join(shortest(float(it * metres / self.in_master)) for it in shift) + ' m'
-        return '%s %s%s (%s units of resolution)' % (masters, self.name, in_metres, said)
+            more = ', or ' + listed(['%s m' % shortest(float(it * metres / self.in_master)) for it, _ in ways])
+        return '%s%s (%s)' % (listed(masters), more, said)
 
 
 def rounded(value: Fraction) -> int:

@@ -39,14 +39,14 @@ def app_place() -> Path:
     for place in app_places():
         if place.is_file():
             return place
-    raise Mistake('%s is not found: name it by $DGNEDIT_APP, or make it by `make web`' % NAME)
+    raise Mistake("%s wasn't found: name it with $DGNEDIT_APP, or make it with `make web`" % NAME)
 
 
 def page_of(title: str, parts: List[Part]) -> str:
     """The app with these files in it. It raises Mistake where there is no app, or where it is none."""
     text = app_place().read_text(encoding='utf-8')
     if not all(text.count(it) == 1 for it in (APP_MARK, APP_TITLE, SLOT)):
-        raise Mistake('%s is not the app that this dgnkit knows' % NAME)
+        raise Mistake("%s isn't the app that belongs to this dgnkit" % NAME)
     text = text.replace(APP_MARK, PAGE_MARK).replace(APP_TITLE, '<title>%s</title>' % html.escape(title))
     return text.replace(SLOT, ''.join(part_of(*it) for it in parts))
 

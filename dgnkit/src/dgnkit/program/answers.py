@@ -33,7 +33,7 @@ def answers_of(names: Sequence[str], said: Sequence[str]) -> List[Answer]:
     at = 0
     for name in names:
         if at >= len(said):
-            raise ListingError('dgnedit did not answer the command %d, %r' % (len(made) + 1, name))
+            raise ListingError("dgnedit didn't answer command %d, %r" % (len(made) + 1, name))
         found = REFUSED.fullmatch(said[at])
         if found:
             answer, taken = Answer([], cause=found[1]), 1
@@ -45,14 +45,14 @@ def answers_of(names: Sequence[str], said: Sequence[str]) -> List[Answer]:
         made.append(answer)
         at += taken
     if at != len(said):
-        raise ListingError('dgnedit said more than its commands ask for: %r' % said[at])
+        raise ListingError('dgnedit printed more than its commands ask for: %r' % said[at])
     return made
 
 
 def _accepted(line: str) -> Answer:
     found = OK.fullmatch(line)
     if not found:
-        raise ListingError('dgnedit answered %r, which is not understood' % line)
+        raise ListingError("dgnedit answered %r, which dgnkit doesn't understand" % line)
     return Answer([], count=None if found[1] is None else int(found[1]))
 
 
@@ -62,10 +62,10 @@ def _listing(word: str, said: Sequence[str], at: int) -> Answer:
     while end < len(said) and not said[end].startswith(front):
         end += 1
     if end == len(said) or not said[end][len(front) :].isdigit():
-        raise ListingError('dgnedit did not end a listing with %r and a number' % word)
+        raise ListingError("dgnedit didn't end a listing with %r and a number" % word)
     answer = Answer(list(said[at:end]), count=int(said[end][len(front) :]))
     # `elements` lists counts of levels and types too, which begin with a word
     listed = sum(line[:1].isdigit() for line in answer.lines) if word == 'elements' else len(answer.lines)
     if listed != answer.count:
-        raise ListingError('dgnedit listed %d lines and counts %d' % (listed, answer.count or 0))
+        raise ListingError('dgnedit listed %d lines, but counted %d' % (listed, answer.count or 0))
     return answer

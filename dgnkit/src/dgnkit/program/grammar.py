@@ -29,7 +29,7 @@ MODES = ('inside', 'overlap', 'void')
 
 
 # What people look for and the editor has no command for, and what there is for it.
-CAN_NOT = ': dgnedit and dgnkit can not %s'
+CAN_NOT = ": dgnedit and dgnkit can't %s"
 ADVICE = {
     'rotate': CAN_NOT % 'rotate elements',
     'scale': CAN_NOT % 'scale elements',
@@ -54,7 +54,7 @@ class Kind:
 
 
 KINDS = {
-    'N': Kind('the number of an element', 0, NUMBER_MOST),
+    'N': Kind('an element number', 0, NUMBER_MOST),
     'C': Kind('a colour', 0, COLOUR_MOST),
     'W': Kind('a weight', 0, WEIGHT_MOST),
     'S': Kind('a style', 0, STYLE_MOST),
@@ -128,10 +128,10 @@ def fault_of(line: bytes) -> Optional[str]:
     if not bare or bare.startswith(b'#'):
         return None
     if line.startswith(BYTE_ORDER_MARK):
-        return 'it begins with a byte order mark, which is no part of a script: save it without one'
+        return 'it begins with a byte order mark (BOM): save the script without one'
     words = [it.decode('latin-1') for it in bare.split(b' ') if it]
     if '\t' in bare.decode('latin-1').split('\n')[0] and words[0] != 'text':
-        return 'it holds a tab, which is no blank'
+        return 'it contains a tab: use spaces'
     if words[0] == 'text':
         return _fault_of_text(line)
     if words[0] == 'import':
@@ -146,8 +146,8 @@ def fault_of(line: bytes) -> Optional[str]:
 
 def _no_command(word: str) -> str:
     if word.lower() in FORMS or word.lower() in OWN_FORMS:
-        return '%r is no command: they are written in small letters' % word
-    return '%r is no command' % word + ADVICE.get(word.lower(), '')
+        return "%r isn't a command: commands are in lower case" % word
+    return "%r isn't a command" % word + ADVICE.get(word.lower(), '')
 
 
 def _fault_of_form(name: str, form: Form, words: List[str]) -> Optional[str]:
@@ -156,8 +156,8 @@ def _fault_of_form(name: str, form: Form, words: List[str]) -> Optional[str]:
         if form.more == 'P' and len(words) >= len(form.kinds):
             return _fault_of_count(name, form, len(words) - len(form.kinds))
         span = 'at least %d' % least if most is None else str(least) if least == most else '%d to %d' % (least, most)
-        what = 'piece' if span == '1' else 'pieces'
-        return '%s has %s %s behind it, and here are %d' % (name, span, what, len(words))
+        what = 'value' if span == '1' else 'values'
+        return '%s takes %s %s, not %d' % (name, span, what, len(words))
     kinds = [*form.kinds, *[form.more] * (len(words) - len(form.kinds))]
     for word, kind in zip(words, kinds):
         fault = _fault_of_piece(word, kind)
@@ -168,12 +168,12 @@ def _fault_of_form(name: str, form: Form, words: List[str]) -> Optional[str]:
 
 def _fault_of_count(name: str, form: Form, count: int) -> str:
     span = str(form.least) if form.least == form.most else '%d to %d' % (form.least, form.most or 0)
-    return 'a %s has %s points, and here are %d' % ({'string': 'line string'}.get(name, name), span, count)
+    return 'a %s has %s points, not %d' % ({'string': 'line string'}.get(name, name), span, count)
 
 
 def _fault_of_piece(word: str, kind: str) -> Optional[str]:
     if kind == 'MODE':
-        return None if word in MODES else '%r is no mode: inside, overlap or void' % word
+        return None if word in MODES else "%r isn't a mode: use inside, overlap or void" % word
     if kind == 'P':
         return _fault_of_point(word, (2, 3))
     if kind == 'Q':
@@ -185,29 +185,29 @@ def _fault_of_piece(word: str, kind: str) -> Optional[str]:
 
 def _fault_of_number(word: str, kind: Kind) -> Optional[str]:
     if not (SIGNED if kind.low < 0 else PLAIN).fullmatch(word):
-        why = ' (a number does not begin with 0 or +, and there is no -0)' if re.fullmatch(r'[-+]?\d+', word) else ''
-        return '%r is not %s from %d to %d%s' % (word, kind.what, kind.low, kind.high, why)
+        why = ', without + or 0 in front' if re.fullmatch(r'[-+]?\d+', word) else ''
+        return "%r isn't %s: give a whole number from %d to %d%s" % (word, kind.what, kind.low, kind.high, why)
     if len(word) > DIGITS_MOST or not kind.low <= int(word) <= kind.high:
-        return '%s is not from %d to %d, as %s is' % (word, kind.low, kind.high, kind.what)
+        return '%s is out of range: %s is from %d to %d' % (word, kind.what, kind.low, kind.high)
     return None
 
 
 def _fault_of_point(word: str, axes: Sequence[int]) -> Optional[str]:
     numbers = word.split(',')
     if len(numbers) not in axes:
-        return '%r is no point: it is written x,y%s, without blanks' % (word, ' or x,y,z' if 3 in axes else '')
+        return "%r isn't a point: write x,y%s without spaces" % (word, ' or x,y,z' if 3 in axes else '')
     return next((it for it in (_fault_of_number(number, KINDS['P']) for number in numbers) if it), None)
 
 
 def _fault_of_axes(points: Sequence[str]) -> Optional[str]:
     if len({it.count(',') for it in points}) > 1:
-        return 'its points have not all as many numbers'
+        return 'its points have different numbers of coordinates'
     return None
 
 
 def _fault_of_levels(words: List[str]) -> Optional[str]:
     if not words:
-        return 'levels has at least one level behind it, or all, or none'
+        return 'levels takes at least one level, or all, or none'
     if words in (['all'], ['none']):
         return None
     for word in words:
@@ -216,16 +216,16 @@ def _fault_of_levels(words: List[str]) -> Optional[str]:
         if fault:
             return fault
         if dash and int(low) > int(high):
-            return '%r is no span of levels: its first is greater than its last' % word
+            return "%r isn't a range of levels: its first is greater than its last" % word
     return None
 
 
 def _fault_of_import(words: List[str]) -> Optional[str]:
     if len(words) not in (1, 3, 4):
-        return 'import has a name behind it, alone or with a displacement of two or three numbers'
+        return 'import takes a file name, alone or with a displacement of two or three numbers'
     name = words[0]
     if len(name) > NAME_LONGEST or any(not '!' <= sign <= '~' for sign in name):
-        return 'a name has 1 to %d visible signs of ASCII' % NAME_LONGEST
+        return 'a file name has 1 to %d ASCII letters, digits and punctuation characters, and no spaces' % NAME_LONGEST
     return next((it for it in (_fault_of_number(word, KINDS['D']) for word in words[1:]) if it), None)
 
 
@@ -233,12 +233,12 @@ def _fault_of_text(line: bytes) -> Optional[str]:
     kinds = TEXT.kinds
     found = re.match(rb' *text' + rb' +([^ ]+)' * len(kinds), line)
     if not found:
-        return 'text has %d pieces before its characters' % len(kinds)
+        return 'text takes %d values before its characters' % len(kinds)
     for word, kind in zip(found.groups(), kinds):
         fault = _fault_of_piece(word.decode('latin-1'), kind)
         if fault:
             return fault
     characters = line[found.end() :]
     if not characters.startswith(b' ') or not 2 <= len(characters) <= BYTE_MOST + 1:
-        return 'a text has 1 to %d characters, behind exactly one blank' % BYTE_MOST
+        return 'a text has 1 to %d characters, after exactly one space' % BYTE_MOST
     return None

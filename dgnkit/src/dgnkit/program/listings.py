@@ -102,13 +102,13 @@ def item_of(line: str) -> Item:
     """A line of `show`."""
     found = ITEM.fullmatch(line)
     if not found:
-        raise ListingError('dgnedit showed an item as %r, which is not understood' % line)
+        raise ListingError("dgnedit showed an item as %r, which dgnkit doesn't understand" % line)
     number, depth, type_, level, colour, weight, style = map(int, found.groups()[:7])
     kind, rest = found[8], found[9]
     item = Item(number, depth, type_, level, colour, weight, style, kind, [])
     fill = FILLS[kind]
     if not fill(item, rest):
-        raise ListingError('dgnedit showed an item as %r, which is not understood' % line)
+        raise ListingError("dgnedit showed an item as %r, which dgnkit doesn't understand" % line)
     return item
 
 
@@ -182,7 +182,7 @@ def _rows(lines: Iterable[str], what: str, form: Pattern[str], make: Callable[..
     for line in lines:
         found = form.fullmatch(line)
         if not found:
-            raise ListingError('dgnedit listed %s as %r, which is not understood' % (what, line))
+            raise ListingError("dgnedit listed %s as %r, which dgnkit doesn't understand" % (what, line))
         made.append(make(*found.groups()))
     return made
 

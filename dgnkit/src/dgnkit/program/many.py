@@ -63,7 +63,7 @@ def _start(
         try:
             process = subprocess.Popen(command, stdin=subprocess.DEVNULL, stdout=subprocess.PIPE, bufsize=0)
         except OSError as why:
-            raise MissingProgram('%s can not be run: %s' % (command[0], why.strerror))
+            raise MissingProgram("%s can't be run: %s" % (command[0], why.strerror))
         assert process.stdout is not None
         children[process.stdout.fileno()] = _Child(index, process)
         selector.register(process.stdout, selectors.EVENT_READ)

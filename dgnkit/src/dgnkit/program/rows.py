@@ -38,10 +38,10 @@ def take_rows(made: Elements, words: Sequence[bytes]) -> None:
     numbers, offsets, sizes, types, levels = (list(map(int, words[at::6])) for at in range(5))
     first = len(made)
     if max(types, default=0) > TYPE_MOST or max(levels, default=0) > LEVEL_MOST:
-        raise ListingError('dgnedit listed a type or a level that there is not')
+        raise ListingError("dgnedit listed a type or a level that doesn't exist")
     made.extend(sizes, bytes(types), bytes(levels), bytes(map(MARKS.__getitem__, words[5::6])))
     if numbers != list(range(first, len(made))) or offsets != made.offsets[first:].tolist():
-        raise ListingError('dgnedit listed elements that do not stand one behind the other')
+        raise ListingError("dgnedit listed elements that don't follow one another")
 
 
 def _line_end(said: bytes, start: int, end: int) -> int:
@@ -56,7 +56,7 @@ def ask_rows(piece: bytes) -> None:
     wrong = ROW.sub(b'', piece)
     if wrong:
         line = wrong.split(b'\n')[0].decode('latin-1')
-        raise ListingError('dgnedit listed an element as %r, which is not understood' % line)
+        raise ListingError("dgnedit listed an element as %r, which dgnkit doesn't understand" % line)
 
 
 def ask_whole(made: Elements, rest: Sequence[str]) -> None:
@@ -64,13 +64,13 @@ def ask_whole(made: Elements, rest: Sequence[str]) -> None:
     them aren't their counts."""
     for line in rest[:-1]:
         if not COUNTS.fullmatch(line):
-            raise ListingError('dgnedit listed an element as %r, which is not understood' % line)
+            raise ListingError("dgnedit listed an element as %r, which dgnkit doesn't understand" % line)
     if not rest or rest[-1] != 'elements %d' % len(made):
-        raise ListingError('dgnedit did not end the list of %d elements with their number' % len(made))
+        raise ListingError("dgnedit didn't end the list of %d elements with their number" % len(made))
     if counts_of(rest[:-1]) != (dict(Counter(made.levels)), dict(Counter(made.types))):
-        raise ListingError('dgnedit counts other levels and types than it lists')
+        raise ListingError('dgnedit counted other levels and types than it listed')
     if not made or made.end > len(made.data) or made.data[made.end :][:2] not in (b'', END):
-        raise ListingError('dgnedit listed elements that do not fill the file up to its end')
+        raise ListingError("dgnedit listed elements that don't fill the file up to its end")
 
 
 def counts_of(lines: Sequence[str]) -> Tuple[Dict[int, int], Dict[int, int]]:

@@ -49,26 +49,26 @@ class Program:
         if named:
             place = shutil.which(named)
             if not place:
-                raise MissingProgram('$DGNEDIT names %s, which is no program that can be run' % named)
+                raise MissingProgram("$DGNEDIT names %s, which isn't a program that can be run" % named)
             return cls(os.path.abspath(place))
         beside = Path(sys.argv[0]).resolve().parent / 'dgnedit'
         if beside.is_file() and os.access(beside, os.X_OK):
             return cls(beside)
         found = shutil.which('dgnedit')
         if not found:
-            raise MissingProgram('dgnedit is not to be found: neither by $DGNEDIT, nor beside dgnkit, nor on the path')
+            raise MissingProgram("dgnedit wasn't found: not through $DGNEDIT, not beside dgnkit and not on the path")
         return cls(found)
 
     def run(self, *words: Name, given: Optional[bytes] = None) -> Run:
         """Runs it with these words, and with these bytes on its standard input."""
         command = [self.path, *map(str, words)]
-        doing('dgnedit is at work on %s' % words[1] if len(words) > 1 else 'dgnedit is at work')
+        doing('dgnedit is working on %s' % words[1] if len(words) > 1 else 'dgnedit is working')
         try:
             ran = subprocess.run(command, input=b'' if given is None else given, stdout=subprocess.PIPE)
         except OSError as why:
-            raise MissingProgram('%s can not be run: %s' % (self.path, (why.strerror or str(why)).lower()))
+            raise MissingProgram("%s can't be run: %s" % (self.path, (why.strerror or str(why)).lower()))
         if ran.returncode < 0:
-            raise ListingError('dgnedit was ended by the signal %d' % -ran.returncode)
+            raise ListingError('dgnedit was stopped by signal %d' % -ran.returncode)
         return Run(ran.returncode, ran.stdout)
 
     def edit(self, drawing: Name, script: Script, out: Name = NOWHERE) -> List[Answer]:
@@ -78,7 +78,7 @@ class Program:
             raise ending_of(ran.status, ran.said, str(drawing))
         answers = script.answers(ran.said)
         if ran.status != int(any(it.is_refused for it in answers)):
-            raise ListingError('dgnedit ended with %d, which is not what it answered' % ran.status)
+            raise ListingError("dgnedit ended with %d, which doesn't match its answers" % ran.status)
         ask_written(out)
         return answers
 
@@ -118,7 +118,7 @@ class Program:
 def ask_written(out: Name) -> None:
     """It raises ListingError where a file that was to be written isn't there."""
     if not os.path.exists(out):
-        raise ListingError('dgnedit said that it was done, and there is no %s' % out)
+        raise ListingError('dgnedit said that it was done, but there is no %s' % out)
 
 
 def lines_of(said: bytes) -> List[str]:
@@ -126,14 +126,14 @@ def lines_of(said: bytes) -> List[str]:
     try:
         lines = said.decode('ascii').split('\n')
     except UnicodeDecodeError:
-        raise ListingError('dgnedit said what is no ASCII')
+        raise ListingError("dgnedit printed something that isn't ASCII")
     if lines.pop() != '':
-        raise ListingError('dgnedit said a line without an end')
+        raise ListingError('dgnedit printed an incomplete line')
     return lines
 
 
 def counted(word: str, said: Sequence[str]) -> int:
     """The number in the one line that was said, behind this word."""
     if len(said) != 1 or not said[0].startswith(word + ' ') or not said[0][len(word) + 1 :].isdigit():
-        raise ListingError('dgnedit said %r, which is not understood' % said)
+        raise ListingError("dgnedit printed %r, which dgnkit doesn't understand" % said)
     return int(said[0][len(word) + 1 :])

@@ -211,10 +211,10 @@ class Script:
 def importable(name: str) -> str:
     """The name of a file as an `import` line has it. It raises Mistake where the editor reads no such name."""
     if not name or len(name) > NAME_LONGEST:
-        raise Mistake('%r can not stand in an import line: a name there has 1 to %d signs' % (name, NAME_LONGEST))
+        raise Mistake("%r can't be in an import line: a name there has 1 to %d characters" % (name, NAME_LONGEST))
     if any(not '!' <= sign <= '~' for sign in name):
-        said = '%r can not stand in an import line, since it has a blank or a sign beyond ASCII: name a copy or a link'
-        raise Mistake((said + ' of it that has none, as by ln -s %s %s') % (name, quoted(name), plain_name(name)))
+        said = "%r can't be in an import line, since it has a space or a character beyond ASCII: name a copy or a link"
+        raise Mistake((said + ' without one, as from ln -s %s %s') % (name, quoted(name), plain_name(name)))
     return name
 
 

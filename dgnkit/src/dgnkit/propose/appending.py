@@ -71,9 +71,9 @@ class Appender:
     def _string(self, made: Appending, wish: Wish) -> None:
         points = wish.points
         if len(points) < 2:
-            raise wish.row.mistake('it is the only point of its line, and a line has at least 2')
+            raise wish.row.mistake('it is the only point of its line, and a line needs at least 2')
         if len(points) > POINTS_MOST and not self.cuts:
-            said = 'its line has %d points, and a line string at most %d: --cut cuts it into pieces'
+            said = 'its line has %d points, and a line string has at most %d: --cut cuts it into pieces'
             raise wish.row.mistake(said % (len(points), POINTS_MOST))
         for start in range(0, len(points) - 1, POINTS_MOST - 1):
             piece = points[start : start + POINTS_MOST]
@@ -85,9 +85,9 @@ class Appender:
         points = wish.points
         ring = points if points[0] == points[-1] and len(points) > 1 else [*points, points[0]]
         if len(ring) < 4:
-            raise wish.row.mistake('its shape has %d corners, and a shape has at least 3' % (len(ring) - 1))
+            raise wish.row.mistake('its shape has %d corners, and a shape needs at least 3' % (len(ring) - 1))
         if len(ring) > POINTS_MOST:
-            said = 'its shape has %d corners, and a shape at most %d: it can not be cut'
+            said = "its shape has %d corners, and a shape has at most %d: it can't be cut"
             raise wish.row.mistake(said % (len(ring) - 1, POINTS_MOST - 1))
         line = 'shape %s %s' % (self._look(wish), spelled(ring))
         made.add(wish, line.encode('ascii'), self._said('a shape', wish, ring))
@@ -101,20 +101,20 @@ class Appender:
 
     def _said(self, what: str, wish: Wish, points: Sequence[Point]) -> str:
         more = '' if len(points) == 1 else ' of %d points' % len(points)
-        return '%s on level %d%s, from %s on' % (what, wish.look[0], more, self.scale.place_said(points[0]))
+        return '%s on level %d%s, starting at %s' % (what, wish.look[0], more, self.scale.place_said(points[0]))
 
     def _characters(self, wish: Wish) -> bytes:
         """The bytes of a text, spelled as those of the drawing's own texts where it has signs beyond ASCII."""
         text = wish.text
         encoding = 'ascii' if text.isascii() else self.encoding or encoding_of(self.drawing.elements)
         if encoding is None:
-            raise wish.row.mistake('%r has signs beyond ASCII: say by --encoding how they are spelled' % text)
+            raise wish.row.mistake('%r has characters beyond ASCII: name their encoding with --encoding' % text)
         try:
             characters = text.encode(encoding)
         except (UnicodeEncodeError, LookupError) as why:
-            raise wish.row.mistake('%r can not be spelled in %s: %s' % (text, encoding, why))
+            raise wish.row.mistake("%r can't be written in %s: %s" % (text, encoding, why))
         if len(characters) > BYTE_MOST:
-            raise wish.row.mistake('its text has %d bytes, and a text at most %d' % (len(characters), BYTE_MOST))
+            raise wish.row.mistake('its text has %d bytes, and a text has at most %d' % (len(characters), BYTE_MOST))
         return characters
 
     def _try(self, made: Appending) -> None:
@@ -127,7 +127,7 @@ class Appender:
                 refused = next((it.cause for it in answers if it.cause), None)
                 if refused:
                     reason = REASONS.get(refused.split(' ')[0], refused)
-                    raise Mistake('the program refuses to draw it (%s): %s' % (refused, reason))
+                    raise Mistake('dgnedit refuses to draw it (%s): %s' % (refused, reason))
                 name = out
             first = len(self.drawing.elements)
             texts = [(first + at, it) for at, it in enumerate(made.wishes) if it.kind == 'text']
@@ -148,12 +148,12 @@ def text_change(element: Element, wish: Wish) -> Change:
     angle = float(decimal_of(wish.angle))
     low, high = text_box(element, angle)
     if not all(map(is_on_plane, (*low, *high))):
-        raise wish.row.mistake('its text would reach beyond the design plane')
+        raise wish.row.mistake('its text would reach off the design plane')
     edits: Dict[int, int] = {}
     for place, corner in ((LOW, low), (HIGH, high)):
         put(edits, element, place, b''.join(range_bytes(it) for it in corner))
     put(edits, element, ROTATION, rotation_bytes(element.axes, angle))
-    return Change(element, edits, ['turned by %s degrees' % wish.angle])
+    return Change(element, edits, ['rotated by %s degrees' % wish.angle])
 
 
 def put(edits: Dict[int, int], element: Element, place: int, content: bytes) -> None:

@@ -16,8 +16,8 @@ from ..format.element import LOCK_BYTE, Element
 from ..format.radix50 import name_of
 
 NAME_PLACE = 38  # where a cell's name stands
-SILENT = 'their types have no level of a drawing and no lock'
-IS_LOCKED = 'they are locked (`dgnkit unlock` unlocks)'
+SILENT = 'of a type without a level or a lock'
+IS_LOCKED = 'locked; `dgnkit unlock` unlocks'
 
 
 @dataclass
@@ -53,7 +53,7 @@ def relevel(drawing: Drawing, numbers: Sequence[int], level: int) -> FieldEdits:
         if not may_edit(made, element):
             continue
         if element.level == level:
-            made.leave(element, 'they are on level %d already' % level)
+            made.leave(element, 'already on level %d' % level)
         else:
             first = element.content[0] & 0xC0 | level
             made.change(element, 0, bytes([first]), 'level %d becomes %d' % (element.level, level))
@@ -67,7 +67,7 @@ def set_lock(drawing: Drawing, numbers: Sequence[int], is_locked: bool) -> Field
         if element.is_silent:
             made.leave(element, SILENT)
         elif element.is_locked == is_locked:
-            made.leave(element, 'they are %s already' % ('locked' if is_locked else 'unlocked'))
+            made.leave(element, 'already %s' % ('locked' if is_locked else 'unlocked'))
         else:
             byte = element.content[LOCK_BYTE] & 0xFE | int(is_locked)
             made.change(element, LOCK_BYTE, bytes([byte]), 'locked' if is_locked else 'unlocked')
@@ -99,9 +99,9 @@ def rename(drawing: Drawing, numbers: Sequence[int], words: Tuple[int, int]) -> 
         if not may_edit(made, element):
             continue
         if element.cell_name == name:
-            made.leave(element, 'they are called %s already' % name)
+            made.leave(element, 'already called %s' % name)
         else:
-            made.change(element, NAME_PLACE, spelled, 'it is called %s' % name)
+            made.change(element, NAME_PLACE, spelled, 'name becomes %s' % name)
     return made
 
 
@@ -125,9 +125,9 @@ def retext(drawing: Drawing, numbers: Sequence[int], wanted: Replacement) -> Fie
             continue
         spelled, length = spelled_as(drawing, wanted, element, new), len(element.characters or b'')
         if len(spelled) > length:
-            made.leave(element, 'the new text is longer than the old one, and there is no room for it')
+            made.leave(element, 'the new text is longer than the old one')
         elif not spelled:
-            made.leave(element, 'nothing would be left of the text: delete it instead')
+            made.leave(element, 'nothing would be left of the text; delete it instead')
         else:
             _put_text(made, element, spelled, new)
     return made
@@ -138,7 +138,7 @@ def _put_text(made: FieldEdits, element: Element, spelled: bytes, new: str) -> N
     place = element.text_place
     edits = {element.offset + place + index: byte for index, byte in enumerate(spelled)}
     edits[element.offset + place - 2] = len(spelled)
-    made.changes.append(Change(element, edits, ['it becomes %r' % new]))
+    made.changes.append(Change(element, edits, ['text becomes %r' % new]))
 
 
 def replaced(wanted: Replacement, old: str) -> str:
@@ -146,7 +146,7 @@ def replaced(wanted: Replacement, old: str) -> str:
     try:
         return wanted.form.sub(wanted.new, old)
     except (re.error, IndexError) as why:
-        raise Mistake('%r is no new text for the pattern: %s' % (wanted.new, why))
+        raise Mistake("%r can't replace what the pattern finds: %s" % (wanted.new, why))
 
 
 def spelled_as(drawing: Drawing, wanted: Replacement, element: Element, text: str) -> bytes:
@@ -156,11 +156,13 @@ def spelled_as(drawing: Drawing, wanted: Replacement, element: Element, text: st
         return text.encode('ascii')
     encoding = encoding_of([element]) or wanted.encoding or encoding_of(drawing.elements)
     if encoding is None:
-        raise Mistake('%r has signs beyond ASCII: say by --encoding how they are spelled, as utf-8 or latin-1' % text)
+        raise Mistake(
+            '%r has characters beyond ASCII: name their encoding with --encoding, such as utf-8 or latin-1' % text
+        )
     try:
         return text.encode(encoding)
     except (UnicodeEncodeError, LookupError) as why:
-        raise Mistake('%r can not be spelled in %s: %s' % (text, encoding, why))
+        raise Mistake("%r can't be written in %s: %s" % (text, encoding, why))
 
 
 def encoding_of(elements: Sequence[Element]) -> Optional[str]:

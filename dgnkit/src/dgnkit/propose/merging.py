@@ -38,12 +38,12 @@ class Merge:
 def merge_of(first: Drawing, other: Drawing) -> Merge:
     """How another drawing comes into the first. It raises Mistake where the axes or the units are others."""
     if first.axes != other.axes:
-        raise Mistake('%s has %d axes, and %s has %d' % (other.path, other.axes, first.path, first.axes))
+        raise Mistake('%s has %d dimensions, and %s has %d' % (other.path, other.axes, first.path, first.axes))
     ask_units(first, other)
     exact = [one - two for one, two in zip(first.units.origin, other.units.origin)][: first.axes]
     shift = tuple(rounded(it) for it in exact)
     if any(abs(it) > FARTHEST for it in shift):
-        raise Mistake('the global origins of %s and %s are too far from each other' % (first.path, other.path))
+        raise Mistake('the global origins of %s and %s are too far apart' % (first.path, other.path))
     roots = [it for it in other.roots if it and not other.elements[it].is_silent]
     broken = [it for it in roots if it in other.nesting.broken_roots and not other.elements[it].is_deleted]
     deleted = [it for it in roots if other.elements[it].is_deleted]
@@ -55,8 +55,9 @@ def merge_of(first: Drawing, other: Drawing) -> Merge:
 def ask_units(first: Drawing, other: Drawing) -> None:
     """It raises Mistake where a unit of resolution isn't the same in both."""
     if not same_units(first.units, other.units):
-        said = '%s has other units than %s: there %s; here %s'
-        raise Mistake(said % (other.path, first.path, other.units.said, first.units.said))
+        said = '%s and %s have different units. %s: %s. %s: %s'
+        names = other.path, first.path
+        raise Mistake(said % (*names, other.path, other.units.said, first.path, first.units.said))
 
 
 def same_units(one: Units, other: Units) -> bool:
@@ -78,11 +79,11 @@ def _resolution_metres(units: Units) -> Optional[Fraction]:
 def words_of(first: Drawing, merge: Merge) -> List[str]:
     """What an import does, in words."""
     other, units = merge.drawing, first.units
-    said = ['%s: %s' % (other.path, counted(len(merge.taken), 'tree is', 'trees are') + ' taken')]
+    said = ['%s: %s' % (other.path, counted(len(merge.taken), 'tree is', 'trees are') + ' imported')]
     if any(merge.shift):
-        said.append('  moved by %s, since the global origins differ' % units.shift_said(merge.shift))
+        said.append('  moved %s, since the global origins differ' % units.shift_said(merge.shift))
     else:
-        said.append('  as they stand: the global origins are the same')
+        said.append('  not moved, since the global origins are the same')
     if merge.is_rounded:
         said.append('  the displacement is rounded to whole units of resolution')
     return [*said, *('  ' + it for it in _extents_said(first, merge))]
@@ -93,10 +94,10 @@ def left_of(merge: Merge) -> List[str]:
     said = []
     if merge.broken:
         trees = counted(len(merge.broken), 'broken tree')
-        said.append('%s: left out: %s, at %s; `dgnkit mend` first' % (merge.drawing.path, trees, few(merge.broken)))
+        said.append('%s: left out: %s (%s); run `dgnkit mend` first' % (merge.drawing.path, trees, few(merge.broken)))
     if merge.deleted:
         trees = counted(len(merge.deleted), 'tree')
-        said.append('%s: left out: %s marked deleted, at %s' % (merge.drawing.path, trees, few(merge.deleted)))
+        said.append('%s: left out: %s marked deleted (%s)' % (merge.drawing.path, trees, few(merge.deleted)))
     return said
 
 
@@ -109,10 +110,10 @@ def _extents_said(first: Drawing, merge: Merge) -> List[str]:
     common_low = tuple(max(pair) for pair in zip(own[0], low))
     common_high = tuple(min(pair) for pair in zip(own[1], high))
     said = ['extent of %s: %s' % (first.path, extent_said(first.units, own))]
-    said.append('extent of %s, there: %s' % (merge.drawing.path, extent_said(first.units, (low, high))))
+    said.append('extent of %s after the import: %s' % (merge.drawing.path, extent_said(first.units, (low, high))))
     if all(a <= b for a, b in zip(common_low, common_high)):
         return [*said, 'they overlap: %s' % extent_said(first.units, (common_low, common_high))]
-    return [*said, 'they do not overlap']
+    return [*said, "they don't overlap"]
 
 
 def moved(point: Point, shift: Point) -> Point:

@@ -16,19 +16,19 @@ from ..program.script import Script
 from .templates import line_of, template_of
 from .writing import next_command, note_left, script_names, write_script
 
-LINE_HELP = "a script's line for each, with {n} for its number and {2.5} for 2.5 master units"
+LINE_HELP = 'write this line of a script for each, with {n} for its number and {2.5} for 2.5 master units'
 REASONS = {
-    'broken': 'their trees are broken (`dgnkit mend` mends what can be)',
-    'locked': 'they are locked, or what goes along is (`dgnkit unlock` unlocks)',
-    'deleted': 'they are marked deleted, or a header above them is',
-    'floating': 'their coordinates, or those of what goes along, are floating numbers',
-    'opaque': 'what would be written of them, or of what goes along, is not read',
-    'off-plane': 'they would leave the design plane',
+    'broken': 'in a broken tree; `dgnkit mend` may mend it',
+    'locked': 'locked, or its header or a member is; `dgnkit unlock` unlocks',
+    'deleted': 'marked deleted, or its header is',
+    'floating': "of a type that can't be moved or copied, or with such a member",
+    'opaque': "of a type that this command can't edit, or with such a member",
+    'off-plane': 'it would leave the design plane',
     'too-long': 'the drawing would be too long',
-    'unknown': 'there are no such elements',
+    'unknown': 'there is no such element',
 }
 TOLD = 8  # so many trees with chosen members are told
-BELOW = 'they stand below another one that is chosen, and go along with it'
+BELOW = 'a member of another one that is chosen, and changes with it'
 
 
 @dataclass
@@ -50,8 +50,10 @@ class Proposal:
         below = set(chosen)
         self.along = [it for it in self.along if it not in below]
         parts = [it for it in whole if drawing.nesting.roots[it] not in below]
-        self.members += [it + ', which is taken whole (--members takes parts alone)' for it in _parts(drawing, parts)]
-        self.members += [it + ', and the rest of it stays' for it in _parts(drawing, alone)]
+        self.members += [
+            it + ', and the whole tree is edited (--members edits only the members)' for it in _parts(drawing, parts)
+        ]
+        self.members += [it + ', and the rest of its tree stays' for it in _parts(drawing, alone)]
 
 
 def _parts(drawing: Drawing, numbers: Sequence[int]) -> List[str]:
@@ -67,7 +69,7 @@ def propose(drawing: Drawing, numbers: Sequence[int], template: str) -> Proposal
     for number, line, cause in zip(tops, lines, causes(drawing, lines)):
         if cause:
             word = cause.split(' ')[0]
-            made.left.append((number, REASONS.get(word, 'the program refuses %r' % cause)))
+            made.left.append((number, REASONS.get(word, 'dgnedit answers %r' % cause)))
         else:
             made.named.append(number)
             made.script.add(line)
@@ -101,11 +103,11 @@ def causes(drawing: Drawing, lines: Sequence[bytes]) -> List[str]:
             try:
                 answers = drawing.program.edit(name, part, out)
             except BadScript as why:
-                raise Mistake('%r is no line of a script' % part.lines[why.line - 1].decode('utf-8', 'replace'))
+                raise Mistake("%r isn't a command of a script" % part.lines[why.line - 1].decode('utf-8', 'replace'))
             made.extend(it.cause or '' for it in answers)
             name = out
     if len(made) != len(lines):
-        raise Mistake('a template is one command, and no comment')
+        raise Mistake('the line for each element has to be one command, not a comment')
     return made
 
 
@@ -115,8 +117,8 @@ def note_proposal(drawing: Drawing, made: Proposal) -> None:
     for said in made.members:
         note(said)
     if made.along:
-        counts = counted(len(made.along), 'element')
-        note('goes along: %s below chosen headers that meet no condition by themselves: %s' % (counts, few(made.along)))
+        header = 'its header' if len(made.along) == 1 else 'their headers'
+        note('%s will change with %s: %s' % (counted(len(made.along), 'member'), header, few(made.along)))
 
 
 def give_proposal(drawing: Drawing, made: Proposal, path: str, is_dry: bool) -> None:
@@ -139,8 +141,8 @@ def give_script(drawing: str, script: Script, words: Iterable[str], path: str, i
         say('%s: %s' % (', '.join(names), counted(len(script.commands), 'command')))
         say('next: ' + next_command(drawing, names))
     elif len(names) > 1 or not script.text.isascii():
-        why = 'is longer than the program reads' if len(names) > 1 else 'has signs beyond ASCII'
-        raise Mistake('the script %s: name a file for it by -o' % why)
+        why = 'is longer than dgnedit reads' if len(names) > 1 else 'has characters beyond ASCII'
+        raise Mistake('the script %s: name a file for it with -o' % why)
     else:
         for command in script.lines:
             say_raw(command.decode('ascii'))

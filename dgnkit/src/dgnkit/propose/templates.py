@@ -20,11 +20,11 @@ def template_of(text: str, units: Optional[Units]) -> str:
     resolution: of a point a place, of a text's multipliers the height, else a length. It raises Mistake where the line
     has no {n}, is more than a line, or the units aren't known."""
     if PLACE not in text or '\n' in text:
-        raise Mistake('%r is no line for each element: it has to name it as %s' % (text, PLACE))
+        raise Mistake("%r doesn't name the element: write %s where its number goes" % (text, PLACE))
     if '{' not in text.replace(PLACE, ''):
         return text
     if units is None or not units.is_known:
-        raise Mistake('%r has a length in master units, and what these are is not known' % text)
+        raise Mistake("%r has a length in master units, but the drawing doesn't say what these are" % text)
     return expanded(text, Scale(units, 'master'))
 
 
@@ -43,7 +43,7 @@ def expanded(text: str, scale: Scale) -> str:
 def _piece(word: str, kind: str, scale: Scale) -> str:
     """A piece of a line, by its kind. It raises Mistake where other things stand in braces than a number."""
     if kind and '{' in LENGTH.sub('', word.replace(PLACE, '')):
-        raise Mistake('%r has in braces what is no number: it is written {2.5}, with a decimal point' % word)
+        raise Mistake("%r has something in braces that isn't a number: write {2.5}, with a decimal point" % word)
     if kind in ('P', 'Q'):
         axes = enumerate(word.split(','))
         return ','.join(LENGTH.sub(lambda it: str(scale.coordinate(it[1], axis)), one) for axis, one in axes)

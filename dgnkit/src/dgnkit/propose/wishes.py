@@ -60,7 +60,7 @@ class Reader:
     def wishes(self) -> List[Wish]:
         """All that is asked for. It raises Mistake with the row where one can't be read."""
         if not self.rows:
-            raise Mistake('the table has no row but its head')
+            raise Mistake('the table has no rows below its heading')
         made = []
         for _, group in groupby(self.rows, key=self._key):
             made.append(self._wish(list(group)))
@@ -70,14 +70,16 @@ class Reader:
         """Where each column is. Without a head the columns are x, y and z."""
         if not is_head(head):
             if head.width > self.axes:
-                said = 'it has %d columns, and the drawing %d axes: name the columns in a first row, as x,y,text'
+                said = (
+                    'it has %d columns, but the drawing has %d dimensions: name them in a first row, such as x,y,text'
+                )
                 raise head.mistake(said % (head.width, self.axes))
             return {name: at for at, name in enumerate('xyz'[: self.axes])}
         names = [SYNONYMS.get(it.strip().lower(), it.strip()) for it in head.fields]
         found = columns_of(Row(head.file, head.line, names), COLUMNS)
         made = {name: at for name, at in zip(COLUMNS, found) if at is not None}
         if 'x' not in made or 'y' not in made:
-            said = 'it names no columns x and y, or easting and northing: %s'
+            said = 'it has no columns x and y, or easting and northing: %s'
             raise head.mistake(said % ', '.join(head.fields))
         return made
 
@@ -113,12 +115,12 @@ class Reader:
         place = self.places.get('text')
         text = '' if place is None or place >= len(row.fields) else row.fields[place]
         if not text or '\n' in text or '\r' in text:
-            raise row.mistake('it has no text of one line')
+            raise row.mistake('its text is empty or has several lines')
         return text
 
     def _ask_text(self, wish: Wish) -> None:
         if not wish.height:
-            raise wish.row.mistake('it says no height of the text: name it in a column height or by --height')
+            raise wish.row.mistake('the text has no height: give it in a column height or with --height')
         try:
             self.scale.multiplier(wish.height)
             decimal_of(wish.angle)

@@ -54,7 +54,7 @@ def applied(drawing: Drawing, patch: Patch, changes: Sequence[Change]) -> None:
         Path(name).write_bytes(patch.to_bytes())
         drawing.program.apply(drawing.path, name, out)
         if read_file(out) != expected:
-            raise ListingError('dgnedit made another drawing by the patch file than the one that was meant')
+            raise ListingError('dgnedit made another drawing from the patch file than was intended')
         drawing.program.check(out)
 
 
@@ -84,4 +84,4 @@ def note_left(left: Sequence[tuple[int, str]]) -> None:
     for number, reason in left:
         by_reason.setdefault(reason, []).append(number)
     for reason, numbers in by_reason.items():
-        note('left out: %s, %s: %s' % (counted(len(numbers), 'element'), reason, few(numbers)))
+        note('left out: %s (%s): %s' % (counted(len(numbers), 'element'), reason, few(numbers)))
