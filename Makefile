@@ -42,6 +42,7 @@ web:            ## makes the editor in a browser: dist/dgnedit.html, with the pr
 
 dist: build web ## makes dist/: an archive of the built program, and a Debian package where dpkg-deb is
 	tools/make_dist $(PROGRAM) dist
+	tools/make_qgis dist
 
 clean:          ## removes what was built here
 	rm -rf dist crates/*/out

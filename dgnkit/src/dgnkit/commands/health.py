@@ -26,6 +26,7 @@ FAULTS = {
     'short': ' (this element has fewer bytes than its type and its counts ask for)',
     'attributes': ' (the attribute data of this element do not begin within it, behind its body)',
 }
+LISTS = 'broken type_0 zeros audit twice outside'.split()  # findings of which there may be several
 COUNTS = 'broken_trees type_0 zeros audit twice outside end_mark behind deleted locked'.split()
 
 
@@ -167,6 +168,21 @@ def details_of(facts: Facts, scale: Optional[Scale]) -> List[str]:
     if facts['behind']:
         lines.append('%s behind the end mark, which no reader looks at' % counted(facts['behind'], 'byte'))
     return lines
+
+
+def findings_of(facts: Facts, scale: Optional[Scale]) -> List[Tuple[str, List[int], str]]:
+    """Each finding by itself: what it is, as it is called in JSON, the elements that it is of, and its line."""
+    nothing: Facts = {**{name: [] for name in LISTS}, 'end_mark': True, 'behind': 0}
+    made = [(name, it, {**nothing, name: [it]}) for name in LISTS for it in facts[name]]
+    made += [(name, None, {**nothing, name: facts[name]}) for name in ('end_mark', 'behind')]
+    return [(name, elements_of(it), line) for name, it, alone in made for line in details_of(alone, scale)]
+
+
+def elements_of(it: Any) -> List[int]:
+    """The elements that a finding is of."""
+    if not isinstance(it, dict):
+        return []
+    return list(it['elements']) if 'elements' in it else [it['element' if 'element' in it else 'first']]
 
 
 def stretch_said(it: Dict[str, int], what: str) -> str:

@@ -1,0 +1,70 @@
+"""Checks a drawing: what in it is damaged, broken or odd."""
+
+from argparse import Namespace
+from typing import Dict
+
+from dgnkit.commands.health import facts_of, findings_of, line_of
+from dgnkit.drawing.drawing import Drawing
+from dgnkit.errors import Mistake
+from dgnkit.format.element import described
+from dgnkit.output import printable
+from qgis.core import QgsProcessingOutputNumber
+
+from ..calls import Call
+from ..marks import Boxes, Marks, sink_parameter
+from .base import DgnAlgorithm, Results, opened
+
+KINDS = {
+    'broken': 'broken tree',
+    'type_0': 'element of type 0',
+    'zeros': 'run of zeros',
+    'audit': 'wrong range',
+    'twice': 'there more than once',
+    'end_mark': 'no end mark',
+    'behind': 'bytes behind the end mark',
+}
+FIELDS: Dict[str, type] = {'number': int, 'root': int, 'is': str, 'kind': str, 'finding': str}
+
+
+class Check(DgnAlgorithm):
+    """What `dgnkit health` says, as a table."""
+
+    NAME = 'check'
+    TITLE = 'Check a drawing'
+    SHORT = 'Says what in a drawing is damaged, broken or odd, in a table with a box around each finding.'
+    HELP = (
+        'It finds broken trees, which can not be edited until they are mended; ranges that are not those of what an '
+        'element holds; what is there more than once; zeros where there should be elements; and a missing end. The '
+        'button of a row zooms to it. A file that does not open is told as an error.'
+    )
+    TAGS = 'check health audit damage validate'
+
+    def define(self) -> None:
+        self.add_drawing()
+        self.add_system()
+        self.add(sink_parameter('OUTPUT', 'Table of findings'))
+        self.addOutput(QgsProcessingOutputNumber('COUNT', 'How many findings there are'))
+
+    def work(self, call: Call) -> Results:
+        call.doing('The drawing is checked', 0.0)
+        path = call.file('DRAWING')
+        drawing = opened(path)
+        wishes = self.wishes(call, drawing)
+        facts, scale = facts_of(path, drawing.program, Namespace(frame=None, units=wishes.units))
+        if not facts['opens']:
+            raise Mistake(line_of(facts))
+        call.doing('The findings are written', 0.8)
+        call.say(printable(line_of(facts)))
+        found = findings_of(facts, scale)
+        marks, boxes = Marks(call, 'OUTPUT', FIELDS, wishes), Boxes(drawing, wishes)
+        for kind, elements, line in found:
+            number = elements[0] if elements else None
+            marks.add([(boxes.around(number), [*place_of(drawing, number), KINDS[kind], line])])
+        return {'OUTPUT': marks.id, 'COUNT': len(found)}
+
+
+def place_of(drawing: Drawing, number: object) -> list[object]:
+    """An element's number, the root of its tree, and what it is."""
+    if not isinstance(number, int):
+        return [None, None, None]
+    return [number, drawing.nesting.roots[number], described(drawing.elements[number])]

@@ -1,0 +1,154 @@
+"""What all edits of a selection share: how the elements are chosen, whole trees or not, and what is written."""
+
+from typing import List, Tuple
+
+from dgnkit.drawing.drawing import Drawing
+from dgnkit.errors import Mistake
+from dgnkit.explain.members import parts_said
+from dgnkit.output import counted, few
+from dgnkit.propose.scripting import Proposal, topmost
+from dgnkit.propose.templates import line_of
+from dgnkit.propose.writing import applied, patch_of
+from dgnkit.propose.field_edits import FieldEdits
+from qgis.core import (
+    QgsProcessing,
+    QgsProcessingParameterFeatureSource,
+    QgsProcessingParameterMultipleLayers,
+    QgsProcessingParameterString,
+)
+
+from ..calls import Call
+from ..editing import Made, run_lines, run_patch
+from ..selection import Selected, chosen, drawing_of, rows_of, selected_in
+from .base import Results, opened
+from .results import PATCHES, SCRIPTS, MakesDrawing, Refusal, refusals_of
+
+ANY = QgsProcessing.TypeVectorAnyGeometry
+HELP = (
+    'The features that are selected in the layers of a drawing are edited: of all its layers, or of those that are '
+    'named. Or give the numbers of elements, or a table with a field "number". Whole trees are edited, such as a cell '
+    'with all in it, unless this is switched off.\n\n'
+    'The result is a new drawing, which is opened beside the old one; the old one is never written. What is refused, '
+    'such as anything that is locked, is in a table with its reason, and the rest is done.'
+)
+TOLD = 8
+
+
+class EditAlgorithm(MakesDrawing):
+    """An edit of what is selected."""
+
+    GROUP = ('edit', 'Edit what is selected')
+    MORE = ''
+    selected: List[Selected] = []
+
+    def shortHelpString(self) -> str:
+        return '\n\n'.join(it for it in (self.SHORT, self.MORE, HELP) if it)
+
+    def define(self) -> None:
+        self.add_drawing(said='Drawing (else the one in whose layers features are selected)', is_optional=True)
+        self.define_edit()
+        self.add(
+            QgsProcessingParameterMultipleLayers('LAYERS', 'Only what is selected in these layers', ANY, None, True),
+            'Where none are named, what is selected in all layers of the drawing.',
+        )
+        self.add_flag('TREES', 'Whole trees', True, 'Such as a cell with all in it, if one feature of it is selected.')
+        self.add(
+            QgsProcessingParameterString('NUMBERS', 'Or the elements with these numbers', None, False, True),
+            'Such as 12 or 3-5,9; then what is selected counts only in the layers that are named.',
+            True,
+        )
+        self.add(
+            QgsProcessingParameterFeatureSource('TABLE', 'Or the elements of this table', [ANY], None, True),
+            'A layer or a table with a field "number", for models and batches.',
+            True,
+        )
+        self.add_outcome()
+        self.define_files()
+
+    def define_edit(self) -> None:
+        """Adds the parameters of the edit itself."""
+
+    def define_files(self) -> None:
+        """Adds the files that can be saved."""
+        self.add_file('PATCH', 'Patch file of what is done', PATCHES, 'For a drawing that others keep.')
+
+    def prepare(self, call: Call) -> None:
+        layers = self.parameterAsLayerList(call.parameters, 'LAYERS', call.context)
+        is_named = bool(call.text('NUMBERS')) or call.parameters.get('TABLE') is not None
+        self.selected = [] if is_named and not layers else selected_in(call, layers)
+
+    def work(self, call: Call) -> Results:
+        call.doing('The drawing is read', 0.0)
+        path = call.file('DRAWING') or drawing_of(self.selected)
+        if not path:
+            raise Mistake('Nothing is selected and no drawing is named: select features in the layers of a drawing.')
+        drawing = opened(path)
+        rows = rows_of(self.parameterAsSource(call.parameters, 'TABLE', call.context))
+        numbers = chosen(drawing, self.selected, call.text('NUMBERS'), rows)
+        if call.flag('TREES'):
+            numbers = sorted({drawing.nesting.roots[it] for it in numbers})
+        else:
+            numbers = topmost(drawing, numbers, Proposal())
+            for line in parts_said(drawing, numbers, TOLD):
+                call.say('%s, and the rest of it stays' % line)
+        call.doing('The drawing is edited', 0.2)
+        out = call.target('OUTPUT')
+        made, refused = self.edit(call, drawing, numbers, out)
+        if not made.accepted:
+            call.warn('Nothing was changed: the new drawing is the same as the old one.')
+        return {**self.give(call, drawing, out, made, refused), **self.files(call)}
+
+    def edit(self, call: Call, drawing: Drawing, numbers: List[int], out: str) -> Tuple[Made, List[Refusal]]:
+        """Makes the new drawing, and says what was refused."""
+        raise NotImplementedError
+
+    def files(self, call: Call) -> Results:
+        """The files that were saved."""
+        return {name: call.file(name) for name in ('SCRIPT', 'PATCH') if call.parameters.get(name)}
+
+
+class CommandAlgorithm(EditAlgorithm):
+    """An edit by a command of the editor's script, a line for each element."""
+
+    def define_files(self) -> None:
+        self.add_file('SCRIPT', 'Script of what is done', SCRIPTS, 'Without the lines that were refused.')
+        super().define_files()
+
+    def template(self, call: Call, drawing: Drawing) -> str:
+        """The line, with {n} for the number of the element."""
+        raise NotImplementedError
+
+    def edit(self, call: Call, drawing: Drawing, numbers: List[int], out: str) -> Tuple[Made, List[Refusal]]:
+        template = self.template(call, drawing)
+        lines = [line_of(template, it) for it in numbers]
+        made = run_lines(call, drawing, lines, (call.target('SCRIPT'), call.target('PATCH')), out)
+        return made, list(refusals_of(made))
+
+
+class FieldAlgorithm(EditAlgorithm):
+    """An edit of single fields, for which the editor has no command: by a patch file."""
+
+    WORD = ''
+
+    def fields(self, call: Call, drawing: Drawing, numbers: List[int]) -> FieldEdits:
+        """The changes of these elements."""
+        raise NotImplementedError
+
+    def edit(self, call: Call, drawing: Drawing, numbers: List[int], out: str) -> Tuple[Made, List[Refusal]]:
+        dead, nesting = drawing.dead, drawing.nesting
+        tell_broken(call, drawing, numbers)
+        parts = {it for top in numbers for it in nesting.part(top) if it not in dead or top in dead}
+        edits = self.fields(call, drawing, sorted(parts))
+        patch = patch_of(drawing, edits.changes)
+        applied(drawing, patch, edits.changes)
+        made = run_patch(call, drawing, patch, call.target('PATCH'), out)
+        made.accepted = len(edits.changes)
+        return made, [(number, self.WORD, why) for number, why in edits.left]
+
+
+def tell_broken(call: Call, drawing: Drawing, numbers: List[int]) -> None:
+    """Says which elements stand in broken trees, so that it isn't known what belongs to them."""
+    broken = [it for it in numbers if drawing.nesting.roots[it] in drawing.nesting.broken_roots]
+    if broken:
+        said = 'It is not known what belongs to %s in broken trees (%s), and only they change: mend the drawing first.'
+        call.warn(said % (counted(len(broken), 'element'), few(broken)))

@@ -1,0 +1,178 @@
+"""Finds elements by conditions, and selects them."""
+
+from argparse import Namespace
+from bisect import bisect_left
+from typing import Any, Dict, List, Sequence
+
+from dgnkit.cli import Parser
+from dgnkit.drawing.conditions import Conditions
+from dgnkit.drawing.drawing import Drawing
+from dgnkit.drawing.nothing import nothing_said
+from dgnkit.drawing.options import add_conditions
+from dgnkit.errors import Mistake
+from dgnkit.format.element import described
+from dgnkit.format.units import shortest
+from qgis.core import (
+    QgsFeatureRequest,
+    QgsProcessingOutputNumber,
+    QgsProcessingOutputString,
+    QgsProcessingParameterEnum,
+    QgsProcessingParameterExtent,
+    QgsProcessingParameterNumber,
+    QgsProcessingParameterPoint,
+    QgsProcessingParameterString,
+    QgsVectorLayer,
+)
+
+from ..calls import Call
+from ..layers import DIGEST, drawing_layers
+from ..marks import Boxes, Marks, sink_parameter
+from ..opening import Wishes, digest_of
+from ..selection import spelled
+from .base import DgnAlgorithm, Results, opened
+
+# The conditions that are texts: the parameter, the option of dgnkit, and what is said of it.
+TEXTS = (
+    ('LEVEL', '--level', 'On these levels', 'As 12, 3-5,9 or >20.'),
+    ('TYPE', '--type', 'Of these types', 'By number or name, as 3,text.'),
+    ('COLOUR', '--color', 'Of these colours', 'As 3 or 1-5.'),
+    ('WEIGHT', '--weight', 'Of these weights', 'As >3.'),
+    ('STYLE', '--style', 'Of these styles', 'As 0 or 1-7.'),
+    ('TEXT', '--text', 'Texts with this word', 'Not in the midst of another word.'),
+    ('PATTERN', '--pattern', 'Texts with what this regular expression finds', ''),
+    ('SIZE', '--size', 'Texts of this height', 'As 2.5 or >2.5.'),
+    ('CELL', '--cell', 'Cells of this name', '* and ? stand for other letters.'),
+    ('NUMBER', '--number', 'With these numbers', 'As 12 or 3-5,9.'),
+)
+FLAGS = (
+    ('IGNORE_CASE', '--ignore-case', 'Small letters and capitals are the same'),
+    ('LOCKED', '--locked', 'Locked'),
+    ('BROKEN', '--broken', 'In a broken tree'),
+    ('WRONG_RANGE', '--wrong-range', 'With a wrong range'),
+    ('DELETED', '--deleted', 'Marked deleted'),
+)
+MODES = ['--inside', '--overlap', '--crossing', '--void']
+MODES_SAID = [
+    'in trees inside the box',
+    'in trees with something in the box',
+    'in trees that cross its edge',
+    'outside',
+]
+METHODS = ['new selection', 'add to the selection', 'do not select']
+FIELDS: Dict[str, type] = {'number': int, 'root': int, 'type': int, 'level': int, 'is': str}
+SETS, ADDS = QgsVectorLayer.SetSelection, QgsVectorLayer.AddToSelection
+
+
+class Find(DgnAlgorithm):
+    """What `dgnkit find` finds, as a selection and a table."""
+
+    NAME = 'find'
+    TITLE = 'Find and select'
+    SHORT = 'Finds the elements of a drawing that meet all conditions, and selects them in its layers.'
+    HELP = (
+        'The layers of the drawing have to be open for the selection. The table and the numbers can be given to the '
+        'edits, as in a model. Places are in the units of the layers.'
+    )
+    TAGS = 'find select search filter query'
+    numbers: Sequence[int] = ()
+    digest = ''
+
+    def define(self) -> None:
+        self.add_drawing()
+        for name, _, said, text in TEXTS:
+            self.add(QgsProcessingParameterString(name, said, None, False, True), text, name in ('PATTERN', 'NUMBER'))
+        self.add(QgsProcessingParameterExtent('BOX', 'A box on the map', None, True))
+        self.add(QgsProcessingParameterEnum('BOX_MODE', 'and of it what is', MODES_SAID, False, 0))
+        self.add_near()
+        for name, _, said in FLAGS:
+            self.add_flag(name, said, False, is_advanced=True)
+        self.add_flag('TREES', 'Whole trees', False, 'The root of the tree of each element that is found.')
+        self.add(QgsProcessingParameterEnum('METHOD', 'Selection', METHODS, False, 0))
+        self.add_system()
+        self.add(sink_parameter('OUTPUT', 'Table of what was found'))
+        self.addOutput(QgsProcessingOutputNumber('COUNT', 'How many elements were found'))
+        self.addOutput(QgsProcessingOutputString('NUMBERS', 'Their numbers'))
+
+    def add_near(self) -> None:
+        """A place, and how near."""
+        double, whole = QgsProcessingParameterNumber.Double, QgsProcessingParameterNumber.Integer
+        self.add(QgsProcessingParameterPoint('NEAR', 'Near this place', None, True), is_advanced=True)
+        self.add(QgsProcessingParameterNumber('WITHIN', 'at most so far away', double, None, True, 0), is_advanced=True)
+        self.add(
+            QgsProcessingParameterNumber('NEAREST', 'or so many, the nearest', whole, None, True, 1), is_advanced=True
+        )
+
+    def work(self, call: Call) -> Results:
+        call.doing('The drawing is read', 0.0)
+        drawing = opened(call.file('DRAWING'))
+        wishes = self.wishes(call, drawing)
+        conditions = Conditions(drawing, self.arguments(call, wishes))
+        self.numbers, self.digest = conditions.chosen(), digest_of(drawing)
+        call.say('found %d of %d elements' % (len(self.numbers), len(drawing.elements)))
+        if not self.numbers:
+            call.warn(nothing_said(conditions))
+        call.doing('The table is written', 0.7)
+        marks, boxes = Marks(call, 'OUTPUT', FIELDS, wishes), Boxes(drawing, wishes)
+        marks.add((boxes.around(it), row_of(drawing, it)) for it in self.numbers)
+        found = {'COUNT': len(self.numbers), 'NUMBERS': spelled(self.numbers)}
+        return {**found, 'OUTPUT': marks.id} if marks.id else {**found}
+
+    def arguments(self, call: Call, wishes: Wishes) -> Namespace:
+        """The conditions, as dgnkit reads them. It raises Mistake where one can't be read."""
+        words = ['--units=' + wishes.units]
+        words += ['%s=%s' % (option, call.text(name)) for name, option, _, _ in TEXTS if call.text(name)]
+        words += [option for name, option, _ in FLAGS if call.flag(name)]
+        words += ['--trees'] if call.flag('TREES') else []
+        words += box_words(call, wishes) + near_words(call, wishes)
+        parser = Parser(prog='find', add_help=False)
+        add_conditions(parser)
+        try:
+            return parser.parse_args(words)
+        except SystemExit:
+            raise Mistake('The conditions can not be read: %s' % ' '.join(words))
+
+    def finish(self, call: Call) -> None:
+        method = call.choice('METHOD', METHODS)
+        for layer in drawing_layers(call.project) if method != METHODS[2] else ():
+            if layer.customProperty(DIGEST) == self.digest:
+                select(layer, self.numbers, SETS if method == METHODS[0] else ADDS)
+
+
+def box_words(call: Call, wishes: Wishes) -> List[str]:
+    """The box, as dgnkit reads it."""
+    if call.parameters.get('BOX') in (None, ''):
+        return []
+    box = call.algorithm.parameterAsExtent(call.parameters, 'BOX', call.context, wishes.system)
+    corners = [(box.xMinimum(), box.yMinimum()), (box.xMaximum(), box.yMaximum())]
+    return [call.choice('BOX_MODE', MODES), *(','.join(map(shortest, it)) for it in corners)]
+
+
+def near_words(call: Call, wishes: Wishes) -> List[str]:
+    """The place, as dgnkit reads it."""
+    words = []
+    if call.parameters.get('NEAR') not in (None, ''):
+        point = call.algorithm.parameterAsPoint(call.parameters, 'NEAR', call.context, wishes.system)
+        words.append('--near=%s,%s' % (shortest(point.x()), shortest(point.y())))
+    if call.decimal('WITHIN'):
+        words.append('--within=' + call.decimal('WITHIN'))
+    if call.whole('NEAREST') is not None:
+        words.append('--nearest=%d' % (call.whole('NEAREST') or 0))
+    return words
+
+
+def row_of(drawing: Drawing, number: int) -> List[object]:
+    """A row of the table."""
+    element = drawing.elements[number]
+    return [number, drawing.nesting.roots[number], element.type, element.level, described(element)]
+
+
+def select(layer: QgsVectorLayer, numbers: Sequence[int], method: Any) -> None:
+    """Selects the features that stand for some elements."""
+    request = QgsFeatureRequest().setFlags(QgsFeatureRequest.NoGeometry)
+    request.setSubsetOfAttributes(['number', 'last'], layer.fields())
+    found = []
+    for feature in layer.getFeatures(request):
+        at = bisect_left(numbers, feature['number'])
+        if at < len(numbers) and numbers[at] <= feature['last']:
+            found.append(feature.id())
+    layer.selectByIds(found, method)

@@ -1,0 +1,90 @@
+"""Opens a drawing."""
+
+from qgis.core import (
+    QgsProcessing,
+    QgsProcessingOutputNumber,
+    QgsProcessingOutputVectorLayer,
+    QgsProcessingParameterFileDestination,
+)
+
+from ..calls import Call
+from ..layers import add_to_project, extent_of
+from ..opening import KINDS, Wishes, write_layers
+from .base import UNITS, DgnAlgorithm, Results, opened
+
+TYPES = {
+    'texts': QgsProcessing.TypeVectorPoint,
+    'points': QgsProcessing.TypeVectorPoint,
+    'lines': QgsProcessing.TypeVectorLine,
+    'areas': QgsProcessing.TypeVectorPolygon,
+    'ranges': QgsProcessing.TypeVectorPolygon,
+}
+NAMES = {
+    'texts': 'Texts',
+    'points': 'Points, and the origins of cells and text nodes',
+    'lines': 'Lines',
+    'areas': 'Areas',
+    'ranges': 'What is known by its range alone',
+}
+
+
+class OpenDrawing(DgnAlgorithm):
+    """A drawing as layers."""
+
+    NAME = 'open'
+    TITLE = 'Open a drawing'
+    SHORT = 'Opens a design file as layers, by level and by geometry, with its colours, weights, styles and texts.'
+    HELP = (
+        'Each drawing is a group, in it each level is a group, and in it are layers of lines, areas, points, texts and '
+        'ranges: the boxes of arcs and other elements whose coordinates are not read. Each feature has the number of '
+        'its element, by which it is edited, and that of the root of its tree.\n\n'
+        'Coordinates are in master units, such as metres, where the drawing says what these are. The drawing does not '
+        'say in which coordinate reference system it is: choose it, or leave it open.\n\n'
+        'The layers are kept in a GeoPackage. Name a file for it, or they are gone once QGIS is closed. They are read '
+        'only: edit the drawing by the algorithms of this plugin.'
+    )
+    TAGS = 'open read load import layers cad'
+
+    def define(self) -> None:
+        self.add_drawing()
+        self.add_system()
+        self.add_flag('HOLES', 'Areas with holes as such', True, 'A cell of an area and its holes is one area.')
+        self.add_flag('MEMBERS', 'The members of complex chains and shapes too', False, is_advanced=True)
+        self.add_flag('DELETED', 'What is marked deleted too', False, is_advanced=True)
+        self.add(
+            QgsProcessingParameterFileDestination('OUTPUT', 'GeoPackage of the layers', 'GeoPackage (*.gpkg)'),
+            'The file that the layers are kept in.',
+        )
+        self.add_flag('LOAD', 'Add the layers to the project', True)
+        for kind in KINDS:
+            self.addOutput(QgsProcessingOutputVectorLayer(kind.upper(), NAMES[kind], TYPES[kind]))
+            self.addOutput(QgsProcessingOutputNumber(kind.upper() + '_COUNT', NAMES[kind] + ': how many'))
+
+    def work(self, call: Call) -> Results:
+        call.doing('The drawing is read', 0.0)
+        drawing = opened(call.file('DRAWING'))
+        wishes = Wishes(
+            call.choice('UNITS', UNITS), call.system(), call.flag('MEMBERS'), call.flag('HOLES'), call.flag('DELETED')
+        )
+        package = call.target('OUTPUT')
+        count = len(drawing.elements)
+        call.doing('The layers are written', 0.1)
+        self.written = write_layers(drawing, package, wishes, lambda it: call.doing('', 0.1 + 0.8 * it))
+        counts = self.written.counts
+        call.say('%d elements; %s' % (count, ', '.join('%d %s' % (counts[it], it) for it in KINDS)))
+        sources = {it.upper(): '%s|layername=%s' % (package, it) for it in KINDS}
+        return {'OUTPUT': package, **sources, **{it.upper() + '_COUNT': counts[it] for it in KINDS}}
+
+    def finish(self, call: Call) -> None:
+        if call.flag('LOAD') and call.project is not None:
+            self.layers = add_to_project(call.project, self.written)
+            show(extent_of(self.layers))
+
+
+def show(extent: object) -> None:
+    """Lets the map, where there is a window, show a box."""
+    from qgis.utils import iface
+
+    if iface is not None and iface.mapCanvas() is not None:
+        iface.mapCanvas().setExtent(extent)
+        iface.mapCanvas().refresh()

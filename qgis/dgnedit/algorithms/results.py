@@ -1,0 +1,78 @@
+"""Algorithms that make a new drawing: the new one is opened beside the old one, and what was refused is a table."""
+
+from typing import Dict, Iterable, List, Optional, Tuple
+
+from dgnkit.drawing.drawing import Drawing
+from dgnkit.format.element import described
+from dgnkit.output import printable
+from qgis.core import QgsProcessingOutputNumber, QgsProcessingUtils
+
+from ..calls import Call
+from ..editing import Made
+from ..layers import add_to_project
+from ..marks import Boxes, Marks, sink_parameter
+from ..opening import Written, write_layers
+from .base import DgnAlgorithm, Results
+
+REFUSED_FIELDS: Dict[str, type] = {'number': int, 'root': int, 'is': str, 'command': str, 'why': str}
+PATCHES = 'Patch files (*.patch);;All files (*)'
+SCRIPTS = 'Scripts (*.txt);;All files (*)'
+Refusal = Tuple[Optional[int], str, str]  # the element, the command, and why
+MOST_SAID = 20  # so many refusals are said in the log
+
+
+class MakesDrawing(DgnAlgorithm):
+    """An algorithm that writes a new drawing."""
+
+    written: Optional[Written] = None
+
+    def add_outcome(self) -> None:
+        """The new drawing, and the table of what was refused."""
+        self.add_result()
+        self.add(
+            sink_parameter('REFUSED', 'Table of what was refused'),
+            'A row for each command that was refused, with its reason; the rest was done.',
+        )
+        self.addOutput(QgsProcessingOutputNumber('ACCEPTED', 'How many edits were made'))
+        self.addOutput(QgsProcessingOutputNumber('REFUSED_COUNT', 'How many were refused'))
+
+    def give(self, call: Call, drawing: Drawing, out: str, made: Made, refused: List[Refusal]) -> Results:
+        """Says what was made, writes the table, and prepares the layers of the new drawing."""
+        for line in made.said:
+            call.say(printable(line))
+        for number, command, why in refused[:MOST_SAID]:
+            call.warn('%s: %s' % (printable(command), printable(why)))
+        if len(refused) > MOST_SAID:
+            call.warn('and %d more: see the table of what was refused' % (len(refused) - MOST_SAID))
+        call.say('%s: written' % out)
+        wishes = self.wishes(call, drawing)
+        marks = Marks(call, 'REFUSED', REFUSED_FIELDS, wishes)
+        boxes = Boxes(drawing, wishes)
+        marks.add((boxes.around(it[0]), refused_row(drawing, it)) for it in refused)
+        if call.flag('OPEN') and call.project is not None:
+            package = QgsProcessingUtils.generateTempFilename('layers.gpkg')
+            result = Drawing(out, drawing.program)
+            call.feedback.setProgressText('The layers of the new drawing are written')
+            self.written = write_layers(result, package, wishes, lambda it: call.doing('', 0.5 + 0.4 * it))
+        results = {'OUTPUT': out, 'ACCEPTED': made.accepted, 'REFUSED_COUNT': len(refused)}
+        return {**results, 'REFUSED': marks.id} if marks.id else results
+
+    def finish(self, call: Call) -> None:
+        if self.written is not None and call.project is not None:
+            add_to_project(call.project, self.written)
+
+
+def refused_row(drawing: Drawing, refused: Refusal) -> List[object]:
+    """A row of the table."""
+    number, command, why = refused
+    if number is None or number >= len(drawing.elements):
+        return [number, None, None, command, why]
+    return [number, drawing.nesting.roots[number], described(drawing.elements[number]), command, why]
+
+
+def refusals_of(made: Made) -> Iterable[Refusal]:
+    """What was refused of scripts, each with the element that the command names."""
+    for it in made.refused:
+        words = str(it['command']).split()
+        number = int(words[1]) if len(words) > 1 and words[1].isdigit() and not words[0].startswith('f') else None
+        yield number, 'line %s: %s' % (it['line'], it['command']), str(it['why'])
