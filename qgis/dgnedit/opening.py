@@ -93,7 +93,7 @@ def write_layers(drawing: Drawing, package: str, wishes: Wishes, tell: Callable[
             kind = kind_of(placed)
             made.put(kind, rows.geometry(placed), rows.values(placed))
             written.counts[kind] += 1
-            written.styles.setdefault((placed.look.level, kind), set()).add(placed.look.style)
+            written.styles.setdefault((placed.level, kind), set()).add(placed.look.style)
         made.close('level')
     except BaseException:
         made.drop()
@@ -134,7 +134,7 @@ class _Rows:
             nesting.depths[number],
             element.type,
             element.type_name,
-            look.level,
+            placed.level,
             colour,
             drawing.palette.spelled[colour],
             look.weight,

@@ -108,7 +108,8 @@ def ask_rows(drawing: Drawing, rows: Sequence[Row]) -> None:
     """It raises Mistake where a row is of another element than the drawing has: it is a row of another drawing."""
     for row in rows:
         if row.number >= len(drawing.elements):
-            continue
+            said = 'The table is none of %s: it has an element %d, and here are 0 to %d.'
+            raise Mistake(said % (drawing.path, row.number, len(drawing.elements) - 1))
         element = drawing.elements[row.number]
         for name, value in row.facts.items():
             if value != getattr(element, name):

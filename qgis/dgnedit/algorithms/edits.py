@@ -79,10 +79,7 @@ class EditAlgorithm(MakesDrawing):
 
     def work(self, call: Call) -> Results:
         call.doing('The drawing is read', 0.0)
-        path = call.file('DRAWING') or drawing_of(self.selected)
-        if not path:
-            raise Mistake('Nothing is selected and no drawing is named: select features in the layers of a drawing.')
-        drawing = opened(path)
+        drawing = opened(call.file('DRAWING') or drawing_of(self.selected) or self.only_one())
         rows = rows_of(self.parameterAsSource(call.parameters, 'TABLE', call.context))
         numbers = chosen(drawing, self.selected, call.text('NUMBERS'), rows)
         if call.flag('TREES'):
@@ -97,6 +94,13 @@ class EditAlgorithm(MakesDrawing):
         if not made.accepted:
             call.warn('Nothing was changed: the new drawing is the same as the old one.')
         return {**self.give(call, drawing, out, made, refused), **self.files(call)}
+
+    def only_one(self) -> str:
+        """The only drawing that is open in the project."""
+        names = {it.drawing for it in self.known}
+        if len(names) != 1:
+            raise Mistake('Nothing is selected and no drawing is named: select features in the layers of a drawing.')
+        return names.pop()
 
     def edit(self, call: Call, drawing: Drawing, numbers: List[int], out: str) -> Tuple[Made, List[Refusal]]:
         """Makes the new drawing, and says what was refused."""

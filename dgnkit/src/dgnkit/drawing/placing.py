@@ -26,14 +26,18 @@ class Geometry(Generic[Spelled]):
 
 
 class Placed(NamedTuple):
-    """An element that is drawn, the element whose level and look it has, the last one that it stands for, and where it
-    is."""
+    """An element that is drawn, the element whose look it has, the last one that it stands for, and where it is."""
 
     element: Element
     look: Element
     last: int
     kind: str
     coordinates: object
+
+    @property
+    def level(self) -> int:
+        """The level that it is drawn on: that of its header where its own is 0, as GDAL's rings have it."""
+        return self.look.level or self.element.level
 
 
 class Placing(Generic[Spelled]):
