@@ -34,9 +34,14 @@ class Made:
 
 @contextlib.contextmanager
 def folder() -> Iterator[Path]:
-    """A folder for files that are gone afterwards."""
+    """A folder for files that are gone afterwards, and that mistakes name without it."""
     with tempfile.TemporaryDirectory(prefix='dgnedit-') as name:
-        yield Path(name)
+        try:
+            yield Path(name)
+        except Mistake as why:
+            if type(why) is not Mistake:
+                raise
+            raise Mistake(str(why).replace(name + os.sep, ''))
 
 
 def run_files(call: Call, drawing: Drawing, files: Sequence[str], out: str) -> Made:

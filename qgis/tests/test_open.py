@@ -75,9 +75,11 @@ class Opened(WithLayers):
         path = self.example('town.dgn')
         self.open(path, CRS=QgsCoordinateReferenceSystem('EPSG:25832'))
         self.assertEqual({it.crs().authid() for it in self.project.mapLayers().values()}, {'EPSG:25832'})
+        self.assertEqual(self.project.crs().authid(), 'EPSG:25832')
         self.project.clear()
         self.open(path)
         self.assertEqual({it.crs().isValid() for it in self.project.mapLayers().values()}, {False})
+        self.assertFalse(self.project.crs().isValid())
 
     def test_three_axes(self) -> None:
         arc = bytearray(drawings.element(16, 1, 100))

@@ -76,9 +76,13 @@ class OpenDrawing(DgnAlgorithm):
         return {'OUTPUT': package, **sources, **{it.upper() + '_COUNT': counts[it] for it in KINDS}}
 
     def finish(self, call: Call) -> None:
-        if call.flag('LOAD') and call.project is not None:
-            self.layers = add_to_project(call.project, self.written)
-            show(extent_of(self.layers))
+        if not call.flag('LOAD') or call.project is None:
+            return
+        is_first = not call.project.mapLayers()
+        layers = add_to_project(call.project, self.written)
+        if is_first:
+            call.project.setCrs(self.written.wishes.system)
+        show(extent_of(layers))
 
 
 def show(extent: object) -> None:

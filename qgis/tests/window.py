@@ -1,0 +1,79 @@
+"""A QGIS with a window, on a screen that nobody sees, in a fresh profile with the plugin from its zip file."""
+
+from __future__ import annotations
+
+import contextlib
+import json
+import os
+import shutil
+import subprocess
+import sys
+import tempfile
+import zipfile
+from pathlib import Path
+from typing import Any, Dict, Iterator, Optional
+
+HERE = Path(__file__).resolve().parent
+TOP = HERE.parents[1]
+QGIS = shutil.which('qgis.bin') or shutil.which('qgis')
+SCREEN = shutil.which('Xvfb')
+PATIENCE = 180  # seconds that all of it may take
+SETTINGS = '[PythonPlugins]\ndgnedit=true\nprocessing=true\n[app]\nprojections\\defaultProjectCrs=EPSG:4326\n'
+
+
+@contextlib.contextmanager
+def screen() -> Iterator[str]:
+    """A screen; its name."""
+    assert SCREEN is not None
+    reading, writing = os.pipe()
+    words = [SCREEN, '-displayfd', str(writing), '-screen', '0', '1400x900x24', '-nolisten', 'tcp']
+    ran = subprocess.Popen(words, pass_fds=[writing], stderr=subprocess.DEVNULL)
+    try:
+        os.close(writing)
+        with os.fdopen(reading) as said:
+            yield ':' + said.readline().strip()
+    finally:
+        ran.terminate()
+        ran.wait()
+
+
+def make_zip(folder: Path) -> Path:
+    """The zip file of the plugin, made in a folder."""
+    said = subprocess.run([sys.executable, str(TOP / 'tools' / 'make_qgis'), str(folder)], stdout=subprocess.PIPE)
+    return Path(said.stdout.decode().strip())
+
+
+def make_profile(folder: Path, packed: Path) -> Path:
+    """A fresh profile into which the zip file is unpacked, as QGIS does that installs it."""
+    profile = folder / 'profiles' / 'default'
+    (profile / 'python' / 'plugins').mkdir(parents=True)
+    (profile / 'QGIS').mkdir()
+    (profile / 'QGIS' / 'QGIS3.ini').write_text(SETTINGS)
+    with zipfile.ZipFile(packed) as file:
+        file.extractall(profile / 'python' / 'plugins')
+    return profile
+
+
+def run(script: str, program: Optional[str], **facts: Any) -> Dict[str, Any]:
+    """Runs a script of this folder in QGIS, and gives what it found: the file `found.json` of its folder `work`."""
+    with tempfile.TemporaryDirectory(prefix='dgnedit-window-') as name, screen() as display:
+        folder = Path(name)
+        make_profile(folder, make_zip(folder))
+        work = folder / 'work'
+        work.mkdir()
+        (work / 'facts.json').write_text(json.dumps({**facts, 'program': program, 'top': str(TOP)}))
+        environment = {
+            key: it for key, it in os.environ.items() if not key.startswith(('QGIS', 'PYTHON', 'QT_', 'DGN'))
+        }
+        environment.update(HOME=name, XDG_RUNTIME_DIR=name, DISPLAY=display, WORK=str(work), LANG='C.UTF-8')
+        folder.chmod(0o700)
+        words = [str(QGIS), '--noversioncheck', '--nologo', '--profiles-path', name, '--code', str(HERE / script)]
+        words += [] if str(QGIS).endswith('.bin') else []
+        ran = subprocess.run(
+            words, env=environment, cwd=name, stdout=subprocess.PIPE, stderr=subprocess.STDOUT, timeout=PATIENCE
+        )
+        found = work / 'found.json'
+        if not found.exists():
+            raise AssertionError('QGIS ended with %d: %s' % (ran.returncode, ran.stdout.decode('utf-8', 'replace')))
+        made: Dict[str, Any] = json.loads(found.read_text())
+        return made
