@@ -101,6 +101,14 @@ def wishes_for(known: Sequence[Known], drawing: Drawing) -> Wishes:
     return next((it.wishes for it in same if it.drawing == path), same[0].wishes) if same else Wishes()
 
 
+def hide_drawing(project: QgsProject, path: str) -> None:
+    """Hides the groups of a drawing."""
+    for group in project.layerTreeRoot().findGroups():
+        if group.customProperty(DRAWING) == path:
+            group.setItemVisibilityChecked(False)
+            group.setExpanded(False)
+
+
 def extent_of(layers: List[QgsVectorLayer]) -> QgsRectangle:
     """The least box that holds layers."""
     made = QgsRectangle()

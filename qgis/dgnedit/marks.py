@@ -97,6 +97,12 @@ class Marks:
                 feature.setGeometry(box)
             self.sink.addFeature(feature, QgsFeatureSink.FastInsert)
 
+    def do_not_load(self, call: Call) -> None:
+        """Keeps the table from being added to the project."""
+        waiting = call.context.layersToLoadOnCompletion()
+        waiting.pop(self.id, None)
+        call.context.setLayersToLoadOnCompletion(waiting)
+
 
 class Dress(QgsProcessingLayerPostProcessorInterface):
     """Gives such a table its look once it is in the project, and a button for each row that zooms to it."""

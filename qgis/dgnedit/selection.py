@@ -1,6 +1,7 @@
 """Which elements are to be edited: the features that are selected in layers, numbers, or the rows of a table."""
 
 import os
+from bisect import bisect_left
 from dataclasses import dataclass, field
 from typing import Any, Dict, List, Optional, Sequence
 
@@ -10,7 +11,7 @@ from dgnkit.drawing.spans import Spans
 from dgnkit.errors import Mistake
 from dgnkit.format.element import described
 from dgnkit.format.limits import ELEMENTS_MOST
-from qgis.core import QgsFeatureRequest, QgsProcessingFeatureSource, QgsVectorLayer
+from qgis.core import QgsFeatureRequest, QgsProcessingFeatureSource, QgsProject, QgsVectorLayer
 
 from .calls import Call
 from .layers import DIGEST, DRAWING, drawing_layers, is_of_drawing
@@ -152,3 +153,24 @@ def spelled(numbers: Sequence[int]) -> str:
         pieces.append(str(numbers[at]) if end == at else '%d-%d' % (numbers[at], numbers[end]))
         at = end + 1
     return ','.join(pieces)
+
+
+def move_selection(project: QgsProject, old: str, new: str, numbers: Sequence[int]) -> None:
+    """Selects in the layers of a new drawing what was selected in those of the old one, and nothing in these."""
+    for layer in drawing_layers(project):
+        if layer.customProperty(DRAWING) == old:
+            layer.removeSelection()
+        elif layer.customProperty(DRAWING) == new:
+            select(layer, numbers)
+
+
+def select(layer: QgsVectorLayer, numbers: Sequence[int], method: Any = QgsVectorLayer.SetSelection) -> None:
+    """Selects the features that stand for some elements."""
+    request = QgsFeatureRequest().setFlags(QgsFeatureRequest.NoGeometry)
+    request.setSubsetOfAttributes(['number', 'last'], layer.fields())
+    found = []
+    for feature in layer.getFeatures(request):
+        at = bisect_left(numbers, feature['number'])
+        if at < len(numbers) and numbers[at] <= feature['last']:
+            found.append(feature.id())
+    layer.selectByIds(found, method)

@@ -25,7 +25,11 @@ class Profile:
         (plugins / 'dgnedit').symlink_to(plugin, target_is_directory=True)
         self.environment = {key: it for key, it in os.environ.items() if not key.startswith(('QGIS', 'PYTHON'))}
         self.environment.update(
-            HOME=str(home), XDG_RUNTIME_DIR=str(home), QT_QPA_PLATFORM='offscreen', PYTHONDONTWRITEBYTECODE='1'
+            HOME=str(home),
+            XDG_RUNTIME_DIR=str(home),
+            PATH='/usr/bin:/bin',  # where no other Python is found than that of QGIS
+            QT_QPA_PLATFORM='offscreen',
+            PYTHONDONTWRITEBYTECODE='1',
         )
         self.environment.pop('DGNEDIT', None)
         if program is not None:

@@ -45,11 +45,13 @@ class NewUser(samples.WithProgram):
         self.assertIn('Install dgnedit_VERSION_amd64.deb', found['missing'])
         self.assertFalse(found['missing_written'])
         self.assertEqual([ok for _, ok in found['steps']], [[False], *[[True]] * 6])
-        self.assertEqual((found['findings'], found['groups']), (11, ['mended.dgn']))
+        self.assertEqual((found['findings'], found['groups'], found['system']), (11, ['mended.dgn'], 'EPSG:25832'))
         # colour 3 of the usual table, and colour 5
         self.assertEqual((found['road'], found['road_after']), ('#ff0000', '#ff00ff'))
         moved = [round(b - a, 6) for a, b in zip(found['parcel'], found['parcel_after'])]
         self.assertEqual(moved, [12.5, 45, 12.5, 45])
+        self.assertEqual(found['selected'], [15])
+        self.assertEqual(found['shown'], {'mended.dgn': False, 'road.dgn': False, 'parcel.dgn': True})
         words = dict(found['changes'])
         self.assertEqual(len(words), 13)  # the chain with nine members, and the parcel with two rings
         self.assertIn('moved by 12.5,45 m', words['cell 38 on level 20'])

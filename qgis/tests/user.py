@@ -1,6 +1,7 @@
 """What a new user does in QGIS, by its menus and dialogues: names the program, opens a drawing, mends it, recolours a
 road, moves a parcel, and compares. It runs in QGIS itself, and leaves what it found in a file."""
 
+import faulthandler
 import json
 import os
 import shutil
@@ -11,7 +12,7 @@ from pathlib import Path
 from typing import Any, Callable, Dict, List, Optional
 
 from processing.gui.AlgorithmDialog import AlgorithmDialog
-from qgis.core import QgsApplication, QgsProject, QgsSettings, QgsVectorLayer
+from qgis.core import QgsProject, QgsSettings, QgsVectorLayer
 from qgis.PyQt.QtCore import QTimer
 from qgis.PyQt.QtWidgets import QAction, QApplication, QDialogButtonBox, QTextEdit
 from qgis.utils import iface
@@ -114,13 +115,15 @@ def name_the_program() -> None:
 def mend_and_open() -> None:
     """Mends the drawing, which opens the mended one."""
     by_dialogue('Check a drawing', {'DRAWING': str(WORK / 'town.dgn'), 'OUTPUT': 'TEMPORARY_OUTPUT'})
-    found['findings'] = len(list(QgsProject.instance().mapLayersByName('Table of findings')[0].getFeatures()))
+    found['findings'] = len(list(QgsProject.instance().mapLayersByName('Findings')[0].getFeatures()))
     by_dialogue('Mend a drawing', {'DRAWING': str(WORK / 'town.dgn'), 'OUTPUT': str(WORK / 'mended.dgn')})
     QgsProject.instance().clear()
-    by_dialogue('Open a drawing', {'DRAWING': str(WORK / 'mended.dgn'), 'OUTPUT': str(WORK / 'mended.gpkg')})
+    words = {'DRAWING': str(WORK / 'mended.dgn'), 'CRS': 'EPSG:25832', 'OUTPUT': str(WORK / 'mended.gpkg')}
+    by_dialogue('Open a drawing', words)
     wait(1)
     open_levels()
     found['groups'] = [it.name() for it in QgsProject.instance().layerTreeRoot().children()]
+    found['system'] = QgsProject.instance().crs().authid()
     picture('qgis-open.png')
 
 
@@ -128,15 +131,15 @@ def recolour_a_road() -> None:
     """The road is selected, and gets another colour and weight."""
     found['road'] = say_of('mended 12 lines', 'rgb')['15']
     layer('mended 12 lines').selectByExpression('"number" = 15')
-    words = {'COLOUR': 5, 'WEIGHT': 6, 'OUTPUT': str(WORK / 'road.dgn')}
+    words = {'COLOUR': 5, 'WEIGHT': 6, 'OUTPUT': 'road.dgn'}
     by_dialogue('Colour, weight and style', words, 'qgis-look.png')
     found['road_after'] = say_of('road 12 lines', 'rgb')['15']
 
 
 def move_a_parcel() -> None:
     """The parcel is selected in the new drawing, and moved."""
-    QgsApplication.processEvents()
-    layer('mended 12 lines').removeSelection()
+    found['selected'] = [it['number'] for it in layer('road 12 lines').selectedFeatures()]
+    layer('road 12 lines').removeSelection()
     layer('road 20 areas').selectByExpression('"number" = 38')
     found['parcel'] = places_of('road 20 areas')['38']
     by_dialogue('Move', {'DX': 12.5, 'DY': 45, 'OUTPUT': str(WORK / 'parcel.dgn')})
@@ -146,8 +149,8 @@ def move_a_parcel() -> None:
 def compare() -> None:
     """The first drawing and the last one."""
     names = {'FIRST': str(WORK / 'mended.dgn'), 'SECOND': str(WORK / 'parcel.dgn'), 'OUTPUT': 'TEMPORARY_OUTPUT'}
-    for name in ('mended.dgn', 'road.dgn'):
-        QgsProject.instance().layerTreeRoot().findGroup(name).setItemVisibilityChecked(False)
+    groups = QgsProject.instance().layerTreeRoot().findGroups()
+    found['shown'] = {it.name(): it.isVisible() for it in groups if it.name().endswith('.dgn')}
     by_dialogue('Compare two drawings', names)
     changes = QgsProject.instance().mapLayersByName('Changes')[0]
     found['changes'] = [[it['is'], it['words']] for it in changes.getFeatures()]
@@ -174,8 +177,11 @@ def keep_wrong(kind: Any, why: BaseException, trace: Any) -> None:
 
 
 def all_of_it() -> None:
-    """One step behind the other."""
+    """One step behind the other; where it hangs, QGIS is ended, and says where."""
     sys.excepthook = keep_wrong
+    stack = open(WORK / 'stack.txt', 'w')
+    faulthandler.dump_traceback_later(FACTS['patience'], exit=True, file=stack)
+    os.chdir(WORK)
     shutil.copy(Path(FACTS['top']) / 'examples' / 'town.dgn', WORK / 'town.dgn')
     iface.mainWindow().resize(1280, 760)
     iface.mainWindow().findChild(object, 'Browser') and iface.mainWindow().findChild(object, 'Browser').hide()

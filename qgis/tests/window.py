@@ -17,7 +17,8 @@ HERE = Path(__file__).resolve().parent
 TOP = HERE.parents[1]
 QGIS = shutil.which('qgis.bin') or shutil.which('qgis')
 SCREEN = shutil.which('Xvfb')
-PATIENCE = 180  # seconds that all of it may take
+PATH = '/usr/bin:/bin'  # where no other Python is found than that of QGIS, and no dgnedit
+PATIENCE = 90  # seconds that all of it may take
 SETTINGS = '[PythonPlugins]\ndgnedit=true\nprocessing=true\n[app]\nprojections\\defaultProjectCrs=EPSG:4326\n'
 
 
@@ -61,19 +62,22 @@ def run(script: str, program: Optional[str], **facts: Any) -> Dict[str, Any]:
         make_profile(folder, make_zip(folder))
         work = folder / 'work'
         work.mkdir()
-        (work / 'facts.json').write_text(json.dumps({**facts, 'program': program, 'top': str(TOP)}))
+        (work / 'facts.json').write_text(
+            json.dumps({**facts, 'program': program, 'top': str(TOP), 'patience': PATIENCE})
+        )
         environment = {
             key: it for key, it in os.environ.items() if not key.startswith(('QGIS', 'PYTHON', 'QT_', 'DGN'))
         }
-        environment.update(HOME=name, XDG_RUNTIME_DIR=name, DISPLAY=display, WORK=str(work), LANG='C.UTF-8')
+        environment.update(HOME=name, XDG_RUNTIME_DIR=name, DISPLAY=display, WORK=str(work), LANG='C.UTF-8', PATH=PATH)
         folder.chmod(0o700)
         words = [str(QGIS), '--noversioncheck', '--nologo', '--profiles-path', name, '--code', str(HERE / script)]
-        words += [] if str(QGIS).endswith('.bin') else []
         ran = subprocess.run(
-            words, env=environment, cwd=name, stdout=subprocess.PIPE, stderr=subprocess.STDOUT, timeout=PATIENCE
+            words, env=environment, cwd=name, stdout=subprocess.PIPE, stderr=subprocess.STDOUT, timeout=2 * PATIENCE
         )
-        found = work / 'found.json'
+        found, stack = work / 'found.json', work / 'stack.txt'
         if not found.exists():
-            raise AssertionError('QGIS ended with %d: %s' % (ran.returncode, ran.stdout.decode('utf-8', 'replace')))
+            where = stack.read_text() if stack.exists() else ''
+            said = ran.stdout.decode('utf-8', 'replace')
+            raise AssertionError('QGIS ended with %d: %s%s' % (ran.returncode, said, where))
         made: Dict[str, Any] = json.loads(found.read_text())
         return made

@@ -128,11 +128,14 @@ class DgnAlgorithm(QgsProcessingAlgorithm):
             parameter.setFlags(parameter.flags() | QgsProcessingParameterDefinition.FlagAdvanced)
         self.addParameter(parameter)
 
-    def add_drawing(self, name: str = 'DRAWING', said: str = 'Drawing', is_optional: bool = False) -> None:
+    def add_drawing(
+        self, name: str = 'DRAWING', said: str = 'Drawing', is_optional: bool = False, is_advanced: bool = False
+    ) -> None:
         """A drawing that is read."""
         self.add(
             QgsProcessingParameterFile(name, said, fileFilter=DRAWINGS, optional=is_optional),
             'A MicroStation design file of version 7. It is read, and never written.',
+            is_advanced,
         )
 
     def add_result(self) -> None:
@@ -148,7 +151,8 @@ class DgnAlgorithm(QgsProcessingAlgorithm):
 
     def add_file(self, name: str, said: str, kinds: str, text: str = '') -> None:
         """A file that is written where it is wished."""
-        self.add(QgsProcessingParameterFileDestination(name, said, kinds, optional=True, createByDefault=False), text)
+        parameter = QgsProcessingParameterFileDestination(name, said, kinds, optional=True, createByDefault=False)
+        self.add(parameter, text, True)
 
     def add_system(self) -> None:
         """The coordinate reference system of layers, and the units of their coordinates."""

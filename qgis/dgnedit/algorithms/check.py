@@ -42,7 +42,7 @@ class Check(DgnAlgorithm):
     def define(self) -> None:
         self.add_drawing()
         self.add_system()
-        self.add(sink_parameter('OUTPUT', 'Table of findings'))
+        self.add(sink_parameter('OUTPUT', 'Findings'))
         self.addOutput(QgsProcessingOutputNumber('COUNT', 'How many findings there are'))
 
     def work(self, call: Call) -> Results:

@@ -19,7 +19,7 @@ from qgis.core import (
 
 from ..calls import Call
 from ..editing import Made, run_lines, run_patch
-from ..selection import Selected, chosen, drawing_of, rows_of, selected_in
+from ..selection import Selected, chosen, drawing_of, move_selection, rows_of, selected_in
 from .base import Results, opened
 from .results import PATCHES, SCRIPTS, MakesDrawing, Refusal, refusals_of
 
@@ -28,8 +28,9 @@ HELP = (
     'The features that are selected in the layers of a drawing are edited: of all its layers, or of those that are '
     'named. Or give the numbers of elements, or a table with a field "number". Whole trees are edited, such as a cell '
     'with all in it, unless this is switched off.\n\n'
-    'The result is a new drawing, which is opened beside the old one; the old one is never written. What is refused, '
-    'such as anything that is locked, is in a table with its reason, and the rest is done.'
+    'The result is a new drawing, which is opened beside the old one, with the same features selected; the old one is '
+    'never written. What is refused, such as anything that is locked, is in a table with its reason, and the rest is '
+    'done.'
 )
 TOLD = 8
 
@@ -40,18 +41,20 @@ class EditAlgorithm(MakesDrawing):
     GROUP = ('edit', 'Edit what is selected')
     MORE = ''
     selected: List[Selected] = []
+    chosen: List[int] = []
 
     def shortHelpString(self) -> str:
         return '\n\n'.join(it for it in (self.SHORT, self.MORE, HELP) if it)
 
     def define(self) -> None:
-        self.add_drawing(said='Drawing (else the one in whose layers features are selected)', is_optional=True)
         self.define_edit()
+        self.add_flag('TREES', 'Whole trees', True, 'Such as a cell with all in it, if one feature of it is selected.')
+        self.add_drawing(said='Drawing (else that of the selection)', is_optional=True, is_advanced=True)
         self.add(
             QgsProcessingParameterMultipleLayers('LAYERS', 'Only what is selected in these layers', ANY, None, True),
             'Where none are named, what is selected in all layers of the drawing.',
+            True,
         )
-        self.add_flag('TREES', 'Whole trees', True, 'Such as a cell with all in it, if one feature of it is selected.')
         self.add(
             QgsProcessingParameterString('NUMBERS', 'Or the elements with these numbers', None, False, True),
             'Such as 12 or 3-5,9; then what is selected counts only in the layers that are named.',
@@ -81,7 +84,7 @@ class EditAlgorithm(MakesDrawing):
         call.doing('The drawing is read', 0.0)
         drawing = opened(call.file('DRAWING') or drawing_of(self.selected) or self.only_one())
         rows = rows_of(self.parameterAsSource(call.parameters, 'TABLE', call.context))
-        numbers = chosen(drawing, self.selected, call.text('NUMBERS'), rows)
+        self.chosen = numbers = chosen(drawing, self.selected, call.text('NUMBERS'), rows)
         if call.flag('TREES'):
             numbers = sorted({drawing.nesting.roots[it] for it in numbers})
         else:
@@ -94,6 +97,12 @@ class EditAlgorithm(MakesDrawing):
         if not made.accepted:
             call.warn('Nothing was changed: the new drawing is the same as the old one.')
         return {**self.give(call, drawing, out, made, refused), **self.files(call)}
+
+    def finish(self, call: Call) -> None:
+        """What was selected in the old drawing is selected in the new one."""
+        super().finish(call)
+        if self.selected and self.written is not None and call.project is not None:
+            move_selection(call.project, self.selected[0].drawing, self.written.drawing, self.chosen)
 
     def only_one(self) -> str:
         """The only drawing that is open in the project."""

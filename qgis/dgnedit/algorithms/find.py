@@ -1,8 +1,7 @@
 """Finds elements by conditions, and selects them."""
 
 from argparse import Namespace
-from bisect import bisect_left
-from typing import Any, Dict, List, Sequence
+from typing import Dict, List, Sequence
 
 from dgnkit.cli import Parser
 from dgnkit.drawing.conditions import Conditions
@@ -13,7 +12,6 @@ from dgnkit.errors import Mistake
 from dgnkit.format.element import described
 from dgnkit.format.units import shortest
 from qgis.core import (
-    QgsFeatureRequest,
     QgsProcessingOutputNumber,
     QgsProcessingOutputString,
     QgsProcessingParameterEnum,
@@ -28,7 +26,7 @@ from ..calls import Call
 from ..layers import DIGEST, drawing_layers
 from ..marks import Boxes, Marks, sink_parameter
 from ..opening import Wishes, digest_of
-from ..selection import spelled
+from ..selection import select, spelled
 from .base import DgnAlgorithm, Results, opened
 
 # The conditions that are texts: the parameter, the option of dgnkit, and what is said of it.
@@ -89,7 +87,7 @@ class Find(DgnAlgorithm):
         self.add_flag('TREES', 'Whole trees', False, 'The root of the tree of each element that is found.')
         self.add(QgsProcessingParameterEnum('METHOD', 'Selection', METHODS, False, 0))
         self.add_system()
-        self.add(sink_parameter('OUTPUT', 'Table of what was found'))
+        self.add(sink_parameter('OUTPUT', 'What was found'))
         self.addOutput(QgsProcessingOutputNumber('COUNT', 'How many elements were found'))
         self.addOutput(QgsProcessingOutputString('NUMBERS', 'Their numbers'))
 
@@ -164,15 +162,3 @@ def row_of(drawing: Drawing, number: int) -> List[object]:
     """A row of the table."""
     element = drawing.elements[number]
     return [number, drawing.nesting.roots[number], element.type, element.level, described(element)]
-
-
-def select(layer: QgsVectorLayer, numbers: Sequence[int], method: Any) -> None:
-    """Selects the features that stand for some elements."""
-    request = QgsFeatureRequest().setFlags(QgsFeatureRequest.NoGeometry)
-    request.setSubsetOfAttributes(['number', 'last'], layer.fields())
-    found = []
-    for feature in layer.getFeatures(request):
-        at = bisect_left(numbers, feature['number'])
-        if at < len(numbers) and numbers[at] <= feature['last']:
-            found.append(feature.id())
-    layer.selectByIds(found, method)

@@ -33,7 +33,7 @@ class Mend(MakesDrawing):
     def define(self) -> None:
         self.add_drawing()
         self.add_result()
-        self.add(sink_parameter('TABLE', 'Table of what was mended, and what was left'))
+        self.add(sink_parameter('TABLE', 'What was mended, and what was left'))
         self.add_file('PATCH', 'Patch file of what is done', PATCHES)
         self.addOutput(QgsProcessingOutputNumber('BEFORE', 'How many trees were broken'))
         self.addOutput(QgsProcessingOutputNumber('AFTER', 'How many trees are broken still'))

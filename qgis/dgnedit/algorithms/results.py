@@ -1,5 +1,6 @@
 """Algorithms that make a new drawing: the new one is opened beside the old one, and what was refused is a table."""
 
+import os
 from typing import Dict, Iterable, List, Optional, Tuple
 
 from dgnkit.drawing.drawing import Drawing
@@ -9,7 +10,7 @@ from qgis.core import QgsProcessingOutputNumber, QgsProcessingUtils
 
 from ..calls import Call
 from ..editing import Made
-from ..layers import add_to_project
+from ..layers import add_to_project, hide_drawing
 from ..marks import Boxes, Marks, sink_parameter
 from ..opening import Written, write_layers
 from .base import DgnAlgorithm, Results
@@ -25,12 +26,13 @@ class MakesDrawing(DgnAlgorithm):
     """An algorithm that writes a new drawing."""
 
     written: Optional[Written] = None
+    old = ''
 
     def add_outcome(self) -> None:
         """The new drawing, and the table of what was refused."""
         self.add_result()
         self.add(
-            sink_parameter('REFUSED', 'Table of what was refused'),
+            sink_parameter('REFUSED', 'What was refused'),
             'A row for each command that was refused, with its reason; the rest was done.',
         )
         self.addOutput(QgsProcessingOutputNumber('ACCEPTED', 'How many edits were made'))
@@ -49,16 +51,21 @@ class MakesDrawing(DgnAlgorithm):
         marks = Marks(call, 'REFUSED', REFUSED_FIELDS, wishes)
         boxes = Boxes(drawing, wishes)
         marks.add((boxes.around(it[0]), refused_row(drawing, it)) for it in refused)
+        if not refused:
+            marks.do_not_load(call)
         if call.flag('OPEN') and call.project is not None:
             package = QgsProcessingUtils.generateTempFilename('layers.gpkg')
             result = Drawing(out, drawing.program)
             call.feedback.setProgressText('The layers of the new drawing are written')
             self.written = write_layers(result, package, wishes, lambda it: call.doing('', 0.5 + 0.4 * it))
+            self.old = os.path.abspath(drawing.path)
         results = {'OUTPUT': out, 'ACCEPTED': made.accepted, 'REFUSED_COUNT': len(refused)}
         return {**results, 'REFUSED': marks.id} if marks.id else results
 
     def finish(self, call: Call) -> None:
+        """Opens the new drawing, and hides the old one, which stays in the project."""
         if self.written is not None and call.project is not None:
+            hide_drawing(call.project, self.old)
             add_to_project(call.project, self.written)
 
 
