@@ -59,7 +59,7 @@ def outcome(steps: Sequence[Step]) -> Made:
         made.refused += step.refused
         made.accepted += sum(not it.is_refused for it in step.answers)
         made.said += [line for it in step.answers for line in it.lines]
-        made.said.append('%s: %s' % (os.path.basename(step.name), step.end))
+        made.said.append(step.end)
     return made
 
 

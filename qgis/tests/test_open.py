@@ -1,6 +1,7 @@
 """Opening: the layers hold what OGR reads of the same drawing, by level and by geometry."""
 
 import json
+import math
 import re
 import time
 import unittest
@@ -9,7 +10,16 @@ from typing import Dict, List
 
 import plugin
 from plugin import ogr, samples
-from qgis.core import QgsCoordinateReferenceSystem, QgsGeometry, QgsVectorLayer, QgsWkbTypes
+from qgis.core import (
+    QgsCoordinateReferenceSystem,
+    QgsGeometry,
+    QgsMapRendererSequentialJob,
+    QgsMapSettings,
+    QgsRectangle,
+    QgsVectorLayer,
+    QgsWkbTypes,
+)
+from qgis.PyQt.QtCore import QSize
 from samples import drawings, plan, with_units
 
 KINDS = ('texts', 'points', 'lines', 'areas', 'ranges')
@@ -136,14 +146,31 @@ class Opened(WithLayers):
         self.assertEqual(len(apart), len(areas) + 3)
 
     def test_labels_have_the_size_and_the_angle_of_the_text(self) -> None:
-        self.open(self.example('town.dgn'))
-        layer = self.layer('town 40 texts')
-        self.assertTrue(layer.labelsEnabled())
-        settings = layer.labeling().settings()
-        self.assertEqual(settings.fieldName, 'text')
-        names = {settings.Size: 'height', settings.LabelRotation: 'angle'}
-        for name, field in names.items():
-            self.assertIn('"%s"' % field, settings.dataDefinedProperties().property(name).expressionString())
+        wanted = [(0, 10), (30, 10), (90, 20), (-45, 10)]
+        texts = [bytearray(plan.text(3, (100 * it, 0), b'H')) for it in range(4)]
+        for text, (angle, height) in zip(texts, wanted):
+            multiplier = round(height / 0.006)
+            text[38:50] = plan.long(multiplier) * 2 + plan.long(angle * 360000)
+        self.open(self.put('in.dgn', drawings.drawing(*map(bytes, texts))))
+        settings = QgsMapSettings()
+        settings.setLayers(self.project.layerTreeRoot().layerOrder())
+        settings.setOutputSize(QSize(1000, 400))
+        settings.setExtent(QgsRectangle(-100, -100, 400, 100))  # two pixels a unit
+        job = QgsMapRendererSequentialJob(settings)
+        job.start()
+        job.waitForFinished()
+        labels = sorted(job.takeLabelingResults().allLabels(), key=lambda it: it.featureId)
+        self.assertEqual(len(labels), 4)
+        for index, (label, (angle, height)) in enumerate(zip(labels, wanted)):
+            turn = math.radians(angle)
+            self.assertAlmostEqual(math.sin(label.rotation), math.sin(turn), places=6)
+            # a capital letter is about 0.72 of the size of its font
+            self.assertAlmostEqual(label.labelFont.pixelSize(), height * 2 / 0.72, delta=1)
+            # the box of the label stands under its base line by what hangs below that, at right angles to it
+            corner = label.cornerPoints[0]
+            x, y = corner.x() - 100 * index, corner.y()
+            self.assertAlmostEqual(x * math.cos(turn) + y * math.sin(turn), 0, delta=0.1)
+            self.assertLess(-x * math.sin(turn) + y * math.cos(turn), 0)
 
     def test_styles_are_those_of_the_drawing(self) -> None:
         elements = [bytearray(plan.line(1, (0, 10 * it), (100, 10 * it))) for it in range(3)]
