@@ -84,8 +84,12 @@ class Call:
 
     def doing(self, text: str, share: float) -> None:
         """Says what is done next, and which share of all is done. It raises Stopped where the run was cancelled."""
-        self.ask()
         self.feedback.setProgressText(text)
+        self.done(share)
+
+    def done(self, share: float) -> None:
+        """Says which share of all is done. It raises Stopped where the run was cancelled."""
+        self.ask()
         self.feedback.setProgress(100 * share)
 
     def ask(self) -> None:

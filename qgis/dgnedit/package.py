@@ -28,22 +28,22 @@ class Package:
         """Makes it, in the place of one that is there, with these tables by their types of geometry. It raises Mistake
         where it can't be made."""
         self.path, self.tables = path, list(tables)
-        remove_package(path)
+        self.rows: Dict[str, List[Tuple[Any, ...]]] = {name: [] for name in tables}
         self.is_open = False
+        remove_package(path)
         try:
             make_tables(path, system, tables, fields)
             self.base = sqlite3.connect(path, isolation_level=None)
             self.is_open = True
             self.fronts = {name: FRONT.pack(b'GP', 0, LITTLE, self.system_of(name)) for name in tables}
-            self.base.execute('PRAGMA synchronous = OFF')
-            self.base.execute('PRAGMA journal_mode = MEMORY')
-            self.base.execute('BEGIN')
-        except sqlite3.Error as why:
+            for order in ('PRAGMA synchronous = OFF', 'PRAGMA journal_mode = MEMORY', 'BEGIN'):
+                self.base.execute(order)
+        except (sqlite3.Error, RuntimeError) as why:
+            self.drop()
             raise self.mistake(why)
         names = ', '.join('"%s"' % it for it in (GEOMETRY, *(it[0] for it in fields)))
         marks = ', '.join('?' * (len(fields) + 1))
         self.orders = {it: 'INSERT INTO "%s" (%s) VALUES (%s)' % (it, names, marks) for it in tables}
-        self.rows: Dict[str, List[Tuple[Any, ...]]] = {name: [] for name in tables}
 
     def system_of(self, table: str) -> int:
         """The number of the system of a table's coordinates."""

@@ -244,6 +244,20 @@ class Mistakes(plugin.InQgis):
         self.refuses('it is a folder', 'look', COLOUR=3, **{**words, 'OUTPUT': str(self.folder)})
         self.assertEqual(Path(self.town).read_bytes(), before)
 
+    def test_files_that_can_not_be_written(self) -> None:
+        nowhere = self.path('none/new')
+        self.refuses('there is no folder', 'look', DRAWING=self.town, NUMBERS='12', COLOUR=3, OUTPUT=nowhere + '.dgn')
+        self.refuses('can not be written', 'open', DRAWING=self.town, OUTPUT=nowhere + '.gpkg')
+        words = {'DRAWING': self.town, 'NUMBERS': '12', 'PATCH': nowhere}
+        self.refuses('no such file or directory', 'look', COLOUR=3, **words)
+        self.refuses('no such file or directory', 'lock', **words)
+
+    def test_a_geopackage_whose_layers_are_open(self) -> None:
+        self.open(self.town)
+        package = Path(self.path('layers.gpkg')).read_bytes()
+        self.refuses('holds layers of this project', 'open', DRAWING=self.town, OUTPUT=self.path('layers.gpkg'))
+        self.assertEqual(Path(self.path('layers.gpkg')).read_bytes(), package)
+
     def test_a_broken_drawing(self) -> None:
         cut = self.put('cut.dgn', Path(self.town).read_bytes()[:2000])
         library = self.put('library.dgn', b'\x08\x05\x17\x00' + bytes(600))

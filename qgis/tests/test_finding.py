@@ -7,7 +7,16 @@ from typing import Any, Dict, List, Tuple
 
 import plugin
 from plugin import ogr, samples
-from qgis.core import QgsCoordinateReferenceSystem, QgsPointXY, QgsRectangle
+from qgis.core import (
+    QgsCoordinateReferenceSystem,
+    QgsPointXY,
+    QgsProcessingContext,
+    QgsProcessingModelAlgorithm,
+    QgsProcessingModelChildAlgorithm,
+    QgsProcessingModelChildParameterSource,
+    QgsProcessingModelOutput,
+    QgsRectangle,
+)
 from samples import drawings
 
 
@@ -73,6 +82,31 @@ class Finds(plugin.InQgis):
         self.found(LEVEL='5,30')
         made = self.run_algorithm('look', COLOUR=4, OUTPUT=self.path('new.dgn'))
         self.assertEqual(made['ACCEPTED'], 2)
+
+    def test_in_a_model(self) -> None:
+        model = QgsProcessingModelAlgorithm('recolour', 'tests')
+        value, output = QgsProcessingModelChildParameterSource.fromStaticValue, QgsProcessingModelOutput('new', 'new')
+        output.setChildOutputName('OUTPUT')
+        for name, parameters in [
+            ('find', {'LEVEL': value('5,30'), 'METHOD': value(2)}),
+            ('look', {'COLOUR': value(4), 'OPEN': value(False)}),
+        ]:
+            child = QgsProcessingModelChildAlgorithm('dgnedit:' + name)
+            child.setChildId(name)
+            for key, source in {'DRAWING': value(self.town), **parameters}.items():
+                child.addParameterSources(key, [source])
+            if name == 'look':
+                source = QgsProcessingModelChildParameterSource.fromChildOutput('find', 'OUTPUT')
+                child.addParameterSources('TABLE', [source])
+                child.setModelOutputs({'new': output})
+            model.addChildAlgorithm(child)
+        out = self.path('new.dgn')
+        context = QgsProcessingContext()
+        results, is_done = model.run({'look:new': out}, context, self.feedback)
+        self.assertTrue(is_done, self.feedback.warnings)
+        self.assertEqual(results['look:new'], out)
+        words = self.said('diff', self.town, out, status=1).split('\n')
+        self.assertEqual([it.split(' on ')[0] for it in words[:-2]], ['shape 44', 'line string 45'])
 
     def test_nothing_is_found(self) -> None:
         self.assertEqual(self.found(LEVEL='33'), '')

@@ -159,7 +159,7 @@ class Opened(WithLayers):
         job = QgsMapRendererSequentialJob(settings)
         job.start()
         job.waitForFinished()
-        labels = sorted(job.takeLabelingResults().allLabels(), key=lambda it: it.featureId)
+        labels = sorted(job.takeLabelingResults().allLabels(), key=lambda it: int(it.featureId))
         self.assertEqual(len(labels), 4)
         for index, (label, (angle, height)) in enumerate(zip(labels, wanted)):
             turn = math.radians(angle)

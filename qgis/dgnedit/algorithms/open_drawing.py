@@ -1,5 +1,9 @@
 """Opens a drawing."""
 
+import os
+from typing import Set
+
+from dgnkit.errors import Mistake
 from qgis.core import (
     QgsProcessing,
     QgsProcessingOutputNumber,
@@ -44,6 +48,7 @@ class OpenDrawing(DgnAlgorithm):
         'only: edit the drawing by the algorithms of this plugin.'
     )
     TAGS = 'open read load import layers cad'
+    in_use: Set[str] = set()  # the files of the project's layers
 
     def define(self) -> None:
         self.add_drawing()
@@ -60,6 +65,10 @@ class OpenDrawing(DgnAlgorithm):
             self.addOutput(QgsProcessingOutputVectorLayer(kind.upper(), NAMES[kind], TYPES[kind]))
             self.addOutput(QgsProcessingOutputNumber(kind.upper() + '_COUNT', NAMES[kind] + ': how many'))
 
+    def prepare(self, call: Call) -> None:
+        layers = call.project.mapLayers().values() if call.project is not None else ()
+        self.in_use = {os.path.realpath(it.source().split('|')[0]) for it in layers}
+
     def work(self, call: Call) -> Results:
         call.doing('The drawing is read', 0.0)
         drawing = opened(call.file('DRAWING'))
@@ -67,9 +76,11 @@ class OpenDrawing(DgnAlgorithm):
             call.choice('UNITS', UNITS), call.system(), call.flag('MEMBERS'), call.flag('HOLES'), call.flag('DELETED')
         )
         package = call.target('OUTPUT')
+        if os.path.realpath(package) in self.in_use:
+            raise Mistake('%s holds layers of this project: name another file, or remove these first' % package)
         count = len(drawing.elements)
         call.doing('The layers are written', 0.1)
-        self.written = write_layers(drawing, package, wishes, lambda it: call.doing('', 0.1 + 0.8 * it))
+        self.written = write_layers(drawing, package, wishes, lambda it: call.done(0.1 + 0.8 * it))
         counts = self.written.counts
         call.say('%d elements; %s' % (count, ', '.join('%d %s' % (counts[it], it) for it in KINDS)))
         sources = {it.upper(): '%s|layername=%s' % (package, it) for it in KINDS}

@@ -57,7 +57,7 @@ class MakesDrawing(DgnAlgorithm):
             package = QgsProcessingUtils.generateTempFilename('layers.gpkg')
             result = Drawing(out, drawing.program)
             call.feedback.setProgressText('The layers of the new drawing are written')
-            self.written = write_layers(result, package, wishes, lambda it: call.doing('', 0.5 + 0.4 * it))
+            self.written = write_layers(result, package, wishes, lambda it: call.done(0.5 + 0.4 * it))
             self.old = os.path.abspath(drawing.path)
         results = {'OUTPUT': out, 'ACCEPTED': made.accepted, 'REFUSED_COUNT': len(refused)}
         return {**results, 'REFUSED': marks.id} if marks.id else results
