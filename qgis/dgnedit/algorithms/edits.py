@@ -2,6 +2,7 @@
 
 from typing import List, Tuple
 
+from dgnkit.commands._fields import parts_of
 from dgnkit.drawing.drawing import Drawing
 from dgnkit.errors import Mistake
 from dgnkit.explain.members import parts_said
@@ -148,10 +149,8 @@ class FieldAlgorithm(EditAlgorithm):
         raise NotImplementedError
 
     def edit(self, call: Call, drawing: Drawing, numbers: List[int], out: str) -> Tuple[Made, List[Refusal]]:
-        dead, nesting = drawing.dead, drawing.nesting
         tell_broken(call, drawing, numbers)
-        parts = {it for top in numbers for it in nesting.part(top) if it not in dead or top in dead}
-        edits = self.fields(call, drawing, sorted(parts))
+        edits = self.fields(call, drawing, parts_of(drawing, numbers))
         patch = patch_of(drawing, edits.changes)
         applied(drawing, patch, edits.changes)
         made = run_patch(call, drawing, patch, call.target('PATCH'), out)

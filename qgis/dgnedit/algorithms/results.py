@@ -6,6 +6,7 @@ from typing import Dict, Iterable, List, Optional, Tuple
 from dgnkit.drawing.drawing import Drawing
 from dgnkit.format.element import described
 from dgnkit.output import printable
+from dgnkit.program.grammar import kinds_of
 from qgis.core import QgsProcessingOutputNumber, QgsProcessingUtils
 
 from ..calls import Call
@@ -80,6 +81,11 @@ def refused_row(drawing: Drawing, refused: Refusal) -> List[object]:
 def refusals_of(made: Made) -> Iterable[Refusal]:
     """What was refused of scripts, each with the element that the command names."""
     for it in made.refused:
-        words = str(it['command']).split()
-        number = int(words[1]) if len(words) > 1 and words[1].isdigit() and not words[0].startswith('f') else None
-        yield number, 'line %s: %s' % (it['line'], it['command']), str(it['why'])
+        yield element_of(str(it['command'])), 'line %s: %s' % (it['line'], it['command']), str(it['why'])
+
+
+def element_of(command: str) -> Optional[int]:
+    """The element that a command of a script names, none where it names none."""
+    words = command.split()
+    named = [word for word, kind in zip(words, kinds_of(words)) if kind == 'N']
+    return int(named[0]) if named else None
