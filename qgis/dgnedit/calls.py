@@ -30,6 +30,7 @@ class Call:
         feedback: QgsProcessingFeedback,
     ) -> None:
         self.algorithm, self.parameters, self.context, self.feedback = algorithm, parameters, context, feedback
+        self.targets: Dict[str, str] = {}  # the files that are written, of which a temporary one is named only once
 
     def text(self, name: str) -> str:
         """A text, or nothing."""
@@ -43,7 +44,10 @@ class Call:
         """The name of a file that is written, or nothing."""
         if self.parameters.get(name) in (None, ''):
             return ''
-        return str(self.algorithm.parameterAsFileOutput(self.parameters, name, self.context) or '')
+        if name not in self.targets:
+            named = self.algorithm.parameterAsFileOutput(self.parameters, name, self.context)
+            self.targets[name] = str(named or '')
+        return self.targets[name]
 
     def flag(self, name: str) -> bool:
         """Whether something is wished."""

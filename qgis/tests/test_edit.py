@@ -104,6 +104,13 @@ class Edits(plugin.InQgis):
         self.edit('delete', DRAWING=self.town, NUMBERS='44')
         self.assertEqual(self.words(), ['shape 44 on level 5: deleted'])
 
+    def test_temporary_files(self) -> None:
+        names = {it: 'TEMPORARY_OUTPUT' for it in ('OUTPUT', 'SCRIPT', 'PATCH')}
+        made = self.edit('look', DRAWING=self.town, NUMBERS='44', COLOUR=2, **names)
+        self.assertEqual(Path(made['SCRIPT']).read_text(), 'sym 44 2 - -\n')
+        self.program.apply(self.town, made['PATCH'], self.path('patched.dgn'))
+        self.assertEqual(Path(self.path('patched.dgn')).read_bytes(), Path(made['OUTPUT']).read_bytes())
+
     def test_style(self) -> None:
         self.edit('look', DRAWING=self.town, NUMBERS='45', STYLE=0)
         self.edit('look', DRAWING=self.town, NUMBERS='45', STYLE=3)
@@ -298,6 +305,10 @@ class Mistakes(plugin.InQgis):
         self.feedback = plugin.Feedback('The drawing is edited')
         made = self.run_algorithm('look', DRAWING=self.town, NUMBERS='12', COLOUR=3, OUTPUT=self.out)
         self.assertEqual((made, os.path.exists(self.out), self.groups()), ({}, False, []))
+        self.feedback = plugin.Feedback('The layers of the new drawing')
+        made = self.run_algorithm('look', DRAWING=self.town, NUMBERS='12', COLOUR=3, OUTPUT=self.out)
+        self.assertEqual((made['OUTPUT'], os.path.exists(self.out), self.groups()), (self.out, True, []))
+        self.assertIn('It was stopped: the new drawing is written', self.feedback.warnings[0])
 
 
 if __name__ == '__main__':

@@ -134,6 +134,14 @@ def expanded(text: str) -> list[int]:
 
 
 class Checks(plugin.InQgis):
+    def test_units_of_resolution(self) -> None:
+        path = self.example('town.dgn')
+        boxes = []
+        for units in (0, 2):
+            made = self.run_algorithm('check', DRAWING=path, UNITS=units, OUTPUT='memory:')
+            boxes.append(self.table(made['OUTPUT'])[0].geometry().boundingBox().width())
+        self.assertAlmostEqual(boxes[1] / boxes[0], 1000, places=3)
+
     def test_findings_are_those_of_dgnkit(self) -> None:
         for name in ('town.dgn', 'street.dgn', 'plan.dgn'):
             path = self.example(name)
@@ -256,7 +264,8 @@ class Scripts(plugin.InQgis):
         drawing, patch = self.example('plan.dgn'), self.path('p.patch')
         ran = self.program.run('pack', drawing, self.example('plan.txt'), patch)
         self.assertEqual(ran.status, 0)
-        self.run_algorithm('patch', DRAWING=drawing, PATCH=patch, OUTPUT=self.path('new.dgn'))
+        made = self.run_algorithm('patch', DRAWING=drawing, PATCH=patch, OUTPUT=self.path('new.dgn'))
+        self.assertEqual(made['ACCEPTED'], 4)  # the four edits of the script, whose fence is none
         self.program.apply(drawing, patch, self.path('wanted.dgn'))
         self.assertEqual(Path(self.path('new.dgn')).read_bytes(), Path(self.path('wanted.dgn')).read_bytes())
         said = self.fails('patch', DRAWING=self.path('new.dgn'), PATCH=patch, OUTPUT=self.path('again.dgn'))

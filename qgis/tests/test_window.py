@@ -42,6 +42,7 @@ class NewUser(samples.WithProgram):
     def test_a_road_is_recoloured_and_a_parcel_moved(self) -> None:
         found = window.run('user.py', samples.PROGRAM)
         self.assertNotIn('wrong', found, found.get('wrong'))
+        self.assertEqual(found['installed'], ['dgnedit'])
         self.assertIn('Install dgnedit_VERSION_amd64.deb', found['missing'])
         self.assertFalse(found['missing_written'])
         self.assertEqual([ok for _, ok in found['steps']], [[False], *[[True]] * 6])

@@ -1,5 +1,5 @@
-"""What a new user does in QGIS, by its menus and dialogues: names the program, opens a drawing, mends it, recolours a
-road, moves a parcel, and compares. It runs in QGIS itself, and leaves what it found in a file."""
+"""What a new user does in QGIS, by its menus and dialogues: installs the plugin, names the program, opens a drawing,
+mends it, recolours a road, moves a parcel, and compares. It runs in QGIS itself, and leaves what it found in a file."""
 
 import faulthandler
 import json
@@ -15,7 +15,7 @@ from processing.gui.AlgorithmDialog import AlgorithmDialog
 from qgis.core import QgsProject, QgsSettings, QgsVectorLayer
 from qgis.PyQt.QtCore import QTimer
 from qgis.PyQt.QtWidgets import QAction, QApplication, QDialogButtonBox, QTextEdit
-from qgis.utils import iface
+from qgis.utils import active_plugins, iface
 
 WORK = Path(os.environ['WORK'])
 FACTS = json.loads((WORK / 'facts.json').read_text())
@@ -95,6 +95,14 @@ def places_of(name: str) -> Dict[str, List[float]]:
     """The box of each feature of a layer."""
     boxes = {str(it['number']): it.geometry().boundingBox() for it in layer(name).getFeatures()}
     return {key: [box.xMinimum(), box.yMinimum(), box.xMaximum(), box.yMaximum()] for key, box in boxes.items()}
+
+
+def install() -> None:
+    """By QGIS's own installer, which starts the plugin."""
+    import pyplugin_installer
+
+    pyplugin_installer.instance().installFromZipFile(FACTS['zip'])
+    found['installed'] = [name for name in active_plugins if name == 'dgnedit']
 
 
 def without_the_program() -> None:
@@ -185,7 +193,7 @@ def all_of_it() -> None:
     shutil.copy(Path(FACTS['top']) / 'examples' / 'town.dgn', WORK / 'town.dgn')
     iface.mainWindow().resize(1280, 760)
     iface.mainWindow().findChild(object, 'Browser') and iface.mainWindow().findChild(object, 'Browser').hide()
-    steps = [without_the_program, name_the_program, mend_and_open, recolour_a_road, move_a_parcel, compare]
+    steps = [install, without_the_program, name_the_program, mend_and_open, recolour_a_road, move_a_parcel, compare]
     try:
         for step in [*steps, zoom_to_a_change]:
             step()

@@ -1,4 +1,4 @@
-"""A QGIS with a window, on a screen that nobody sees, in a fresh profile with the plugin from its zip file."""
+"""A QGIS with a window, on a screen that nobody sees, in a fresh profile, with the plugin's zip file beside it."""
 
 from __future__ import annotations
 
@@ -9,7 +9,6 @@ import shutil
 import subprocess
 import sys
 import tempfile
-import zipfile
 from pathlib import Path
 from typing import Any, Dict, Iterator, Optional
 
@@ -19,7 +18,7 @@ QGIS = shutil.which('qgis.bin') or shutil.which('qgis')
 SCREEN = shutil.which('Xvfb')
 PATH = '/usr/bin:/bin'  # where no other Python is found than that of QGIS, and no dgnedit
 PATIENCE = 90  # seconds that all of it may take
-SETTINGS = '[PythonPlugins]\ndgnedit=true\nprocessing=true\n[app]\nprojections\\defaultProjectCrs=EPSG:4326\n'
+SETTINGS = '[PythonPlugins]\nprocessing=true\n'
 
 
 @contextlib.contextmanager
@@ -44,27 +43,22 @@ def make_zip(folder: Path) -> Path:
     return Path(said.stdout.decode().strip())
 
 
-def make_profile(folder: Path, packed: Path) -> Path:
-    """A fresh profile into which the zip file is unpacked, as QGIS does that installs it."""
+def make_profile(folder: Path) -> None:
+    """A fresh profile without the plugin."""
     profile = folder / 'profiles' / 'default'
-    (profile / 'python' / 'plugins').mkdir(parents=True)
-    (profile / 'QGIS').mkdir()
+    (profile / 'QGIS').mkdir(parents=True)
     (profile / 'QGIS' / 'QGIS3.ini').write_text(SETTINGS)
-    with zipfile.ZipFile(packed) as file:
-        file.extractall(profile / 'python' / 'plugins')
-    return profile
 
 
 def run(script: str, program: Optional[str], **facts: Any) -> Dict[str, Any]:
     """Runs a script of this folder in QGIS, and gives what it found: the file `found.json` of its folder `work`."""
     with tempfile.TemporaryDirectory(prefix='dgnedit-window-') as name, screen() as display:
         folder = Path(name)
-        make_profile(folder, make_zip(folder))
+        make_profile(folder)
         work = folder / 'work'
         work.mkdir()
-        (work / 'facts.json').write_text(
-            json.dumps({**facts, 'program': program, 'top': str(TOP), 'patience': PATIENCE})
-        )
+        known = {'program': program, 'top': str(TOP), 'patience': PATIENCE, 'zip': str(make_zip(folder))}
+        (work / 'facts.json').write_text(json.dumps({**facts, **known}))
         environment = {
             key: it for key, it in os.environ.items() if not key.startswith(('QGIS', 'PYTHON', 'QT_', 'DGN'))
         }

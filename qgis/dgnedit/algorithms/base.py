@@ -12,6 +12,7 @@ from qgis.core import (
     QgsProcessingContext,
     QgsProcessingException,
     QgsProcessingFeedback,
+    QgsProcessingOutputNumber,
     QgsProcessingParameterBoolean,
     QgsProcessingParameterCrs,
     QgsProcessingParameterDefinition,
@@ -148,11 +149,11 @@ class DgnAlgorithm(QgsProcessingAlgorithm):
             QgsProcessingParameterBoolean('OPEN', 'Open the new drawing beside the old one', True),
             'Adds the layers of the new drawing to the project.',
         )
+        self.addOutput(QgsProcessingOutputNumber('ACCEPTED', 'How many edits were made'))
 
     def add_file(self, name: str, said: str, kinds: str, text: str = '') -> None:
         """A file that is written where it is wished."""
-        parameter = QgsProcessingParameterFileDestination(name, said, kinds, optional=True, createByDefault=False)
-        self.add(parameter, text, True)
+        self.add(QgsProcessingParameterFileDestination(name, said, kinds, optional=True, createByDefault=False), text)
 
     def add_system(self) -> None:
         """The coordinate reference system of layers, and the units of their coordinates."""
@@ -166,10 +167,13 @@ class DgnAlgorithm(QgsProcessingAlgorithm):
         )
 
     def wishes(self, call: Call, drawing: Drawing) -> Wishes:
-        """How the layers of a drawing are, with the system of coordinates that is given where one is."""
+        """How the layers of a drawing are, with the units and the system of coordinates that are given where such
+        are."""
         made = replace(wishes_for(self.known, drawing))
         if self.parameterDefinition('CRS') is not None and call.system().isValid():
             made.system = call.system()
+        if self.parameterDefinition('UNITS') is not None and call.choice('UNITS', UNITS) != UNITS[0]:
+            made.units = call.choice('UNITS', UNITS)
         return made
 
     def add_flag(self, name: str, said: str, is_set: bool, text: str = '', is_advanced: bool = False) -> None:

@@ -7,10 +7,10 @@ from dgnkit.drawing.drawing import Drawing
 from dgnkit.errors import Mistake
 from dgnkit.explain.members import parts_said
 from dgnkit.output import counted, few
+from dgnkit.propose.field_edits import FieldEdits
 from dgnkit.propose.scripting import Proposal, topmost
 from dgnkit.propose.templates import line_of
 from dgnkit.propose.writing import applied, patch_of
-from dgnkit.propose.field_edits import FieldEdits
 from qgis.core import (
     QgsProcessing,
     QgsProcessingParameterFeatureSource,
@@ -118,7 +118,7 @@ class EditAlgorithm(MakesDrawing):
 
     def files(self, call: Call) -> Results:
         """The files that were saved."""
-        return {name: call.file(name) for name in ('SCRIPT', 'PATCH') if call.parameters.get(name)}
+        return {name: call.target(name) for name in ('SCRIPT', 'PATCH') if call.target(name)}
 
 
 class CommandAlgorithm(EditAlgorithm):

@@ -52,7 +52,7 @@ class Mend(MakesDrawing):
         call.say('%d broken trees before, %d after' % tuple(counts))
         results = self.give(call, drawing, out, made, [])
         table = self.table(call, drawing, mending)
-        files = {'PATCH': call.file('PATCH')} if call.parameters.get('PATCH') else {}
+        files = {'PATCH': call.target('PATCH')} if call.target('PATCH') else {}
         return {**results, **table, **files, 'BEFORE': counts[0], 'AFTER': counts[1]}
 
     def table(self, call: Call, drawing: Drawing, mending: Mending) -> Results:

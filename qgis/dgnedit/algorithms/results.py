@@ -9,11 +9,11 @@ from dgnkit.output import printable
 from dgnkit.program.grammar import kinds_of
 from qgis.core import QgsProcessingOutputNumber, QgsProcessingUtils
 
-from ..calls import Call
+from ..calls import Call, Stopped
 from ..editing import Made
 from ..layers import add_to_project, hide_drawing
 from ..marks import Boxes, Marks, sink_parameter
-from ..opening import Written, write_layers
+from ..opening import Wishes, Written, write_layers
 from .base import DgnAlgorithm, Results
 
 REFUSED_FIELDS: Dict[str, type] = {'number': int, 'root': int, 'is': str, 'command': str, 'why': str}
@@ -36,7 +36,6 @@ class MakesDrawing(DgnAlgorithm):
             sink_parameter('REFUSED', 'What was refused'),
             'A row for each command that was refused, with its reason; the rest was done.',
         )
-        self.addOutput(QgsProcessingOutputNumber('ACCEPTED', 'How many edits were made'))
         self.addOutput(QgsProcessingOutputNumber('REFUSED_COUNT', 'How many were refused'))
 
     def give(self, call: Call, drawing: Drawing, out: str, made: Made, refused: List[Refusal]) -> Results:
@@ -55,13 +54,21 @@ class MakesDrawing(DgnAlgorithm):
         if not refused:
             marks.do_not_load(call)
         if call.flag('OPEN') and call.project is not None:
-            package = QgsProcessingUtils.generateTempFilename('layers.gpkg')
-            result = Drawing(out, drawing.program)
-            call.feedback.setProgressText('The layers of the new drawing are written')
-            self.written = write_layers(result, package, wishes, lambda it: call.done(0.5 + 0.4 * it))
+            self.open(call, Drawing(out, drawing.program), wishes)
             self.old = os.path.abspath(drawing.path)
-        results = {'OUTPUT': out, 'ACCEPTED': made.accepted, 'REFUSED_COUNT': len(refused)}
+        results = {'OUTPUT': out, 'ACCEPTED': made.accepted}
+        if self.parameterDefinition('REFUSED') is not None:
+            results['REFUSED_COUNT'] = len(refused)
         return {**results, 'REFUSED': marks.id} if marks.id else results
+
+    def open(self, call: Call, drawing: Drawing, wishes: Wishes) -> None:
+        """Writes the layers of the new drawing, which is there already: where this is cancelled, it stays."""
+        package = QgsProcessingUtils.generateTempFilename('layers.gpkg')
+        try:
+            call.doing('The layers of the new drawing are written', 0.5)
+            self.written = write_layers(drawing, package, wishes, lambda it: call.done(0.5 + 0.4 * it))
+        except Stopped:
+            call.warn('It was stopped: the new drawing is written, and is not opened.')
 
     def finish(self, call: Call) -> None:
         """Opens the new drawing, and hides the old one, which stays in the project."""

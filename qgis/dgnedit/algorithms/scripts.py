@@ -4,6 +4,9 @@ import os
 
 from dgnkit.commands._runs import is_patch
 from dgnkit.errors import Mistake
+from dgnkit.files import read_file
+from dgnkit.format.limits import PATCH_LONGEST
+from dgnkit.format.patch import Patch
 from qgis.core import QgsProcessingParameterFile, QgsProcessingParameterString
 
 from ..calls import Call
@@ -76,4 +79,5 @@ class ApplyPatch(MakesDrawing):
             raise Mistake('%s is no patch file' % patch)
         call.doing('The patch file is applied', 0.2)
         made = run_files(call, drawing, [patch], out)
+        made.accepted = len(Patch.from_bytes(read_file(patch, PATCH_LONGEST)).entries)
         return self.give(call, drawing, out, made, [])
