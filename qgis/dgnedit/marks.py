@@ -32,6 +32,7 @@ from .styles import dress_marks
 Row = Sequence[Any]
 TYPES = {int: QVariant.Int, str: QVariant.String, bool: QVariant.Bool, float: QVariant.Double}
 SHARE = 0.002  # how much of the drawing a box is wider on each side than its element
+WIDE = {'is': 240, 'command': 200, 'changes': 160, 'finding': 780, 'why': 780, 'words': 480}  # pixels
 ZOOM = (
     'from qgis.utils import iface\n'
     "layer = QgsProject.instance().mapLayer('[% @layer_id %]')\n"
@@ -129,4 +130,11 @@ def add_zoom(layer: QgsVectorLayer) -> None:
     config.update(layer.fields())
     config.setActionWidgetVisible(True)
     config.setActionWidgetStyle(QgsAttributeTableConfig.ButtonList)
+    # the button first, where it is seen however wide the table is
+    columns = config.columns()
+    buttons = [it for it in columns if it.type == QgsAttributeTableConfig.Action]
+    config.setColumns([*buttons, *(it for it in columns if it.type != QgsAttributeTableConfig.Action)])
+    for index, column in enumerate(config.columns()):
+        if column.name in WIDE:
+            config.setColumnWidth(index, WIDE[column.name])
     layer.setAttributeTableConfig(config)

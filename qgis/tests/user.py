@@ -123,7 +123,13 @@ def name_the_program() -> None:
 def mend_and_open() -> None:
     """Mends the drawing, which opens the mended one."""
     by_dialogue('Check a drawing', {'DRAWING': str(WORK / 'town.dgn'), 'OUTPUT': 'TEMPORARY_OUTPUT'})
-    found['findings'] = len(list(QgsProject.instance().mapLayersByName('Findings')[0].getFeatures()))
+    findings = layer('Findings')
+    found['findings'] = findings.featureCount()
+    table = iface.showAttributeTable(findings)
+    table.resize(1180, 330)
+    wait(1)
+    picture('qgis-check.png', table)
+    table.close()
     by_dialogue('Mend a drawing', {'DRAWING': str(WORK / 'town.dgn'), 'OUTPUT': str(WORK / 'mended.dgn')})
     QgsProject.instance().clear()
     words = {'DRAWING': str(WORK / 'mended.dgn'), 'CRS': 'EPSG:25832', 'OUTPUT': str(WORK / 'mended.gpkg')}

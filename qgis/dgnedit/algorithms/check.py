@@ -4,9 +4,7 @@ from argparse import Namespace
 from typing import Dict
 
 from dgnkit.commands.health import facts_of, findings_of, line_of
-from dgnkit.drawing.drawing import Drawing
 from dgnkit.errors import Mistake
-from dgnkit.format.element import described
 from dgnkit.output import printable
 from qgis.core import QgsProcessingOutputNumber
 
@@ -23,7 +21,7 @@ KINDS = {
     'end_mark': 'no end mark',
     'behind': 'bytes behind the end mark',
 }
-FIELDS: Dict[str, type] = {'number': int, 'root': int, 'is': str, 'kind': str, 'finding': str}
+FIELDS: Dict[str, type] = {'number': int, 'root': int, 'kind': str, 'finding': str}
 
 
 class Check(DgnAlgorithm):
@@ -59,12 +57,6 @@ class Check(DgnAlgorithm):
         marks, boxes = Marks(call, 'OUTPUT', FIELDS, wishes), Boxes(drawing, wishes)
         for kind, elements, line in found:
             number = elements[0] if elements else None
-            marks.add([(boxes.around(number), [*place_of(drawing, number), KINDS[kind], line])])
+            root = None if number is None else drawing.nesting.roots[number]
+            marks.add([(boxes.around(number), [number, root, KINDS[kind], line])])
         return {'OUTPUT': marks.id, 'COUNT': len(found)}
-
-
-def place_of(drawing: Drawing, number: object) -> list[object]:
-    """An element's number, the root of its tree, and what it is."""
-    if not isinstance(number, int):
-        return [None, None, None]
-    return [number, drawing.nesting.roots[number], described(drawing.elements[number])]
