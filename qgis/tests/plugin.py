@@ -14,7 +14,8 @@ TOP = Path(__file__).resolve().parents[2]
 sys.dont_write_bytecode = True
 os.environ.setdefault('QT_QPA_PLATFORM', 'offscreen')
 HOME = tempfile.mkdtemp(prefix='dgnedit-qgis-')
-os.environ.update(HOME=HOME, XDG_RUNTIME_DIR=HOME, QGIS_CUSTOM_CONFIG_PATH=os.path.join(HOME, 'profile'))
+PROFILE = os.path.join(HOME, 'profile')
+os.environ.update(HOME=HOME, XDG_RUNTIME_DIR=HOME, TMPDIR=HOME, QGIS_CUSTOM_CONFIG_PATH=PROFILE)
 atexit.register(shutil.rmtree, HOME, ignore_errors=True)
 for place in ('/usr/share/qgis/python/plugins', TOP / 'dgnkit' / 'tests', TOP / 'qgis'):
     sys.path.insert(0, str(place))

@@ -27,6 +27,7 @@ class Profile:
         self.environment.update(
             HOME=str(home),
             XDG_RUNTIME_DIR=str(home),
+            TMPDIR=str(home),  # where QGIS leaves what it doesn't remove
             PATH='/usr/bin:/bin',  # where no other Python is found than that of QGIS
             QT_QPA_PLATFORM='offscreen',
             PYTHONDONTWRITEBYTECODE='1',

@@ -62,7 +62,8 @@ def run(script: str, program: Optional[str], **facts: Any) -> Dict[str, Any]:
         environment = {
             key: it for key, it in os.environ.items() if not key.startswith(('QGIS', 'PYTHON', 'QT_', 'DGN'))
         }
-        environment.update(HOME=name, XDG_RUNTIME_DIR=name, DISPLAY=display, WORK=str(work), LANG='C.UTF-8', PATH=PATH)
+        environment.update(HOME=name, XDG_RUNTIME_DIR=name, TMPDIR=name, DISPLAY=display, WORK=str(work), PATH=PATH)
+        environment['LANG'] = 'C.UTF-8'
         folder.chmod(0o700)
         words = [str(QGIS), '--noversioncheck', '--nologo', '--profiles-path', name, '--code', str(HERE / script)]
         ran = subprocess.run(
