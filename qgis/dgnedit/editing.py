@@ -33,6 +33,15 @@ class Made:
 
 
 @contextlib.contextmanager
+def making(drawing: Drawing, files: Sequence[str], out: str) -> Iterator[str]:
+    """The name of a file that becomes the new drawing, where nothing is raised meanwhile."""
+    if os.path.isdir(out):
+        raise Mistake('%s is a folder: name a file in it' % out)
+    with delivered(drawing.path, files, out) as made:
+        yield made
+
+
+@contextlib.contextmanager
 def folder() -> Iterator[Path]:
     """A folder for files that are gone afterwards, and that mistakes name without it."""
     with tempfile.TemporaryDirectory(prefix='dgnedit-') as name:
@@ -46,7 +55,7 @@ def folder() -> Iterator[Path]:
 
 def run_files(call: Call, drawing: Drawing, files: Sequence[str], out: str) -> Made:
     """Runs scripts and patch files on a drawing. It raises Mistake where one can't be run; OUT isn't written then."""
-    with delivered(drawing.path, files, out) as made:
+    with making(drawing, files, out) as made:
         steps = run_steps(drawing.program, drawing.path, files, made, out)
         call.ask()
     return outcome(steps)
@@ -68,7 +77,7 @@ def run_lines(call: Call, drawing: Drawing, lines: Sequence[bytes], saved: Tuple
     patch file of what it does; an empty name is no file."""
     with folder() as place:
         files = scripts_in(place, 'script', Script(lines))
-        with delivered(drawing.path, files, out) as made:
+        with making(drawing, files, out) as made:
             steps = run_steps(drawing.program, drawing.path, files, made, out)
             accepted = [
                 it.spelling for step in steps for it, said in zip(step.script.commands, step.answers) if not said.cause
@@ -125,7 +134,7 @@ def run_patch(call: Call, drawing: Drawing, patch: Patch, saved: str, out: str) 
     with folder() as place:
         file = place / 'patch'
         file.write_bytes(patch.to_bytes())
-        with delivered(drawing.path, [str(file)], out) as made:
+        with making(drawing, [str(file)], out) as made:
             steps = run_steps(drawing.program, drawing.path, [str(file)], made, out)
             call.ask()
             if saved:

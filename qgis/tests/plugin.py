@@ -3,6 +3,7 @@
 from __future__ import annotations
 
 import atexit
+import json
 import os
 import shutil
 import sys
@@ -135,6 +136,17 @@ class InQgis(samples.WithProgram):
         layer = self.layer(name)
         layer.selectByExpression(expression)
         self.assertGreater(layer.selectedFeatureCount(), 0, expression)
+
+    def changes(self, old: str, new: str) -> List[Tuple[str, Dict[str, Any]]]:
+        """What dgnkit says of two drawings: each element that differs, and its changes."""
+        found = json.loads(self.said('diff', '--json', old, new, status=1))['elements']
+        return [(it['is'].split(' on ')[0], it['changes']) for it in found]
+
+    def sentence(self, *words: str) -> str:
+        """What dgnkit says that can't be done."""
+        status, _, said = self.kit(*words)
+        self.assertEqual(status, 2, said)
+        return said.strip().replace('dgnkit: ', '', 1)
 
     def mended(self, drawing: str) -> str:
         """The drawing with its broken trees mended, by dgnkit itself."""

@@ -25,9 +25,13 @@ class Edits(plugin.InQgis):
         self.assertEqual(Path(self.town).read_bytes(), old)
         return made
 
-    def words(self) -> List[str]:
-        """What differs between the old drawing and the new one, as dgnkit says it."""
-        return self.said('diff', self.town, self.out, status=1).split('\n')[:-2]
+    def changed(self) -> List[str]:
+        """The elements that differ between the old drawing and the new one."""
+        return [name for name, _ in self.changes(self.town, self.out)]
+
+    def facts(self) -> List[Dict[str, Any]]:
+        """How each of them differs."""
+        return [facts for _, facts in self.changes(self.town, self.out)]
 
     def geometries(self, layer: str) -> Dict[int, QgsGeometry]:
         return {it['number']: it.geometry() for it in self.layer(layer).getFeatures()}
@@ -46,7 +50,7 @@ class Edits(plugin.InQgis):
                 geometry.translate(2.5, -1)
             self.assertEqual(after[number].asWkt(6), geometry.asWkt(6), number)
         self.assertEqual(len(after[35].asPolygon()), 2)
-        self.assertEqual([it.split(' on ')[0] for it in self.words()], ['cell 35', 'shape 36', 'shape 37'])
+        self.assertEqual(self.changed(), ['cell 35', 'shape 36', 'shape 37'])
 
     def test_a_road_is_recoloured_whole(self) -> None:
         self.open(self.town)
@@ -56,7 +60,7 @@ class Edits(plugin.InQgis):
         road = next(it for it in self.layer('new 12 lines').getFeatures() if it['number'] == 15)
         self.assertEqual((road['rgb'], road['weight']), ('#ff0000', 7))
         # the chain and its nine members, and nothing else
-        self.assertEqual(len(self.words()), 10)
+        self.assertEqual(len(self.changed()), 10)
         self.assertEqual(Path(made['SCRIPT']).read_text(), 'sym 15 3 7 -\n')
         self.program.apply(self.town, made['PATCH'], self.path('patched.dgn'))
         self.assertEqual(Path(self.path('patched.dgn')).read_bytes(), Path(self.out).read_bytes())
@@ -73,7 +77,7 @@ class Edits(plugin.InQgis):
         self.assertEqual([row[0] for row in rows if row[0] != 9], [it for it in chosen if it in (17, 18, 19)])
         locked = next(row for row in rows if row[0] == 9)
         self.assertEqual(locked[:2], (9, 9))
-        self.assertIn('line string 9 on level 12 is locked', locked[3])
+        self.assertIn('line string 9 on level 12', locked[3])
         self.assertEqual(made['REFUSED_COUNT'], len(rows))
         self.assertEqual(made['ACCEPTED'] + len(rows), len(chosen))
         boxes = [it.geometry() for it in self.table(made['REFUSED'])]
@@ -85,24 +89,24 @@ class Edits(plugin.InQgis):
         # the valve of examples/make_town: a cell of two lines
         self.open(self.town)
         self.edit('look', COLOUR=4, NUMBERS='52', OPEN=False)
-        self.assertEqual([it.split(' on ')[0] for it in self.words()], ['cell 51 VLV', 'line 52', 'line 53'])
+        self.assertEqual(self.changed(), ['cell 51 VLV', 'line 52', 'line 53'])
         self.edit('look', COLOUR=4, NUMBERS='52', TREES=False, OPEN=False)
-        self.assertEqual([it.split(' on ')[0] for it in self.words()], ['line 52'])
+        self.assertEqual(self.changed(), ['line 52'])
         self.edit('look', COLOUR=4, NUMBERS='51-53', TREES=False, OPEN=False)
-        self.assertEqual(len(self.words()), 3)
+        self.assertEqual(len(self.changed()), 3)
 
     def test_a_member_that_is_moved_with_its_header_is_moved_once(self) -> None:
         self.edit('move', DRAWING=self.town, NUMBERS='51,52', DX=1, TREES=False)
-        self.assertEqual({it.split(': ')[1] for it in self.words()}, {'moved by 1,0 m (1000,0 units of resolution)'})
+        self.assertEqual([it['moved']['resolution'] for it in self.facts()], [[1000, 0]] * 3)
 
     def test_copy_and_delete(self) -> None:
         self.edit('copy', DRAWING=self.town, NUMBERS='44', DX=20, DY=-5)
-        self.assertEqual(self.words(), ['shape 54 on level 5: appended'])
+        self.assertEqual(self.changes(self.town, self.out), [('shape 54', {'appended': True})])
         made = samples.Drawing(self.out, self.program)
         shift = [b - a for a, b in zip(made.elements[44].points[0], made.elements[54].points[0])]
         self.assertEqual(shift, [20000, -5000])
         self.edit('delete', DRAWING=self.town, NUMBERS='44')
-        self.assertEqual(self.words(), ['shape 44 on level 5: deleted'])
+        self.assertEqual(self.changes(self.town, self.out), [('shape 44', {'deleted': True})])
 
     def test_temporary_files(self) -> None:
         names = {it: 'TEMPORARY_OUTPUT' for it in ('OUTPUT', 'SCRIPT', 'PATCH')}
@@ -115,7 +119,7 @@ class Edits(plugin.InQgis):
         self.edit('look', DRAWING=self.town, NUMBERS='45', STYLE=0)
         self.edit('look', DRAWING=self.town, NUMBERS='45', STYLE=3)
         self.assertEqual(samples.Drawing(self.out, self.program).elements[45].style, 3)
-        self.assertEqual(self.words(), ['line string 45 on level 30: style 0 to 3'])
+        self.assertEqual(self.changes(self.town, self.out), [('line string 45', {'looks': {'style': [0, 3]}})])
 
     def test_another_level_of_a_whole_tree(self) -> None:
         self.open(self.town)
@@ -123,18 +127,18 @@ class Edits(plugin.InQgis):
         made = self.edit('relevel', LEVEL=21, PATCH=self.path('p.patch'))
         self.assertEqual(made['ACCEPTED'], 3)
         self.assertEqual(sorted(self.geometries('new 21 areas')), [35])
-        self.assertEqual([it.split(': ')[1] for it in self.words()], ['level 20 to 21', *['level 0 to 21'] * 2])
+        self.assertEqual([it['level'] for it in self.facts()], [[20, 21], [0, 21], [0, 21]])
         self.program.apply(self.town, made['PATCH'], self.path('patched.dgn'))
         self.assertEqual(Path(self.path('patched.dgn')).read_bytes(), Path(self.out).read_bytes())
 
     def test_lock_and_unlock(self) -> None:
         self.edit('lock', DRAWING=self.town, NUMBERS='44-45')
-        self.assertEqual(len(self.words()), 2)
+        self.assertEqual(self.facts(), [{'locked': True}] * 2)
         locked, self.out = self.out, self.path('again.dgn')
         made = self.run_algorithm('lock', DRAWING=locked, NUMBERS='43-45', OUTPUT=self.out, REFUSED='memory:')
         self.assertEqual(made['ACCEPTED'], 3)  # the parcel 41 with its rings 42 and 43
         refused = self.rows(made['REFUSED'], 'number', 'why')
-        self.assertEqual(refused, [(44, 'they are locked already'), (45, 'they are locked already')])
+        self.assertEqual([(number, 'locked' in why) for number, why in refused], [(44, True), (45, True)])
         self.run_algorithm('unlock', DRAWING=locked, NUMBERS='44-45', OUTPUT=self.out)
         self.assertEqual(Path(self.out).read_bytes(), Path(self.town).read_bytes())
 
@@ -142,12 +146,12 @@ class Edits(plugin.InQgis):
         self.open(self.town)
         self.select('mended 40 texts', "\"text\" = 'DN 150'")
         self.edit('retext', OLD='150', NEW='200')
-        self.assertEqual({it.split(': ')[1] for it in self.words()}, {"text 'DN 150' to 'DN 200'"})
+        self.assertEqual([it['text'] for it in self.facts()], [['DN 150', 'DN 200']] * 2)
         self.assertEqual({it['text'] for it in self.layer('new 40 texts').getFeatures()}, {'DN 200'})
         self.edit('retext', NUMBERS='46', DRAWING=self.town, NEW='\\1 x')
-        self.assertEqual([it.split(': ')[1] for it in self.words()], ["text 'DN 150' to '\\\\1 x'"])
+        self.assertEqual([it['text'] for it in self.facts()], [['DN 150', '\\1 x']])
         self.edit('retext', NUMBERS='46', DRAWING=self.town, OLD='(\\d)50', NEW='\\g<1>60', REGEX=True)
-        self.assertEqual([it.split(': ')[1] for it in self.words()], ["text 'DN 150' to 'DN 160'"])
+        self.assertEqual([it['text'] for it in self.facts()], [['DN 150', 'DN 160']])
         made = self.edit('retext', NUMBERS='46', DRAWING=self.town, NEW='longer than it was')
         self.assertEqual((made['ACCEPTED'], made['REFUSED_COUNT']), (0, 1))
         self.assertEqual(Path(self.out).read_bytes(), Path(self.town).read_bytes())
@@ -162,14 +166,14 @@ class Edits(plugin.InQgis):
         found = self.run_algorithm('find', DRAWING=self.town, LEVEL='5,30', OUTPUT='memory:')
         made = self.edit('look', DRAWING=self.town, TABLE=found['OUTPUT'], COLOUR=2)
         self.assertEqual(made['ACCEPTED'], 2)
-        self.assertEqual([it.split(' on ')[0] for it in self.words()], ['shape 44', 'line string 45'])
+        self.assertEqual(self.changed(), ['shape 44', 'line string 45'])
 
     def test_only_what_is_selected_in_layers_that_are_named(self) -> None:
         self.open(self.town)
         self.select('mended 12 lines', '"number" = 12')
         self.select('mended 30 lines', '"number" = 45')
         self.edit('look', COLOUR=2, LAYERS=[self.layer('mended 30 lines')])
-        self.assertEqual([it.split(' on ')[0] for it in self.words()], ['line string 45'])
+        self.assertEqual(self.changed(), ['line string 45'])
 
     def test_three_axes_and_units_of_resolution(self) -> None:
         self.town = self.put('solid.dgn', drawings.DRAWINGS['a line of three axes'])
@@ -181,7 +185,7 @@ class Edits(plugin.InQgis):
         self.open(self.town, UNITS=2)
         self.select('mended 5 areas', '"number" = 44')
         self.edit('move', DX=2500)
-        self.assertEqual(self.words(), ['shape 44 on level 5: moved by 2.5,0 m (2500,0 units of resolution)'])
+        self.assertEqual([it['moved']['resolution'] for it in self.facts()], [[2500, 0]])
 
     def test_a_script_longer_than_the_program_reads(self) -> None:
         count = 70000
@@ -237,23 +241,27 @@ class Mistakes(plugin.InQgis):
     def test_nothing_is_selected(self) -> None:
         self.refuses('Nothing is selected', 'look', DRAWING=self.town, COLOUR=3)
         self.refuses('Nothing is selected and no drawing is named', 'look', COLOUR=3)
-        self.refuses('has elements 0 to 53, and none 99', 'look', DRAWING=self.town, NUMBERS='99', COLOUR=3)
-        self.refuses("'x' is no number of an element", 'look', DRAWING=self.town, NUMBERS='x', COLOUR=3)
+        self.refuses('town.dgn has elements 0 to 53', 'look', DRAWING=self.town, NUMBERS='99', COLOUR=3)
+        self.refuses(
+            self.sentence('find', self.town, '--number', 'x'), 'look', DRAWING=self.town, NUMBERS='x', COLOUR=3
+        )
 
     def test_the_drawing_is_never_written(self) -> None:
         before = Path(self.town).read_bytes()
         words = {'DRAWING': self.town, 'NUMBERS': '12'}
-        self.refuses('is read, and is not written over', 'look', COLOUR=3, **{**words, 'OUTPUT': self.town})
-        self.refuses('is read, and is not written over', 'lock', **{**words, 'OUTPUT': self.town})
-        self.refuses('is read, and is not written over', 'look', COLOUR=3, PATCH=self.town, **words)
-        self.refuses('is read, and is not written over', 'lock', PATCH=self.town, **words)
+        is_read = self.sentence('run', self.town, self.put('s.txt', 'color 12 3\n'), self.town)
+        self.refuses(is_read, 'look', COLOUR=3, **{**words, 'OUTPUT': self.town})
+        self.refuses(is_read, 'lock', **{**words, 'OUTPUT': self.town})
+        self.refuses(is_read, 'look', COLOUR=3, PATCH=self.town, **words)
+        self.refuses(is_read, 'lock', PATCH=self.town, **words)
         self.refuses('is no GeoPackage', 'open', **{**words, 'OUTPUT': self.town})
-        self.refuses('it is a folder', 'look', COLOUR=3, **{**words, 'OUTPUT': str(self.folder)})
+        self.refuses('is a folder', 'look', COLOUR=3, **{**words, 'OUTPUT': str(self.folder)})
         self.assertEqual(Path(self.town).read_bytes(), before)
 
     def test_files_that_can_not_be_written(self) -> None:
         nowhere = self.path('none/new')
-        self.refuses('there is no folder', 'look', DRAWING=self.town, NUMBERS='12', COLOUR=3, OUTPUT=nowhere + '.dgn')
+        no_folder = self.sentence('run', self.town, self.put('s.txt', 'color 12 3\n'), nowhere + '.dgn')
+        self.refuses(no_folder, 'look', DRAWING=self.town, NUMBERS='12', COLOUR=3, OUTPUT=nowhere + '.dgn')
         self.refuses('can not be written', 'open', DRAWING=self.town, OUTPUT=nowhere + '.gpkg')
         words = {'DRAWING': self.town, 'NUMBERS': '12', 'PATCH': nowhere}
         self.refuses('no such file or directory', 'look', COLOUR=3, **words)

@@ -105,21 +105,22 @@ class Finds(plugin.InQgis):
         results, is_done = model.run({'look:new': out}, context, self.feedback)
         self.assertTrue(is_done, self.feedback.warnings)
         self.assertEqual(results['look:new'], out)
-        words = self.said('diff', self.town, out, status=1).split('\n')
-        self.assertEqual([it.split(' on ')[0] for it in words[:-2]], ['shape 44', 'line string 45'])
+        self.assertEqual([it for it, _ in self.changes(self.town, out)], ['shape 44', 'line string 45'])
 
     def test_nothing_is_found(self) -> None:
         self.assertEqual(self.found(LEVEL='33'), '')
-        self.assertIn('nothing meets --level 33; there are elements on the levels', self.feedback.warnings[0])
+        _, _, said = self.kit('find', self.town, '--level', '33')
+        self.assertEqual(self.feedback.warnings[0], said.split('\n')[-2])
 
     def test_conditions_that_can_not_be_read(self) -> None:
         for parameters, words in [
-            ({'LEVEL': '99'}, "'99' is no level"),
-            ({'TYPE': 'blob'}, "no type is called 'blob'"),
-            ({'PATTERN': '('}, 'is no regular expression'),
-            ({'NEAR': '1,2'}, '--near goes with --within'),
+            ({'LEVEL': '99'}, ['--level', '99']),
+            ({'TYPE': 'blob'}, ['--type', 'blob']),
+            ({'PATTERN': '('}, ['--pattern', '(']),
+            ({'NEAR': '1,2'}, ['--near', '1,2']),
         ]:
-            self.assertIn(words, self.fails('find', DRAWING=self.town, **parameters))
+            said = self.fails('find', DRAWING=self.town, **parameters)
+            self.assertEqual(said, self.sentence('find', self.town, *words))
 
     def selected(self) -> samples.Json:
         layers = self.project.mapLayers().values()
@@ -191,9 +192,10 @@ class Mends(plugin.InQgis):
         header = drawings.with_total(drawings.element(12, 12, 40), 999)
         path = self.put('in.dgn', drawings.drawing(header, drawings.line(True)))
         made = self.run_algorithm('mend', DRAWING=path, OUTPUT=self.path('new.dgn'), TABLE='memory:')
-        rows = self.rows(made['TABLE'], 'number', 'becomes', 'why')
+        rows = self.rows(made['TABLE'], 'number', 'becomes', 'why', 'is')
         self.assertEqual([row[:2] for row in rows], [(1, 'left'), (2, 'left')])
-        self.assertIn('its total 999 asks for', rows[0][2])
+        left = [line.split('left: ')[1] for line in self.kit('mend', path, '--dry-run')[2].split('\n')[:-1]]
+        self.assertEqual(['%s: %s' % (row[3], row[2]) for row in rows], left)
         self.assertEqual(Path(self.path('new.dgn')).read_bytes(), Path(path).read_bytes())
 
 
@@ -248,16 +250,16 @@ class Scripts(plugin.InQgis):
         )
         rows = self.rows(made['REFUSED'], 'number', 'command', 'why')
         self.assertEqual([row[:2] for row in rows], [(1, 'line 2: color 1 4'), (99, 'line 3: color 99 1')])
-        self.assertIn('is locked', rows[0][2])
-        self.assertIn('there is no element 99', rows[1][2])
+        self.assertIn('locked', rows[0][2])
+        self.assertIn('element 99', rows[1][2])
         self.assertIn('6 0 2 10 group live', self.feedback.lines)
 
     def test_a_bad_line_is_a_sentence(self) -> None:
         said = self.fails(
             'script', DRAWING=self.example('town.dgn'), LINES='color 1 2\nmove 2 2.5 0', OUTPUT=self.path('new.dgn')
         )
-        self.assertIn("line 2 of lines.txt is bad, so nothing has run: 'move 2 2.5 0'", said)
-        self.assertIn('2.5 m is 2500 here', said)
+        self.assertIn('line 2 of lines.txt', said)
+        self.assertIn('2500', said)  # what 2.5 m are in units of resolution
         self.assertFalse(Path(self.path('new.dgn')).exists())
 
     def test_a_patch_file(self) -> None:
@@ -269,7 +271,7 @@ class Scripts(plugin.InQgis):
         self.program.apply(drawing, patch, self.path('wanted.dgn'))
         self.assertEqual(Path(self.path('new.dgn')).read_bytes(), Path(self.path('wanted.dgn')).read_bytes())
         said = self.fails('patch', DRAWING=self.path('new.dgn'), PATCH=patch, OUTPUT=self.path('again.dgn'))
-        self.assertIn('entry 1 of 4 does not stand on %s' % self.path('new.dgn'), said)
+        self.assertEqual(said, self.sentence('run', self.path('new.dgn'), patch, self.path('again.dgn')))
         self.assertFalse(Path(self.path('again.dgn')).exists())
 
 

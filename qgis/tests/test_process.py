@@ -1,5 +1,6 @@
 """Every algorithm by qgis_process, without a window."""
 
+import json
 import os
 import unittest
 from pathlib import Path
@@ -37,11 +38,12 @@ class ByProcess(samples.WithProgram):
         self.assertEqual(status, 0, said)
         return results
 
-    def edited(self, name: str, **parameters: Any) -> Tuple[Dict[str, str], str]:
-        """The results of an edit, and what it changed, as dgnkit says it."""
+    def edited(self, name: str, **parameters: Any) -> Tuple[Dict[str, str], List[Tuple[int, Dict[str, Any]]]]:
+        """The results of an edit, and what it changed, as dgnkit says it: elements, and their changes."""
         results = self.done(name, DRAWING=self.town, OUTPUT=self.out, **parameters)
         self.assertEqual(results['OUTPUT'], self.out)
-        return results, self.said('diff', self.town, self.out, status=1)
+        found = json.loads(self.said('diff', '--json', self.town, self.out, status=1))['elements']
+        return results, [(it['after'], it['changes']) for it in found]
 
     def count(self, source: str) -> int:
         layer = QgsVectorLayer(source, 'it', 'ogr')
@@ -70,29 +72,32 @@ class ByProcess(samples.WithProgram):
         made = self.done('check', DRAWING=self.town, OUTPUT=self.path('findings.gpkg'))
         self.assertEqual(self.count(made['OUTPUT']), int(made['COUNT']))
         self.assertEqual(made['COUNT'], '11')
-        made, words = self.edited('mend', TABLE=self.path('mended.gpkg'), PATCH=self.path('m.patch'))
+        made, changes = self.edited('mend', TABLE=self.path('mended.gpkg'), PATCH=self.path('m.patch'))
         self.assertEqual((made['BEFORE'], made['AFTER'], self.count(made['TABLE'])), ('11', '0', 5))
-        self.assertEqual(words.count('bit C cleared'), 2)
-        changes = self.done('compare', FIRST=self.town, SECOND=self.out, OUTPUT=self.path('changes.gpkg'))
-        self.assertEqual((changes['COUNT'], self.count(changes['OUTPUT'])), ('5', 5))
+        # two roads whose bit C is cleared, and three parcels with another total
+        self.assertEqual([list(it) for _, it in changes], [['bit_c']] * 2 + [['total']] * 3)
+        made = self.done('compare', FIRST=self.town, SECOND=self.out, OUTPUT=self.path('changes.gpkg'))
+        self.assertEqual((made['COUNT'], self.count(made['OUTPUT'])), ('5', 5))
 
     def test_find(self) -> None:
         made = self.done('find', DRAWING=self.town, LEVEL='5,30', OUTPUT=self.path('found.gpkg'))
         self.assertEqual((made['NUMBERS'], self.count(made['OUTPUT'])), ('44-45', 2))
-        made, words = self.edited('look', TABLE=made['OUTPUT'], COLOUR=3)
-        self.assertEqual((made['ACCEPTED'], words.count(': colour ')), ('2', 2))
+        made, changes = self.edited('look', TABLE=made['OUTPUT'], COLOUR=3)
+        self.assertEqual((made['ACCEPTED'], [number for number, _ in changes]), ('2', [44, 45]))
 
     def test_commands(self) -> None:
-        cases: List[Tuple[str, Dict[str, Any], str]] = [
-            ('move', {'DX': 2.5, 'DY': -1}, 'shape 44 on level 5: moved by 2.5,-1 m (2500,-1000 units of resolution)'),
-            ('copy', {'DX': 2.5}, 'shape 54 on level 5: appended'),
-            ('look', {'WEIGHT': 4}, 'shape 44 on level 5: weight 0 to 4'),
-            ('delete', {}, 'shape 44 on level 5: deleted'),
+        cases: List[Tuple[str, Dict[str, Any], int, str]] = [
+            ('move', {'DX': 2.5, 'DY': -1}, 44, 'moved'),
+            ('copy', {'DX': 2.5}, 54, 'appended'),
+            ('look', {'WEIGHT': 4}, 44, 'looks'),
+            ('delete', {}, 44, 'deleted'),
         ]
-        for name, more, wanted in cases:
+        for name, more, number, change in cases:
             saved = {'SCRIPT': self.path('s.txt'), 'PATCH': self.path('p.patch')}
-            made, words = self.edited(name, NUMBERS=44, **more, **saved)
-            self.assertEqual(words.split('\n')[0], wanted)
+            made, changes = self.edited(name, NUMBERS=44, **more, **saved)
+            self.assertEqual([(it, list(facts)) for it, facts in changes], [(number, [change])])
+            if name == 'move':
+                self.assertEqual(changes[0][1]['moved']['resolution'], [2500, -1000])
             self.assertEqual((made['ACCEPTED'], made['REFUSED_COUNT']), ('1', '0'))
             self.assertTrue(Path(made['SCRIPT']).read_text().endswith('\n'))
             self.done('patch', DRAWING=self.town, PATCH=made['PATCH'], OUTPUT=self.path('patched.dgn'))
@@ -101,14 +106,14 @@ class ByProcess(samples.WithProgram):
         self.assertEqual(Path(self.path('scripted.dgn')).read_bytes(), Path(self.out).read_bytes())
 
     def test_fields(self) -> None:
-        cases: List[Tuple[str, Dict[str, Any], str]] = [
-            ('relevel', {'LEVEL': 6}, 'text 46 \'DN 150\' on level 40: level 40 to 6'),
-            ('retext', {'NEW': 'DN 99'}, "text 46 'DN 150' on level 40: text 'DN 150' to 'DN 99'"),
-            ('lock', {}, "text 46 'DN 150' on level 40: locked"),
+        cases: List[Tuple[str, Dict[str, Any], Dict[str, Any]]] = [
+            ('relevel', {'LEVEL': 6}, {'level': [40, 6]}),
+            ('retext', {'NEW': 'DN 99'}, {'text': ['DN 150', 'DN 99']}),
+            ('lock', {}, {'locked': True}),
         ]
         for name, more, wanted in cases:
-            _, words = self.edited(name, NUMBERS=46, **more)
-            self.assertEqual(words.split('\n')[0], wanted)
+            _, changes = self.edited(name, NUMBERS=46, **more)
+            self.assertEqual(changes, [(46, wanted)])
         self.done('unlock', DRAWING=self.out, NUMBERS=46, OUTPUT=self.path('unlocked.dgn'))
         self.assertEqual(Path(self.path('unlocked.dgn')).read_bytes(), self.before)
         self.program.edit(self.town, samples.Script().delete(46), self.path('deleted.dgn'))
@@ -125,8 +130,8 @@ class ByProcess(samples.WithProgram):
         cases: List[Tuple[str, Dict[str, Any], str]] = [
             ('open', {'DRAWING': cut, 'OUTPUT': self.path('x.gpkg')}, 'cut.dgn'),
             ('look', {'DRAWING': self.town, 'COLOUR': 3, 'OUTPUT': self.out}, 'Nothing is selected'),
-            ('lock', {'DRAWING': self.town, 'NUMBERS': 99, 'OUTPUT': self.out}, 'and none 99'),
-            ('move', {'DRAWING': self.town, 'NUMBERS': 4, 'OUTPUT': self.town}, 'is not written over'),
+            ('lock', {'DRAWING': self.town, 'NUMBERS': 99, 'OUTPUT': self.out}, '0 to 53'),
+            ('move', {'DRAWING': self.town, 'NUMBERS': 4, 'OUTPUT': self.town}, self.town),
         ]
         for name, more, words in cases:
             status, _, said = self.profile.run(name, **more)

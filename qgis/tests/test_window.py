@@ -55,8 +55,8 @@ class NewUser(samples.WithProgram):
         self.assertEqual(found['shown'], {'mended.dgn': False, 'road.dgn': False, 'parcel.dgn': True})
         words = dict(found['changes'])
         self.assertEqual(len(words), 13)  # the chain with nine members, and the parcel with two rings
-        self.assertIn('moved by 12.5,45 m', words['cell 38 on level 20'])
-        self.assertIn('colour 3 (red, #ff0000) to 5 (magenta, #ff00ff)', words['complex chain 15 on level 12'])
+        self.assertIn('12500,45000', words['cell 38 on level 20'])
+        self.assertRegex(words['complex chain 15 on level 12'], '#ff0000.*#ff00ff')
         self.assertEqual((found['zoom'], found['zoomed']), (['Zoom to it'], True))
 
 

@@ -63,6 +63,12 @@ def run_edit(arguments: argparse.Namespace, word: Word) -> int:
     return 0
 
 
+def parts_of(drawing: Drawing, chosen: Sequence[int]) -> List[int]:
+    """Elements and what stands below them; what is marked deleted goes along with what is."""
+    nesting, dead = drawing.nesting, drawing.dead
+    return sorted({it for top in chosen for it in nesting.part(top) if it not in dead or top in dead})
+
+
 def taken(conditions: Conditions, takes_parts: bool) -> List[int]:
     """The chosen elements, and what stands below them where parts are taken; with --trees all elements of the chosen
     trees. What is marked deleted goes along with what is. It says what goes along, and what stays."""
@@ -71,21 +77,15 @@ def taken(conditions: Conditions, takes_parts: bool) -> List[int]:
     if not takes_parts and not conditions.takes_trees:
         return chosen
     tell_broken(conditions, chosen)
-    below = parts_of(drawing, chosen)
-    more = sorted(set(below).difference(chosen))
+    below = set(parts_of(drawing, chosen))
+    more = sorted(below.difference(chosen))
     if conditions.takes_members:
         tell(more, 'stay as they are', drawing)
         return chosen
     tell(more, 'go along', drawing)
     for said in parts_said(drawing, chosen, TOLD):
         note(said + ', and the rest of it stays (--trees takes it)')
-    return below
-
-
-def parts_of(drawing: Drawing, chosen: Sequence[int]) -> List[int]:
-    """Elements and what stands below them; what is marked deleted goes along with what is."""
-    nesting, dead = drawing.nesting, drawing.dead
-    return sorted({it for top in chosen for it in nesting.part(top) if it not in dead or top in dead})
+    return sorted(below)
 
 
 def tell_broken(conditions: Conditions, chosen: Sequence[int]) -> None:

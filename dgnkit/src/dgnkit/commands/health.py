@@ -26,7 +26,6 @@ FAULTS = {
     'short': ' (this element has fewer bytes than its type and its counts ask for)',
     'attributes': ' (the attribute data of this element do not begin within it, behind its body)',
 }
-LISTS = 'broken type_0 zeros audit twice outside'.split()  # findings of which there may be several
 COUNTS = 'broken_trees type_0 zeros audit twice outside end_mark behind deleted locked'.split()
 
 
@@ -168,6 +167,9 @@ def details_of(facts: Facts, scale: Optional[Scale]) -> List[str]:
     if facts['behind']:
         lines.append('%s behind the end mark, which no reader looks at' % counted(facts['behind'], 'byte'))
     return lines
+
+
+LISTS = 'broken type_0 zeros audit twice outside'.split()  # findings of which there may be several
 
 
 def findings_of(facts: Facts, scale: Optional[Scale]) -> List[Tuple[str, List[int], str]]:

@@ -35,12 +35,14 @@ def register(words: Subparsers) -> None:
 
 def run(arguments: argparse.Namespace) -> int:
     """The status is 0 where nothing was refused, 1 where a command was; it raises Mistake where nothing was written."""
-    program = Program.find()
+    out = arguments.out
+    if os.path.isdir(out):
+        raise Mistake('%s can not be written: it is a folder' % out)
+    program, steps = Program.find(), []
     with contextlib.ExitStack() as stack:
         names = [stack.enter_context(on_disk(it)) for it in arguments.steps]
-        files = [*arguments.steps, *names]
-        made = stack.enter_context(delivered(arguments.drawing, files, arguments.out))
-        steps = run_steps(program, arguments.drawing, names, made, arguments.out)
+        made = stack.enter_context(delivered(arguments.drawing, [*arguments.steps, *names], out))
+        steps.extend(run_steps(program, arguments.drawing, names, made, out))
     tell(arguments, steps)
     tell_texts(steps)
     return int(any(it.is_refused for it in steps))
@@ -48,10 +50,8 @@ def run(arguments: argparse.Namespace) -> int:
 
 @contextlib.contextmanager
 def delivered(drawing: str, files: Sequence[str], out: str) -> Iterator[str]:
-    """The name of a drawing that is to be made of these files, and then is put in the place of OUT, where nothing is
-    raised meanwhile. It raises Mistake where OUT may not be written."""
-    if os.path.isdir(out):
-        raise Mistake('%s can not be written: it is a folder' % out)
+    """The name of a drawing that is to be made of these files, and then is put in the place of OUT, which is no folder,
+    where nothing is raised meanwhile. It raises Mistake where OUT may not be written."""
     ask_out(drawing, files, out)
     with folder_beside(out) as folder:
         made = os.path.join(folder, 'out.dgn')
