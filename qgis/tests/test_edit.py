@@ -242,9 +242,7 @@ class Mistakes(plugin.InQgis):
         self.refuses('Nothing is selected', 'look', DRAWING=self.town, COLOUR=3)
         self.refuses('Nothing is selected and no drawing is named', 'look', COLOUR=3)
         self.refuses('town.dgn has elements 0 to 53', 'look', DRAWING=self.town, NUMBERS='99', COLOUR=3)
-        self.refuses(
-            self.sentence('find', self.town, '--number', 'x'), 'look', DRAWING=self.town, NUMBERS='x', COLOUR=3
-        )
+        self.refuses("'x'", 'look', DRAWING=self.town, NUMBERS='x', COLOUR=3)
 
     def test_the_drawing_is_never_written(self) -> None:
         before = Path(self.town).read_bytes()

@@ -1,5 +1,6 @@
 """Find, check, mend and compare; scripts and patch files."""
 
+import json
 import re
 import unittest
 from pathlib import Path
@@ -192,10 +193,10 @@ class Mends(plugin.InQgis):
         header = drawings.with_total(drawings.element(12, 12, 40), 999)
         path = self.put('in.dgn', drawings.drawing(header, drawings.line(True)))
         made = self.run_algorithm('mend', DRAWING=path, OUTPUT=self.path('new.dgn'), TABLE='memory:')
-        rows = self.rows(made['TABLE'], 'number', 'becomes', 'why', 'is')
+        rows = self.rows(made['TABLE'], 'number', 'becomes', 'why')
         self.assertEqual([row[:2] for row in rows], [(1, 'left'), (2, 'left')])
-        left = [line.split('left: ')[1] for line in self.kit('mend', path, '--dry-run')[2].split('\n')[:-1]]
-        self.assertEqual(['%s: %s' % (row[3], row[2]) for row in rows], left)
+        left = json.loads(self.said('mend', path, '--dry-run', '--json'))['left']
+        self.assertEqual([{'element': row[0], 'why': row[2]} for row in rows], left)
         self.assertEqual(Path(self.path('new.dgn')).read_bytes(), Path(path).read_bytes())
 
 
