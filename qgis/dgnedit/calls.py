@@ -99,4 +99,4 @@ class Call:
     def ask(self) -> None:
         """It raises Stopped where the run was cancelled."""
         if self.feedback.isCanceled():
-            raise Stopped('it was stopped, and nothing was written')
+            raise Stopped('Stopped: nothing was written.')

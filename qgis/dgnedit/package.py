@@ -52,7 +52,7 @@ class Package:
 
     def mistake(self, why: Exception) -> Mistake:
         """What is wrong with it."""
-        return Mistake('%s can not be written: %s' % (self.path, why))
+        return Mistake("%s can't be written: %s" % (self.path, why))
 
     def put(self, table: str, geometry: bytes, values: Sequence[Any]) -> None:
         """Puts a row in."""
@@ -94,9 +94,13 @@ def make_tables(
     path: str, system: QgsCoordinateReferenceSystem, tables: Dict[str, int], fields: Sequence[Field]
 ) -> None:
     """Makes the file with empty tables. It raises Mistake where it can't be made."""
-    source = ogr.GetDriverByName('GPKG').CreateDataSource(path)
+    gdal.PushErrorHandler('CPLQuietErrorHandler')
+    try:
+        source = ogr.GetDriverByName('GPKG').CreateDataSource(path)
+    finally:
+        gdal.PopErrorHandler()
     if source is None:
-        raise Mistake('%s can not be written: %s' % (path, gdal.GetLastErrorMsg() or 'no reason is said'))
+        raise Mistake("%s can't be written: %s" % (path, gdal.GetLastErrorMsg() or 'no reason is said'))
     options = ['SPATIAL_INDEX=NO', 'GEOMETRY_NAME=' + GEOMETRY]
     for name, geometry in tables.items():
         layer = source.CreateLayer(name, reference_of(system), geometry, options)
@@ -119,7 +123,7 @@ def remove_package(path: str) -> None:
         with closing(open(path, 'rb')) as file:
             front = file.read(16)
         if front and not front.startswith(b'SQLite format 3'):
-            raise Mistake('%s is there already and is no GeoPackage, so it is not written over' % path)
+            raise Mistake("%s exists and isn't a GeoPackage, so it isn't overwritten" % path)
         os.remove(path)
     for more in BESIDE:
         if os.path.exists(path + more):

@@ -16,9 +16,9 @@ SETTING = 'DGNEDIT_PROGRAM'
 ICON = str(PLUGIN / 'icon.svg')
 WHERE = 'Settings, Options, Processing, Providers, dgnedit'
 NOWHERE = (
-    'The program dgnedit is not to be found: neither by the setting (%s), nor in the folder of the plugin (%s), nor by '
-    '$DGNEDIT, nor on the path. Install dgnedit_VERSION_amd64.deb, or unpack dgnedit-VERSION-x86_64.tar.gz and name '
-    'its file dgnedit in that setting.'
+    "The program dgnedit wasn't found: not by the setting (%s), in the folder of the plugin (%s), by $DGNEDIT, or on "
+    'the path. Install dgnedit_VERSION_amd64.deb, or unpack dgnedit-VERSION-x86_64.tar.gz and name its file dgnedit in '
+    'that setting.'
 )
 
 
@@ -41,7 +41,7 @@ def find_program() -> Program:
         if found:
             return Program(os.path.abspath(found))
         if what:
-            raise MissingProgram('%s names %s, which is no program that can be run' % (what, named))
+            raise MissingProgram("%s names %s, which can't be run as a program" % (what, named))
     raise MissingProgram(NOWHERE % (WHERE, PLUGIN))
 
 

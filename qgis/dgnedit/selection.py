@@ -44,7 +44,7 @@ def selected_in(call: Call, layers: Sequence[Any]) -> List[Selected]:
     asked = list(layers) or list(drawing_layers(call.project))
     for layer in asked:
         if not is_of_drawing(layer):
-            raise Mistake('%s is no layer that was opened from a drawing by this plugin' % layer.name())
+            raise Mistake("%s isn't a layer that this plugin opened from a drawing" % layer.name())
     return [it for it in map(selected_of, asked) if it.numbers]
 
 
@@ -71,9 +71,9 @@ def ask_same(drawing: Drawing, selected: Sequence[Selected]) -> None:
         if it.digest == digest:
             continue
         if it.drawing == os.path.abspath(drawing.path):
-            said = 'The layer %s shows %s as it was when it was opened, and it was changed since: open it again.'
+            said = '%s: the drawing %s was changed since this layer was opened from it: open it again.'
             raise Mistake(said % (it.layer, it.drawing))
-        raise Mistake('The layer %s was opened from %s, and not from %s.' % (it.layer, it.drawing, drawing.path))
+        raise Mistake('The layer %s was opened from %s, not from %s.' % (it.layer, it.drawing, drawing.path))
 
 
 def rows_of(source: Optional[QgsProcessingFeatureSource]) -> List[Row]:
@@ -109,12 +109,12 @@ def ask_rows(drawing: Drawing, rows: Sequence[Row]) -> None:
     """It raises Mistake where a row is of another element than the drawing has: it is a row of another drawing."""
     for row in rows:
         if row.number >= len(drawing.elements):
-            said = 'The table is none of %s: it has an element %d, and here are 0 to %d.'
+            said = "The table isn't of %s: it has an element %d, but the drawing has 0 to %d."
             raise Mistake(said % (drawing.path, row.number, len(drawing.elements) - 1))
         element = drawing.elements[row.number]
         for name, value in row.facts.items():
             if value != getattr(element, name):
-                said = 'The table is none of %s: its element %d has the %s %d, and here it is %s.'
+                said = "The table isn't of %s: its element %d has the %s %d, but in the drawing it is %s."
                 raise Mistake(said % (drawing.path, row.number, name, value, described(element)))
 
 
@@ -124,7 +124,7 @@ def numbers_of(word: str) -> List[int]:
         return []
     spans = Spans.read('number of an element', [word], ELEMENTS_MOST - 1).spans
     if sum(high - low + 1 for low, high in spans) > ELEMENTS_MOST:
-        raise Mistake('%r is too much' % word)
+        raise Mistake('%r names too many elements' % word)
     return [number for low, high in spans for number in range(low, high + 1)]
 
 

@@ -220,9 +220,9 @@ class Mistakes(plugin.InQgis):
         self.open(self.town)
         other = self.example('plan.dgn')
         self.select('town 12 lines', '"number" = 12')
-        self.refuses('town.dgn, and not from %s' % other, 'look', DRAWING=other, COLOUR=3)
+        self.refuses('town.dgn, not from %s' % other, 'look', DRAWING=other, COLOUR=3)
         table = self.run_algorithm('find', DRAWING=self.town, LEVEL='12', METHOD=2, OUTPUT='memory:')['OUTPUT']
-        self.refuses('The table is none of', 'look', DRAWING=other, COLOUR=3, TABLE=table)
+        self.refuses("The table isn't of", 'look', DRAWING=other, COLOUR=3, TABLE=table)
 
     def test_selections_of_two_drawings(self) -> None:
         self.open(self.town)
@@ -236,7 +236,7 @@ class Mistakes(plugin.InQgis):
         self.select('town 12 lines', '"number" = 12')
         self.program.edit(self.town, samples.Script().color(12, 9), self.path('changed.dgn'))
         Path(self.path('changed.dgn')).replace(self.town)
-        self.refuses('it was changed since: open it again', 'look', COLOUR=3)
+        self.refuses('was changed since this layer was opened from it: open it again', 'look', COLOUR=3)
 
     def test_nothing_is_selected(self) -> None:
         self.refuses('Nothing is selected', 'look', DRAWING=self.town, COLOUR=3)
@@ -252,7 +252,7 @@ class Mistakes(plugin.InQgis):
         self.refuses(is_read, 'lock', **{**words, 'OUTPUT': self.town})
         self.refuses(is_read, 'look', COLOUR=3, PATCH=self.town, **words)
         self.refuses(is_read, 'lock', PATCH=self.town, **words)
-        self.refuses('is no GeoPackage', 'open', **{**words, 'OUTPUT': self.town})
+        self.refuses("isn't a GeoPackage", 'open', **{**words, 'OUTPUT': self.town})
         self.refuses('is a folder', 'look', COLOUR=3, **{**words, 'OUTPUT': str(self.folder)})
         self.assertEqual(Path(self.town).read_bytes(), before)
 
@@ -260,7 +260,7 @@ class Mistakes(plugin.InQgis):
         nowhere = self.path('none/new')
         no_folder = self.sentence('run', self.town, self.put('s.txt', 'color 12 3\n'), nowhere + '.dgn')
         self.refuses(no_folder, 'look', DRAWING=self.town, NUMBERS='12', COLOUR=3, OUTPUT=nowhere + '.dgn')
-        self.refuses('can not be written', 'open', DRAWING=self.town, OUTPUT=nowhere + '.gpkg')
+        self.refuses("can't be written", 'open', DRAWING=self.town, OUTPUT=nowhere + '.gpkg')
         words = {'DRAWING': self.town, 'NUMBERS': '12', 'PATCH': nowhere}
         self.refuses('no such file or directory', 'look', COLOUR=3, **words)
         self.refuses('no such file or directory', 'lock', **words)
@@ -305,7 +305,7 @@ class Mistakes(plugin.InQgis):
         self.refuses('Give a colour, a weight or a style', 'look', **words)
         self.refuses('two dimensions', 'move', DZ=1, **words)
         self.refuses('Name a script', 'script', DRAWING=self.town)
-        self.refuses('no patch file', 'patch', DRAWING=self.town, PATCH=self.put('x.txt', 'color 1 2\n'))
+        self.refuses("isn't a patch file", 'patch', DRAWING=self.town, PATCH=self.put('x.txt', 'color 1 2\n'))
 
     def test_it_is_cancelled(self) -> None:
         self.feedback = plugin.Feedback('The drawing is edited')
@@ -314,7 +314,7 @@ class Mistakes(plugin.InQgis):
         self.feedback = plugin.Feedback('The layers of the new drawing')
         made = self.run_algorithm('look', DRAWING=self.town, NUMBERS='12', COLOUR=3, OUTPUT=self.out)
         self.assertEqual((made['OUTPUT'], os.path.exists(self.out), self.groups()), (self.out, True, []))
-        self.assertIn('It was stopped: the new drawing is written', self.feedback.warnings[0])
+        self.assertIn('Stopped: the new drawing is written', self.feedback.warnings[0])
 
 
 if __name__ == '__main__':

@@ -168,7 +168,7 @@ class Checks(plugin.InQgis):
         two = drawings.drawing(drawings.line(), drawings.line())
         made = self.run_algorithm('check', DRAWING=self.put('two.dgn', two[:-2]), OUTPUT='memory:')
         rows = self.rows(made['OUTPUT'], 'number', 'root', 'kind')
-        self.assertEqual(rows, [(1, 1, 'there more than once'), (None, None, 'no end mark')])
+        self.assertEqual(rows, [(1, 1, 'duplicate'), (None, None, 'no end mark')])
 
 
 class Mends(plugin.InQgis):

@@ -31,7 +31,7 @@ from ..program import ICON, find_program
 Results = Parameters
 DRAWINGS = 'Design files (*.dgn *.DGN);;All files (*)'
 UNITS = ['auto', 'master', 'resolution']
-UNITS_SAID = ['master units, where the drawing says what these are', 'master units', 'units of resolution']
+UNITS_SAID = ['master units, if the drawing defines them', 'master units', 'units of resolution']
 
 
 class DgnAlgorithm(QgsProcessingAlgorithm):
@@ -135,7 +135,7 @@ class DgnAlgorithm(QgsProcessingAlgorithm):
         """A drawing that is read."""
         self.add(
             QgsProcessingParameterFile(name, said, fileFilter=DRAWINGS, optional=is_optional),
-            'A MicroStation design file of version 7. It is read, and never written.',
+            'A MicroStation design file of version 7. It is only read, never changed.',
             is_advanced,
         )
 
@@ -143,11 +143,11 @@ class DgnAlgorithm(QgsProcessingAlgorithm):
         """The drawing that is written, and whether it is opened."""
         self.add(
             QgsProcessingParameterFileDestination('OUTPUT', 'New drawing', 'Design files (*.dgn)'),
-            'The drawing that is written; it may not be one that is read.',
+            'A file of its own: the old drawing is never overwritten.',
         )
         self.add(
             QgsProcessingParameterBoolean('OPEN', 'Open the new drawing beside the old one', True),
-            'Adds the layers of the new drawing to the project.',
+            'Adds its layers to the project, and switches those of the old drawing off.',
         )
         self.addOutput(QgsProcessingOutputNumber('ACCEPTED', 'How many edits were made'))
 
@@ -159,7 +159,7 @@ class DgnAlgorithm(QgsProcessingAlgorithm):
         """The coordinate reference system of layers, and the units of their coordinates."""
         self.add(
             QgsProcessingParameterCrs('CRS', 'Coordinate reference system', optional=True),
-            'The system that the coordinates of the drawing are in. The drawing does not say it.',
+            "The system of the drawing's coordinates. The drawing itself doesn't name one.",
         )
         self.add(
             QgsProcessingParameterEnum('UNITS', 'Units of the coordinates', UNITS_SAID, defaultValue=0),

@@ -17,9 +17,9 @@ KINDS = {
     'type_0': 'element of type 0',
     'zeros': 'run of zeros',
     'audit': 'wrong range',
-    'twice': 'there more than once',
+    'twice': 'duplicate',
     'end_mark': 'no end mark',
-    'behind': 'bytes behind the end mark',
+    'behind': 'bytes after the end mark',
 }
 FIELDS: Dict[str, type] = {'number': int, 'root': int, 'kind': str, 'finding': str}
 
@@ -31,9 +31,9 @@ class Check(DgnAlgorithm):
     TITLE = 'Check a drawing'
     SHORT = 'Says what in a drawing is damaged, broken or odd, in a table with a box around each finding.'
     HELP = (
-        'It finds broken trees, which can not be edited until they are mended; ranges that are not those of what an '
-        'element holds; what is there more than once; zeros where there should be elements; and a missing end. The '
-        'button of a row zooms to it. A file that does not open is told as an error.'
+        "It finds broken trees, which can't be edited until they are mended; ranges that don't fit what an element "
+        'holds; duplicates; zeros where there should be elements; and a missing end mark. The button in each row zooms '
+        "to it. A file that doesn't open is an error."
     )
     TAGS = 'check health audit damage validate'
 

@@ -20,13 +20,13 @@ class Move(CommandAlgorithm):
     NAME = 'move'
     TITLE = 'Move'
     SHORT = 'Moves what is selected by a vector.'
-    MORE = 'The vector is in the units of the layers: master units, or units of resolution where the layers have these.'
+    MORE = 'The vector is in the units of the layers: master units, or units of resolution if they were opened so.'
     TAGS = 'move shift translate displace'
     WORD = 'move'
 
     def define_edit(self) -> None:
         for name, said in zip(AXES, ('to the east (x)', 'to the north (y)', 'upwards (z), in three dimensions')):
-            parameter = QgsProcessingParameterNumber(name, 'By how much ' + said, QgsProcessingParameterNumber.Double)
+            parameter = QgsProcessingParameterNumber(name, 'Distance ' + said, QgsProcessingParameterNumber.Double)
             parameter.setDefaultValue(0)
             self.add(parameter, is_advanced=name == 'DZ')
 
@@ -57,7 +57,7 @@ class Look(CommandAlgorithm):
     TAGS = 'color colour recolour weight style line symbology'
 
     def define_edit(self) -> None:
-        self.add_number('COLOUR', 'Colour', COLOUR_MOST, 'A number of the colour table, 0 to 255, as 3 for red.')
+        self.add_number('COLOUR', 'Colour', COLOUR_MOST, 'A number from the colour table, 0 to 255, such as 3 for red.')
         self.add_number('WEIGHT', 'Weight', WEIGHT_MOST, 'From 0 to 31.')
         options = ['%d %s' % it for it in enumerate(STYLE_NAMES[: STYLE_MOST + 1])]
         self.add(QgsProcessingParameterEnum('STYLE', 'Style', options, False, None, True))

@@ -26,11 +26,11 @@ from .results import PATCHES, SCRIPTS, MakesDrawing, Refusal, refusals_of
 
 ANY = QgsProcessing.TypeVectorAnyGeometry
 HELP = (
-    'The features that are selected in the layers of a drawing are edited: of all its layers, or of those that are '
-    'named. Or give the numbers of elements, or a table with a field "number". Whole trees are edited, such as a cell '
-    'with all in it, unless this is switched off.\n\n'
-    'The result is a new drawing, which is opened beside the old one, with the same features selected; the old one is '
-    'never written. What is refused, such as anything that is locked, is in a table with its reason, and the rest is '
+    'Edits the features that are selected in the layers of a drawing: in all its layers, or in those that you name. '
+    'Instead you can give element numbers, or a table with a field "number". Whole trees are edited, such as a cell '
+    'with everything in it, unless you switch that off.\n\n'
+    'The result is a new drawing, which is opened beside the old one, with the same features selected. The old one is '
+    'never changed. Anything that is refused, such as a locked element, is in a table with the reason; the rest is '
     'done.'
 )
 TOLD = 8
@@ -49,16 +49,16 @@ class EditAlgorithm(MakesDrawing):
 
     def define(self) -> None:
         self.define_edit()
-        self.add_flag('TREES', 'Whole trees', True, 'Such as a cell with all in it, if one feature of it is selected.')
-        self.add_drawing(said='Drawing (else that of the selection)', is_optional=True, is_advanced=True)
+        self.add_flag('TREES', 'Whole trees', True, 'Such as a whole cell, if one of its features is selected.')
+        self.add_drawing(said='Drawing (if not that of the selection)', is_optional=True, is_advanced=True)
         self.add(
             QgsProcessingParameterMultipleLayers('LAYERS', 'Only what is selected in these layers', ANY, None, True),
-            'Where none are named, what is selected in all layers of the drawing.',
+            'If you name none: what is selected in all layers of the drawing.',
             True,
         )
         self.add(
             QgsProcessingParameterString('NUMBERS', 'Or the elements with these numbers', None, False, True),
-            'Such as 12 or 3-5,9; then what is selected counts only in the layers that are named.',
+            'Such as 12 or 3-5,9. The selection is then ignored, except in layers that you name.',
             True,
         )
         self.add(
@@ -74,7 +74,7 @@ class EditAlgorithm(MakesDrawing):
 
     def define_files(self) -> None:
         """Adds the files that can be saved."""
-        self.add_file('PATCH', 'Patch file of what is done', PATCHES, 'For a drawing that others keep.')
+        self.add_file('PATCH', 'Patch file of the edit', PATCHES, 'To make the same edit in a copy of the drawing.')
 
     def prepare(self, call: Call) -> None:
         layers = self.parameterAsLayerList(call.parameters, 'LAYERS', call.context)
@@ -91,7 +91,7 @@ class EditAlgorithm(MakesDrawing):
         else:
             numbers = topmost(drawing, numbers, Proposal())
             for line in parts_said(drawing, numbers, TOLD):
-                call.say('%s, and the rest of it stays' % line)
+                call.say('%s; the rest of its tree is not changed' % line)
         call.doing('The drawing is edited', 0.2)
         out = call.target('OUTPUT')
         made, refused = self.edit(call, drawing, numbers, out)
@@ -125,7 +125,7 @@ class CommandAlgorithm(EditAlgorithm):
     """An edit by a command of the editor's script, a line for each element."""
 
     def define_files(self) -> None:
-        self.add_file('SCRIPT', 'Script of what is done', SCRIPTS, 'Without the lines that were refused.')
+        self.add_file('SCRIPT', 'Script of the edit', SCRIPTS, 'Without the lines that were refused.')
         super().define_files()
 
     def template(self, call: Call, drawing: Drawing) -> str:
@@ -162,5 +162,5 @@ def tell_broken(call: Call, drawing: Drawing, numbers: List[int]) -> None:
     """Says which elements stand in broken trees, so that it isn't known what belongs to them."""
     broken = [it for it in numbers if drawing.nesting.roots[it] in drawing.nesting.broken_roots]
     if broken:
-        said = 'It is not known what belongs to %s in broken trees (%s), and only they change: mend the drawing first.'
+        said = "It isn't known what belongs to %s in broken trees (%s), so only these change: mend the drawing first."
         call.warn(said % (counted(len(broken), 'element'), few(broken)))

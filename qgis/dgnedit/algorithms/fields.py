@@ -26,7 +26,7 @@ class Relevel(FieldAlgorithm):
     WORD = 'level'
 
     def define_edit(self) -> None:
-        self.add_number('LEVEL', 'Level', LEVEL_MOST, 'From 1 to 63; 0 is that of members of cells.', False)
+        self.add_number('LEVEL', 'Level', LEVEL_MOST, 'From 1 to 63, or 0, which members of cells may have.', False)
 
     def fields(self, call: Call, drawing: Drawing, numbers: List[int]) -> FieldEdits:
         return relevel(drawing, numbers, call.whole('LEVEL') or 0)
@@ -38,23 +38,23 @@ class Retext(FieldAlgorithm):
     NAME = 'retext'
     TITLE = 'Change texts'
     SHORT = 'Replaces a word in the texts that are selected, or the whole of each.'
-    MORE = 'A text can get shorter, or as long as it was, but no longer: there is no room for it in the drawing.'
+    MORE = "A text can become shorter, or stay as long as it was. It can't become longer: there is no room for it."
     TAGS = 'text label replace'
     WORD = 'text'
 
     def define_edit(self) -> None:
         self.add(
-            QgsProcessingParameterString('OLD', 'The word to be replaced (else the whole text)', None, False, True),
-            'Not in the midst of another word.',
+            QgsProcessingParameterString('OLD', 'Word to replace (empty: the whole text)', None, False, True),
+            'Only as a whole word.',
         )
-        self.add(QgsProcessingParameterString('NEW', 'What is put in its place'))
+        self.add(QgsProcessingParameterString('NEW', 'New text'))
         self.add_flag('REGEX', 'The word is a regular expression', False, is_advanced=True)
-        self.add_flag('IGNORE_CASE', 'Small letters and capitals are the same', False, is_advanced=True)
+        self.add_flag('IGNORE_CASE', 'Ignore case', False, is_advanced=True)
 
     def fields(self, call: Call, drawing: Drawing, numbers: List[int]) -> FieldEdits:
         old, new = call.text('OLD'), call.text('NEW')
         if not new:
-            raise Mistake('Give a new text; to be rid of a text, delete it.')
+            raise Mistake('Give a new text. To remove a text, delete it.')
         form = WHOLE
         if old:
             form = (form_of if call.flag('REGEX') else word_form)(old, call.flag('IGNORE_CASE'))
@@ -93,7 +93,7 @@ class Undelete(FieldAlgorithm):
     NAME = 'undelete'
     TITLE = 'Take a deletion back'
     SHORT = 'Takes the deletion of what is selected back.'
-    MORE = 'To see what is deleted, open the drawing with "What is marked deleted too".'
+    MORE = 'To see what is deleted, open the drawing with "Also what is marked deleted".'
     TAGS = 'undelete restore'
     WORD = 'undelete'
 

@@ -31,19 +31,19 @@ from .base import DgnAlgorithm, Results, opened
 
 # The conditions that are texts: the parameter, the option of dgnkit, and what is said of it.
 TEXTS = (
-    ('LEVEL', '--level', 'On these levels', 'As 12, 3-5,9 or >20.'),
-    ('TYPE', '--type', 'Of these types', 'By number or name, as 3,text.'),
-    ('COLOUR', '--color', 'Of these colours', 'As 3 or 1-5.'),
-    ('WEIGHT', '--weight', 'Of these weights', 'As >3.'),
-    ('STYLE', '--style', 'Of these styles', 'As 0 or 1-7.'),
-    ('TEXT', '--text', 'Texts with this word', 'Not in the midst of another word.'),
+    ('LEVEL', '--level', 'On these levels', 'Such as 12, 3-5,9 or >20.'),
+    ('TYPE', '--type', 'Of these types', 'By number or name, such as 3,text.'),
+    ('COLOUR', '--color', 'Of these colours', 'Such as 3 or 1-5.'),
+    ('WEIGHT', '--weight', 'Of these weights', 'Such as >3.'),
+    ('STYLE', '--style', 'Of these styles', 'Such as 0 or 1-7.'),
+    ('TEXT', '--text', 'Texts with this word', 'Only as a whole word.'),
     ('PATTERN', '--pattern', 'Texts with what this regular expression finds', ''),
-    ('SIZE', '--size', 'Texts of this height', 'As 2.5 or >2.5.'),
-    ('CELL', '--cell', 'Cells of this name', '* and ? stand for other letters.'),
-    ('NUMBER', '--number', 'With these numbers', 'As 12 or 3-5,9.'),
+    ('SIZE', '--size', 'Texts of this height', 'Such as 2.5 or >2.5.'),
+    ('CELL', '--cell', 'Cells of this name', 'You can use * and ?.'),
+    ('NUMBER', '--number', 'With these numbers', 'Such as 12 or 3-5,9.'),
 )
 FLAGS = (
-    ('IGNORE_CASE', '--ignore-case', 'Small letters and capitals are the same'),
+    ('IGNORE_CASE', '--ignore-case', 'Ignore case'),
     ('LOCKED', '--locked', 'Locked'),
     ('BROKEN', '--broken', 'In a broken tree'),
     ('WRONG_RANGE', '--wrong-range', 'With a wrong range'),
@@ -51,10 +51,10 @@ FLAGS = (
 )
 MODES = ['--inside', '--overlap', '--crossing', '--void']
 MODES_SAID = [
-    'in trees inside the box',
-    'in trees with something in the box',
-    'in trees that cross its edge',
-    'outside',
+    'inside the box',
+    'at least partly in the box',
+    'crossing its edge',
+    'outside the box',
 ]
 METHODS = ['new selection', 'add to the selection', 'do not select']
 FIELDS: Dict[str, type] = {'number': int, 'root': int, 'type': int, 'level': int, 'is': str}
@@ -68,8 +68,8 @@ class Find(DgnAlgorithm):
     TITLE = 'Find and select'
     SHORT = 'Finds the elements of a drawing that meet all conditions, and selects them in its layers.'
     HELP = (
-        'The layers of the drawing have to be open for the selection. The table and the numbers can be given to the '
-        'edits, as in a model. Places are in the units of the layers.'
+        'The drawing has to be open, so that its features can be selected. The table and the numbers can be used by '
+        'the edits, for example in a model. Coordinates are in the units of the layers.'
     )
     TAGS = 'find select search filter query'
     numbers: Sequence[int] = ()
@@ -80,7 +80,7 @@ class Find(DgnAlgorithm):
         for name, _, said, text in TEXTS:
             self.add(QgsProcessingParameterString(name, said, None, False, True), text, name in ('PATTERN', 'NUMBER'))
         self.add(QgsProcessingParameterExtent('BOX', 'A box on the map', None, True))
-        self.add(QgsProcessingParameterEnum('BOX_MODE', 'and of it what is', MODES_SAID, False, 0))
+        self.add(QgsProcessingParameterEnum('BOX_MODE', 'Take trees that are', MODES_SAID, False, 0))
         self.add_near()
         for name, _, said in FLAGS:
             self.add_flag(name, said, False, is_advanced=True)
@@ -95,9 +95,12 @@ class Find(DgnAlgorithm):
         """A place, and how near."""
         double, whole = QgsProcessingParameterNumber.Double, QgsProcessingParameterNumber.Integer
         self.add(QgsProcessingParameterPoint('NEAR', 'Near this place', None, True), is_advanced=True)
-        self.add(QgsProcessingParameterNumber('WITHIN', 'at most so far away', double, None, True, 0), is_advanced=True)
         self.add(
-            QgsProcessingParameterNumber('NEAREST', 'or so many, the nearest', whole, None, True, 1), is_advanced=True
+            QgsProcessingParameterNumber('WITHIN', 'Within this distance', double, None, True, 0), is_advanced=True
+        )
+        self.add(
+            QgsProcessingParameterNumber('NEAREST', 'Only the nearest, this many', whole, None, True, 1),
+            is_advanced=True,
         )
 
     def work(self, call: Call) -> Results:
@@ -127,7 +130,7 @@ class Find(DgnAlgorithm):
         try:
             return parser.parse_args(words)
         except SystemExit:
-            raise Mistake('The conditions can not be read: %s' % ' '.join(words))
+            raise Mistake("The conditions can't be read: %s" % ' '.join(words))
 
     def finish(self, call: Call) -> None:
         method = call.choice('METHOD', METHODS)

@@ -25,8 +25,8 @@ class Mend(MakesDrawing):
     SHORT = 'Mends broken trees, such as the areas with holes and the long lines that GDAL and QGIS export.'
     HELP = (
         'Nothing that is drawn changes: a few bytes are corrected that say which elements belong to a header. What '
-        'can not be mended for certain is left, and is in the table with its reason. Of the new drawing areas with '
-        'holes are opened as such, and it can be edited.'
+        "can't be mended for certain is left as it is, and listed with the reason. In the new drawing, areas with "
+        'holes are shown as such, and can be edited.'
     )
     TAGS = 'mend repair fix broken gdal ogr'
 
@@ -34,9 +34,9 @@ class Mend(MakesDrawing):
         self.add_drawing()
         self.add_result()
         self.add(sink_parameter('TABLE', 'What was mended, and what was left'))
-        self.add_file('PATCH', 'Patch file of what is done', PATCHES)
+        self.add_file('PATCH', 'Patch file of the edit', PATCHES)
         self.addOutput(QgsProcessingOutputNumber('BEFORE', 'How many trees were broken'))
-        self.addOutput(QgsProcessingOutputNumber('AFTER', 'How many trees are broken still'))
+        self.addOutput(QgsProcessingOutputNumber('AFTER', 'How many trees are still broken'))
 
     def work(self, call: Call) -> Results:
         call.doing('The drawing is read', 0.0)

@@ -39,13 +39,13 @@ class OpenDrawing(DgnAlgorithm):
     TITLE = 'Open a drawing'
     SHORT = 'Opens a design file as layers, by level and by geometry, with its colours, weights, styles and texts.'
     HELP = (
-        'Each drawing is a group, in it each level is a group, and in it are layers of lines, areas, points, texts and '
-        'ranges: the boxes of arcs and other elements whose coordinates are not read. Each feature has the number of '
+        'Each drawing is a group, with a group for each level. In it are layers of lines, areas, points, texts and '
+        "ranges: the boxes of arcs and other elements whose coordinates aren't read. Each feature has the number of "
         'its element, by which it is edited, and that of the root of its tree.\n\n'
-        'Coordinates are in master units, such as metres, where the drawing says what these are. The drawing does not '
-        'say in which coordinate reference system it is: choose it, or leave it open.\n\n'
-        'The layers are kept in a GeoPackage. Name a file for it, or they are gone once QGIS is closed. They are read '
-        'only: edit the drawing by the algorithms of this plugin.'
+        "Coordinates are in master units, such as metres, if the drawing defines them. The drawing doesn't say which "
+        'coordinate reference system they are in: choose one, or leave it open.\n\n'
+        'The layers are kept in a GeoPackage. Name a file for it, or they are lost when QGIS is closed. They are '
+        'read-only: edit the drawing with the other commands of this plugin.'
     )
     TAGS = 'open read load import layers cad'
     in_use: Set[str] = set()  # the files of the project's layers
@@ -54,8 +54,8 @@ class OpenDrawing(DgnAlgorithm):
         self.add_drawing()
         self.add_system()
         self.add_flag('HOLES', 'Areas with holes as such', True, 'A cell of an area and its holes is one area.')
-        self.add_flag('MEMBERS', 'The members of complex chains and shapes too', False, is_advanced=True)
-        self.add_flag('DELETED', 'What is marked deleted too', False, is_advanced=True)
+        self.add_flag('MEMBERS', 'Also the members of complex chains and shapes', False, is_advanced=True)
+        self.add_flag('DELETED', 'Also what is marked deleted', False, is_advanced=True)
         self.add(
             QgsProcessingParameterFileDestination('OUTPUT', 'GeoPackage of the layers', 'GeoPackage (*.gpkg)'),
             'The file that the layers are kept in.',

@@ -68,7 +68,7 @@ class MakesDrawing(DgnAlgorithm):
             call.doing('The layers of the new drawing are written', 0.5)
             self.written = write_layers(drawing, package, wishes, lambda it: call.done(0.5 + 0.4 * it))
         except Stopped:
-            call.warn('It was stopped: the new drawing is written, and is not opened.')
+            call.warn('Stopped: the new drawing is written, but not opened.')
 
     def finish(self, call: Call) -> None:
         """Opens the new drawing, and hides the old one, which stays in the project."""

@@ -23,9 +23,9 @@ class RunScript(MakesDrawing):
     GROUP = ('files', 'Scripts and patch files')
     SHORT = 'Runs a script of the editor on a drawing: a file, or the lines that are given.'
     HELP = (
-        'A script has a line for each command, such as "move 12 2500 0"; its lengths are in units of resolution. What '
-        'it lists is in the log. What is refused is in a table with its reason, and the rest is done. If a line is no '
-        'command, nothing is done.'
+        'A script has a line for each command, such as "move 12 2500 0"; its lengths are in units of resolution. '
+        'Listings are in the log. Refused commands are in a table with the reason, and the rest is done. If a line '
+        "isn't a command, nothing is done."
     )
     TAGS = 'script commands'
 
@@ -60,9 +60,8 @@ class ApplyPatch(MakesDrawing):
     GROUP = ('files', 'Scripts and patch files')
     SHORT = 'Applies a patch file, such as a correction from another office, to a drawing.'
     HELP = (
-        'All of it is applied, or nothing: it is refused where the drawing has other bytes than the patch file was '
-        'made for, and the reason names the first place. If the patch file was made for another drawing, check the new '
-        'one.'
+        'The patch file is applied as a whole or not at all: it is refused if the drawing has other bytes than it '
+        'expects, and the reason names the first place. If it was made for another drawing, check the new one.'
     )
     TAGS = 'patch correction apply'
 
@@ -76,7 +75,7 @@ class ApplyPatch(MakesDrawing):
         drawing = opened(call.file('DRAWING'))
         patch, out = call.file('PATCH'), call.target('OUTPUT')
         if os.path.isfile(patch) and not is_patch(patch):
-            raise Mistake('%s is no patch file' % patch)
+            raise Mistake("%s isn't a patch file" % patch)
         call.doing('The patch file is applied', 0.2)
         made = run_files(call, drawing, [patch], out)
         made.accepted = len(Patch.from_bytes(read_file(patch, PATCH_LONGEST)).entries)
