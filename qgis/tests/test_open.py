@@ -189,6 +189,17 @@ class Opened(WithLayers):
         self.open(self.example('plan.dgn'))
         self.assertEqual({it.startEditing() for it in self.project.mapLayers().values()}, {False})
 
+    def test_a_drawing_of_nothing(self) -> None:
+        made = self.open(self.put('in.dgn', drawings.drawing()))
+        self.assertEqual([made[it.upper() + '_COUNT'] for it in KINDS], [0] * 5)
+        self.assertEqual((self.groups(), self.layer_names()), (['in.dgn'], []))
+
+    def test_names_with_blanks_and_other_letters(self) -> None:
+        path = self.put('Plan Süd 1, "alt".dgn', (samples.EXAMPLES / 'plan.dgn').read_bytes())
+        made = self.run_algorithm('open', DRAWING=path, OUTPUT=self.path('Ebenen Süd.gpkg'))
+        self.assertEqual(made['LINES_COUNT'], 6)
+        self.assertEqual(self.layer('Plan Süd 1, "alt" 11 lines').featureCount(), 4)
+
     def test_progress_and_cancelling(self) -> None:
         path = self.gen(7, 20000)
         start = time.monotonic()

@@ -58,6 +58,7 @@ class NewUser(samples.WithProgram):
         self.assertIn('12500,45000', words['cell 38 on level 20'])
         self.assertRegex(words['complex chain 15 on level 12'], '#ff0000.*#ff00ff')
         self.assertEqual((found['zoom'], found['zoomed']), (['Zoom to it'], True))
+        self.assertEqual((found['off'], found['on']), ([True] * 2, [True] * 3))
 
 
 if __name__ == '__main__':

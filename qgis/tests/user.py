@@ -12,10 +12,10 @@ from pathlib import Path
 from typing import Any, Callable, Dict, List, Optional
 
 from processing.gui.AlgorithmDialog import AlgorithmDialog
-from qgis.core import QgsProject, QgsSettings, QgsVectorLayer
+from qgis.core import QgsApplication, QgsProject, QgsSettings, QgsVectorLayer
 from qgis.PyQt.QtCore import QTimer
 from qgis.PyQt.QtWidgets import QAction, QApplication, QDialogButtonBox, QTextEdit
-from qgis.utils import active_plugins, iface
+from qgis.utils import active_plugins, iface, loadPlugin, startPlugin, unloadPlugin
 
 WORK = Path(os.environ['WORK'])
 FACTS = json.loads((WORK / 'facts.json').read_text())
@@ -190,6 +190,13 @@ def keep_wrong(kind: Any, why: BaseException, trace: Any) -> None:
     found['wrong'] = ''.join(traceback.format_exception(kind, why, trace))
 
 
+def take_out() -> None:
+    """The plugin is switched off, and on again."""
+    registry = QgsApplication.processingRegistry()
+    found['off'] = [unloadPlugin('dgnedit'), registry.providerById('dgnedit') is None]
+    found['on'] = [loadPlugin('dgnedit'), startPlugin('dgnedit'), registry.providerById('dgnedit') is not None]
+
+
 def all_of_it() -> None:
     """One step behind the other; where it hangs, QGIS is ended, and says where."""
     sys.excepthook = keep_wrong
@@ -201,7 +208,7 @@ def all_of_it() -> None:
     iface.mainWindow().findChild(object, 'Browser') and iface.mainWindow().findChild(object, 'Browser').hide()
     steps = [install, without_the_program, name_the_program, mend_and_open, recolour_a_road, move_a_parcel, compare]
     try:
-        for step in [*steps, zoom_to_a_change]:
+        for step in [*steps, zoom_to_a_change, take_out]:
             step()
     except Exception:
         found['wrong'] = traceback.format_exc()

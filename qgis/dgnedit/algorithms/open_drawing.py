@@ -93,7 +93,8 @@ class OpenDrawing(DgnAlgorithm):
         layers = add_to_project(call.project, self.written)
         if is_first:
             call.project.setCrs(self.written.wishes.system)
-        show(extent_of(layers))
+        if layers:
+            show(extent_of(layers))
 
 
 def show(extent: object) -> None:
