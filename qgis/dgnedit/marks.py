@@ -53,7 +53,7 @@ class Boxes:
         self.scale = Scale(drawing.units, wishes.units)
         extent = drawing.extent
         corners = [self.rectangle(extent[0], extent[1], 0.0)] if extent else []
-        self.margin = max([SHARE * max(it.width(), it.height()) for it in corners], default=1.0)
+        self.margin = max([SHARE * max(it.width(), it.height()) for it in corners], default=0.0) or 1.0
 
     def rectangle(self, low: Point, high: Point, margin: float) -> QgsRectangle:
         """A box with these corners."""
@@ -101,8 +101,10 @@ class Marks:
     def do_not_load(self, call: Call) -> None:
         """Keeps the table from being added to the project."""
         waiting = call.context.layersToLoadOnCompletion()
-        waiting.pop(self.id, None)
+        details = waiting.pop(self.id, None)
         call.context.setLayersToLoadOnCompletion(waiting)
+        if details is not None and details.postProcessor() in KEPT:
+            KEPT.remove(details.postProcessor())
 
 
 class Dress(QgsProcessingLayerPostProcessorInterface):
