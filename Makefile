@@ -46,6 +46,7 @@ card:           ## makes the quick card of all commands, which prints on two pag
 
 dist: build web card ## makes dist/: archive, Debian package where dpkg-deb is, the editor in a browser, and SHA256SUMS
 	tools/make_dist $(PROGRAM) dist
+	tools/make_qgis dist
 	cd dist && find . -type f ! -name SHA256SUMS -printf '%P\n' | LC_ALL=C sort | xargs sha256sum >SHA256SUMS
 
 clean:          ## removes what was built here

@@ -56,6 +56,11 @@ class GeoJson(samples.WithProgram):
         self.assertEqual(made[1]['properties']['by_range'], True)
         self.assertEqual(made[1]['geometry']['coordinates'], [[[0, 0], [100, 0], [100, 50], [0, 50], [0, 0]]])
 
+    def test_a_range_of_three_axes(self) -> None:
+        made = self.features(drawings.drawing(drawings.element(16, 1, 100), axes=3))
+        ring = [[0, 0, 0], [100, 0, 0], [100, 50, 0], [0, 50, 0], [0, 0, 0]]
+        self.assertEqual(made[1]['geometry']['coordinates'], [ring])
+
     def test_the_members_of_a_chain_are_one_feature(self) -> None:
         legs = [plan.line(0, (0, 0), (5, 0), True), plan.line(0, (5, 0), (5, 9), True)]
         header = drawings.with_total(drawings.element(12, 12, 40), (40 + 104 - 38) // 2)

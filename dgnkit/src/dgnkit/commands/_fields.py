@@ -63,15 +63,21 @@ def run_edit(arguments: argparse.Namespace, word: Word) -> int:
     return 0
 
 
+def parts_of(drawing: Drawing, chosen: Sequence[int]) -> List[int]:
+    """Elements and what stands below them; what is marked deleted goes along with what is."""
+    nesting, dead = drawing.nesting, drawing.dead
+    return sorted({it for top in chosen for it in nesting.part(top) if it not in dead or top in dead})
+
+
 def taken(conditions: Conditions, takes_parts: bool) -> List[int]:
     """The chosen elements, and what stands below them where parts are taken; with --trees all elements of the chosen
     trees. What is marked deleted goes along with what is. It says what goes along, and what stays."""
     drawing = conditions.drawing
-    chosen, nesting, dead = conditions.chosen(), drawing.nesting, drawing.dead
+    chosen = conditions.chosen()
     if not takes_parts and not conditions.takes_trees:
         return chosen
     tell_broken(conditions, chosen)
-    below = {it for top in chosen for it in nesting.part(top) if it not in dead or top in dead}
+    below = set(parts_of(drawing, chosen))
     more = sorted(below.difference(chosen))
     if conditions.takes_members:
         tell(more, 'not changed: %s of chosen headers', drawing)

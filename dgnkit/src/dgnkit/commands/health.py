@@ -167,6 +167,24 @@ def details_of(facts: Facts, scale: Optional[Scale]) -> List[str]:
     return lines
 
 
+LISTS = 'broken type_0 zeros audit twice outside'.split()  # findings of which there may be several
+
+
+def findings_of(facts: Facts, scale: Optional[Scale]) -> List[Tuple[str, List[int], str]]:
+    """Each finding by itself: what it is, as it is called in JSON, the elements that it is of, and its line."""
+    nothing: Facts = {**{name: [] for name in LISTS}, 'end_mark': True, 'behind': 0}
+    made = [(name, it, {**nothing, name: [it]}) for name in LISTS for it in facts[name]]
+    made += [(name, None, {**nothing, name: facts[name]}) for name in ('end_mark', 'behind')]
+    return [(name, elements_of(it), line) for name, it, alone in made for line in details_of(alone, scale)]
+
+
+def elements_of(it: Any) -> List[int]:
+    """The elements that a finding is of."""
+    if not isinstance(it, dict):
+        return []
+    return list(it['elements']) if 'elements' in it else [it['element' if 'element' in it else 'first']]
+
+
 def stretch_said(it: Dict[str, int], what: str) -> str:
     last = '' if it['first'] == it['last'] else ' to %d' % it['last']
     return 'element %d%s %s: %s at byte %d' % (it['first'], last, what, counted(it['bytes'], 'byte'), it['byte'])

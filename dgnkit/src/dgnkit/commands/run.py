@@ -6,7 +6,7 @@ import argparse
 import contextlib
 import os
 import tempfile
-from typing import TYPE_CHECKING, List
+from typing import TYPE_CHECKING, Iterator, List, Sequence
 
 from ..drawing.drawing import Drawing
 from ..errors import Mistake
@@ -43,22 +43,39 @@ def run(arguments: argparse.Namespace) -> int:
     program, steps = Program.find(), []
     with contextlib.ExitStack() as stack:
         names = [stack.enter_context(on_disk(it)) for it in arguments.steps]
-        ask_out(arguments.drawing, [*arguments.steps, *names], out)
-        folder = stack.enter_context(folder_beside(out))
-        drawing = arguments.drawing
-        for index, name in enumerate(names):
-            step = Step(program, drawing, name, os.path.join(folder, '%d.dgn' % index))
-            why = step.run(out)
-            if why:
-                raise Mistake(why)
-            if step.is_refused:
-                step.explain(Drawing(drawing, program))
-            steps.append(step)
-            drawing = step.out
-        deliver(drawing, out)
+        made = stack.enter_context(delivered(arguments.drawing, [*arguments.steps, *names], out))
+        steps.extend(run_steps(program, arguments.drawing, names, made, out))
     tell(arguments, steps)
     tell_texts(steps)
     return int(any(it.is_refused for it in steps))
+
+
+@contextlib.contextmanager
+def delivered(drawing: str, files: Sequence[str], out: str) -> Iterator[str]:
+    """The name of a drawing that is to be made of these files, and then is put in the place of OUT, which is no folder,
+    where nothing is raised meanwhile. It raises Mistake where OUT may not be written."""
+    ask_out(drawing, files, out)
+    with folder_beside(out) as folder:
+        made = os.path.join(folder, 'out.dgn')
+        yield made
+        deliver(made, out)
+
+
+def run_steps(program: Program, drawing: str, files: Sequence[str], made: str, out: str) -> List[Step]:
+    """Runs scripts and patch files one behind the other, and explains what is refused. The last one makes the drawing
+    `made`, which is called OUT in words. It raises Mistake where one can't be run."""
+    steps = []
+    for index, name in enumerate(files, 1):
+        end = made if index == len(files) else '%s.%d' % (made, index)
+        step = Step(program, drawing, name, end)
+        why = step.run(out)
+        if why:
+            raise Mistake(why)
+        if step.is_refused:
+            step.explain(Drawing(drawing, program))
+        steps.append(step)
+        drawing = end
+    return steps
 
 
 def tell_texts(steps: List[Step]) -> None:

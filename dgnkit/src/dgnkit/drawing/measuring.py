@@ -11,8 +11,6 @@ from ..format.element import Element
 from ..format.numbers import Point
 from .drawing import Drawing
 
-HOLE = 0x8000  # the property of a shape that is a hole in another one
-
 
 @dataclass
 class Measures:
@@ -55,7 +53,7 @@ def level_of(drawing: Drawing, number: int) -> int:
 def _add(found: Measures, element: Element) -> None:
     points = element.points
     if element.type == classes.SHAPE:
-        sign = -1 if element.properties & HOLE else 1
+        sign = -1 if element.is_hole else 1
         found.shapes += 1
         found.outline += length_of([*points, *points[:1]])
         found.area += sign * area_of(points)

@@ -12,6 +12,7 @@ from . import classes, radix50
 from .numbers import OFFSET, Point, long_at, longs_at, points_at, word_at
 
 LINKED = 0x0800
+HOLE = 0x8000
 LOCK_BYTE = 33  # the high byte of the properties, whose lowest bit says locked
 RANGE = struct.Struct('<12H')
 RANGE_XY = struct.Struct('<4H4x4H')
@@ -82,6 +83,11 @@ class Element:
     def is_locked(self) -> bool:
         """Whether the element is locked."""
         return self.type in classes.LOUD and bool(self.data[self.offset + LOCK_BYTE] & 1)
+
+    @property
+    def is_hole(self) -> bool:
+        """Whether the element is a hole in another one."""
+        return bool(self.properties & HOLE)
 
     @property
     def group(self) -> int:

@@ -108,6 +108,13 @@ class Program:
         ask_written(out)
         return count
 
+    def pack(self, drawing: Name, script: Name, patch: Name) -> int:
+        """Writes what a script does, of which no line is refused, as a patch file, and says how many entries it has. It
+        raises an Ending where it doesn't."""
+        count = self._counted('entries', drawing, 'pack', drawing, script, patch)
+        ask_written(patch)
+        return count
+
     def _counted(self, word: str, drawing: Name, *words: Name) -> int:
         ran = self.run(*words)
         if ran.status != 0:

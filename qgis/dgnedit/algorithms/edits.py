@@ -1,0 +1,166 @@
+"""What all edits of a selection share: how the elements are chosen, whole trees or not, and what is written."""
+
+from typing import List, Tuple
+
+from dgnkit.commands._fields import parts_of
+from dgnkit.drawing.drawing import Drawing
+from dgnkit.errors import Mistake
+from dgnkit.explain.members import parts_said
+from dgnkit.output import counted, few
+from dgnkit.propose.field_edits import FieldEdits
+from dgnkit.propose.scripting import Proposal, topmost
+from dgnkit.propose.templates import line_of
+from dgnkit.propose.writing import applied, patch_of
+from qgis.core import (
+    QgsProcessing,
+    QgsProcessingParameterFeatureSource,
+    QgsProcessingParameterMultipleLayers,
+    QgsProcessingParameterString,
+)
+
+from ..calls import Call
+from ..editing import Made, run_lines, run_patch
+from ..selection import Selected, chosen, drawing_of, move_selection, rows_of, selected_in
+from .base import Results, opened
+from .results import PATCHES, SCRIPTS, MakesDrawing, Refusal, refusals_of
+
+ANY = QgsProcessing.TypeVectorAnyGeometry
+HELP = (
+    'Edits the features that are selected in the layers of a drawing: in all its layers, or in those that you name. '
+    'Instead you can give element numbers, or a table with a field "number". Whole trees are edited, such as a cell '
+    'with everything in it, unless you switch that off.\n\n'
+    'The result is a new drawing, which is opened beside the old one, with the same features selected. The old one is '
+    'never changed. Anything that is refused, such as a locked element, is in a table with the reason; the rest is '
+    'done.'
+)
+TOLD = 8
+
+
+class EditAlgorithm(MakesDrawing):
+    """An edit of what is selected."""
+
+    GROUP = ('edit', 'Edit what is selected')
+    MORE = ''
+    selected: List[Selected] = []
+    chosen: List[int] = []
+
+    def shortHelpString(self) -> str:
+        return '\n\n'.join(it for it in (self.SHORT, self.MORE, HELP) if it)
+
+    def define(self) -> None:
+        self.define_edit()
+        self.add_flag('TREES', 'Whole trees', True, 'Such as a whole cell, if one of its features is selected.')
+        self.add_drawing(said='Drawing (if not that of the selection)', is_optional=True, is_advanced=True)
+        self.add(
+            QgsProcessingParameterMultipleLayers('LAYERS', 'Only what is selected in these layers', ANY, None, True),
+            'If you name none: what is selected in all layers of the drawing.',
+            True,
+        )
+        self.add(
+            QgsProcessingParameterString('NUMBERS', 'Or the elements with these numbers', None, False, True),
+            'Such as 12 or 3-5,9. The selection is then ignored, except in layers that you name.',
+            True,
+        )
+        self.add(
+            QgsProcessingParameterFeatureSource('TABLE', 'Or the elements of this table', [ANY], None, True),
+            'A layer or a table with a field "number", for models and batches.',
+            True,
+        )
+        self.add_outcome()
+        self.define_files()
+
+    def define_edit(self) -> None:
+        """Adds the parameters of the edit itself."""
+
+    def define_files(self) -> None:
+        """Adds the files that can be saved."""
+        self.add_file('PATCH', 'Patch file of the edit', PATCHES, 'To make the same edit in a copy of the drawing.')
+
+    def prepare(self, call: Call) -> None:
+        layers = self.parameterAsLayerList(call.parameters, 'LAYERS', call.context)
+        is_named = bool(call.text('NUMBERS')) or call.parameters.get('TABLE') is not None
+        self.selected = [] if is_named and not layers else selected_in(call, layers)
+
+    def work(self, call: Call) -> Results:
+        call.doing('The drawing is read', 0.0)
+        drawing = opened(call.file('DRAWING') or drawing_of(self.selected) or self.only_one())
+        rows = rows_of(self.parameterAsSource(call.parameters, 'TABLE', call.context))
+        self.chosen = numbers = chosen(drawing, self.selected, call.text('NUMBERS'), rows)
+        if call.flag('TREES'):
+            numbers = sorted({drawing.nesting.roots[it] for it in numbers})
+        else:
+            numbers = topmost(drawing, numbers, Proposal())
+            for line in parts_said(drawing, numbers, TOLD):
+                call.say('%s; the rest of its tree is not changed' % line)
+        call.doing('The drawing is edited', 0.2)
+        out = call.target('OUTPUT')
+        made, refused = self.edit(call, drawing, numbers, out)
+        if not made.accepted:
+            call.warn('Nothing was changed: the new drawing is the same as the old one.')
+        return {**self.give(call, drawing, out, made, refused), **self.files(call)}
+
+    def finish(self, call: Call) -> None:
+        """What was selected in the old drawing is selected in the new one."""
+        super().finish(call)
+        if self.selected and self.written is not None and call.project is not None:
+            move_selection(call.project, self.selected[0].drawing, self.written.drawing, self.chosen)
+
+    def only_one(self) -> str:
+        """The only drawing that is open in the project."""
+        names = {it.drawing for it in self.known}
+        if len(names) != 1:
+            raise Mistake('Nothing is selected and no drawing is named: select features in the layers of a drawing.')
+        return names.pop()
+
+    def edit(self, call: Call, drawing: Drawing, numbers: List[int], out: str) -> Tuple[Made, List[Refusal]]:
+        """Makes the new drawing, and says what was refused."""
+        raise NotImplementedError
+
+    def files(self, call: Call) -> Results:
+        """The files that were saved."""
+        return {name: call.target(name) for name in ('SCRIPT', 'PATCH') if call.target(name)}
+
+
+class CommandAlgorithm(EditAlgorithm):
+    """An edit by a command of the editor's script, a line for each element."""
+
+    def define_files(self) -> None:
+        self.add_file('SCRIPT', 'Script of the edit', SCRIPTS, 'Without the lines that were refused.')
+        super().define_files()
+
+    def template(self, call: Call, drawing: Drawing) -> str:
+        """The line, with {n} for the number of the element."""
+        raise NotImplementedError
+
+    def edit(self, call: Call, drawing: Drawing, numbers: List[int], out: str) -> Tuple[Made, List[Refusal]]:
+        template = self.template(call, drawing)
+        lines = [line_of(template, it) for it in numbers]
+        made = run_lines(call, drawing, lines, (call.target('SCRIPT'), call.target('PATCH')), out)
+        return made, list(refusals_of(made))
+
+
+class FieldAlgorithm(EditAlgorithm):
+    """An edit of single fields, for which the editor has no command: by a patch file."""
+
+    WORD = ''
+
+    def fields(self, call: Call, drawing: Drawing, numbers: List[int]) -> FieldEdits:
+        """The changes of these elements."""
+        raise NotImplementedError
+
+    def edit(self, call: Call, drawing: Drawing, numbers: List[int], out: str) -> Tuple[Made, List[Refusal]]:
+        tell_broken(call, drawing, numbers)
+        edits = self.fields(call, drawing, parts_of(drawing, numbers))
+        patch = patch_of(drawing, edits.changes)
+        applied(drawing, patch, edits.changes)
+        made = run_patch(call, drawing, patch, call.target('PATCH'), out)
+        made.accepted = len(edits.changes)
+        return made, [(number, self.WORD, why) for number, why in edits.left]
+
+
+def tell_broken(call: Call, drawing: Drawing, numbers: List[int]) -> None:
+    """Says which elements stand in broken trees, so that it isn't known what belongs to them."""
+    broken = [it for it in numbers if drawing.nesting.roots[it] in drawing.nesting.broken_roots]
+    if broken:
+        said = "It isn't known what belongs to %s in broken trees (%s), so only these change: mend the drawing first."
+        call.warn(said % (counted(len(broken), 'element'), few(broken)))

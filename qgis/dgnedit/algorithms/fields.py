@@ -1,0 +1,101 @@
+"""Edits of single fields: another level, other text, locked or not, no longer deleted."""
+
+import re
+from typing import List
+
+from dgnkit.drawing.conditions import form_of, word_form
+from dgnkit.drawing.drawing import Drawing
+from dgnkit.errors import Mistake
+from dgnkit.format.limits import LEVEL_MOST
+from dgnkit.propose.field_edits import FieldEdits, Replacement, relevel, retext, set_lock, undelete
+from qgis.core import QgsProcessingParameterString
+
+from ..calls import Call
+from .edits import FieldAlgorithm
+
+WHOLE = re.compile(r'\A.*\Z', re.S)
+
+
+class Relevel(FieldAlgorithm):
+    """Another level."""
+
+    NAME = 'relevel'
+    TITLE = 'Put on another level'
+    SHORT = 'Puts what is selected on another level.'
+    TAGS = 'level layer'
+    WORD = 'level'
+
+    def define_edit(self) -> None:
+        self.add_number('LEVEL', 'Level', LEVEL_MOST, 'From 1 to 63, or 0, which members of cells may have.', False)
+
+    def fields(self, call: Call, drawing: Drawing, numbers: List[int]) -> FieldEdits:
+        return relevel(drawing, numbers, call.whole('LEVEL') or 0)
+
+
+class Retext(FieldAlgorithm):
+    """Other text."""
+
+    NAME = 'retext'
+    TITLE = 'Change texts'
+    SHORT = 'Replaces a word in the texts that are selected, or the whole of each.'
+    MORE = "A text can become shorter, or stay as long as it was. It can't become longer: there is no room for it."
+    TAGS = 'text label replace'
+    WORD = 'text'
+
+    def define_edit(self) -> None:
+        self.add(
+            QgsProcessingParameterString('OLD', 'Word to replace (empty: the whole text)', None, False, True),
+            'Only as a whole word.',
+        )
+        self.add(QgsProcessingParameterString('NEW', 'New text'))
+        self.add_flag('REGEX', 'The word is a regular expression', False, is_advanced=True)
+        self.add_flag('IGNORE_CASE', 'Ignore case', False, is_advanced=True)
+
+    def fields(self, call: Call, drawing: Drawing, numbers: List[int]) -> FieldEdits:
+        old, new = call.text('OLD'), call.text('NEW')
+        if not new:
+            raise Mistake('Give a new text. To remove a text, delete it.')
+        form = WHOLE
+        if old:
+            form = (form_of if call.flag('REGEX') else word_form)(old, call.flag('IGNORE_CASE'))
+        is_plain = not (old and call.flag('REGEX'))
+        return retext(drawing, numbers, Replacement(form, new.replace('\\', '\\\\') if is_plain else new, None))
+
+
+class Lock(FieldAlgorithm):
+    """Locks."""
+
+    NAME = 'lock'
+    TITLE = 'Lock'
+    SHORT = 'Locks what is selected, so that edits of it are refused.'
+    TAGS = 'lock protect'
+    WORD = 'lock'
+    IS_LOCKED = True
+
+    def fields(self, call: Call, drawing: Drawing, numbers: List[int]) -> FieldEdits:
+        return set_lock(drawing, numbers, self.IS_LOCKED)
+
+
+class Unlock(Lock):
+    """Unlocks."""
+
+    NAME = 'unlock'
+    TITLE = 'Unlock'
+    SHORT = 'Unlocks what is selected.'
+    TAGS = 'unlock'
+    WORD = 'unlock'
+    IS_LOCKED = False
+
+
+class Undelete(FieldAlgorithm):
+    """Takes a deletion back."""
+
+    NAME = 'undelete'
+    TITLE = 'Take a deletion back'
+    SHORT = 'Takes the deletion of what is selected back.'
+    MORE = 'To see what is deleted, open the drawing with "Also what is marked deleted".'
+    TAGS = 'undelete restore'
+    WORD = 'undelete'
+
+    def fields(self, call: Call, drawing: Drawing, numbers: List[int]) -> FieldEdits:
+        return undelete(drawing, numbers)

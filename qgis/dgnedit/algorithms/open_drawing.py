@@ -1,0 +1,106 @@
+"""Opens a drawing."""
+
+import os
+from typing import Set
+
+from dgnkit.errors import Mistake
+from qgis.core import (
+    QgsProcessing,
+    QgsProcessingOutputNumber,
+    QgsProcessingOutputVectorLayer,
+    QgsProcessingParameterFileDestination,
+)
+
+from ..calls import Call
+from ..layers import add_to_project, extent_of
+from ..opening import KINDS, Wishes, write_layers
+from .base import UNITS, DgnAlgorithm, Results, opened
+
+TYPES = {
+    'texts': QgsProcessing.TypeVectorPoint,
+    'points': QgsProcessing.TypeVectorPoint,
+    'lines': QgsProcessing.TypeVectorLine,
+    'areas': QgsProcessing.TypeVectorPolygon,
+    'ranges': QgsProcessing.TypeVectorPolygon,
+}
+NAMES = {
+    'texts': 'Texts',
+    'points': 'Points, and the origins of cells and text nodes',
+    'lines': 'Lines',
+    'areas': 'Areas',
+    'ranges': 'What is known by its range alone',
+}
+
+
+class OpenDrawing(DgnAlgorithm):
+    """A drawing as layers."""
+
+    NAME = 'open'
+    TITLE = 'Open a drawing'
+    SHORT = 'Opens a design file as layers, by level and by geometry, with its colours, weights, styles and texts.'
+    HELP = (
+        'Each drawing is a group, with a group for each level. In it are layers of lines, areas, points, texts and '
+        "ranges: the boxes of arcs and other elements whose coordinates aren't read. Each feature has the number of "
+        'its element, by which it is edited, and that of the root of its tree.\n\n'
+        "Coordinates are in master units, such as metres, if the drawing defines them. The drawing doesn't say which "
+        'coordinate reference system they are in: choose one, or leave it open.\n\n'
+        'The layers are kept in a GeoPackage. Name a file for it, or they are lost when QGIS is closed. They are '
+        'read-only: edit the drawing with the other commands of this plugin.'
+    )
+    TAGS = 'open read load import layers cad'
+    in_use: Set[str] = set()  # the files of the project's layers
+
+    def define(self) -> None:
+        self.add_drawing()
+        self.add_system()
+        self.add_flag('HOLES', 'Areas with holes as such', True, 'A cell of an area and its holes is one area.')
+        self.add_flag('MEMBERS', 'Also the members of complex chains and shapes', False, is_advanced=True)
+        self.add_flag('DELETED', 'Also what is marked deleted', False, is_advanced=True)
+        self.add(
+            QgsProcessingParameterFileDestination('OUTPUT', 'GeoPackage of the layers', 'GeoPackage (*.gpkg)'),
+            'The file that the layers are kept in.',
+        )
+        self.add_flag('LOAD', 'Add the layers to the project', True)
+        for kind in KINDS:
+            self.addOutput(QgsProcessingOutputVectorLayer(kind.upper(), NAMES[kind], TYPES[kind]))
+            self.addOutput(QgsProcessingOutputNumber(kind.upper() + '_COUNT', NAMES[kind] + ': how many'))
+
+    def prepare(self, call: Call) -> None:
+        layers = call.project.mapLayers().values() if call.project is not None else ()
+        self.in_use = {os.path.realpath(it.source().split('|')[0]) for it in layers}
+
+    def work(self, call: Call) -> Results:
+        call.doing('The drawing is read', 0.0)
+        drawing = opened(call.file('DRAWING'))
+        wishes = Wishes(
+            call.choice('UNITS', UNITS), call.system(), call.flag('MEMBERS'), call.flag('HOLES'), call.flag('DELETED')
+        )
+        package = call.target('OUTPUT')
+        if os.path.realpath(package) in self.in_use:
+            raise Mistake('%s holds layers of this project: name another file, or remove these first' % package)
+        count = len(drawing.elements)
+        call.doing('The layers are written', 0.1)
+        self.written = write_layers(drawing, package, wishes, lambda it: call.done(0.1 + 0.8 * it))
+        counts = self.written.counts
+        call.say('%d elements; %s' % (count, ', '.join('%d %s' % (counts[it], it) for it in KINDS)))
+        sources = {it.upper(): '%s|layername=%s' % (package, it) for it in KINDS}
+        return {'OUTPUT': package, **sources, **{it.upper() + '_COUNT': counts[it] for it in KINDS}}
+
+    def finish(self, call: Call) -> None:
+        if not call.flag('LOAD') or call.project is None:
+            return
+        is_first = not call.project.mapLayers()
+        layers = add_to_project(call.project, self.written)
+        if is_first:
+            call.project.setCrs(self.written.wishes.system)
+        if layers:
+            show(extent_of(layers))
+
+
+def show(extent: object) -> None:
+    """Lets the map, where there is a window, show a box."""
+    from qgis.utils import iface
+
+    if iface is not None and iface.mapCanvas() is not None:
+        iface.mapCanvas().setExtent(extent)
+        iface.mapCanvas().refresh()

@@ -1,0 +1,56 @@
+"""Finds the program dgnedit: by a setting, in the folder of the plugin, by $DGNEDIT, or on the path."""
+
+import os
+import shutil
+from typing import Iterator, Tuple
+
+from dgnkit.errors import MissingProgram
+from dgnkit.program.runs import Program
+from processing.core.ProcessingConfig import ProcessingConfig, Setting
+from qgis.PyQt.QtGui import QIcon
+
+from .kit import PLUGIN
+
+GROUP = 'dgnedit'
+SETTING = 'DGNEDIT_PROGRAM'
+ICON = str(PLUGIN / 'icon.svg')
+WHERE = 'Settings, Options, Processing, Providers, dgnedit'
+NOWHERE = (
+    "The program dgnedit wasn't found: not by the setting (%s), in the folder of the plugin (%s), by $DGNEDIT, or on "
+    'the path. Install dgnedit_VERSION_amd64.deb, or unpack dgnedit-VERSION-x86_64.tar.gz and name its file dgnedit in '
+    'that setting.'
+)
+
+
+def add_setting() -> None:
+    """Adds the setting that names the program."""
+    ProcessingConfig.settingIcons[GROUP] = QIcon(ICON)
+    ProcessingConfig.addSetting(Setting(GROUP, SETTING, 'The program dgnedit', '', valuetype=Setting.FILE))
+    ProcessingConfig.readSettings()
+
+
+def remove_setting() -> None:
+    """Takes the setting out again; what it was set to stays."""
+    ProcessingConfig.removeSetting(SETTING)
+
+
+def find_program() -> Program:
+    """The program. It raises MissingProgram, which says what to install, where there is none."""
+    for what, named in places():
+        found = shutil.which(named)
+        if found:
+            return Program(os.path.abspath(found))
+        if what:
+            raise MissingProgram("%s names %s, which can't be run as a program" % (what, named))
+    raise MissingProgram(NOWHERE % (WHERE, PLUGIN))
+
+
+def places() -> Iterator[Tuple[str, str]]:
+    """Where the program may be, the first place first, each with what names it; nothing where it need not be there."""
+    named = ProcessingConfig.getSetting(SETTING)
+    if named:
+        yield 'the setting (%s)' % WHERE, str(named)
+    yield '', str(PLUGIN / 'dgnedit')
+    if os.environ.get('DGNEDIT'):
+        yield '$DGNEDIT', os.environ['DGNEDIT']
+    yield '', 'dgnedit'

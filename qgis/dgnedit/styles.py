@@ -1,0 +1,147 @@
+"""How layers look: by the drawing's colours, weights and styles, with labels of the texts' sizes and angles."""
+
+from typing import Iterable, List
+
+from qgis.core import (
+    QgsCategorizedSymbolRenderer,
+    QgsFeatureRenderer,
+    QgsFillSymbol,
+    QgsLineSymbol,
+    QgsMarkerSymbol,
+    QgsNullSymbolRenderer,
+    QgsPalLayerSettings,
+    QgsProperty,
+    QgsRendererCategory,
+    QgsSimpleLineSymbolLayer,
+    QgsSimpleMarkerSymbolLayer,
+    QgsSingleSymbolRenderer,
+    QgsSymbol,
+    QgsSymbolLayer,
+    QgsTextFormat,
+    QgsUnitTypes,
+    QgsVectorLayer,
+    QgsVectorLayerSimpleLabeling,
+)
+from qgis.PyQt.QtCore import Qt
+from qgis.PyQt.QtGui import QColor
+
+STYLE_NAMES = (
+    'solid',
+    'dotted',
+    'medium dashed',
+    'long dashed',
+    'dot-dashed',
+    'short dashed',
+    'dash double-dot',
+    'long dash - short dash',
+)
+# Dashes and gaps of each style in millimetres.
+DASHES: List[List[float]] = [
+    [],
+    [0.3, 1.0],
+    [2.0, 1.0],
+    [3.6, 1.2],
+    [2.6, 1.0, 0.3, 1.0],
+    [1.0, 1.0],
+    [2.6, 0.8, 0.3, 0.8, 0.3, 0.8],
+    [3.6, 0.8, 1.0, 0.8],
+]
+# White is drawn black on the white paper of a map, as MicroStation draws it on a white ground.
+COLOUR = '''if("rgb" = '#ffffff', '#000000', "rgb")'''
+WIDTH = '0.26 + 0.16 * "weight"'  # millimetres
+HEADERS = '"type" in (2, 7)'  # cells and text nodes, of which a point is the origin
+CAPITAL = 0.72  # how high a capital letter is, by the size of its font
+
+
+def dress(layer: QgsVectorLayer, kind: str, styles: Iterable[int]) -> None:
+    """Gives a layer of this kind its look; `styles` are those that it has."""
+    if kind == 'texts':
+        layer.setRenderer(QgsNullSymbolRenderer())
+        layer.setLabeling(QgsVectorLayerSimpleLabeling(label_settings()))
+        layer.setLabelsEnabled(True)
+    elif kind == 'points':
+        layer.setRenderer(QgsSingleSymbolRenderer(marker()))
+    else:
+        layer.setRenderer(by_style(kind, sorted(styles)))
+    layer.setDisplayExpression(
+        '''concat("type_name", ' ', "number", coalesce(' ' || "cell", ''), coalesce(' ' || "text", ''))'''
+    )
+
+
+def by_style(kind: str, styles: List[int]) -> QgsFeatureRenderer:
+    """A category for each style."""
+    categories = [QgsRendererCategory(it, symbol_of(kind, it), STYLE_NAMES[it]) for it in styles]
+    return QgsCategorizedSymbolRenderer('style', categories)
+
+
+def symbol_of(kind: str, style: int) -> QgsSymbol:
+    """The line, or the outline, of a style."""
+    pen = QgsSimpleLineSymbolLayer()
+    pen.setWidthUnit(QgsUnitTypes.RenderMillimeters)
+    pen.setDataDefinedProperty(QgsSymbolLayer.PropertyStrokeColor, QgsProperty.fromExpression(COLOUR))
+    pen.setDataDefinedProperty(QgsSymbolLayer.PropertyStrokeWidth, QgsProperty.fromExpression(WIDTH))
+    dashes = DASHES[style] if kind != 'ranges' else [0.5, 1.5]
+    if dashes:
+        pen.setUseCustomDashPattern(True)
+        pen.setCustomDashPatternUnit(QgsUnitTypes.RenderMillimeters)
+        pen.setCustomDashVector(dashes)
+        pen.setPenCapStyle(Qt.FlatCap)
+    return drawn_by(QgsLineSymbol() if kind == 'lines' else QgsFillSymbol(), pen)
+
+
+def drawn_by(symbol: QgsSymbol, layer: QgsSymbolLayer) -> QgsSymbol:
+    """A symbol that is drawn by one layer alone."""
+    if not symbol.changeSymbolLayer(0, layer):
+        symbol.appendSymbolLayer(layer)
+    return symbol
+
+
+def marker() -> QgsSymbol:
+    """A cross for an origin, and a dot, by its weight, for a line of one place."""
+    dot = QgsSimpleMarkerSymbolLayer()
+    dot.setSizeUnit(QgsUnitTypes.RenderMillimeters)
+    shape = "if(%s, 'cross2', 'circle')" % HEADERS
+    size = 'if(%s, 1.8, 0.5 + 0.3 * "weight")' % HEADERS
+    for name, expression in (
+        (QgsSymbolLayer.PropertyName, shape),
+        (QgsSymbolLayer.PropertySize, size),
+        (QgsSymbolLayer.PropertyFillColor, COLOUR),
+        (QgsSymbolLayer.PropertyStrokeColor, COLOUR),
+    ):
+        dot.setDataDefinedProperty(name, QgsProperty.fromExpression(expression))
+    return drawn_by(QgsMarkerSymbol(), dot)
+
+
+def label_settings() -> QgsPalLayerSettings:
+    """Labels that stand with their base line at the text's origin, all of them, as high as the text is."""
+    form = QgsTextFormat()
+    form.setSizeUnit(QgsUnitTypes.RenderMapUnits)
+    form.setSize(1)
+    made = QgsPalLayerSettings()
+    made.fieldName = 'text'
+    made.setFormat(form)
+    made.placement = QgsPalLayerSettings.OverPoint
+    made.displayAll = True
+    made.obstacle = False
+    made.scaleVisibility = False
+    made.fontLimitPixelSize = False
+    made.upsidedownLabels = QgsPalLayerSettings.ShowAll
+    values = made.dataDefinedProperties()
+    for name, expression in (
+        (QgsPalLayerSettings.Size, '"height" / %s' % CAPITAL),
+        (QgsPalLayerSettings.Color, COLOUR),
+        (QgsPalLayerSettings.PositionX, '$x'),
+        (QgsPalLayerSettings.PositionY, '$y'),
+        (QgsPalLayerSettings.Hali, "'Left'"),
+        (QgsPalLayerSettings.Vali, "'Base'"),
+        (QgsPalLayerSettings.LabelRotation, '-"angle"'),
+    ):
+        values.setProperty(name, QgsProperty.fromExpression(expression))
+    made.setDataDefinedProperties(values)
+    return made
+
+
+def dress_marks(layer: QgsVectorLayer) -> None:
+    """Gives boxes around elements their look: an outline that one doesn't miss."""
+    pen = QgsSimpleLineSymbolLayer(QColor('#ff7f00'), 0.6)
+    layer.setRenderer(QgsSingleSymbolRenderer(drawn_by(QgsFillSymbol(), pen)))

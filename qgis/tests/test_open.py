@@ -1,0 +1,277 @@
+"""Opening: the layers hold what OGR reads of the same drawing, by level and by geometry."""
+
+import json
+import math
+import re
+import time
+import unittest
+from collections import Counter
+from typing import Dict, List
+
+import plugin
+from plugin import ogr, samples
+from qgis.core import (
+    QgsCoordinateReferenceSystem,
+    QgsGeometry,
+    QgsMapRendererSequentialJob,
+    QgsMapSettings,
+    QgsRectangle,
+    QgsVectorLayer,
+    QgsWkbTypes,
+)
+from qgis.PyQt.QtCore import QSize
+from samples import drawings, plan, with_units
+
+KINDS = ('texts', 'points', 'lines', 'areas', 'ranges')
+
+
+class WithLayers(plugin.InQgis):
+    """A test that reads what was written."""
+
+    def features(self, results: samples.Json, kind: str) -> Dict[int, samples.Json]:
+        """The features of a table by their numbers: their fields, and their geometry as text."""
+        layer = QgsVectorLayer(results[kind.upper()], kind, 'ogr')
+        self.assertTrue(layer.isValid())
+        names = layer.fields().names()
+        made = {}
+        for it in layer.getFeatures():
+            facts = {name: plugin.plain(it[name]) for name in names}
+            made[facts['number']] = {**facts, 'wkt': it.geometry().asWkt(6)}
+        self.assertEqual(len(made), layer.featureCount())
+        return made
+
+
+class Opened(WithLayers):
+    """What is opened, and how it looks."""
+
+    def test_the_plan(self) -> None:
+        made = self.open(self.example('plan.dgn'))
+        lines, areas, points, texts = (self.features(made, it) for it in ('lines', 'areas', 'points', 'texts'))
+        # examples/make_plan.py: a border, a house with its door and its name, a pipe and two valves of two lines
+        self.assertEqual(areas[1]['wkt'], 'Polygon ((0 0, 4000 0, 4000 3000, 0 3000, 0 0))')
+        self.assertEqual((areas[1]['locked'], lines[5]['locked']), (True, False))
+        pipe = [lines[5][it] for it in ('type_name', 'level', 'colour', 'weight', 'style', 'root', 'broken')]
+        self.assertEqual(pipe, ['line string', 10, 0, 0, 0, 5, False])
+        self.assertEqual((points[6]['cell'], points[6]['wkt']), ('VLV', 'Point (1000 500)'))
+        self.assertEqual((lines[7]['root'], lines[7]['depth']), (6, 1))
+        # the text's multipliers are 20000, of which each is 6 thousandths of a unit of resolution
+        self.assertEqual([texts[4][it] for it in ('text', 'height', 'angle')], ['HOUSE 7', 120, 0])
+        counts = {it: made[it.upper() + '_COUNT'] for it in KINDS}
+        self.assertEqual(counts, {it: len(self.features(made, it)) for it in KINDS})
+        self.assertEqual(sum(counts.values()), 11)
+
+    def test_a_group_for_the_drawing_and_one_for_each_level(self) -> None:
+        self.open(self.example('plan.dgn'))
+        self.assertEqual(self.groups(), ['plan.dgn'])
+        group = self.project.layerTreeRoot().findGroup('plan.dgn')
+        levels = Counter(it.level for it in samples.Drawing(self.path('plan.dgn'), self.program).items)
+        self.assertEqual([it.name() for it in group.children()], ['level %d' % it for it in sorted(levels)])
+        names = {it.name(): [layer.name() for layer in it.findLayers()] for it in group.children()}
+        self.assertEqual(names['level 10'], ['plan 10 points', 'plan 10 lines'])
+        found = self.layer('plan 10 lines').getFeatures()
+        self.assertEqual({it['level'] for it in found}, {10})
+        for level, count in levels.items():
+            layers = group.findGroup('level %d' % level).findLayers()
+            self.assertEqual(sum(it.layer().featureCount() for it in layers), count)
+
+    def test_master_units_and_units_of_resolution(self) -> None:
+        file = with_units(drawings.drawing(plan.line(1, (1500, 0), (2500, -250))), 100, 10, ('m', 'cm'), (500, 0, 0))
+        path = self.put('in.dgn', file)
+        self.assertEqual(self.features(self.open(path), 'lines')[1]['wkt'], 'MultiLineString ((1 0, 2 -0.25))')
+        self.project.clear()
+        made = self.open(path, UNITS=2)
+        self.assertEqual(self.features(made, 'lines')[1]['wkt'], 'MultiLineString ((1500 0, 2500 -250))')
+
+    def test_the_system_of_coordinates_is_the_one_that_is_chosen(self) -> None:
+        path = self.example('town.dgn')
+        self.open(path, CRS=QgsCoordinateReferenceSystem('EPSG:25832'))
+        self.assertEqual({it.crs().authid() for it in self.project.mapLayers().values()}, {'EPSG:25832'})
+        self.assertEqual(self.project.crs().authid(), 'EPSG:25832')
+        self.project.clear()
+        self.open(path)
+        self.assertEqual({it.crs().isValid() for it in self.project.mapLayers().values()}, {False})
+        self.assertFalse(self.project.crs().isValid())
+
+    def test_three_axes(self) -> None:
+        arc = bytearray(drawings.element(16, 1, 100))
+        made = self.open(self.put('in.dgn', drawings.drawing(drawings.line_of_three_axes(), bytes(arc), axes=3)))
+        self.assertEqual(self.features(made, 'lines')[1]['wkt'], 'MultiLineStringZ ((0 0 0, 100 50 25))')
+        self.assertEqual(
+            self.features(made, 'ranges')[2]['wkt'], 'PolygonZ ((0 0 0, 100 0 0, 100 50 0, 0 50 0, 0 0 0))'
+        )
+
+    def test_what_is_known_by_its_range_alone(self) -> None:
+        made = self.open(self.put('in.dgn', drawings.drawing(drawings.element(16, 1, 72), drawings.line())))
+        self.assertEqual(list(self.features(made, 'ranges')), [1])
+        self.assertEqual(list(self.features(made, 'lines')), [2])
+        self.assertEqual(self.features(made, 'ranges')[1]['wkt'], 'Polygon ((0 0, 100 0, 100 50, 0 50, 0 0))')
+
+    def test_what_is_deleted_is_opened_where_it_is_wished(self) -> None:
+        path = self.put('in.dgn', drawings.drawing(drawings.deleted(drawings.line()), drawings.line()))
+        self.assertEqual(list(self.features(self.open(path), 'lines')), [2])
+        self.project.clear()
+        lines = self.features(self.open(path, DELETED=True), 'lines')
+        self.assertEqual({it: lines[it]['deleted'] for it in lines}, {1: True, 2: False})
+
+    def test_a_hostile_text_is_a_text(self) -> None:
+        path = self.put('in.dgn', drawings.drawing(plan.text(3, (0, 0), b'"}\n<script>\xff\0|x')))
+        text = self.features(self.open(path), 'texts')[1]['text']
+        self.assertEqual(text, '"}\n<script>\xff\\x00|x')
+
+    def test_why_a_tree_is_broken(self) -> None:
+        made = self.open(self.example('town.dgn'))
+        lines, said = self.features(made, 'lines'), self.said('health', '-v', self.path('town.dgn'), status=1)
+        self.assertTrue(lines[15]['broken'])
+        self.assertIn('complex chain 15 on level 12: ' + lines[15]['why'], said)
+        self.assertEqual((lines[12]['broken'], lines[12]['why']), (False, None))
+        areas = self.features(made, 'areas')
+        self.assertTrue(areas[36]['broken'], 'a ring whose cell is loose')
+
+    def test_an_area_with_a_hole_is_one_area(self) -> None:
+        self.example('town.dgn')
+        path = self.mended(self.path('town.dgn'))
+        made = self.open(path)
+        areas = self.features(made, 'areas')
+        town = json.loads((samples.EXAMPLES / 'town.geojson').read_text())
+        wanted = [it for it in town['features'] if it['geometry']['type'] == 'Polygon']
+        holes = [it for it in wanted if len(it['geometry']['coordinates']) > 1]
+        self.assertEqual(len(holes), 3)
+        # by their area, which is right only where the hole is taken off
+        found = sorted(round(QgsGeometry.fromWkt(it['wkt']).area(), 3) for it in areas.values())
+        self.assertEqual(found, sorted(round(area_of(it['geometry']['coordinates']), 3) for it in wanted))
+        self.assertEqual(sorted((it, areas[it]['last']) for it in areas if areas[it]['type'] == 2), CELLS)
+        self.assertEqual([it for it in self.features(made, 'points') if it in dict(CELLS)], [])
+        self.project.clear()
+        apart = self.features(self.open(path, HOLES=False), 'areas')
+        self.assertEqual(len(apart), len(areas) + 3)
+
+    def test_labels_have_the_size_and_the_angle_of_the_text(self) -> None:
+        wanted = [(0, 10), (30, 10), (90, 20), (-45, 10)]
+        texts = [bytearray(plan.text(3, (100 * it, 0), b'H')) for it in range(4)]
+        for text, (angle, height) in zip(texts, wanted):
+            multiplier = round(height / 0.006)
+            text[38:50] = plan.long(multiplier) * 2 + plan.long(angle * 360000)
+        self.open(self.put('in.dgn', drawings.drawing(*map(bytes, texts))))
+        settings = QgsMapSettings()
+        settings.setLayers(self.project.layerTreeRoot().layerOrder())
+        settings.setOutputSize(QSize(1000, 400))
+        settings.setExtent(QgsRectangle(-100, -100, 400, 100))  # two pixels a unit
+        job = QgsMapRendererSequentialJob(settings)
+        job.start()
+        job.waitForFinished()
+        labels = sorted(job.takeLabelingResults().allLabels(), key=lambda it: int(it.featureId))
+        self.assertEqual(len(labels), 4)
+        for index, (label, (angle, height)) in enumerate(zip(labels, wanted)):
+            turn = math.radians(angle)
+            self.assertAlmostEqual(math.sin(label.rotation), math.sin(turn), places=6)
+            # a capital letter is about 0.72 of the size of its font
+            self.assertAlmostEqual(label.labelFont.pixelSize(), height * 2 / 0.72, delta=1)
+            # the box of the label stands under its base line by what hangs below that, at right angles to it
+            corner = label.cornerPoints[0]
+            x, y = corner.x() - 100 * index, corner.y()
+            self.assertAlmostEqual(x * math.cos(turn) + y * math.sin(turn), 0, delta=0.1)
+            self.assertLess(-x * math.sin(turn) + y * math.cos(turn), 0)
+
+    def test_styles_are_those_of_the_drawing(self) -> None:
+        elements = [bytearray(plan.line(1, (0, 10 * it), (100, 10 * it))) for it in range(3)]
+        for it, (look, colour) in zip(elements, [(0, 3), (4 << 3 | 2, 0), (31 << 3 | 2, 1)]):
+            it[34], it[35] = look, colour
+        self.open(self.put('in.dgn', drawings.drawing(*map(bytes, elements))))
+        categories = self.layer('in 1 lines').renderer().categories()
+        self.assertEqual([it.value() for it in categories], [0, 2])
+        dashes = [it.symbol().symbolLayer(0).customDashVector() for it in categories if it.value() == 2]
+        self.assertTrue(dashes and dashes[0])
+        self.assertEqual(
+            [it['rgb'] for it in self.layer('in 1 lines').getFeatures()], ['#ff0000', '#ffffff', '#0000ff']
+        )
+
+    def test_layers_can_not_be_edited_themselves(self) -> None:
+        self.open(self.example('plan.dgn'))
+        self.assertEqual({it.startEditing() for it in self.project.mapLayers().values()}, {False})
+
+    def test_a_drawing_of_nothing(self) -> None:
+        made = self.open(self.put('in.dgn', drawings.drawing()))
+        self.assertEqual([made[it.upper() + '_COUNT'] for it in KINDS], [0] * 5)
+        self.assertEqual((self.groups(), self.layer_names()), (['in.dgn'], []))
+
+    def test_names_with_blanks_and_other_letters(self) -> None:
+        path = self.put('Plan Süd 1, "alt".dgn', (samples.EXAMPLES / 'plan.dgn').read_bytes())
+        made = self.run_algorithm('open', DRAWING=path, OUTPUT=self.path('Ebenen Süd.gpkg'))
+        self.assertEqual(made['LINES_COUNT'], 6)
+        self.assertEqual(self.layer('Plan Süd 1, "alt" 11 lines').featureCount(), 4)
+
+    def test_progress_and_cancelling(self) -> None:
+        path = self.gen(7, 20000)
+        start = time.monotonic()
+        self.open(path)
+        # a tenth of what bench/qgis opens, which takes 15 s at most; here other work may go on
+        self.assertLess(time.monotonic() - start, 8)
+        self.assertGreater(len({int(it) for it in self.feedback.shares}), 5)
+        self.assertEqual(sorted(self.feedback.shares), self.feedback.shares)
+        self.project.clear()
+        self.feedback = plugin.Feedback('The layers are written')
+        made = self.run_algorithm('open', DRAWING=path, OUTPUT=self.path('stopped.gpkg'))
+        self.assertEqual((made, self.groups()), ({}, []))
+        self.assertFalse(any(it.name.startswith('stopped') for it in self.folder.iterdir()))
+
+
+CELLS = [(35, 37), (38, 40), (41, 43)]  # the cells of examples/town.dgn with two rings, by their first and last element
+
+
+def area_of(rings: List[List[List[float]]]) -> float:
+    """The area of a polygon, its holes taken off."""
+    areas = [abs(sum(a[0] * b[1] - b[0] * a[1] for a, b in zip(ring, ring[1:]))) / 2 for ring in rings]
+    return areas[0] - sum(areas[1:])
+
+
+@unittest.skipUnless(samples.OGR, 'GDAL is not installed')
+class AsOgr(WithLayers):
+    """Against OGR's own reading of the same drawing."""
+
+    def wanted(self, drawing: str) -> Dict[int, str]:
+        """The geometry of each feature of OGR by its number."""
+        made = {}
+        for feature in ogr.features_of(self, drawing):
+            number = re.match(r'OGRFeature\(\w+\):(\d+)', feature)
+            geometry = re.search(r'^  ((?:MULTI)?(?:POINT|LINESTRING|POLYGON)[^\n]*)', feature, re.M)
+            if number and geometry:
+                made[int(number[1])] = QgsGeometry.fromWkt(geometry[1]).asWkt(6)
+        return made
+
+    def found(self, results: samples.Json) -> Dict[int, str]:
+        """The same of the layers, without the origins of cells, which OGR doesn't read."""
+        made = {}
+        for kind in KINDS:
+            for number, it in self.features(results, kind).items():
+                if it['type'] != 2:
+                    geometry = QgsGeometry.fromWkt(it['wkt'])
+                    if QgsWkbTypes.isMultiType(geometry.wkbType()) and geometry.constGet().numGeometries() == 1:
+                        geometry.convertToSingleType()
+                    made[number] = geometry.asWkt(6)
+        return made
+
+    def ask_same(self, drawing: str) -> int:
+        found = self.found(self.open(drawing, HOLES=False))
+        wanted = self.wanted(drawing)
+        cells = {it.number for it in samples.Drawing(drawing, self.program).elements if it.type == 2}
+        wanted = {it: wanted[it] for it in wanted if it not in cells}
+        self.assertEqual(found, wanted)
+        self.project.clear()
+        return len(found)
+
+    def test_of_what_ogr_writes(self) -> None:
+        source = ogr.made(self, ogr.parcels() + ogr.roads() + ogr.labels())
+        self.assertGreater(self.ask_same(self.mended(source)), 16)
+
+    def test_of_the_examples(self) -> None:
+        for name in ('plan.dgn', 'valve.dgn'):
+            self.assertGreater(self.ask_same(self.example(name)), 2)
+        self.example('town.dgn')
+        self.assertGreater(self.ask_same(self.mended(self.path('town.dgn'))), 19)
+
+    def test_of_what_gen_makes(self) -> None:
+        self.assertGreater(self.ask_same(self.gen(7, 3000)), 2000)
+
+
+if __name__ == '__main__':
+    unittest.main()
