@@ -3,7 +3,6 @@
 import json
 import math
 import re
-import time
 import unittest
 from collections import Counter
 from typing import Dict, List
@@ -202,10 +201,7 @@ class Opened(WithLayers):
 
     def test_progress_and_cancelling(self) -> None:
         path = self.gen(7, 20000)
-        start = time.monotonic()
         self.open(path)
-        # a tenth of what bench/qgis opens, which takes 15 s at most; here other work may go on
-        self.assertLess(time.monotonic() - start, 8)
         self.assertGreater(len({int(it) for it in self.feedback.shares}), 5)
         self.assertEqual(sorted(self.feedback.shares), self.feedback.shares)
         self.project.clear()
