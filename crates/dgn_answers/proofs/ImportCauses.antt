@@ -2,7 +2,7 @@
 use Rattle.std.proofs.Common.{◌≡◌, ℕ, Option}
 use Rattle.dgn_drawing.specs.Values.{Displacement}
 use Rattle.dgn_drawing.specs.Opening.{elements_of}
-use Rattle.edit_trees.specs.declared.cause.Cause.{Cause}
+use Rattle.edit_ops.specs.declared.causes.cause.Cause.{Cause}
 use Rattle.dgn_import.specs.Seconds.{SecondValue, Drawing, Faulty}
 use Rattle.dgn_import.specs.Gathering.{Refused, gathered}
 use Rattle.dgn_import.specs.Laws.{IsOfATree}

@@ -8,8 +8,8 @@ use Rattle.elem_index.specs.declared.design.Design.{Design}
 use Rattle.elem_index.specs.Design.{elements, IsWhole}
 use Rattle.elem_index.proofs.Places.{each_at}
 use Rattle.dgn_drawing.proofs.FirstElements.{dimension_is}
-use Rattle.listing_texts.specs.LinkTexts.{links_text_in}
-use Rattle.listing_texts.proofs.AttributeData.{links-spell}
+use Rattle.dgn_listing.specs.LinkTexts.{links_text_in}
+use Rattle.dgn_listing.proofs.AttributeData.{links-spell}
 use Rattle.dgn_answers.specs.Commands.{links_answer_of, links_answer}
 
 links_read : (dim n : ℕ) (b : List ℕ) (found : Option Element) → IsDimension dim → ((e : Element) → found ≡ Some e → IsWellFormed dim e)

@@ -7,7 +7,7 @@ use Rattle.undo_log.specs.Entries.{IsUndone}
 use Rattle.dgn_drawing.specs.declared.edit.Edit.{Edit}
 use Rattle.dgn_drawing.specs.declared.fence_edit.FenceEdit.{FenceEdit}
 use Rattle.dgn_drawing.specs.declared.mode.Mode.{Mode}
-use Rattle.edit_trees.specs.Applying.{Applied, Done}
+use Rattle.edit_ops.specs.Applying.{Applied, Done}
 use Rattle.dgn_session.specs.Fits.{fit_applied, fit_entry}
 use Rattle.dgn_session.specs.State.{State, SessionValue, state_of, applied, entry, fence_entry, value_with, selection, fence_applied}
 use Rattle.dgn_drawing.specs.declared.command.Command.TheVariants as command

@@ -7,20 +7,20 @@ use Rattle.dgn_audit.specs.Findings.{findings}
 use Rattle.dgn_session.specs.Fits.{fit_applied, fit_made}
 use Rattle.dgn_session.specs.State.{State, applied, edited, selection, fence_applied, fence_edited, undone, undo_refused, with_mask, with_fence}
 use Rattle.dgn_listing.specs.CauseTexts.{cause_text}
-use Rattle.listing_texts.specs.ElementTexts.{elements_text}
+use Rattle.dgn_listing.specs.ElementTexts.{elements_text}
 use Rattle.dgn_listing.specs.FindingTexts.{findings_text}
-use Rattle.listing_texts.specs.ItemTexts.{items_text}
-use Rattle.listing_texts.specs.LinkTexts.{links_text}
-use Rattle.listing_texts.specs.RefTexts.{refs_text}
-use Rattle.listing_texts.specs.SelectedTexts.{selected_text}
-use Rattle.listing_texts.specs.TreeTexts.{tree_text}
-use Rattle.edit_trees.specs.Applying.{Applied, Done, Refused}
-use Rattle.edit_trees.specs.declared.cause.Cause.TheVariants as causes
+use Rattle.dgn_listing.specs.ItemTexts.{items_text}
+use Rattle.dgn_listing.specs.LinkTexts.{links_text}
+use Rattle.dgn_listing.specs.RefTexts.{refs_text}
+use Rattle.dgn_listing.specs.SelectedTexts.{selected_text}
+use Rattle.dgn_listing.specs.TreeTexts.{tree_text}
+use Rattle.edit_ops.specs.Applying.{Applied, Done, Refused}
+use Rattle.edit_ops.specs.declared.causes.cause.Cause.TheVariants as causes
 use Rattle.dgn_drawing.specs.declared.command.Command.{Command}
 use Rattle.dgn_drawing.specs.declared.command.Command.TheVariants as command
 use Rattle.elem_index.specs.Opened.{Opened}
 use Rattle.plane_geom.specs.declared.pt.Pt.{Pt}
-use Rattle.listing_texts.specs.NumberedLines.{numbered}
+use Rattle.dgn_listing.specs.NumberedLines.{numbered}
 
 -- a run begins with the file's elements alone, all levels shown and no fence
 abbrev pub begun : Opened → State

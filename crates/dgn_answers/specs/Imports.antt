@@ -11,10 +11,10 @@ use Rattle.dgn_import.specs.Gathering.{Gathering, Trees, Bad, Dimension, Refused
 use Rattle.dgn_import.specs.Laws.{IsOfATree}
 use Rattle.dgn_session.specs.State.{State}
 use Rattle.dgn_session.specs.Imported.{imported}
-use Rattle.edit_trees.specs.Causes.{too_long}
-use Rattle.edit_trees.specs.declared.cause.Cause.{Cause}
-use Rattle.edit_trees.specs.declared.cause.Cause.TheVariants as causes
-use Rattle.listing_texts.specs.NumberedLines.{numbered}
+use Rattle.edit_ops.specs.Causes.{too_long}
+use Rattle.edit_ops.specs.declared.causes.cause.Cause.{Cause}
+use Rattle.edit_ops.specs.declared.causes.cause.Cause.TheVariants as causes
+use Rattle.dgn_listing.specs.NumberedLines.{numbered}
 use Rattle.dgn_answers.specs.declared.gathering.Gathering as code
 use Rattle.dgn_answers.specs.declared.gathering.Gathering.TheVariants as gatherings
 

@@ -5,8 +5,8 @@ use Rattle.dgn_drawing.specs.Opening.{elements_of}
 use Rattle.dgn_drawing.specs.declared.edit.Edit.{Edit}
 use Rattle.dgn_drawing.specs.declared.fence_edit.FenceEdit.{FenceEdit}
 use Rattle.dgn_session.specs.State.{State, applied, selection, fence_applied, undo_refused}
-use Rattle.edit_trees.specs.Applying.{Applied, Done, Refused}
-use Rattle.edit_trees.specs.Fields.{Field, edited_fields}
+use Rattle.edit_ops.specs.Applying.{Applied, Done, Refused}
+use Rattle.edit_ops.specs.Fields.{Field, edited_fields}
 use Rattle.edit_ops.specs.Fenced.{fenced_fields}
 use Rattle.dgn_audit.specs.Fitting.{fit_fields}
 use Rattle.dgn_session.specs.Fits.{fit_applied}

@@ -1,5 +1,5 @@
 ghost use Rattle.std.specs.Prelude.{◌≡◌, ◌+◌, ◌≤◌, ◌++◌, codes, false, length, vec_len, vec_capacity, IfOk, OnOk, OnErr};
-ghost use Rattle.listing_texts.specs.Lines.{AppendsFrontOf};
+ghost use Rattle.dgn_listing.specs.Lines.{AppendsFrontOf};
 ghost use Rattle.dgn_session.specs.State.{state_of, applied, edited, undone, undo_refused, with_mask, is_refused as is_refusal};
 ghost use Rattle.dgn_answers.specs.Commands.{edit_answer, undo_answer, is_import, text_of, is_refused, after_command, trees_of};
 ghost use Rattle.dgn_answers.specs.Logs.{LogsAs};

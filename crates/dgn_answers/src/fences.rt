@@ -1,9 +1,9 @@
 // What a session answers to the commands on its fence.
 
 ghost use Rattle.std.specs.Prelude.{◌≡◌, ◌+◌, ◌≤◌, ◌++◌, codes, false, None, vec_len, vec_capacity, IfOk, OnOk, OnErr};
-ghost use Rattle.listing_texts.specs.Lines.{AppendsFrontOf};
+ghost use Rattle.dgn_listing.specs.Lines.{AppendsFrontOf};
 ghost use Rattle.dgn_session.specs.State.{state_of, selection, fence_applied, fence_edited, with_fence};
-ghost use Rattle.listing_texts.specs.NumberedLines.{numbered};
+ghost use Rattle.dgn_listing.specs.NumberedLines.{numbered};
 ghost use Rattle.dgn_answers.specs.Commands.{fence_edit_answer, fenced_refused, trees_edited, fence_answer, fence_refused, fence_set};
 ghost use Rattle.dgn_answers.specs.Commands.{selection_answer, selection_refused};
 ghost use Rattle.dgn_answers.specs.Logs.{LogsAs};

@@ -3,9 +3,9 @@
 ghost use Rattle.std.specs.Prelude.{◌≡◌, ◌++◌, false, map, length, nat_lt, not, IfOk, OnOk, OnErr};
 ghost use Rattle.dgn_drawing.specs.Rows.{row_of};
 ghost use Rattle.elem_index.specs.Design.{elements, IsWhole};
-ghost use Rattle.listing_texts.specs.Lines.{AppendsFrontOf};
-ghost use Rattle.listing_texts.specs.ElementTexts.{elements_text};
-ghost use Rattle.listing_texts.specs.RefTexts.{refs_text};
+ghost use Rattle.dgn_listing.specs.Lines.{AppendsFrontOf};
+ghost use Rattle.dgn_listing.specs.ElementTexts.{elements_text};
+ghost use Rattle.dgn_listing.specs.RefTexts.{refs_text};
 ghost use Rattle.dgn_session.specs.State.{state_of};
 ghost use Rattle.dgn_answers.specs.Commands.{tree_answer, links_answer, text_of};
 ghost use Rattle.dgn_drawing.specs.declared.command.Command.{Command};

@@ -1,7 +1,7 @@
 // What a session answers to the commands on its stored ranges.
 
 ghost use Rattle.std.specs.Prelude.{◌≡◌, ◌++◌, false, IfOk, OnOk, OnErr};
-ghost use Rattle.listing_texts.specs.Lines.{AppendsFrontOf};
+ghost use Rattle.dgn_listing.specs.Lines.{AppendsFrontOf};
 ghost use Rattle.dgn_session.specs.State.{state_of, is_refused as is_refusal};
 ghost use Rattle.dgn_session.specs.Fits.{fit_applied, fit_made};
 ghost use Rattle.dgn_answers.specs.Commands.{edit_answer, text_of};

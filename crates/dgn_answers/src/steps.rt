@@ -3,7 +3,7 @@
 ghost use Rattle.std.specs.Prelude.{◌≡◌, ◌++◌, drop, IfOk, OnOk, OnErr};
 ghost use Rattle.std.specs.List.{AllByRecursion};
 ghost use Rattle.dgn_import.specs.Seconds.{value_of, IsSound};
-ghost use Rattle.listing_texts.specs.Lines.{AppendsFrontOf};
+ghost use Rattle.dgn_listing.specs.Lines.{AppendsFrontOf};
 ghost use Rattle.dgn_session.specs.State.{state_of};
 ghost use Rattle.dgn_answers.specs.Given.{first_second, given, seconds_behind, step_text, step_refused, step_trees, after_step};
 ghost use Rattle.dgn_answers.specs.Logs.{StepLogsAs};

@@ -19,8 +19,8 @@ use Rattle.dgn_drawing.specs.Nesting.{Knot, Leaf, Group, Run, Loose}
 use Rattle.dgn_drawing.proofs.FieldPlaces.{all-sits}
 use Rattle.dgn_drawing.proofs.SpotValues.{holds_points}
 use Rattle.nest_tree.specs.Shapes.{code_knot}
-use Rattle.edit_trees.specs.Causes.{says_locked, is_locked}
-use Rattle.edit_trees.proofs.ReadableElements.{IsShown, is_shown, shown_long}
+use Rattle.edit_ops.specs.Causes.{says_locked, is_locked}
+use Rattle.edit_ops.proofs.ReadableElements.{IsShown, is_shown, shown_long}
 use Rattle.dgn_audit.specs.declared.keep.Keep.{Keep}
 use Rattle.dgn_audit.specs.declared.keep.Keep.TheVariants as keeps
 use Rattle.dgn_audit.specs.Hulls.{on_axes, stored_of, is_vertices, points_hull, range_hull, leaf_hull, hull_in}

@@ -20,7 +20,7 @@ use Rattle.dgn_drawing.specs.Numbering.{Mark, end_of, mark_of, span_of}
 use Rattle.dgn_drawing.proofs.Places.{in_both}
 use Rattle.nest_tree.proofs.NestingSteps.{flat-forest}
 use Rattle.level_view.proofs.Places.{mark_part}
-use Rattle.edit_trees.specs.Trees.{count_in, tree_at, exchange}
+use Rattle.edit_ops.specs.Trees.{count_in, tree_at, exchange}
 use Rattle.dgn_audit.specs.declared.keep.Keep.TheVariants as keeps
 use Rattle.dgn_audit.specs.declared.finding.Finding.{Finding}
 use Rattle.dgn_audit.specs.Hulls.{hull_join, on_axes, box_of, stored_of, is_vertices, points_hull, range_hull, hull_in, tree_hull, hull_of}

@@ -12,9 +12,9 @@ use Rattle.dgn_drawing.specs.Rows.{row_of}
 use Rattle.dgn_drawing.specs.Nesting.{Knot, Forest, NoTree, Tree, flat, forest}
 use Rattle.dgn_drawing.specs.Numbering.{end_of, headers_in, headers_of, first_or}
 use Rattle.nest_tree.proofs.NestingSteps.{flat-forest}
-use Rattle.edit_trees.specs.Trees.{count_in, tree_at}
-use Rattle.edit_trees.proofs.EachLive.{each_both}
-use Rattle.edit_trees.proofs.EditedBytes.{all_so, all_both}
+use Rattle.edit_ops.specs.Trees.{count_in, tree_at}
+use Rattle.edit_ops.proofs.EachLive.{each_both}
+use Rattle.edit_ops.proofs.EditedBytes.{all_so, all_both}
 use Rattle.dgn_audit.specs.declared.keep.Keep.TheVariants as keeps
 use Rattle.dgn_audit.specs.declared.finding.Finding.{Finding}
 use Rattle.dgn_audit.specs.Hulls.{stored_of, hull_in, tree_hull, hull_of}

@@ -15,13 +15,13 @@ use Rattle.dgn_drawing.specs.Numbering.{root_of, span_of}
 use Rattle.dgn_drawing.proofs.Places.{in_both}
 use Rattle.elem_index.specs.Offsets.{offset_of}
 use Rattle.elem_index.proofs.Places.{each_at}
-use Rattle.edit_trees.specs.Trees.{tree_at}
-use Rattle.edit_trees.specs.Fields.{Field, Rise, spot_fields}
-use Rattle.edit_trees.proofs.ReadableElements.{is_shown, shown_long}
-use Rattle.edit_trees.proofs.LiveFound.{offset_next}
-use Rattle.edit_trees.proofs.EditedBytes.{all_so}
-use Rattle.edit_trees.proofs.PutFields.{fields_rise}
-use Rattle.edit_trees.proofs.TreeSpread.{tree_ends}
+use Rattle.edit_ops.specs.Trees.{tree_at}
+use Rattle.edit_ops.specs.Fields.{Field, Rise, spot_fields}
+use Rattle.edit_ops.proofs.ReadableElements.{is_shown, shown_long}
+use Rattle.edit_ops.proofs.LiveFound.{offset_next}
+use Rattle.edit_ops.proofs.EditedBytes.{all_so}
+use Rattle.edit_ops.proofs.PutFields.{fields_rise}
+use Rattle.edit_ops.proofs.TreeSpread.{tree_ends}
 use Rattle.dgn_audit.specs.declared.finding.Finding.{Finding}
 use Rattle.dgn_audit.specs.Findings.{fitted_in}
 use Rattle.dgn_audit.specs.Fitting.{fit_puts, root_fields, fit_fields}

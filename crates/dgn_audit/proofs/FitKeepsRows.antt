@@ -20,16 +20,16 @@ use Rattle.dgn_drawing.proofs.FirstElements.{dimension_is}
 use Rattle.nest_tree.proofs.NestingSteps.{flat-forest}
 use Rattle.nest_tree.proofs.ByRows.{forest_rows, flat-map}
 use Rattle.nest_tree.proofs.SameTrees.{known}
-use Rattle.edit_trees.specs.Trees.{tree_at, exchange, Live, above_tree}
-use Rattle.edit_trees.specs.Fields.{Field, IsIn, Rise, filled}
-use Rattle.edit_trees.proofs.EachLive.{each_first, each_last, tree_each, above_tree_each}
-use Rattle.edit_trees.proofs.RowsKept.{exchange_looks, exchange_each}
-use Rattle.edit_trees.proofs.FirstElement.{BeginsWith, begins_as, first_stays}
-use Rattle.edit_trees.proofs.PutFields.{held_by_none}
-use Rattle.edit_trees.proofs.TextTurns.{whole_turned, whole_span}
-use Rattle.edit_trees.proofs.LivePuts.{field_of}
-use Rattle.edit_trees.specs.declared.cause.Cause.{Cause}
-use Rattle.edit_trees.specs.Applying.{Done, unless}
+use Rattle.edit_ops.specs.Trees.{tree_at, exchange, Live, above_tree}
+use Rattle.edit_ops.specs.Fields.{Field, IsIn, Rise, filled}
+use Rattle.edit_ops.proofs.EachLive.{each_first, each_last, tree_each, above_tree_each}
+use Rattle.edit_ops.proofs.RowsKept.{exchange_looks, exchange_each}
+use Rattle.edit_ops.proofs.FirstElement.{BeginsWith, begins_as, first_stays}
+use Rattle.edit_ops.proofs.PutFields.{held_by_none}
+use Rattle.edit_ops.proofs.TextTurns.{whole_turned, whole_span}
+use Rattle.edit_ops.proofs.LivePuts.{field_of}
+use Rattle.edit_ops.specs.declared.causes.cause.Cause.{Cause}
+use Rattle.edit_ops.specs.Applying.{Done, unless}
 use Rattle.dgn_audit.specs.Hulls.{hull_in, tree_hull, hull_of}
 use Rattle.dgn_audit.specs.Findings.{fitted_in}
 use Rattle.dgn_audit.specs.Fitting.{head_fitted, fitted, fitted_forest, fit_puts, root_fields, fit_fields, tree_cause, fit_root, apply_fit}

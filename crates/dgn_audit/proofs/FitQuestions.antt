@@ -13,12 +13,12 @@ use Rattle.dgn_drawing.proofs.SpotValues.{holds_points}
 use Rattle.elem_index.specs.declared.design.Design.{Design}
 use Rattle.elem_index.specs.Design.{elements, IsWhole}
 use Rattle.elem_index.proofs.Places.{each_at}
-use Rattle.edit_trees.specs.Causes.{says_locked, is_locked, broken, deleted}
+use Rattle.edit_ops.specs.Causes.{says_locked, is_locked, broken, deleted}
 use Rattle.elem_index.proofs.Places.{axes_of}
-use Rattle.edit_trees.proofs.WiderRanges.{holds_of, spots_loud}
-use Rattle.edit_trees.specs.declared.cause.Cause.{Cause}
-use Rattle.edit_trees.specs.declared.cause.Cause.TheVariants as causes
-use Rattle.edit_trees.specs.Applying.{unless}
+use Rattle.edit_ops.proofs.WiderRanges.{holds_of, spots_loud}
+use Rattle.edit_ops.specs.declared.causes.cause.Cause.{Cause}
+use Rattle.edit_ops.specs.declared.causes.cause.Cause.TheVariants as causes
+use Rattle.edit_ops.specs.Applying.{unless}
 use Rattle.dgn_audit.specs.Fitting.{against, lock_cause, first_locked, tree_cause, fit_root, fitted_forest, apply_fit}
 use Rattle.dgn_audit.specs.Findings.{fitted_in}
 use Rattle.dgn_audit.specs.Planned.{IsCause, IsFitRefused}
@@ -32,7 +32,7 @@ use Rattle.std.specs.Option.{option_or}
 use Rattle.std.specs.List.{AllByRecursion}
 use Rattle.std.proofs.lemmas.List.{reverse-append}
 use Rattle.dgn_audit.specs.declared.finding.Finding.{Finding}
-use Rattle.edit_trees.proofs.RootRows.{first_broken_by_rows}
+use Rattle.edit_ops.proofs.RootRows.{first_broken_by_rows}
 use Rattle.dgn_drawing.proofs.FieldPlaces.{all-sits}
 use Rattle.dgn_audit.proofs.ElementHulls.{loud_long, loud_locked}
 

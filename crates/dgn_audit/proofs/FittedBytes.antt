@@ -20,21 +20,21 @@ use Rattle.nest_tree.proofs.GrownNestings.{all_both}
 use Rattle.nest_tree.proofs.NestingSteps.{flat-forest}
 use Rattle.elem_index.specs.Offsets.{offset_of}
 use Rattle.level_view.proofs.ItemsBack.{Stands, below_stands, behind_stands}
-use Rattle.edit_trees.specs.Trees.{tree_at, Live, above_from}
-use Rattle.edit_trees.specs.Fields.{Field, spot_fields, filled}
-use Rattle.edit_trees.proofs.ReadableElements.{IsShown}
-use Rattle.edit_trees.proofs.EachLive.{each_first, each_last, tree_each}
-use Rattle.edit_trees.proofs.TextTurns.{Turns, turns_none, turns_then, turned_reads, whole_turned, whole_span}
-use Rattle.edit_trees.proofs.LivePuts.{field_of, number_fields, spelled_tree, turns_as}
-use Rattle.edit_trees.proofs.EditedBytes.{filled_reads}
-use Rattle.edit_trees.proofs.TreesExchanged.{above_turned}
+use Rattle.edit_ops.specs.Trees.{tree_at, Live, above_from}
+use Rattle.edit_ops.specs.Fields.{Field, spot_fields, filled}
+use Rattle.edit_ops.proofs.ReadableElements.{IsShown}
+use Rattle.edit_ops.proofs.EachLive.{each_first, each_last, tree_each}
+use Rattle.edit_ops.proofs.TextTurns.{Turns, turns_none, turns_then, turned_reads, whole_turned, whole_span}
+use Rattle.edit_ops.proofs.LivePuts.{field_of, number_fields, spelled_tree, turns_as}
+use Rattle.edit_ops.proofs.EditedBytes.{filled_reads}
+use Rattle.edit_ops.proofs.TreesExchanged.{above_turned}
 use Rattle.dgn_audit.specs.declared.keep.Keep.TheVariants as keeps
 use Rattle.dgn_audit.specs.declared.finding.Finding.{Finding}
 use Rattle.dgn_audit.specs.Hulls.{hull_join, on_axes, box_of, is_vertices, points_hull, range_hull, hull_in, tree_hull, hull_of}
 use Rattle.dgn_audit.specs.Findings.{is_fitted, finding_of, finding_as, findings_in, fitted_in}
 use Rattle.dgn_audit.specs.Fitting.{with_range, head_fitted, fitted, fitted_forest, number_in, range_puts, fit_puts, root_fields, fit_root}
-use Rattle.edit_trees.specs.declared.cause.Cause.{Cause}
-use Rattle.edit_trees.specs.Applying.{unless}
+use Rattle.edit_ops.specs.declared.causes.cause.Cause.{Cause}
+use Rattle.edit_ops.specs.Applying.{unless}
 use Rattle.dgn_audit.specs.Planned.{IsPlanOfRoot, IsFitPlan}
 use Rattle.dgn_audit.proofs.TreePlaces.{IsRooted, rooted}
 use Rattle.dgn_audit.proofs.RangesPut.{IsBox, ranged, flat_good, joined_good}

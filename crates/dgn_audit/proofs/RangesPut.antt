@@ -19,8 +19,8 @@ use Rattle.dgn_drawing.specs.Items.{in_space}
 use Rattle.dgn_drawing.specs.Rows.{total_of, row_of}
 use Rattle.dgn_drawing.proofs.Places.{in_both}
 use Rattle.dgn_drawing.proofs.Displays.{length-display}
-use Rattle.edit_trees.proofs.ReadableElements.{IsShown, shown_long}
-use Rattle.edit_trees.proofs.TextTurns.{Turns, moved, turns_inside}
+use Rattle.edit_ops.proofs.ReadableElements.{IsShown, shown_long}
+use Rattle.edit_ops.proofs.TextTurns.{Turns, moved, turns_inside}
 use Rattle.dgn_audit.specs.Fitting.{display_fitted, body_fitted, with_range, number_in, range_put, range_puts}
 
 -- what is said of all corners of three numbers is said of all that are so long

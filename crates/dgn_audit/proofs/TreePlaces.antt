@@ -18,7 +18,7 @@ use Rattle.dgn_drawing.specs.Numbering.{Mark, end_of, marks, mark_of, headers_in
 use Rattle.nest_tree.proofs.GrownNestings.{all_both}
 use Rattle.nest_tree.proofs.NestingSteps.{flat-forest}
 use Rattle.level_view.proofs.ItemsBack.{Stands, head_marked, head_listed, below_stands, behind_stands, all_stand}
-use Rattle.edit_trees.specs.Trees.{count_in, tree_at}
+use Rattle.edit_ops.specs.Trees.{count_in, tree_at}
 use Rattle.dgn_audit.specs.declared.keep.Keep.{Keep}
 use Rattle.dgn_audit.specs.declared.keep.Keep.TheVariants as keeps
 use Rattle.dgn_audit.specs.Hulls.{tree_hull, hull_of}

@@ -9,7 +9,7 @@ use Rattle.dgn_drawing.specs.Element.{Element}
 use Rattle.dgn_drawing.specs.Rows.{row_of}
 use Rattle.dgn_drawing.specs.Nesting.{Knot, Leaf, Group, Run, Loose, Forest, NoTree, Tree, forest}
 use Rattle.dgn_drawing.specs.Numbering.{end_of}
-use Rattle.edit_trees.specs.Trees.{tree_at}
+use Rattle.edit_ops.specs.Trees.{tree_at}
 use Rattle.dgn_audit.specs.declared.keep.Keep.{Keep}
 use Rattle.dgn_audit.specs.declared.keep.Keep.TheVariants as keeps
 use Rattle.dgn_audit.specs.declared.finding.Finding.{Finding}

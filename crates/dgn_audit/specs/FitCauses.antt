@@ -1,8 +1,8 @@
 -- The causes and the faults of a fit as those of an edit, of the same names.
-use Rattle.edit_trees.specs.declared.cause.Cause.{Cause}
-use Rattle.edit_trees.specs.declared.cause.Cause.TheVariants as causes
-use Rattle.edit_trees.specs.declared.edit_fault.EditFault.{EditFault}
-use Rattle.edit_trees.specs.declared.edit_fault.EditFault.TheVariants as faults
+use Rattle.edit_ops.specs.declared.causes.cause.Cause.{Cause}
+use Rattle.edit_ops.specs.declared.causes.cause.Cause.TheVariants as causes
+use Rattle.edit_ops.specs.declared.causes.edit_fault.EditFault.{EditFault}
+use Rattle.edit_ops.specs.declared.causes.edit_fault.EditFault.TheVariants as faults
 use Rattle.dgn_audit.specs.declared.fit_cause.FitCause.{FitCause}
 use Rattle.dgn_audit.specs.declared.fit_cause.FitCause.TheVariants as fit
 use Rattle.dgn_audit.specs.declared.fit_fault.FitFault.{FitFault}

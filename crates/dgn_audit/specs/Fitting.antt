@@ -14,12 +14,12 @@ use Rattle.dgn_drawing.specs.SpotNumbers.{number_bytes}
 use Rattle.dgn_drawing.specs.Nesting.{Knot, Forest, NoTree, Tree, flat, forest}
 use Rattle.dgn_drawing.specs.Numbering.{root_of, first_broken_of}
 use Rattle.elem_index.specs.Offsets.{offset_of}
-use Rattle.edit_trees.specs.Trees.{exchange}
-use Rattle.edit_trees.specs.declared.cause.Cause.{Cause}
-use Rattle.edit_trees.specs.declared.cause.Cause.TheVariants as causes
-use Rattle.edit_trees.specs.Causes.{broken, deleted, locked}
-use Rattle.edit_trees.specs.Applying.{Applied, Refused, unless}
-use Rattle.edit_trees.specs.Fields.{Field, spot_fields}
+use Rattle.edit_ops.specs.Trees.{exchange}
+use Rattle.edit_ops.specs.declared.causes.cause.Cause.{Cause}
+use Rattle.edit_ops.specs.declared.causes.cause.Cause.TheVariants as causes
+use Rattle.edit_ops.specs.Causes.{broken, deleted, locked}
+use Rattle.edit_ops.specs.Applying.{Applied, Refused, unless}
+use Rattle.edit_ops.specs.Fields.{Field, spot_fields}
 use Rattle.dgn_audit.specs.declared.finding.Finding.{Finding}
 use Rattle.dgn_audit.specs.Hulls.{tree_hull, hull_of}
 use Rattle.dgn_audit.specs.Findings.{is_fitted, fitted_in}

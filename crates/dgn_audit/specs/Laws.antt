@@ -9,10 +9,10 @@ use Rattle.dgn_drawing.specs.Numbering.{root_of, span_of}
 use Rattle.dgn_drawing.specs.Opening.{Opens}
 use Rattle.dgn_layout.specs.Spots.{range_spots}
 use Rattle.elem_index.specs.Offsets.{offset_of}
-use Rattle.edit_trees.specs.Fields.{IsIn, Rise, spot_fields, filled}
+use Rattle.edit_ops.specs.Fields.{IsIn, Rise, spot_fields, filled}
 use Rattle.dgn_audit.specs.declared.finding.Finding.{Finding}
 use Rattle.dgn_audit.specs.Findings.{findings, fitted_in}
-use Rattle.edit_trees.specs.Applying.{Done}
+use Rattle.edit_ops.specs.Applying.{Done}
 use Rattle.dgn_audit.specs.Fitting.{apply_fit, fitted_forest, fit_fields}
 
 -- what a fit that is done leaves opens in the same dimension, with the same tail

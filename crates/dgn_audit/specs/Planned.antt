@@ -5,9 +5,9 @@ use Rattle.dgn_layout.specs.Spots.{has_spots}
 use Rattle.patch_bytes.specs.Puts.{Put}
 use Rattle.dgn_drawing.specs.Element.{Element}
 use Rattle.dgn_drawing.specs.Spelling.{spelling}
-use Rattle.edit_trees.specs.declared.cause.Cause.{Cause}
-use Rattle.edit_trees.specs.Applying.{Applied, Done, Refused}
-use Rattle.edit_trees.specs.Fields.{filled}
+use Rattle.edit_ops.specs.declared.causes.cause.Cause.{Cause}
+use Rattle.edit_ops.specs.Applying.{Applied, Done, Refused}
+use Rattle.edit_ops.specs.Fields.{filled}
 use Rattle.dgn_audit.specs.declared.fit_fault.FitFault.{FitFault}
 use Rattle.dgn_audit.specs.declared.fit_fault.FitFault.TheVariants as faults
 use Rattle.dgn_audit.specs.FitCauses.{edit_cause}

@@ -3,7 +3,7 @@ ghost use Rattle.dgn_audit.specs.FitCauses.{edit_fault};
 ghost use Rattle.dgn_audit.specs.declared.fit_fault.FitFault.TheVariants as faults;
 
 use crate::fit_cause::FitCause;
-use edit_trees::{Cause, EditFault};
+use edit_ops::{Cause, EditFault};
 use std::alloc::AllocError;
 
 /// Why there is no plan of a fit.

@@ -5,7 +5,7 @@ ghost use Rattle.dgn_layout.specs.Classes.{class_of};
 ghost use Rattle.dgn_layout.specs.Spots.{has_spots, HoldsPoints};
 ghost use Rattle.range_code.specs.Ranges.{on_axis};
 ghost use Rattle.elem_head.specs.Head.{properties_of};
-ghost use Rattle.edit_trees.specs.Causes.{says_locked, broken, deleted};
+ghost use Rattle.edit_ops.specs.Causes.{says_locked, broken, deleted};
 ghost use Rattle.dgn_drawing.specs.Rows.{row_of};
 ghost use Rattle.dgn_drawing.specs.Nesting.{itself};
 ghost use Rattle.dgn_drawing.specs.Numbering.{first_broken_of};
@@ -22,7 +22,7 @@ use crate::fit_cause::FitCause;
 use crate::fit_fault::FitFault;
 use crate::keep::Keep;
 use crate::reading::read_part;
-use dgn_drawing::MOST_DESIGN;
+use dgn_drawing::{MOST_DESIGN, spots_in};
 use dgn_layout::Spot;
 use dgn_words::put_range_long;
 use elem_head::{head, properties};
@@ -30,7 +30,6 @@ use elem_index::Design;
 use nest_tree::types::Nest;
 use patch_bytes::{Patch, PatchList};
 use range_code::Box3;
-use spot_numbers::spots_in;
 use std::alloc::{AllocError, Global};
 
 // The bit of an element's properties that locks it.

@@ -9,12 +9,12 @@ ghost use Rattle.dgn_audit.specs.Hulls.{hull_join, is_vertices, points_hull};
 ghost use Rattle.dgn_audit.specs.Reading.{with_number, range_read, leaf_read, hull_read, is_fitted_knot};
 
 use crate::stored::stored_range;
+use dgn_drawing::spots_in;
 use dgn_layout::types::Class;
 use dgn_layout::{SHARED_CELL, class, is_silent};
 use dgn_words::long;
 use nest_tree::Knot;
 use range_code::{Box3, join};
-use spot_numbers::spots_in;
 
 // A point of which some numbers have been read; the others are 0.
 #[derive(Clone, Copy)]

@@ -9,8 +9,8 @@ use Rattle.std.specs.BTreeMap.{BTreeMap, UpdatesBy, get_by_text, is_at}
 use Rattle.std.specs.Map.{lookup}
 use Rattle.std.specs.FinMap as maps
 use Rattle.std.proofs.lemmas.Map.Text.{btree_map_updates_text}
-use Rattle.host_desk.specs.Content.{Files, with_file, bytes_of}
-use Rattle.host_desk.specs.FileLaws.{same_files, get-with_file, with_file-there}
+use Rattle.dgn_desk.specs.Content.{Files, with_file, bytes_of}
+use Rattle.dgn_desk.specs.FileLaws.{same_files, get-with_file, with_file-there}
 use Rattle.dgn_desk.specs.FileMap.{entry_of, files_of}
 
 -- the bytes of a choice are the choice of the bytes

@@ -5,8 +5,8 @@ use Rattle.std.specs.Ordering.{nat_cmp, eq_by_cmp}
 use Rattle.std.specs.Cmp.Lexicographic.{slice_cmp, nat_list_cmp_total}
 use Rattle.std.specs.Str.{bytes_eq}
 use Rattle.std.specs.FinMap as maps
-use Rattle.host_desk.specs.Content.{Files, with_file, bytes_of, opened, filed, written}
-use Rattle.host_desk.specs.FileLaws.{same_files, get-with_file, get-with_file-same}
+use Rattle.dgn_desk.specs.Content.{Files, with_file, bytes_of, opened, filed, written}
+use Rattle.dgn_desk.specs.FileLaws.{same_files, get-with_file, get-with_file-same}
 use Rattle.std.proofs.lemmas.List.{at_drop_more, drop_all, take-append-drop}
 use Rattle.std.proofs.Math.Seq.{take-length}
 use Rattle.dgn_desk.specs.declared.lent_file.LentFile.{LentFile}

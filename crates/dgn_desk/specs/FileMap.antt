@@ -1,7 +1,7 @@
 -- Files kept in a map from texts to vectors of bytes: the files that its entries stand for.
 use Rattle.std.specs.Prelude.{ℕ, List, map, String, Vec, string_bytes}
 use Rattle.std.specs.FinMap as maps
-use Rattle.host_desk.specs.Content.{Files}
+use Rattle.dgn_desk.specs.Content.{Files}
 
 -- an entry, as the bytes of its name and its bytes
 abbrev pub entry_of : {Y Z : Type 0} → String Y × Vec ℕ Z → List ℕ × List ℕ

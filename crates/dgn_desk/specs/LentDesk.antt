@@ -3,7 +3,7 @@
 use Rattle.std.specs.Prelude.{ℕ, List, map, ◌++◌, Option, IsSome, IfSome, refl}
 use Rattle.std.specs.Coded.{Coded, code_by, coded×, coded_ℕ}
 use Rattle.std.specs.FinMap as maps
-use Rattle.host_desk.specs.Content.{Files, Content, coded_content}
+use Rattle.dgn_desk.specs.Content.{Files, Content, coded_content}
 use Rattle.dgn_desk.specs.declared.lent_file.LentFile.{LentFile}
 
 pub record LentDesk : Type 0 where

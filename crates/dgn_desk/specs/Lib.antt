@@ -2,3 +2,8 @@ pub mod FileMap
 pub mod LentDesk
 pub mod NumberedDesk
 pub mod PieceDesk
+pub mod Content
+pub mod Holding
+pub mod Desk
+pub mod Seen
+pub mod FileLaws

@@ -8,10 +8,10 @@ use Rattle.std.specs.Coded.{Coded, code_by, coded×, coded_ℕ, coded_list}
 use Rattle.std.specs.FinMap as maps
 use Rattle.dgn_desk.specs.declared.act.Act.{Act}
 use Rattle.dgn_desk.specs.declared.act.Act.TheVariants.{BeginRead, Read, BeginWrite, Write, Say}
-use Rattle.host_desk.specs.declared.stop.Stop.{Stop}
-use Rattle.host_desk.specs.declared.stop.Stop.TheVariants.{Failed, Memory}
-use Rattle.host_desk.specs.Content.{Content, coded_content}
-use Rattle.host_desk.specs.Desk.{one_more}
+use Rattle.dgn_desk.specs.declared.stop.Stop.{Stop}
+use Rattle.dgn_desk.specs.declared.stop.Stop.TheVariants.{Failed, Memory}
+use Rattle.dgn_desk.specs.Content.{Content, coded_content}
+use Rattle.dgn_desk.specs.Desk.{one_more}
 
 pub record NumberedDesk : Type 0 where
   pub content : Content

@@ -1,7 +1,7 @@
 -- A desk of memory that moves its bytes in pieces: what it holds, and how many bytes a call moves at most.
 use Rattle.std.specs.Prelude.{ℕ, refl}
 use Rattle.std.specs.Coded.{Coded, code_by, coded×, coded_ℕ}
-use Rattle.host_desk.specs.Content.{Content, coded_content}
+use Rattle.dgn_desk.specs.Content.{Content, coded_content}
 
 pub record PieceDesk : Type 0 where
   pub content : Content

@@ -1,7 +1,7 @@
 ghost use Rattle.std.specs.Prelude.{◌≡◌, ◌++◌, OnOk, OnErr};
 ghost use Rattle.std.specs.Option.{option_copied};
 ghost use Rattle.std.specs.FinMap as maps;
-ghost use Rattle.host_desk.specs.Content.{bytes_of, with_file};
+ghost use Rattle.dgn_desk.specs.Content.{bytes_of, with_file};
 
 use std::alloc::{AllocError, Global};
 use std::collections::BTreeMap;
@@ -17,7 +17,7 @@ pub(crate) struct FileMap {
 impl Model for FileMap {
     ghost use Rattle.std.specs.Coded.{coded_ℕ, coded_list};
     ghost use Rattle.std.specs.FinMap as maps;
-    ghost use Rattle.host_desk.specs.Content.{Files};
+    ghost use Rattle.dgn_desk.specs.Content.{Files};
     ghost use Rattle.dgn_desk.specs.FileMap.{files_of};
 
     ghost Value = { Files };

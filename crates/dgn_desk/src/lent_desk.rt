@@ -2,13 +2,13 @@ ghost use Rattle.std.specs.Prelude.{◌≡◌, [], None, Some, Err, true};
 ghost use Rattle.std.proofs.Common.{rules};
 ghost use Rattle.std.specs.Option.{option_copied};
 ghost use Rattle.std.specs.FinMap as maps;
-ghost use Rattle.host_desk.specs.Content.{all_said, HasFile, opened};
-ghost use Rattle.host_desk.specs.Desk.{Counts, Changes, DoesNotFail};
+ghost use Rattle.dgn_desk.specs.Content.{all_said, HasFile, opened};
+ghost use Rattle.dgn_desk.specs.Desk.{Counts, Changes, DoesNotFail};
 ghost use Rattle.dgn_desk.specs.LentDesk.{lent_files};
 
 use crate::file_map::FileMap;
 use crate::lent_file::LentFile;
-use host_desk::{Desk, Stop, failed};
+use crate::{Desk, Stop, failed};
 use std::alloc::Global;
 use std::marker::Model;
 

@@ -1,20 +1,34 @@
-//! The outside of the program, as a trait, with the desks that stand for it: that of the machine, which `host_desk` has, as it
-//! has the trait, and three of memory. The program doesn't stand on those of memory; the library stands on the one over files
-//! that are lent.
+//! The outside of the program, as a trait: files that are read and written by name, and a place to say things. Its contract
+//! counts the faults and, for a desk that tells it, gives the content. And the desks: that of the machine, one that holds short
+//! texts back over another, and three of memory. The program doesn't stand on those of memory; the library stands on the one
+//! over files that are lent.
 #![tactic(auto)]
 
 mod act;
+mod buffered_desk;
+mod desk;
+mod failing;
 mod file_map;
+mod given_words;
+mod host_desk;
 mod lent_desk;
 mod lent_file;
 mod mem_desk;
+mod reading;
+mod stop;
 mod sure_desk;
+mod writing;
 
 pub use act::Act;
-pub use host_desk::{
-    BufferedDesk, Desk, HostDesk, MOST_HELD, ReadEnd, Stop, read_all, say_all, words, write_file,
-};
+pub use buffered_desk::{BufferedDesk, MOST_HELD};
+pub use desk::Desk;
+pub use failing::failed;
+pub use given_words::words;
+pub use host_desk::HostDesk;
 pub use lent_desk::LentDesk;
 pub use lent_file::LentFile;
 pub use mem_desk::MemDesk;
+pub use reading::{ReadEnd, read_all};
+pub use stop::Stop;
 pub use sure_desk::SureDesk;
+pub use writing::{say_all, write_file};

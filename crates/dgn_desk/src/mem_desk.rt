@@ -3,13 +3,13 @@ ghost use Rattle.std.proofs.Common.{rules};
 ghost use Rattle.std.specs.Option.{option_copied};
 ghost use Rattle.std.specs.FinMap as maps;
 ghost use Rattle.dgn_desk.specs.declared.act.Act.TheVariants as act;
-ghost use Rattle.host_desk.specs.Content.{all_said, opened, consumed, filed, written, spoken, with_file, HasFile, HasTarget};
-ghost use Rattle.host_desk.specs.Desk.{Counts, TakesFirst, TakesSome, StaysWilling, DoesNotFail};
+ghost use Rattle.dgn_desk.specs.Content.{all_said, opened, consumed, filed, written, spoken, with_file, HasFile, HasTarget};
+ghost use Rattle.dgn_desk.specs.Desk.{Counts, TakesFirst, TakesSome, StaysWilling, DoesNotFail};
 ghost use Rattle.dgn_desk.specs.NumberedDesk.{is_listed, none_ahead, is_missing, has_no_target, Answers};
 
 use crate::act::Act;
 use crate::sure_desk::SureDesk;
-use host_desk::{Desk, Stop, failed};
+use crate::{Desk, Stop, failed};
 use std::alloc::{AllocError, Global};
 use std::marker::Model;
 

@@ -2,11 +2,11 @@ ghost use Rattle.std.specs.Prelude.{◌≡◌, ◌≤◌, [], length, take, Some
 ghost use Rattle.std.proofs.Common.{rules};
 ghost use Rattle.std.specs.Option.{option_copied};
 ghost use Rattle.std.specs.FinMap as maps;
-ghost use Rattle.host_desk.specs.Content.{all_said, with_file, opened, consumed, filed, written, spoken};
-ghost use Rattle.host_desk.specs.Desk.{Changes, TakesFirst, TakesSome, DoesNotFail};
+ghost use Rattle.dgn_desk.specs.Content.{all_said, with_file, opened, consumed, filed, written, spoken};
+ghost use Rattle.dgn_desk.specs.Desk.{Changes, TakesFirst, TakesSome, DoesNotFail};
 
 use crate::file_map::FileMap;
-use host_desk::{Desk, Stop};
+use crate::{Desk, Stop};
 use std::alloc::{AllocError, Global};
 use std::marker::Model;
 

@@ -15,14 +15,14 @@ use Rattle.dgn_drawing.specs.Nesting.{Whole, Forest, flat, nest, forest, joined,
 use Rattle.dgn_drawing.specs.Opening.{BeginsWithTcb}
 use Rattle.nest_tree.proofs.NestingSteps.{nest_nil, flat-forest}
 use Rattle.nest_tree.proofs.TreesApart.{nest_apart, forest_apart}
-use Rattle.edit_trees.specs.Trees.{tree_at, live_map, live_tree}
-use Rattle.edit_trees.specs.Written.{IsReady}
-use Rattle.edit_trees.proofs.PartPlace.{flat-joined}
-use Rattle.edit_trees.proofs.EachLive.{each_both, tree_each}
-use Rattle.edit_trees.proofs.AcceptedEdit.{IsThere, is_there, none_both, copy_ready}
-use Rattle.edit_trees.proofs.FirstElement.{some_element}
-use Rattle.edit_parts.proofs.CopiedPart.{freed_first, copied_good, copied_nests}
-use Rattle.edit_parts.proofs.TreesBehind.{joined_left, free_both}
+use Rattle.edit_ops.specs.Trees.{tree_at, live_map, live_tree}
+use Rattle.edit_ops.specs.Written.{IsReady}
+use Rattle.edit_ops.proofs.PartPlace.{flat-joined}
+use Rattle.edit_ops.proofs.EachLive.{each_both, tree_each}
+use Rattle.edit_ops.proofs.AcceptedEdit.{IsThere, is_there, none_both, copy_ready}
+use Rattle.edit_ops.proofs.FirstElement.{some_element}
+use Rattle.edit_ops.proofs.CopiedPart.{freed_first, copied_good, copied_nests}
+use Rattle.edit_ops.proofs.TreesBehind.{joined_left, free_both}
 use Rattle.dgn_import.specs.Gathering.{import_tree, import_trees, import_cause, cause_of_roots}
 use Rattle.dgn_import.proofs.TakenTrees.{IsTakenRoot}
 

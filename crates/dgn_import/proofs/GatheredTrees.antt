@@ -9,7 +9,7 @@ use Rattle.dgn_drawing.specs.WellFormed.{IsDimension}
 use Rattle.dgn_drawing.specs.Nesting.{Forest, flat}
 use Rattle.dgn_drawing.specs.Opening.{Opens}
 use Rattle.dgn_drawing.proofs.FirstElements.{dimension_is}
-use Rattle.edit_trees.specs.declared.cause.Cause.{Cause}
+use Rattle.edit_ops.specs.declared.causes.cause.Cause.{Cause}
 use Rattle.dgn_import.specs.declared.gathered.Gathered.{Gathered}
 use Rattle.dgn_import.specs.Gathering.{Trees, Dimension, fits, unless, gathered_in, taken, import_trees, cause_of_roots, AreTrees}
 use Rattle.dgn_import.specs.Laws.{NestApart, GatheredTreesNestApart}

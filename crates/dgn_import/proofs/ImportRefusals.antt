@@ -4,8 +4,8 @@ use Rattle.std.proofs.lemmas.Bool.{cases_Bool}
 use Rattle.dgn_drawing.specs.Values.{Displacement}
 use Rattle.dgn_drawing.specs.Element.{Element}
 use Rattle.dgn_drawing.specs.Nesting.{Forest}
-use Rattle.edit_trees.specs.declared.cause.Cause.{Cause}
-use Rattle.edit_parts.proofs.CopyRefusals.{either_refuses, copy_refused}
+use Rattle.edit_ops.specs.declared.causes.cause.Cause.{Cause}
+use Rattle.edit_ops.proofs.CopyRefusals.{either_refuses, copy_refused}
 use Rattle.dgn_import.specs.Gathering.{Dimension, Refused, fits, unless, taken, import_trees, import_cause, cause_of_roots}
 use Rattle.dgn_import.specs.Laws.{IsOfATree, TreesAloneRefuse}
 use Rattle.dgn_import.proofs.GatheredTrees.{fitting, other_dim}

@@ -12,9 +12,9 @@ use Rattle.dgn_drawing.specs.Nesting.{leaf, run_over, group_or_loose, shape, For
 use Rattle.dgn_drawing.specs.Numbering.{end_of}
 use Rattle.dgn_drawing.specs.Shown.{roots}
 use Rattle.nest_tree.proofs.NestingSteps.{nest_cons, nest_nil, flat-nest}
-use Rattle.edit_trees.specs.Trees.{count_in, tree_at}
-use Rattle.edit_parts.proofs.PartNestsAlone.{group_as}
-use Rattle.edit_trees.proofs.EditedBytes.{all_so}
+use Rattle.edit_ops.specs.Trees.{count_in, tree_at}
+use Rattle.edit_ops.proofs.PartNestsAlone.{group_as}
+use Rattle.edit_ops.proofs.EditedBytes.{all_so}
 
 module _ {A : Type 0} (row : A → Row) where
   -- trees nest alone as they are

@@ -15,10 +15,10 @@ use Rattle.dgn_drawing.specs.Nesting.{Whole, Forest, nest, forest, flat, itself,
 use Rattle.dgn_drawing.specs.Numbering.{Mark, is_loose, is_orphan, is_broken_as, is_broken, first_from, first_broken_of}
 use Rattle.dgn_drawing.specs.Shown.{roots, IsRoot}
 use Rattle.level_view.proofs.RootItems.{all_roots}
-use Rattle.edit_trees.specs.Trees.{tree_at}
-use Rattle.edit_trees.proofs.PartPlace.{IsPlaced, placed, first_left}
-use Rattle.edit_trees.proofs.EditedBytes.{all_so, all_both}
-use Rattle.edit_trees.proofs.RootRows.{first_broken_by_rows}
+use Rattle.edit_ops.specs.Trees.{tree_at}
+use Rattle.edit_ops.proofs.PartPlace.{IsPlaced, placed, first_left}
+use Rattle.edit_ops.proofs.EditedBytes.{all_so, all_both}
+use Rattle.edit_ops.proofs.RootRows.{first_broken_by_rows}
 use Rattle.dgn_import.specs.Gathering.{is_drawn, is_unbroken, is_taken, taken}
 use Rattle.dgn_import.proofs.RootTreesAlone.{roots_alone}
 

@@ -11,8 +11,8 @@ use Rattle.dgn_drawing.specs.Rows.{row_of}
 use Rattle.dgn_drawing.specs.Spelling.{spelling}
 use Rattle.dgn_drawing.specs.Nesting.{NoTree, flat, itself}
 use Rattle.dgn_drawing.specs.Numbering.{Mark, mark_of}
-use Rattle.edit_parts.proofs.TreesBehind.{first_spelled}
-use Rattle.edit_trees.specs.declared.cause.Cause.{Cause}
+use Rattle.edit_ops.proofs.TreesBehind.{first_spelled}
+use Rattle.edit_ops.specs.declared.causes.cause.Cause.{Cause}
 use Rattle.dgn_import.specs.declared.import_fault.ImportFault.{ImportFault}
 use Rattle.dgn_import.specs.declared.import_fault.ImportFault.TheVariants as faults
 use Rattle.dgn_import.specs.Answers.{TellsCause}

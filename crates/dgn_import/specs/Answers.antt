@@ -1,8 +1,8 @@
 -- What the answers of an import say.
 use Rattle.std.specs.Prelude.{◌≡◌, Option, Some}
-use Rattle.edit_trees.specs.declared.cause.Cause.{Cause}
-use Rattle.edit_trees.specs.declared.edit_fault.EditFault.{EditFault}
-use Rattle.edit_trees.specs.declared.edit_fault.EditFault.TheVariants as edit
+use Rattle.edit_ops.specs.declared.causes.cause.Cause.{Cause}
+use Rattle.edit_ops.specs.declared.causes.edit_fault.EditFault.{EditFault}
+use Rattle.edit_ops.specs.declared.causes.edit_fault.EditFault.TheVariants as edit
 use Rattle.dgn_import.specs.declared.import_fault.ImportFault.{ImportFault}
 use Rattle.dgn_import.specs.declared.import_fault.ImportFault.TheVariants as faults
 use Rattle.dgn_import.specs.Gathering.{Gathering, Bad, Dimension, Refused}

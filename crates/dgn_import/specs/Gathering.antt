@@ -13,9 +13,9 @@ use Rattle.dgn_drawing.specs.Nesting.{Forest, NoTree, flat, forest, joined, Begi
 use Rattle.dgn_drawing.specs.Numbering.{first_broken_of}
 use Rattle.dgn_drawing.specs.Opening.{elements_of}
 use Rattle.dgn_drawing.specs.Shown.{roots}
-use Rattle.edit_trees.specs.declared.cause.Cause.{Cause}
-use Rattle.edit_trees.specs.Trees.{tree_at}
-use Rattle.edit_parts.specs.Copying.{tree_copy, copy_cause}
+use Rattle.edit_ops.specs.declared.causes.cause.Cause.{Cause}
+use Rattle.edit_ops.specs.Trees.{tree_at}
+use Rattle.edit_ops.specs.Copying.{tree_copy, copy_cause}
 use Rattle.dgn_import.specs.declared.second_fault.SecondFault.{SecondFault}
 use Rattle.dgn_import.specs.Seconds.{SecondValue, Drawing, Faulty}
 

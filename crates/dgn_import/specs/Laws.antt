@@ -8,8 +8,8 @@ use Rattle.dgn_drawing.specs.WellFormed.{IsWellFormed}
 use Rattle.dgn_drawing.specs.Rows.{row_of}
 use Rattle.dgn_drawing.specs.Nesting.{flat, forest, joined, BeginsFree}
 use Rattle.dgn_drawing.specs.Opening.{Opens}
-use Rattle.edit_trees.specs.declared.cause.Cause.{Cause}
-use Rattle.edit_trees.specs.declared.cause.Cause.TheVariants as causes
+use Rattle.edit_ops.specs.declared.causes.cause.Cause.{Cause}
+use Rattle.edit_ops.specs.declared.causes.cause.Cause.TheVariants as causes
 use Rattle.dgn_import.specs.Gathering.{Trees, Refused, gathered_in, taken, import_trees}
 
 -- a cause that the displacement of a tree can have

@@ -13,7 +13,7 @@ use crate::import_fault::ImportFault;
 use crate::second::Second;
 use crate::taking::{end_of, is_taken};
 use dgn_drawing::Shift;
-use edit_parts::{copy_tree, part_bytes};
+use edit_ops::{copy_tree, part_bytes};
 use elem_index::Design;
 use nest_tree::types::Nest;
 use patch_bytes::ByteList;
@@ -23,7 +23,7 @@ use std::mem;
 /// Gathers the trees of a second drawing that can stand behind a drawing of dimension `dim`: those of its roots, in
 /// file order, that aren't element 0, aren't silent and aren't marked deleted, and whose trees hold no broken number.
 /// Without `by` they are as they stand, and with it their live elements are displaced by so much
-/// (`edit_parts::copy_tree`).
+/// (`edit_ops::copy_tree`).
 ///
 /// Bad comes exactly where the second file doesn't open; else Dimension exactly where it has another dimension than
 /// `dim`, or `by` is given for other axes; else Refused exactly where the displacement of a tree is refused, with the

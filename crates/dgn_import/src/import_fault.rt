@@ -1,5 +1,5 @@
 use crate::second_fault::SecondFault;
-use edit_trees::{Cause, EditFault};
+use edit_ops::{Cause, EditFault};
 use std::alloc::AllocError;
 
 /// Why nothing is gathered from a second drawing.

@@ -6,9 +6,9 @@ use Rattle.std.proofs.lemmas.Bool.Decides.{nat_tests}
 use Rattle.patch_file.specs.Spelling.{Packed}
 use Rattle.patch_file.specs.Standing.{Stands, put_on, AllStand, put_all}
 use Rattle.dgn_drawing.specs.declared.limits.TheConstants.{MOST_DESIGN}
-use Rattle.dgn_files.specs.Applied.{does_stand, Made, Differs, Overruns, put_from, AllFit}
+use Rattle.dgn_tool.specs.Applied.{does_stand, Made, Differs, Overruns, put_from, AllFit}
 use Rattle.dgn_laws.specs.PatchLaws.{DiffersAt}
-use Rattle.dgn_files.proofs.EntriesPutOn.{stands_decided, differs, goes_on}
+use Rattle.dgn_tool.proofs.EntriesPutOn.{stands_decided, differs, goes_on}
 
 -- Lists of entries.
 

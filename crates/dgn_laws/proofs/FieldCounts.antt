@@ -8,8 +8,8 @@ use Rattle.dgn_drawing.specs.declared.edit.Edit.{Edit}
 use Rattle.dgn_drawing.specs.declared.edit.Edit.TheVariants as edit
 use Rattle.dgn_drawing.specs.Element.{Element}
 use Rattle.dgn_drawing.specs.Spelling.{spell}
-use Rattle.edit_trees.specs.Trees.{Live, live_tree, above_tree}
-use Rattle.edit_trees.specs.Fields.{Field, spot_fields, fields_at, above_fields_at, part_fields, edited_fields}
+use Rattle.edit_ops.specs.Trees.{Live, live_tree, above_tree}
+use Rattle.edit_ops.specs.Fields.{Field, spot_fields, fields_at, above_fields_at, part_fields, edited_fields}
 use Rattle.edit_ops.specs.Fenced.{edits_at}
 use Rattle.dgn_answers.specs.Remaining.{Making, Alone, Fenced, Fitted, Imported, fields_made}
 use Rattle.dgn_drawing.specs.Rows.{row_of}

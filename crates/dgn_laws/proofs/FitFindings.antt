@@ -7,7 +7,7 @@ use Rattle.dgn_drawing.specs.Opening.{Opens}
 use Rattle.dgn_drawing.specs.Rows.{row_of}
 use Rattle.dgn_drawing.specs.Numbering.{root_of, span_of}
 use Rattle.dgn_audit.specs.Findings.{findings}
-use Rattle.edit_trees.specs.Applying.{Applied, Done, Refused}
+use Rattle.edit_ops.specs.Applying.{Applied, Done, Refused}
 use Rattle.dgn_audit.specs.Fitting.{apply_fit}
 use Rattle.dgn_audit.specs.Laws.{is_outside}
 use Rattle.dgn_audit.proofs.FindingsEnd.{ends_findings}

@@ -17,14 +17,14 @@ use Rattle.dgn_drawing.proofs.Fronts.{elements-spelling}
 use Rattle.dgn_drawing.specs.declared.limits.TheConstants.{MOST_DESIGN}
 use Rattle.elem_index.specs.Opened.{Opened, opening}
 use Rattle.elem_index.proofs.OpeningAnswers.{opens-opening, opening-opens}
-use Rattle.edit_trees.specs.Causes.{too_long}
-use Rattle.edit_trees.specs.declared.cause.Cause.{Cause}
+use Rattle.edit_ops.specs.Causes.{too_long}
+use Rattle.edit_ops.specs.declared.causes.cause.Cause.{Cause}
 use Rattle.dgn_import.specs.Seconds.{as_second, second_of}
 use Rattle.dgn_import.specs.Gathering.{Gathering, Trees, Bad, Dimension, Refused, fits, unless, gathered, gathered_in, taken, cause_of_roots}
 use Rattle.dgn_import.specs.Laws.{NestApart}
 use Rattle.dgn_import.proofs.GatheredTrees.{nest_apart, same_dim, fitting, other_dim}
 use Rattle.dgn_session.specs.State.{State}
-use Rattle.listing_texts.specs.NumberedLines.{numbered}
+use Rattle.dgn_listing.specs.NumberedLines.{numbered}
 use Rattle.dgn_answers.specs.Commands.{begun}
 use Rattle.dgn_answers.specs.Given.{Given, after_all}
 use Rattle.dgn_answers.specs.Imports.{Importing, Appends, Declines, unless_long, importing, importing_of, import_refused, import_left}

@@ -17,15 +17,15 @@ use Rattle.dgn_drawing.specs.Spelling.{spelling}
 use Rattle.dgn_drawing.specs.Opening.{Opens}
 use Rattle.dgn_drawing.specs.declared.limits.TheConstants.{MOST_DESIGN}
 use Rattle.dgn_session.specs.State.{State}
-use Rattle.session_parts.proofs.Leading.{leads_back}
+use Rattle.dgn_session.proofs.Leading.{leads_back}
 use Rattle.dgn_session.proofs.Rising.{rise_long, filled_rise, olds_filled}
-use Rattle.edit_trees.specs.Fields.{Field, Rise, filled}
+use Rattle.edit_ops.specs.Fields.{Field, Rise, filled}
 use Rattle.dgn_answers.specs.Commands.{begun}
 use Rattle.dgn_answers.specs.Given.{Given, after_all}
 use Rattle.dgn_answers.specs.Remaining.{Made, fields_made, with_steps}
 use Rattle.dgn_tool.specs.Packing.{packed_made, packed_after}
 use Rattle.dgn_answers.specs.Logs.{entry_made}
-use Rattle.dgn_files.specs.Applied.{AllFit}
+use Rattle.dgn_tool.specs.Applied.{AllFit}
 use Rattle.dgn_tool.specs.Laws.{steps_of}
 use Rattle.dgn_laws.specs.PatchLaws.{PacksAgain, AppliedGivesTheSame}
 use Rattle.dgn_laws.proofs.FieldCounts.{HasFew, made_few}

@@ -2,8 +2,8 @@
 use Rattle.std.proofs.Common.{◌≡◌, ◌≤◌, ℕ, List, length, nat_lt, Bool, true, false, cond, Option, Some, None, Result, Ok, Err, refl, sym, ap, ◌∙◌, subst, arith}
 use Rattle.std.specs.Prelude.{All, codes}
 use Rattle.std.proofs.lemmas.Bool.Decides.{nat_tests}
-use Rattle.host_desk.specs.Content.{Files, Content, bytes_of, with_file}
-use Rattle.host_desk.specs.FileLaws.{bytes_of-with_file-same}
+use Rattle.dgn_desk.specs.Content.{Files, Content, bytes_of, with_file}
+use Rattle.dgn_desk.specs.FileLaws.{bytes_of-with_file-same}
 use Rattle.dgn_drawing.specs.Opening.{Fault, Opens}
 use Rattle.dgn_drawing.specs.WellFormed.{IsBytes}
 use Rattle.dgn_drawing.specs.declared.command.Command.{Command}
@@ -16,14 +16,14 @@ use Rattle.patch_file.specs.declared.limits.TheConstants.{MOST_PATCH}
 use Rattle.patch_file.proofs.SpellingsRead.{patch_again}
 use Rattle.dgn_answers.specs.Commands.{begun}
 use Rattle.dgn_answers.specs.Given.{Given, refused_count}
-use Rattle.dgn_files.specs.Applied.{patched}
-use Rattle.dgn_files.specs.Ended.{Outcome, ended}
-use Rattle.dgn_files.specs.InputOutcomes.{opened_outcome, input_outcome}
-use Rattle.dgn_files.specs.Leaving.{Leaves, files_after}
-use Rattle.dgn_files.specs.Request.{Request, Pack, Apply, request_of}
-use Rattle.dgn_files.specs.SecondFiles.{names_in, files_named}
-use Rattle.dgn_files.specs.declared.status.Status.{Status}
-use Rattle.dgn_files.specs.declared.status.Status.TheVariants as statuses
+use Rattle.dgn_tool.specs.Applied.{patched}
+use Rattle.dgn_tool.specs.Ended.{Outcome, ended}
+use Rattle.dgn_tool.specs.InputOutcomes.{opened_outcome, input_outcome}
+use Rattle.dgn_tool.specs.Leaving.{Leaves, files_after}
+use Rattle.dgn_tool.specs.Request.{Request, Pack, Apply, request_of}
+use Rattle.dgn_tool.specs.SecondFiles.{names_in, files_named}
+use Rattle.dgn_tool.specs.declared.status.Status.{Status}
+use Rattle.dgn_tool.specs.declared.status.Status.TheVariants as statuses
 use Rattle.dgn_tool.specs.EditedRuns.{HasWritten, steps_with}
 use Rattle.dgn_tool.specs.Laws.{IsEditIn}
 use Rattle.dgn_tool.specs.Outcome.{run_outcome, outcome_of, outcome}

@@ -1,18 +1,18 @@
 -- What a run that applies a patch file comes to, by which of its entries stand.
 use Rattle.std.proofs.Common.{◌≡◌, List, ℕ, length, Ok, refl, sym, ap, ◌∙◌}
-use Rattle.host_desk.specs.Content.{Files, bytes_of}
+use Rattle.dgn_desk.specs.Content.{Files, bytes_of}
 use Rattle.dgn_drawing.specs.Spelling.{spelling}
 use Rattle.elem_index.specs.Opened.{Opened}
 use Rattle.patch_file.specs.Spelling.{Packed}
 use Rattle.patch_file.specs.Standing.{put_all}
-use Rattle.dgn_files.specs.Applied.{Patched, Made, Differs, Overruns, put_from, patched_outcome, entries_outcome, patched}
-use Rattle.dgn_files.specs.Ended.{Outcome}
+use Rattle.dgn_tool.specs.Applied.{Patched, Made, Differs, Overruns, put_from, patched_outcome, entries_outcome, patched}
+use Rattle.dgn_tool.specs.Ended.{Outcome}
 use Rattle.dgn_tool.specs.Outcome.{outcome_of, outcome}
 use Rattle.dgn_laws.specs.PatchLaws.{Applies, RefusesWhereOneDiffers, RefusesNoneElse, AppliesAll}
-use Rattle.dgn_files.specs.declared.status.Status.TheVariants as statuses
-use Rattle.dgn_files.proofs.InputOutcomes.{input_opens}
+use Rattle.dgn_tool.specs.declared.status.Status.TheVariants as statuses
+use Rattle.dgn_tool.proofs.InputOutcomes.{input_opens}
 use Rattle.dgn_laws.proofs.EntriesInOrder.{where_one_differs, one_differs, all_made}
-use Rattle.dgn_files.proofs.PatchOutcomes.{reads, entries_made}
+use Rattle.dgn_tool.proofs.PatchOutcomes.{reads, entries_made}
 
 -- Laws.
 

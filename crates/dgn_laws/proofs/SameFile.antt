@@ -1,19 +1,19 @@
 -- What is packed, applied to the same file, writes the file that `edit` writes.
 use Rattle.std.proofs.Common.{◌≡◌, ◌≤◌, ℕ, List, length, Ok, ap, ◌∙◌, subst}
-use Rattle.host_desk.specs.Content.{bytes_of}
+use Rattle.dgn_desk.specs.Content.{bytes_of}
 use Rattle.dgn_drawing.specs.Spelling.{spelling}
 use Rattle.elem_index.proofs.OpeningAnswers.{opens-opening}
 use Rattle.patch_file.specs.Spelling.{Packed}
 use Rattle.patch_file.specs.Reading.{patch_of}
 use Rattle.patch_file.proofs.SpellingsRead.{patch_again}
 use Rattle.dgn_answers.specs.Commands.{begun}
-use Rattle.dgn_files.specs.Filling.{file_made}
-use Rattle.listing_texts.specs.NumberedLines.{numbered}
-use Rattle.dgn_files.specs.Ended.{Outcome, filed_then_said}
+use Rattle.dgn_tool.specs.Filling.{file_made}
+use Rattle.dgn_listing.specs.NumberedLines.{numbered}
+use Rattle.dgn_tool.specs.Ended.{Outcome, filed_then_said}
 use Rattle.dgn_tool.specs.Packing.{packed_after}
 use Rattle.dgn_tool.specs.Laws.{steps_of}
 use Rattle.dgn_laws.specs.PatchLaws.{Applies, WritesTheSame}
-use Rattle.dgn_files.specs.declared.status.Status.TheVariants as statuses
+use Rattle.dgn_tool.specs.declared.status.Status.TheVariants as statuses
 use Rattle.std.specs.Prelude.{codes}
 use Rattle.patch_file.specs.declared.limits.TheConstants.{MOST_PATCH}
 use Rattle.dgn_laws.proofs.PatchesApplied.{applies_all}

@@ -13,7 +13,7 @@ use Rattle.dgn_import.specs.Gathering.{taken, import_trees, cause_of_roots}
 use Rattle.dgn_session.specs.State.{State}
 use Rattle.dgn_drawing.specs.declared.command.Command.{Command}
 use Rattle.elem_index.specs.Opened.{Opened}
-use Rattle.listing_texts.specs.NumberedLines.{numbered}
+use Rattle.dgn_listing.specs.NumberedLines.{numbered}
 use Rattle.dgn_answers.specs.Commands.{begun}
 use Rattle.dgn_answers.specs.Given.{after_all}
 use Rattle.dgn_answers.specs.Imports.{Importing, importing_of, import_answer, import_refused, import_left}

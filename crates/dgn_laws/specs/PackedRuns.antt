@@ -1,7 +1,7 @@
 -- What holds of a run of `pack` and a run of `apply` behind it, over desks that tell what they hold, by the clauses `outcome` and
 -- `bytes` of `run` alone, the contract of a function in `laws`.
 use Rattle.std.specs.Prelude.{ℕ, ◌≡◌, ◌≤◌, List, length, codes, Option, Some, Ok, IfSome}
-use Rattle.host_desk.specs.Content.{Files, Content, bytes_of}
+use Rattle.dgn_desk.specs.Content.{Files, Content, bytes_of}
 use Rattle.dgn_drawing.specs.Opening.{Opens}
 use Rattle.dgn_drawing.specs.Spelling.{spelling}
 use Rattle.dgn_drawing.specs.declared.command.Command.{Command}
@@ -9,13 +9,13 @@ use Rattle.dgn_drawing.specs.declared.limits.TheConstants.{MOST_DESIGN}
 use Rattle.edit_script.specs.Script.{commands_of}
 use Rattle.elem_index.specs.Opened.{Opened, opening}
 use Rattle.patch_file.specs.Spelling.{Packed, patch_spelling}
-use Rattle.listing_texts.specs.NumberedLines.{numbered}
+use Rattle.dgn_listing.specs.NumberedLines.{numbered}
 use Rattle.dgn_answers.specs.Commands.{begun}
-use Rattle.dgn_files.specs.Ended.{Outcome, filed_then_said}
-use Rattle.dgn_files.specs.Leaving.{Leaves}
-use Rattle.dgn_files.specs.Request.{Pack, Apply, request_of}
-use Rattle.dgn_files.specs.declared.status.Status.{Status}
-use Rattle.dgn_files.specs.declared.status.Status.TheVariants as statuses
+use Rattle.dgn_tool.specs.Ended.{Outcome, filed_then_said}
+use Rattle.dgn_tool.specs.Leaving.{Leaves}
+use Rattle.dgn_tool.specs.Request.{Pack, Apply, request_of}
+use Rattle.dgn_tool.specs.declared.status.Status.{Status}
+use Rattle.dgn_tool.specs.declared.status.Status.TheVariants as statuses
 use Rattle.dgn_tool.specs.FileAfter.{file_after}
 use Rattle.dgn_tool.specs.EditedRuns.{HasWritten, steps_with}
 use Rattle.dgn_tool.specs.Outcome.{outcome, EndsAs, IsEnding}

@@ -10,24 +10,24 @@ use Rattle.dgn_drawing.specs.declared.command.Command.{Command}
 use Rattle.elem_index.specs.Opened.{Opened}
 use Rattle.dgn_answers.specs.Commands.{begun}
 use Rattle.dgn_answers.specs.Given.{Given, after_all}
-use Rattle.dgn_files.specs.Applied.{AllFit}
+use Rattle.dgn_tool.specs.Applied.{AllFit}
 use Rattle.dgn_tool.specs.Packing.{packed_after}
 use Rattle.dgn_drawing.specs.declared.limits.TheConstants.{MOST_DESIGN}
 use Rattle.patch_file.specs.declared.limits.TheConstants.{MOST_PATCH}
 use Rattle.std.specs.Prelude.{ℕ, ◌≡◌, ◌+◌, ◌≤◌, List, ◌∷◌, ◌++◌, length, codes, false, Some, Ok, All}
-use Rattle.host_desk.specs.Content.{Files, bytes_of}
+use Rattle.dgn_desk.specs.Content.{Files, bytes_of}
 use Rattle.elem_index.specs.Opened.{Opened, opening}
 use Rattle.patch_file.specs.Spelling.{Packed, patch_spelling}
 use Rattle.patch_file.specs.Reading.{patch_of}
 use Rattle.patch_file.specs.Standing.{Stands, AllStand, put_all}
-use Rattle.dgn_files.specs.Filling.{file_made}
-use Rattle.listing_texts.specs.NumberedLines.{numbered}
-use Rattle.dgn_files.specs.Request.{Apply, request_of}
-use Rattle.dgn_files.specs.Ended.{Outcome, ended, filed_then_said}
+use Rattle.dgn_tool.specs.Filling.{file_made}
+use Rattle.dgn_listing.specs.NumberedLines.{numbered}
+use Rattle.dgn_tool.specs.Request.{Apply, request_of}
+use Rattle.dgn_tool.specs.Ended.{Outcome, ended, filed_then_said}
 use Rattle.dgn_answers.specs.Given.{Given}
 use Rattle.dgn_tool.specs.Laws.{IsEditIn, steps_of}
 use Rattle.dgn_tool.specs.Outcome.{edited, outcome}
-use Rattle.dgn_files.specs.declared.status.Status.TheVariants as statuses
+use Rattle.dgn_tool.specs.declared.status.Status.TheVariants as statuses
 
 -- the packed entries of the steps stand, one after the other, on the elements of the file, and make of them those after
 -- the steps; what each makes keeps the limit; and where their patch file does, it is read to them again

@@ -1,8 +1,8 @@
 -- What an edit says that is refused: one line with the cause.
 use Rattle.std.specs.Prelude.{ℕ, List, ◌++◌, codes, decimal}
-use Rattle.edit_trees.specs.declared.cause.Cause.{Cause}
-use Rattle.edit_trees.specs.declared.cause.Cause.TheVariants as causes
-use Rattle.listing_texts.specs.Lines.{line_feed}
+use Rattle.edit_ops.specs.declared.causes.cause.Cause.{Cause}
+use Rattle.edit_ops.specs.declared.causes.cause.Cause.TheVariants as causes
+use Rattle.dgn_listing.specs.Lines.{line_feed}
 
 -- words, the number of an element and the end of the line
 abbrev pub refused_text : List ℕ → ℕ → List ℕ

@@ -3,8 +3,8 @@ use Rattle.std.specs.Prelude.{ℕ, List, ◌++◌, length, codes}
 use Rattle.std.specs.List.{flat_map}
 use Rattle.range_code.specs.declared.Box3.{Box3}
 use Rattle.dgn_audit.specs.declared.finding.Finding.{Finding}
-use Rattle.listing_texts.specs.Lines.{blank, line_feed, field_text, ending_text}
-use Rattle.listing_texts.specs.ItemTexts.{point_text}
+use Rattle.dgn_listing.specs.Lines.{blank, line_feed, field_text, ending_text}
+use Rattle.dgn_listing.specs.ItemTexts.{point_text}
 
 -- the low and the high corner of a box
 abbrev pub corners_text : ℕ → Box3 → List ℕ

@@ -1,2 +1,12 @@
 pub mod CauseTexts
 pub mod FindingTexts
+pub mod ItemTexts
+pub mod Lines
+pub mod TreeTexts
+pub mod SelectedTexts
+pub mod Counts
+pub mod ElementTexts
+pub mod RefTexts
+pub mod LinkTexts
+pub mod Laws
+pub mod NumberedLines

@@ -1,11 +1,11 @@
 // What an edit says that is refused: one line with the cause.
 
 ghost use Rattle.std.specs.Prelude.{◌≡◌, ◌++◌, OnOk, OnErr};
-ghost use Rattle.listing_texts.specs.Lines.{AppendsFrontOf};
+ghost use Rattle.dgn_listing.specs.Lines.{AppendsFrontOf};
 ghost use Rattle.dgn_listing.specs.CauseTexts.{refused_text, cause_text};
 
-use edit_trees::Cause;
-use listing_texts::pieces::{put, put_number};
+use crate::pieces::{put, put_number};
+use edit_ops::Cause;
 use std::alloc::{AllocError, Global};
 
 /// Appends what an edit says that is refused with the cause `c`: `refused`, the cause in one word, and

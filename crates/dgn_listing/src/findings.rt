@@ -1,12 +1,12 @@
 // What `audit` says: a line for each element whose stored range isn't its hull, and how many there are.
 
 ghost use Rattle.std.specs.Prelude.{◌≡◌, ◌++◌, OnOk, OnErr};
-ghost use Rattle.listing_texts.specs.Lines.{field_text, AppendsFrontOf};
+ghost use Rattle.dgn_listing.specs.Lines.{field_text, AppendsFrontOf};
 ghost use Rattle.dgn_listing.specs.FindingTexts.{corners_text, finding_line, finding_lines, findings_text};
 
+use crate::pieces::{put, put_ending, put_field};
+use crate::put_point;
 use dgn_audit::Finding;
-use listing_texts::pieces::{put, put_ending, put_field};
-use listing_texts::put_point;
 use range_code::Box3;
 use std::alloc::{AllocError, Global};
 

@@ -10,19 +10,19 @@ use Rattle.dgn_drawing.specs.Rows.{row_of}
 use Rattle.dgn_drawing.specs.Nesting.{BeginsFree}
 use Rattle.dgn_drawing.specs.Opening.{elements_of}
 use Rattle.dgn_drawing.proofs.Fronts.{body_spelled, elements-spelling}
-use Rattle.edit_trees.specs.Applying.{Done}
-use Rattle.edit_trees.specs.Causes.{too_long}
+use Rattle.edit_ops.specs.Applying.{Done}
+use Rattle.edit_ops.specs.Causes.{too_long}
 use Rattle.edit_ops.proofs.AppendedElements.{appended_opens, short_left}
 use Rattle.dgn_import.specs.Gathering.{AreTrees}
 use Rattle.dgn_session.specs.State.{SessionValue, state_of, value_with}
 use Rattle.dgn_session.specs.Imported.{imported, import_entry}
 use Rattle.dgn_session.specs.Laws.{IsSound}
-use Rattle.session_parts.specs.Kept.{OpensAt}
+use Rattle.dgn_session.specs.Kept.{OpensAt}
 use Rattle.dgn_session.specs.SessionParts.{IsSoundPlan, plan_of, carried}
 use Rattle.dgn_session.proofs.EditedBody.{Become}
 use Rattle.dgn_session.proofs.PlannedBody.{IsPlanned, plan_sound, entry_is}
 use Rattle.dgn_session.proofs.PlanCarriedOut.{has_made}
-use Rattle.session_parts.proofs.LastEditBack.{opens_kept}
+use Rattle.dgn_session.proofs.LastEditBack.{opens_kept}
 use Rattle.dgn_drawing.specs.declared.limits.TheConstants.{MOST_DESIGN}
 
 -- a session before and after an import of these bytes

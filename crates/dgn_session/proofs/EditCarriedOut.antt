@@ -9,20 +9,20 @@ use Rattle.dgn_drawing.proofs.Fronts.{body_spelled}
 use Rattle.elem_index.specs.declared.design.Design.{Design}
 use Rattle.elem_index.specs.Design.{elements}
 use Rattle.edit_ops.specs.declared.types.plan.Plan.{Plan}
-use Rattle.edit_trees.specs.Applying.{Done, apply, IsEdit}
-use Rattle.edit_trees.specs.Fields.{edited_fields}
+use Rattle.edit_ops.specs.Applying.{Done, apply, IsEdit}
+use Rattle.edit_ops.specs.Fields.{edited_fields}
 use Rattle.edit_ops.specs.Planned.{IsPlan}
 use Rattle.edit_ops.specs.Laws.{ChangesItsFields}
 use Rattle.edit_ops.proofs.EditLaws.{changes_fields}
 use Rattle.dgn_session.specs.State.{SessionValue, state_of, applied}
 use Rattle.dgn_session.specs.Laws.{IsSound}
-use Rattle.session_parts.specs.Kept.{OpensAt}
+use Rattle.dgn_session.specs.Kept.{OpensAt}
 use Rattle.dgn_session.specs.SessionParts.{value_of}
 use Rattle.dgn_session.specs.SessionParts.{IsSoundPlan, plan_of, carried}
 use Rattle.dgn_session.proofs.EditedBody.{edit_becomes}
 use Rattle.dgn_session.proofs.PlannedBody.{IsPlanned, plan_sound}
 use Rattle.dgn_session.proofs.PlanCarriedOut.{HasMade, has_made}
-use Rattle.session_parts.proofs.LastEditBack.{opens_kept}
+use Rattle.dgn_session.proofs.LastEditBack.{opens_kept}
 
 -- a plan of an edit of a session's drawing, by its value
 pub plan_seen : (d : Design) (l : LogState) (mask : Mask) (fence : Option (List Pt)) (old : SessionValue) → value_of d l mask fence ≡ old

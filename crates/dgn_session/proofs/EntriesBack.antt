@@ -16,13 +16,13 @@ use Rattle.dgn_drawing.specs.Rows.{row_of}
 use Rattle.dgn_drawing.specs.Opening.{elements_of}
 use Rattle.dgn_drawing.proofs.Fronts.{body_spelled}
 use Rattle.elem_index.specs.Offsets.{offset_of}
-use Rattle.edit_trees.specs.Applying.{Applied, Done, Refused}
+use Rattle.edit_ops.specs.Applying.{Applied, Done, Refused}
 use Rattle.dgn_session.specs.State.{State, pushed, pushed_if, dropped, undone, applied, fence_applied, undo_refused, earlier_of}
-use Rattle.session_parts.specs.Kept.{rows_of, AreKept}
+use Rattle.dgn_session.specs.Kept.{rows_of, AreKept}
 use Rattle.dgn_session.specs.Laws.{EditsAreUndone, FenceEditsAreUndone, ImportsAreUndone, last_of, opened_in, OpenedStay, EntriesAreCounted}
 use Rattle.dgn_session.specs.Laws.{EntriesLeadBack, IsUnheld, OpenedStandsStill}
-use Rattle.session_parts.proofs.FrontSizes.{front_long}
-use Rattle.session_parts.proofs.LastEditBack.{leads_fit, opens_kept}
+use Rattle.dgn_session.proofs.FrontSizes.{front_long}
+use Rattle.dgn_session.proofs.LastEditBack.{leads_fit, opens_kept}
 use Rattle.dgn_session.proofs.Steps.{bodies_first}
 
 pub edits_are_undone : EditsAreUndone

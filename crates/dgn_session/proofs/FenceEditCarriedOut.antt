@@ -14,20 +14,20 @@ use Rattle.dgn_fence.specs.Taken.{takes}
 use Rattle.elem_index.specs.declared.design.Design.{Design}
 use Rattle.elem_index.specs.Design.{elements}
 use Rattle.edit_ops.specs.declared.types.plan.Plan.{Plan}
-use Rattle.edit_trees.specs.Applying.{Done}
+use Rattle.edit_ops.specs.Applying.{Done}
 use Rattle.edit_ops.specs.Fenced.{apply_all, fenced_fields, AreRoots, IsFenceEdit}
 use Rattle.edit_ops.specs.Planned.{IsFencePlan}
 use Rattle.edit_ops.specs.FenceLaws.{ChangesFencedFields}
 use Rattle.edit_ops.proofs.FenceLaws.{fenced_changes}
 use Rattle.dgn_session.specs.State.{SessionValue, state_of, selection, pushed_if, fence_entry, value_with}
 use Rattle.dgn_session.specs.Laws.{IsSound}
-use Rattle.session_parts.specs.Kept.{OpensAt}
+use Rattle.dgn_session.specs.Kept.{OpensAt}
 use Rattle.dgn_session.specs.SessionParts.{value_of}
 use Rattle.dgn_session.specs.SessionParts.{IsSoundPlan, plan_of, carried}
 use Rattle.dgn_session.proofs.EditedBody.{fence_becomes}
 use Rattle.dgn_session.proofs.PlannedBody.{IsPlanned, plan_sound}
 use Rattle.dgn_session.proofs.PlanCarriedOut.{has_made}
-use Rattle.session_parts.proofs.LastEditBack.{opens_kept}
+use Rattle.dgn_session.proofs.LastEditBack.{opens_kept}
 
 -- a plan of an edit of these roots of a session's drawing, by its value
 pub plan_seen : (d : Design) (l : LogState) (mask : Mask) (fence : Option (List Pt)) (old : SessionValue) → value_of d l mask fence ≡ old

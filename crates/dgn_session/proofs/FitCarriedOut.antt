@@ -9,21 +9,21 @@ use Rattle.dgn_drawing.specs.Rows.{row_of}
 use Rattle.dgn_drawing.specs.Nesting.{BeginsFree}
 use Rattle.dgn_drawing.specs.Opening.{Opens}
 use Rattle.dgn_drawing.proofs.Fronts.{body_spelled}
-use Rattle.edit_trees.specs.Applying.{Applied, Done}
-use Rattle.edit_trees.specs.Fields.{filled}
+use Rattle.edit_ops.specs.Applying.{Applied, Done}
+use Rattle.edit_ops.specs.Fields.{filled}
 use Rattle.dgn_audit.specs.Fitting.{apply_fit, fit_fields}
 use Rattle.dgn_audit.specs.Planned.{IsFitPlan}
 use Rattle.dgn_audit.proofs.FitKeepsRows.{fitted_opens, fits_change}
 use Rattle.dgn_audit.proofs.FindingsEnd.{ends_findings}
 use Rattle.dgn_session.specs.State.{SessionValue, state_of, pushed, undone, undo_refused}
 use Rattle.dgn_session.specs.Laws.{IsSound}
-use Rattle.session_parts.specs.Kept.{OpensAt}
+use Rattle.dgn_session.specs.Kept.{OpensAt}
 use Rattle.dgn_session.specs.SessionParts.{IsSoundPlan, plan_of, carried}
 use Rattle.dgn_session.specs.Fits.{fit_applied, IsFit, FitsAreUndone, OpenedStayFitted}
 use Rattle.dgn_session.proofs.EditedBody.{Become}
 use Rattle.dgn_session.proofs.PlannedBody.{IsPlanned, plan_sound}
 use Rattle.dgn_session.proofs.PlanCarriedOut.{HasMade, has_made}
-use Rattle.session_parts.proofs.LastEditBack.{opens_kept}
+use Rattle.dgn_session.proofs.LastEditBack.{opens_kept}
 use Rattle.dgn_session.proofs.EntriesBack.{pushed_stays}
 use Rattle.dgn_drawing.specs.declared.limits.TheConstants.{MOST_DESIGN}
 

@@ -8,3 +8,11 @@ pub mod FenceEditCarriedOut
 pub mod EntriesBack
 pub mod AppendedTrees
 pub mod FitCarriedOut
+pub mod SpelledRows
+pub mod NestingGrowth
+pub mod FrontSizes
+pub mod Leading
+pub mod PartsKept
+pub mod LastEditBack
+pub mod LoneElements
+pub mod ItemsApart

@@ -10,8 +10,8 @@ use Rattle.dgn_drawing.specs.declared.mask.Mask.{Mask}
 use Rattle.dgn_drawing.specs.Spelling.{spelling}
 use Rattle.elem_index.specs.declared.design.Design.{Design}
 use Rattle.edit_ops.specs.declared.types.plan.Plan.{Plan}
-use Rattle.edit_trees.specs.Applying.{Applied, Done}
-use Rattle.edit_trees.specs.Fields.{Field}
+use Rattle.edit_ops.specs.Applying.{Applied, Done}
+use Rattle.edit_ops.specs.Fields.{Field}
 use Rattle.dgn_session.specs.State.{SessionValue, state_of, pushed, undone, entry_with, value_with}
 use Rattle.dgn_session.specs.SessionParts.{value_of}
 use Rattle.dgn_session.specs.SessionParts.{carried}

@@ -18,15 +18,15 @@ use Rattle.dgn_drawing.specs.Opening.{Opens, elements_of}
 use Rattle.dgn_drawing.proofs.FirstElements.{dimension_is}
 use Rattle.dgn_drawing.proofs.Fronts.{opens_elements, opens_of, body_spelled}
 use Rattle.edit_ops.specs.declared.types.plan.Plan.{Plan}
-use Rattle.edit_trees.specs.Fields.{Field, filled}
+use Rattle.edit_ops.specs.Fields.{Field, filled}
 use Rattle.dgn_session.specs.State.{entry_with}
-use Rattle.session_parts.specs.Kept.{OpensAt}
-use Rattle.session_parts.specs.CarryingOut.{Spells, IsChange}
+use Rattle.dgn_session.specs.Kept.{OpensAt}
+use Rattle.dgn_session.specs.CarryingOut.{Spells, IsChange}
 use Rattle.dgn_session.specs.SessionParts.{IsSoundPlan}
-use Rattle.session_parts.proofs.FrontSizes.{front_long}
+use Rattle.dgn_session.proofs.FrontSizes.{front_long}
 use Rattle.dgn_session.proofs.EditedBody.{Become}
 use Rattle.dgn_session.proofs.Rising.{filled_rise, olds_filled}
-use Rattle.session_parts.proofs.Leading.{leads_back}
+use Rattle.dgn_session.proofs.Leading.{leads_back}
 
 -- elements and what is behind some of them
 parted : (made : List Element) (n : ℕ) → spelling made ≡ spelling (take n made) ++ spelling (drop n made)

@@ -2,7 +2,7 @@
 use Rattle.std.proofs.Common.{◌≡◌, ℕ, ◌+◌, ◌≤◌, List, [], ◌∷◌, length, take, drop, map, refl, sym, ap, ◌∙◌, subst, arith}
 use Rattle.std.proofs.lemmas.List.{length-take-le, length-drop}
 use Rattle.patch_bytes.specs.Puts.{Put, old_of, Span}
-use Rattle.edit_trees.specs.Fields.{Field, Rise, filled}
+use Rattle.edit_ops.specs.Fields.{Field, Rise, filled}
 
 -- fields that rise begin before they end
 pub rise_long : (m : ℕ) (fs : List Field) (n : ℕ) → Rise n fs m → n ≤ m

@@ -5,7 +5,7 @@ use Rattle.undo_log.specs.declared.entry.Entry.{Entry}
 use Rattle.undo_log.specs.Entries.{back, bodies, IsUndone}
 use Rattle.dgn_drawing.specs.Element.{Element}
 use Rattle.dgn_drawing.specs.Opening.{elements_of}
-use Rattle.edit_trees.specs.Applying.{Done}
+use Rattle.edit_ops.specs.Applying.{Done}
 use Rattle.dgn_session.specs.State.{with_stack, pushed, dropped, undone, SessionValue, earlier_of, state_of, value_with}
 
 -- the lists of the bodies that entries lead back to begin with that of the body itself

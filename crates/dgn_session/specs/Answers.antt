@@ -1,8 +1,8 @@
 -- What the answers say that aren't Ok.
 use Rattle.std.specs.Prelude.{◌≡◌, Option, Some, None}
-use Rattle.edit_trees.specs.Applying.{Applied, Refused}
-use Rattle.edit_trees.specs.declared.edit_fault.EditFault.{EditFault}
-use Rattle.edit_trees.specs.declared.edit_fault.EditFault.TheVariants as edit
+use Rattle.edit_ops.specs.Applying.{Applied, Refused}
+use Rattle.edit_ops.specs.declared.causes.edit_fault.EditFault.{EditFault}
+use Rattle.edit_ops.specs.declared.causes.edit_fault.EditFault.TheVariants as edit
 use Rattle.dgn_session.specs.declared.fence_edit_fault.FenceEditFault.{FenceEditFault}
 use Rattle.dgn_session.specs.declared.fence_edit_fault.FenceEditFault.TheVariants as faults
 

@@ -5,8 +5,8 @@ use Rattle.dgn_drawing.specs.Element.{Element}
 use Rattle.dgn_drawing.specs.Spelling.{spelling}
 use Rattle.dgn_drawing.specs.Rows.{row_of}
 use Rattle.dgn_drawing.specs.Numbering.{root_of, span_of}
-use Rattle.edit_trees.specs.Applying.{Applied, Done}
-use Rattle.edit_trees.specs.Fields.{IsIn}
+use Rattle.edit_ops.specs.Applying.{Applied, Done}
+use Rattle.edit_ops.specs.Fields.{IsIn}
 use Rattle.dgn_audit.specs.Findings.{findings}
 use Rattle.dgn_audit.specs.Fitting.{apply_fit, fit_fields}
 use Rattle.dgn_audit.specs.Laws.{is_outside}

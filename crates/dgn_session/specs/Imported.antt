@@ -2,9 +2,9 @@
 use Rattle.std.specs.Prelude.{ℕ, ◌≡◌, List, [], ◌∷◌, ◌++◌, Some}
 use Rattle.undo_log.specs.declared.entry.Entry.{Entry}
 use Rattle.dgn_drawing.specs.Element.{Element}
-use Rattle.edit_trees.specs.declared.edit_fault.EditFault.{EditFault}
-use Rattle.edit_trees.specs.declared.edit_fault.EditFault.TheVariants as faults
-use Rattle.edit_trees.specs.Causes.{too_long}
+use Rattle.edit_ops.specs.declared.causes.edit_fault.EditFault.{EditFault}
+use Rattle.edit_ops.specs.declared.causes.edit_fault.EditFault.TheVariants as faults
+use Rattle.edit_ops.specs.Causes.{too_long}
 use Rattle.dgn_session.specs.State.{State, with_stack, entry_with}
 
 -- an import of these elements pushes the top with them behind it, also where there are none

@@ -11,10 +11,10 @@ use Rattle.dgn_drawing.specs.Element.{Element}
 use Rattle.dgn_drawing.specs.Spelling.{spelling}
 use Rattle.dgn_drawing.specs.Opening.{elements_of}
 use Rattle.elem_index.specs.Offsets.{offset_of}
-use Rattle.edit_trees.specs.Applying.{Done}
+use Rattle.edit_ops.specs.Applying.{Done}
 use Rattle.dgn_session.specs.State.{State, SessionValue, state_of, applied, edited, fence_applied, fence_edited, undone, undo_refused}
 use Rattle.dgn_session.specs.Imported.{imported}
-use Rattle.session_parts.specs.Kept.{rows_of, AreKept}
+use Rattle.dgn_session.specs.Kept.{rows_of, AreKept}
 
 -- after an edit that is done an undo is not refused, and gives the state before
 abbrev pub EditsAreUndone : Type 0

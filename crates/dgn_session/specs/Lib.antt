@@ -4,3 +4,6 @@ pub mod SessionParts
 pub mod Answers
 pub mod Laws
 pub mod Fits
+pub mod Kept
+pub mod CarryingOut
+pub mod Selecting

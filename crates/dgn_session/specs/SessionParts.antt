@@ -7,7 +7,7 @@ use Rattle.undo_log.specs.Entries.{entry_of}
 use Rattle.dgn_drawing.specs.declared.mask.Mask.{Mask}
 use Rattle.elem_index.specs.declared.design.Design.{Design}
 use Rattle.edit_ops.specs.declared.types.plan.Plan.{Plan}
-use Rattle.session_parts.specs.CarryingOut.{IsSoundChange}
+use Rattle.dgn_session.specs.CarryingOut.{IsSoundChange}
 use Rattle.dgn_session.specs.State.{SessionValue, all_levels, value_with}
 
 -- what a contract sees of a session

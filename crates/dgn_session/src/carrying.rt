@@ -15,7 +15,7 @@ impl Session {
         ensures carried { OnOk result (self.new ≡ carried patches append.now self.old) }
         ensures kept { OnErr result (self.new ≡ self.old) }
     {
-        session_parts::carry_out(
+        crate::carry_out(
             self.alloc,
             &mut self.design,
             &mut self.nest,

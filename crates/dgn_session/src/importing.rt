@@ -1,7 +1,7 @@
 ghost use Rattle.std.specs.Prelude.{◌≡◌, ◌+◌, [], ◌∷◌, ◌++◌, length, None, IfErr, OnOk, OnErr};
 ghost use Rattle.dgn_drawing.specs.Opening.{elements_of};
 ghost use Rattle.elem_index.specs.Design.{IsWhole};
-ghost use Rattle.edit_trees.specs.Causes.{too_long};
+ghost use Rattle.edit_ops.specs.Causes.{too_long};
 ghost use Rattle.dgn_import.specs.Gathering.{AreTrees};
 ghost use Rattle.dgn_session.specs.State.{state_of, value_with};
 ghost use Rattle.dgn_session.specs.Imported.{imported, import_entry, IsTooLong};

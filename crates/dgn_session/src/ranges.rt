@@ -2,7 +2,7 @@
 
 ghost use Rattle.std.specs.Prelude.{◌≡◌, ◌∷◌, ◌++◌, [], IfOk, IfErr, OnOk, OnErr};
 ghost use Rattle.dgn_drawing.specs.Spelling.{spelling};
-ghost use Rattle.edit_trees.specs.Applying.{Done};
+ghost use Rattle.edit_ops.specs.Applying.{Done};
 ghost use Rattle.edit_ops.specs.Planned.{IsRefused};
 ghost use Rattle.dgn_audit.specs.Findings.{findings};
 ghost use Rattle.dgn_session.specs.State.{state_of, value_with};

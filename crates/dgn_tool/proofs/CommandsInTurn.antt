@@ -4,19 +4,19 @@ use Rattle.std.proofs.Common.{◌∙◌, subst, append_assoc}
 use Rattle.std.specs.Prelude.{option_map}
 use Rattle.std.specs.Int.{from_bool}
 use Rattle.std.proofs.lemmas.List.{append-nil, take-append-drop}
-use Rattle.host_desk.specs.Content.{Content, spoken}
-use Rattle.host_desk.specs.Desk.{SaysAll}
-use Rattle.host_desk.specs.Seen.{Seen, Writes}
-use Rattle.host_desk.specs.declared.stop.Stop.{Stop}
-use Rattle.host_desk.specs.declared.stop.Stop.TheVariants as stops
-use Rattle.host_desk.proofs.InTurn.{done_so, stopped_so, then_so}
-use Rattle.host_desk.proofs.Telling.{spoken-append}
+use Rattle.dgn_desk.specs.Content.{Content, spoken}
+use Rattle.dgn_desk.specs.Desk.{SaysAll}
+use Rattle.dgn_desk.specs.Seen.{Seen, Writes}
+use Rattle.dgn_desk.specs.declared.stop.Stop.{Stop}
+use Rattle.dgn_desk.specs.declared.stop.Stop.TheVariants as stops
+use Rattle.dgn_desk.proofs.InTurn.{done_so, stopped_so, then_so}
+use Rattle.dgn_desk.proofs.Telling.{spoken-append}
 use Rattle.dgn_session.specs.State.{State}
 use Rattle.dgn_import.specs.Seconds.{SecondValue}
 use Rattle.dgn_drawing.specs.declared.command.Command.{Command}
 use Rattle.dgn_answers.specs.Given.{Given, given, given_all, seconds_behind, step_text, step_refused, after_step, after_all, texts_of, refused_count}
 use Rattle.dgn_answers.proofs.Stepping.{next_step}
-use Rattle.dgn_files.specs.Leaving.{SaysFront, SaysAs}
+use Rattle.dgn_tool.specs.Leaving.{SaysFront, SaysAs}
 
 -- all of this text was said
 abbrev pub SaidSo : List ℕ → Seen → Seen → Type 0

@@ -8,8 +8,8 @@ use Rattle.dgn_drawing.specs.WellFormed.{IsDimension, IsWellFormed, begins_with_
 use Rattle.dgn_drawing.specs.Opening.{is_tail, BeginsWithTcb, Opens}
 use Rattle.dgn_drawing.proofs.FirstElements.{dimension_is}
 use Rattle.std.specs.List.{AllByRecursion}
-use Rattle.edit_trees.proofs.FirstElement.{tcb_long, same_dimension}
-use Rattle.dgn_files.specs.Filling.{is_blocks, filling}
+use Rattle.edit_ops.proofs.FirstElement.{tcb_long, same_dimension}
+use Rattle.dgn_tool.specs.Filling.{is_blocks, filling}
 
 second_true : (a b : Bool) → b ≡ true → (a || b) ≡ true
 second_true true b is = refl

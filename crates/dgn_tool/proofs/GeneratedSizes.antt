@@ -7,11 +7,11 @@ use Rattle.dgn_drawing.specs.Spelling.{spelling}
 use Rattle.dgn_session.specs.State.{State}
 use Rattle.dgn_answers.specs.Commands.{begun}
 use Rattle.dgn_answers.specs.Given.{after_all}
-use Rattle.dgn_files.specs.Filling.{is_blocks, left_in_block, filling, file_made}
+use Rattle.dgn_tool.specs.Filling.{is_blocks, left_in_block, filling, file_made}
 use Rattle.dgn_tool.specs.Generation.{fixed_steps, sizes_of, summary, generated_from, drawing_of, generation}
-use Rattle.listing_texts.specs.NumberedLines.{numbered}
-use Rattle.dgn_files.specs.Ended.{filed_then_said}
-use Rattle.dgn_files.specs.declared.status.Status.TheVariants as statuses
+use Rattle.dgn_listing.specs.NumberedLines.{numbered}
+use Rattle.dgn_tool.specs.Ended.{filed_then_said}
+use Rattle.dgn_tool.specs.declared.status.Status.TheVariants as statuses
 use Rattle.dgn_tool.proofs.TextsThenFiles.{made_so}
 
 -- the outcome, by the bytes that are written and the text that is said

@@ -2,19 +2,19 @@
 use Rattle.std.proofs.Common.{◌≡◌, ℕ, ◌≤◌, List, [], ◌∷◌, ◌++◌, Bool, true, false, Option, Some, None, Result, Ok, Err, inl, inr, refl, sym, ap, subst, ◌∙◌, append_assoc, arith}
 use Rattle.std.specs.Prelude.{IfOk, IfErr, IfSome, ◌⊎◌, if◌then◌else◌}
 use Rattle.std.proofs.lemmas.List.{append-nil, append_cancel_left}
-use Rattle.host_desk.specs.declared.stop.Stop.{Stop}
-use Rattle.host_desk.specs.declared.stop.Stop.TheVariants as stops
-use Rattle.host_desk.specs.Content.{Content, Files, all_said, spoken, OnlyLeftDiffers}
-use Rattle.host_desk.specs.Desk.{Rose, StaysWilling}
-use Rattle.host_desk.specs.Holding.{with_held}
-use Rattle.host_desk.specs.Seen.{Seen, Writes}
-use Rattle.dgn_files.specs.Ended.{Outcome}
-use Rattle.dgn_files.specs.Leaving.{Leaves, Stops, HoldsFront, InOrder, IsBegun, files_after, said_before_file, settled_after}
-use Rattle.dgn_files.specs.Request.{Request}
-use Rattle.dgn_files.specs.Status.{number_of}
-use Rattle.dgn_files.specs.declared.status.Status.{Status}
-use Rattle.dgn_files.specs.declared.status.Status.TheVariants as statuses
-use Rattle.dgn_files.proofs.ToldContents.{said_behind, stopped_early}
+use Rattle.dgn_desk.specs.declared.stop.Stop.{Stop}
+use Rattle.dgn_desk.specs.declared.stop.Stop.TheVariants as stops
+use Rattle.dgn_desk.specs.Content.{Content, Files, all_said, spoken, OnlyLeftDiffers}
+use Rattle.dgn_desk.specs.Desk.{Rose, StaysWilling}
+use Rattle.dgn_desk.specs.Holding.{with_held}
+use Rattle.dgn_desk.specs.Seen.{Seen, Writes}
+use Rattle.dgn_tool.specs.Ended.{Outcome}
+use Rattle.dgn_tool.specs.Leaving.{Leaves, Stops, HoldsFront, InOrder, IsBegun, files_after, said_before_file, settled_after}
+use Rattle.dgn_tool.specs.Request.{Request}
+use Rattle.dgn_tool.specs.Status.{number_of}
+use Rattle.dgn_tool.specs.declared.status.Status.{Status}
+use Rattle.dgn_tool.specs.declared.status.Status.TheVariants as statuses
+use Rattle.dgn_tool.proofs.ToldContents.{said_behind, stopped_early}
 use Rattle.dgn_tool.specs.Outcome.{outcome_of}
 use Rattle.dgn_tool.specs.EditedRuns.{EditsAsAsked}
 use Rattle.dgn_tool.specs.Runs.{Runs, IsSettled, flushed_status}

@@ -15,3 +15,13 @@ pub mod ScriptEdits
 pub mod WrittenFiles
 pub mod HeldBack
 pub mod WholeRuns
+pub mod FilesThenTexts
+pub mod BlocksFilled
+pub mod InputOutcomes
+pub mod SecondNames
+pub mod NameTexts
+pub mod RunParts
+pub mod PatchOutcomes
+pub mod EntriesPutOn
+pub mod SecondFiles
+pub mod ToldContents

@@ -21,8 +21,8 @@ use Rattle.dgn_drawing.specs.declared.limits.TheConstants.{MOST_DESIGN}
 use Rattle.dgn_fence.specs.Taken.{takes}
 use Rattle.dgn_fence.specs.Selected.{selected}
 use Rattle.dgn_session.specs.State.{State, applied, pushed, pushed_if, with_stack, fence_applied, dropped, with_fence, with_mask, undo_refused}
-use Rattle.edit_trees.specs.Applying.{Applied, Done, Refused, apply, IsEdit}
-use Rattle.edit_trees.specs.Fields.{Rise, filled}
+use Rattle.edit_ops.specs.Applying.{Applied, Done, Refused, apply, IsEdit}
+use Rattle.edit_ops.specs.Fields.{Rise, filled}
 use Rattle.edit_ops.specs.Fenced.{apply_all, AreRoots, IsFenceEdit}
 use Rattle.edit_ops.proofs.FieldsRise.{fields_apart}
 use Rattle.edit_ops.proofs.EditLaws.{edited_opens, edited_fits, changes_fields}

@@ -17,8 +17,8 @@ use Rattle.dgn_drawing.proofs.Fronts.{opens_of, elements-spelling}
 use Rattle.dgn_drawing.specs.declared.limits.TheConstants.{MOST_DESIGN}
 use Rattle.elem_index.specs.Opened.{Opened, opening}
 use Rattle.elem_index.proofs.OpeningAnswers.{opens-opening}
-use Rattle.edit_trees.specs.Causes.{too_long}
-use Rattle.edit_trees.specs.declared.cause.Cause.{Cause}
+use Rattle.edit_ops.specs.Causes.{too_long}
+use Rattle.edit_ops.specs.declared.causes.cause.Cause.{Cause}
 use Rattle.edit_ops.proofs.AppendedElements.{appended_opens}
 use Rattle.dgn_import.specs.Seconds.{SecondValue, Drawing, Faulty, as_second, second_of}
 use Rattle.dgn_import.specs.Gathering.{Gathering, Trees, Bad, Dimension, Refused, fits, gathered, AreTrees}
@@ -26,7 +26,7 @@ use Rattle.dgn_import.proofs.GatheredTrees.{are_trees, other_dim}
 use Rattle.dgn_session.specs.State.{State}
 use Rattle.dgn_drawing.specs.declared.command.Command.{Command}
 use Rattle.dgn_drawing.specs.declared.command.Command.TheVariants as command
-use Rattle.edit_trees.specs.Fields.{filled}
+use Rattle.edit_ops.specs.Fields.{filled}
 use Rattle.dgn_answers.specs.Imports.{Appends, unless_long, importing, importing_of}
 use Rattle.dgn_answers.specs.Given.{Given, Plain, Import, first_second, given, seconds_behind, given_all}
 use Rattle.dgn_tool.specs.Laws.{IsEditIn, steps_of}

@@ -2,21 +2,21 @@
 use Rattle.std.proofs.Common.{◌≡◌, List, ℕ, Result, Ok, sym, ap, ◌∙◌, subst}
 use Rattle.std.specs.List.{list_all}
 use Rattle.std.proofs.lemmas.Bool.{cond-true}
-use Rattle.host_desk.specs.Content.{Files, bytes_of}
+use Rattle.dgn_desk.specs.Content.{Files, bytes_of}
 use Rattle.dgn_import.specs.Seconds.{SecondValue}
 use Rattle.elem_index.specs.Opened.{Opened}
 use Rattle.dgn_drawing.specs.declared.command.Command.{Command}
 use Rattle.edit_script.specs.declared.fault.ScriptFault.{ScriptFault}
-use Rattle.dgn_files.specs.Ended.{Outcome}
-use Rattle.dgn_files.specs.InBytes.{SecondsInBytes, AreInBytes, AllInBytes}
+use Rattle.dgn_tool.specs.Ended.{Outcome}
+use Rattle.dgn_tool.specs.InBytes.{SecondsInBytes, AreInBytes, AllInBytes}
 use Rattle.dgn_answers.specs.Given.{Given, given_all}
-use Rattle.dgn_files.specs.InputOutcomes.{scripted, HasAll}
+use Rattle.dgn_tool.specs.InputOutcomes.{scripted, HasAll}
 use Rattle.dgn_tool.specs.Outcome.{run_outcome}
-use Rattle.dgn_files.specs.Readings.{OpensAs, ReadsAs, ComeTo}
+use Rattle.dgn_tool.specs.Readings.{OpensAs, ReadsAs, ComeTo}
 use Rattle.dgn_tool.specs.ReadInputs.{GoesOn, AreRead}
-use Rattle.dgn_files.specs.SecondFiles.{names_in, files_named, is_within, AreThere, HasSeconds}
+use Rattle.dgn_tool.specs.SecondFiles.{names_in, files_named, is_within, AreThere, HasSeconds}
 use Rattle.dgn_tool.specs.Outcome.{stepped}
-use Rattle.dgn_files.proofs.InputOutcomes.{input_opens, script_reads, comes}
+use Rattle.dgn_tool.proofs.InputOutcomes.{input_opens, script_reads, comes}
 
 -- IN, SCRIPT and the second files.
 

@@ -5,7 +5,7 @@ use Rattle.std.proofs.lemmas.Bool.{cond_both}
 use Rattle.dgn_drawing.specs.declared.fence_edit.FenceEdit.{FenceEdit}
 use Rattle.dgn_drawing.specs.Element.{Element}
 use Rattle.dgn_drawing.specs.Opening.{elements_of}
-use Rattle.edit_trees.specs.Applying.{Applied, Done, Refused}
+use Rattle.edit_ops.specs.Applying.{Applied, Done, Refused}
 use Rattle.edit_ops.specs.Fenced.{apply_all}
 use Rattle.dgn_session.specs.Fits.{fit_applied}
 use Rattle.dgn_session.specs.State.{State, applied, pushed, pushed_if, selection, dropped, is_none, with_fence}

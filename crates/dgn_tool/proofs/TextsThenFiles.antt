@@ -3,11 +3,11 @@ use Rattle.std.proofs.Common.{◌≡◌, List, [], ℕ, length, vec_len, take}
 use Rattle.std.proofs.Common.{Option, Some, None, Ok, Err, inl, inr, refl, sym, ap, ◌∙◌, subst}
 use Rattle.std.specs.Prelude.{option_map, IfSome}
 use Rattle.std.proofs.lemmas.List.{append-nil}
-use Rattle.host_desk.specs.Content.{Content, all_said, filed, spoken}
-use Rattle.host_desk.specs.Desk.{FilesAll}
-use Rattle.host_desk.specs.Seen.{Seen, Writes}
-use Rattle.host_desk.specs.declared.stop.Stop.{Stop}
-use Rattle.host_desk.proofs.InTurn.{done_with, stopped_so, then_so}
+use Rattle.dgn_desk.specs.Content.{Content, all_said, filed, spoken}
+use Rattle.dgn_desk.specs.Desk.{FilesAll}
+use Rattle.dgn_desk.specs.Seen.{Seen, Writes}
+use Rattle.dgn_desk.specs.declared.stop.Stop.{Stop}
+use Rattle.dgn_desk.proofs.InTurn.{done_with, stopped_so, then_so}
 use Rattle.dgn_drawing.specs.Opening.{elements_of}
 use Rattle.dgn_drawing.specs.Spelling.{spelling}
 use Rattle.elem_index.specs.declared.design.Design.{Design}
@@ -15,16 +15,16 @@ use Rattle.elem_index.specs.Design.{IsWhole}
 use Rattle.dgn_session.specs.State.{State}
 use Rattle.dgn_import.proofs.SpelledBodies.{spelled_with}
 use Rattle.dgn_answers.specs.Given.{Given, after_all, texts_of, refused_count}
-use Rattle.dgn_files.specs.Filling.{file_made}
-use Rattle.dgn_files.specs.Ended.{said_then_filed}
+use Rattle.dgn_tool.specs.Filling.{file_made}
+use Rattle.dgn_tool.specs.Ended.{said_then_filed}
 use Rattle.dgn_tool.specs.FileAfter.{file_after}
-use Rattle.dgn_files.specs.Ended.{status_with}
-use Rattle.dgn_files.specs.Ends.{Tells, status_said}
+use Rattle.dgn_tool.specs.Ended.{status_with}
+use Rattle.dgn_tool.specs.Ends.{Tells, status_said}
 use Rattle.dgn_tool.specs.Outcome.{edited_from}
-use Rattle.dgn_files.specs.Leaving.{Leaves, Stops, IsFrontOf, SaysFront, SaysAs}
-use Rattle.dgn_files.specs.declared.ending.Ending.{Ending}
-use Rattle.dgn_files.specs.declared.status.Status.{Status}
-use Rattle.dgn_files.proofs.ToldContents.{is_taken, said_behind}
+use Rattle.dgn_tool.specs.Leaving.{Leaves, Stops, IsFrontOf, SaysFront, SaysAs}
+use Rattle.dgn_tool.specs.declared.ending.Ending.{Ending}
+use Rattle.dgn_tool.specs.declared.status.Status.{Status}
+use Rattle.dgn_tool.proofs.ToldContents.{is_taken, said_behind}
 
 module _ (status : Status) (text name bytes : List ℕ) where
   -- all was said, and the file was written

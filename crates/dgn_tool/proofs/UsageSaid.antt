@@ -1,14 +1,14 @@
 -- What is told once the line of the forms was said, or a front of it.
 use Rattle.std.proofs.Common.{◌≡◌, ◌++◌, List, ℕ, take, Option, Some, None, Err, refl, ap, ◌∙◌, subst}
 use Rattle.std.specs.Prelude.{option_map, IfSome}
-use Rattle.host_desk.specs.Desk.{SaysAll}
-use Rattle.host_desk.specs.declared.stop.Stop.{Stop}
-use Rattle.host_desk.specs.Content.{Content, all_said, spoken}
-use Rattle.dgn_files.specs.Ended.{ended}
+use Rattle.dgn_desk.specs.Desk.{SaysAll}
+use Rattle.dgn_desk.specs.declared.stop.Stop.{Stop}
+use Rattle.dgn_desk.specs.Content.{Content, all_said, spoken}
+use Rattle.dgn_tool.specs.Ended.{ended}
 use Rattle.dgn_tool.specs.Outcome.{usage_line}
-use Rattle.dgn_files.specs.Leaving.{Leaves, Stops, IsFrontOf}
-use Rattle.dgn_files.specs.declared.status.Status.TheVariants as statuses
-use Rattle.dgn_files.proofs.ToldContents.{is_taken, said_behind, front_said}
+use Rattle.dgn_tool.specs.Leaving.{Leaves, Stops, IsFrontOf}
+use Rattle.dgn_tool.specs.declared.status.Status.TheVariants as statuses
+use Rattle.dgn_tool.proofs.ToldContents.{is_taken, said_behind, front_said}
 
 -- so it is with the line that says which forms there are
 pub usage_said : (line : List ℕ) (old now : Option Content) → line ≡ usage_line → now ≡ option_map (spoken line) old

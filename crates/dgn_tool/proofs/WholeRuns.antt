@@ -1,21 +1,21 @@
 -- What a whole run ensures, by the end of the form that was asked for, or by what was said of words of no form.
 use Rattle.std.proofs.Common.{◌≡◌, ℕ, List, Option, Some, None, Ok, Err, refl, sym, subst, arith}
-use Rattle.host_desk.specs.declared.stop.Stop.{Stop}
-use Rattle.host_desk.specs.declared.stop.Stop.TheVariants as stops
-use Rattle.host_desk.specs.Desk.{SaysAll}
-use Rattle.host_desk.specs.Seen.{Seen, Writes}
-use Rattle.dgn_files.specs.Ends.{Ends, status_said, status_of}
-use Rattle.dgn_files.specs.Request.{Request}
+use Rattle.dgn_desk.specs.declared.stop.Stop.{Stop}
+use Rattle.dgn_desk.specs.declared.stop.Stop.TheVariants as stops
+use Rattle.dgn_desk.specs.Desk.{SaysAll}
+use Rattle.dgn_desk.specs.Seen.{Seen, Writes}
+use Rattle.dgn_tool.specs.Ends.{Ends, status_said, status_of}
+use Rattle.dgn_tool.specs.Request.{Request}
 use Rattle.dgn_tool.specs.RunInBytes.{FilesInBytes}
 use Rattle.dgn_tool.specs.Outcome.{usage_line, outcome_of, IsStopped, IsFaultless, HasFiles, Reads}
 use Rattle.dgn_tool.specs.Runs.{Runs}
-use Rattle.dgn_files.specs.declared.ending.Ending.{Ending}
-use Rattle.dgn_files.specs.declared.ending.Ending.TheVariants as endings
-use Rattle.dgn_files.specs.declared.end.End.{End}
-use Rattle.dgn_files.specs.declared.end.End.TheVariants as ends
-use Rattle.dgn_files.specs.declared.status.Status.{Status}
-use Rattle.dgn_files.specs.declared.status.Status.TheVariants as statuses
-use Rattle.dgn_files.proofs.ToldContents.{all_told}
+use Rattle.dgn_tool.specs.declared.ending.Ending.{Ending}
+use Rattle.dgn_tool.specs.declared.ending.Ending.TheVariants as endings
+use Rattle.dgn_tool.specs.declared.end.End.{End}
+use Rattle.dgn_tool.specs.declared.end.End.TheVariants as ends
+use Rattle.dgn_tool.specs.declared.status.Status.{Status}
+use Rattle.dgn_tool.specs.declared.status.Status.TheVariants as statuses
+use Rattle.dgn_tool.proofs.ToldContents.{all_told}
 use Rattle.dgn_tool.proofs.UsageSaid.{usage_said, usage_stopped}
 use Rattle.dgn_tool.proofs.WrittenFiles.{edits_as_asked}
 

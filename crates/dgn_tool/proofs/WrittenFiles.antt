@@ -6,7 +6,7 @@ use Rattle.std.specs.List.{list_all}
 use Rattle.std.proofs.lemmas.Bool.{and_parts}
 use Rattle.std.proofs.lemmas.Bool.Decides.{nat_tests}
 use Rattle.std.proofs.lemmas.List.Elements.{All-nil, All-cons}
-use Rattle.host_desk.specs.Content.{Files, Content, bytes_of}
+use Rattle.dgn_desk.specs.Content.{Files, Content, bytes_of}
 use Rattle.dgn_drawing.specs.Opening.{Fault, Opens}
 use Rattle.dgn_drawing.specs.WellFormed.{IsBytes}
 use Rattle.dgn_drawing.specs.declared.limits.TheConstants.{MOST_DESIGN}
@@ -19,23 +19,23 @@ use Rattle.elem_index.specs.Opened.{Opened, opening}
 use Rattle.elem_index.proofs.OpeningAnswers.{opens-opening}
 use Rattle.edit_script.specs.declared.limits.TheConstants.{MOST_SCRIPT}
 use Rattle.dgn_answers.specs.Given.{Given, given_all}
-use Rattle.dgn_files.specs.Ended.{Outcome, ended}
-use Rattle.dgn_files.specs.InBytes.{AreInBytes, SecondsInBytes, ScriptInBytes, AllInBytes}
+use Rattle.dgn_tool.specs.Ended.{Outcome, ended}
+use Rattle.dgn_tool.specs.InBytes.{AreInBytes, SecondsInBytes, ScriptInBytes, AllInBytes}
 use Rattle.dgn_tool.specs.RunInBytes.{FilesInBytes}
 use Rattle.dgn_tool.specs.Outcome.{edited, run_outcome, outcome_of, EndsAs, IsEnding}
-use Rattle.dgn_files.specs.InputOutcomes.{script_outcome, scripted, opened_outcome}
-use Rattle.dgn_files.specs.Leaving.{files_after, Leaves}
-use Rattle.dgn_files.specs.Readings.{OpensAs, ReadsAs, ComeTo}
-use Rattle.dgn_files.specs.Request.{Request, Edit}
+use Rattle.dgn_tool.specs.InputOutcomes.{script_outcome, scripted, opened_outcome}
+use Rattle.dgn_tool.specs.Leaving.{files_after, Leaves}
+use Rattle.dgn_tool.specs.Readings.{OpensAs, ReadsAs, ComeTo}
+use Rattle.dgn_tool.specs.Request.{Request, Edit}
 use Rattle.dgn_tool.specs.EditedRuns.{HasWritten, steps_with, EditsFile, EditsAsAsked}
-use Rattle.dgn_files.specs.SecondFiles.{names_in, files_named, is_within}
+use Rattle.dgn_tool.specs.SecondFiles.{names_in, files_named, is_within}
 use Rattle.dgn_tool.specs.Outcome.{stepped}
-use Rattle.dgn_files.specs.declared.status.Status.{Status}
-use Rattle.dgn_files.specs.declared.status.Status.TheVariants as statuses
-use Rattle.dgn_files.proofs.InputOutcomes.{comes, input_opens, script_reads}
+use Rattle.dgn_tool.specs.declared.status.Status.{Status}
+use Rattle.dgn_tool.specs.declared.status.Status.TheVariants as statuses
+use Rattle.dgn_tool.proofs.InputOutcomes.{comes, input_opens, script_reads}
 use Rattle.dgn_tool.proofs.RunInputs.{to_steps}
 use Rattle.dgn_tool.proofs.ScriptEdits.{untouched_by_scripts}
-use Rattle.dgn_files.proofs.SecondFiles.{short}
+use Rattle.dgn_tool.proofs.SecondFiles.{short}
 
 -- such a status is that of an ending
 pub is_ending : (status : Status) → HasWritten status → IsEnding status

@@ -1,6 +1,6 @@
 -- What a run of `edit` leaves that has written OUT, over a desk that tells what it holds.
 use Rattle.std.specs.Prelude.{ℕ, ◌≡◌, List, Option, Some, Ok, IfSome, ⊤}
-use Rattle.host_desk.specs.Content.{Files, Content, bytes_of, with_file}
+use Rattle.dgn_desk.specs.Content.{Files, Content, bytes_of, with_file}
 use Rattle.dgn_drawing.specs.Opening.{Opens}
 use Rattle.edit_script.specs.Script.{commands_of}
 use Rattle.dgn_drawing.specs.declared.command.Command.{Command}
@@ -9,10 +9,10 @@ use Rattle.dgn_answers.specs.Commands.{begun}
 use Rattle.dgn_answers.specs.Given.{Given}
 use Rattle.dgn_tool.specs.FileAfter.{file_after}
 use Rattle.dgn_tool.specs.Laws.{steps_of, IsEditedFile}
-use Rattle.dgn_files.specs.Request.{Request, Edit}
-use Rattle.dgn_files.specs.SecondFiles.{names_in, files_named}
-use Rattle.dgn_files.specs.declared.status.Status.{Status}
-use Rattle.dgn_files.specs.declared.status.Status.TheVariants as statuses
+use Rattle.dgn_tool.specs.Request.{Request, Edit}
+use Rattle.dgn_tool.specs.SecondFiles.{names_in, files_named}
+use Rattle.dgn_tool.specs.declared.status.Status.{Status}
+use Rattle.dgn_tool.specs.declared.status.Status.TheVariants as statuses
 
 -- a status with which a run of `edit` has written OUT
 abbrev pub HasWritten : Status → Type 0

@@ -3,7 +3,7 @@ use Rattle.std.specs.Prelude.{ℕ, List, length}
 use Rattle.dgn_drawing.specs.Spelling.{spelling}
 use Rattle.dgn_session.specs.State.{State}
 use Rattle.dgn_answers.specs.Given.{Given, after_all}
-use Rattle.dgn_files.specs.Filling.{file_made}
+use Rattle.dgn_tool.specs.Filling.{file_made}
 
 -- the file of the drawing that these steps make of an opened one with this tail
 abbrev pub file_after : State → List ℕ → List Given → List ℕ

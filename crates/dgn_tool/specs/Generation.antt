@@ -14,12 +14,12 @@ use Rattle.dgn_drawing.specs.declared.command.Command.{Command}
 use Rattle.dgn_drawing.specs.declared.command.Command.TheVariants as command
 use Rattle.dgn_answers.specs.Commands.{begun}
 use Rattle.dgn_answers.specs.Given.{Given, given_all, after_all, refused_count, trees_of_all}
-use Rattle.dgn_files.specs.Filling.{file_made}
+use Rattle.dgn_tool.specs.Filling.{file_made}
 use Rattle.dgn_generator.specs.Generator.{generated_elements}
-use Rattle.listing_texts.specs.NumberedLines.{numbered}
-use Rattle.dgn_files.specs.Ended.{Outcome, filed_then_said}
+use Rattle.dgn_listing.specs.NumberedLines.{numbered}
+use Rattle.dgn_tool.specs.Ended.{Outcome, filed_then_said}
 use Rattle.dgn_tool.specs.FileAfter.{file_after}
-use Rattle.dgn_files.specs.declared.status.Status.TheVariants as statuses
+use Rattle.dgn_tool.specs.declared.status.Status.TheVariants as statuses
 
 -- the fixed script
 abbrev pub fixed_script : List ℕ

@@ -7,15 +7,15 @@ use Rattle.dgn_drawing.specs.Values.{IsShift}
 use Rattle.dgn_drawing.specs.WellFormed.{IsBytes}
 use Rattle.dgn_import.specs.Seconds.{second_of}
 use Rattle.dgn_session.specs.State.{State}
-use Rattle.edit_trees.specs.Applying.{IsEdit}
-use Rattle.edit_trees.specs.Fields.{IsIn}
+use Rattle.edit_ops.specs.Applying.{IsEdit}
+use Rattle.edit_ops.specs.Fields.{IsIn}
 use Rattle.edit_ops.specs.Fenced.{IsFenceEdit}
 use Rattle.dgn_drawing.specs.declared.command.Command.{Command}
 use Rattle.dgn_drawing.specs.declared.command.Command.TheVariants as command
 use Rattle.elem_index.specs.Opened.{Opened}
 use Rattle.dgn_answers.specs.Commands.{begun}
 use Rattle.dgn_answers.specs.Given.{Given, given_all, after_all}
-use Rattle.dgn_files.specs.Filling.{filling}
+use Rattle.dgn_tool.specs.Filling.{filling}
 use Rattle.dgn_tool.specs.FileAfter.{file_after}
 use Rattle.dgn_answers.specs.Remaining.{Made, remaining, fields_made}
 

@@ -8,3 +8,15 @@ pub mod ReadInputs
 pub mod ScriptLaws
 pub mod EditedRuns
 pub mod Runs
+pub mod Applied
+pub mod Ended
+pub mod Ends
+pub mod Filling
+pub mod InBytes
+pub mod InputOutcomes
+pub mod Leaving
+pub mod Readings
+pub mod Request
+pub mod RequestView
+pub mod SecondFiles
+pub mod Status

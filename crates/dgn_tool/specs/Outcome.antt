@@ -3,28 +3,28 @@
 use Rattle.std.specs.Prelude.{ℕ, List, codes, Option, Some, None}
 use Rattle.std.specs.Prelude.{IsSome, IfSome, ⊤}
 use Rattle.std.specs.FinMap as maps
-use Rattle.host_desk.specs.Content.{Files, Content, bytes_of}
+use Rattle.dgn_desk.specs.Content.{Files, Content, bytes_of}
 use Rattle.dgn_session.specs.State.{State}
 use Rattle.elem_index.specs.Opened.{Opened}
 use Rattle.dgn_drawing.specs.declared.command.Command.{Command}
-use Rattle.dgn_files.specs.Request.{Request, Edit, Check, Gen, Pack, Apply, request_of}
-use Rattle.dgn_files.specs.Ended.{Outcome, ended, said_then_filed}
+use Rattle.dgn_tool.specs.Request.{Request, Edit, Check, Gen, Pack, Apply, request_of}
+use Rattle.dgn_tool.specs.Ended.{Outcome, ended, said_then_filed}
 use Rattle.dgn_tool.specs.FileAfter.{file_after}
-use Rattle.dgn_files.specs.Ended.{status_with}
+use Rattle.dgn_tool.specs.Ended.{status_with}
 use Rattle.dgn_tool.specs.Generation.{generation}
 use Rattle.dgn_tool.specs.Packing.{packed}
-use Rattle.dgn_files.specs.Applied.{patched}
+use Rattle.dgn_tool.specs.Applied.{patched}
 use Rattle.dgn_answers.specs.Commands.{begun}
 use Rattle.dgn_answers.specs.Given.{Given, texts_of, refused_count}
-use Rattle.dgn_files.specs.declared.status.Status.{Status}
-use Rattle.dgn_files.specs.declared.status.Status.TheVariants as statuses
+use Rattle.dgn_tool.specs.declared.status.Status.{Status}
+use Rattle.dgn_tool.specs.declared.status.Status.TheVariants as statuses
 use Rattle.std.specs.Prelude.{ℕ, List, codes, IsSome, ⊤}
-use Rattle.host_desk.specs.Content.{Files, bytes_of}
+use Rattle.dgn_desk.specs.Content.{Files, bytes_of}
 use Rattle.dgn_answers.specs.Given.{Given, given_all}
-use Rattle.dgn_files.specs.Ended.{Outcome, ended}
-use Rattle.dgn_files.specs.InputOutcomes.{scripted, checked, input_outcome, HasBoth, HasAll}
-use Rattle.dgn_files.specs.Leaving.{Leaves, Stops}
-use Rattle.dgn_files.specs.SecondFiles.{names_in, files_named, seconded}
+use Rattle.dgn_tool.specs.Ended.{Outcome, ended}
+use Rattle.dgn_tool.specs.InputOutcomes.{scripted, checked, input_outcome, HasBoth, HasAll}
+use Rattle.dgn_tool.specs.Leaving.{Leaves, Stops}
+use Rattle.dgn_tool.specs.SecondFiles.{names_in, files_named, seconded}
 
 -- what the steps come to in a state, with this tail: their texts, and the file of the drawing after them
 abbrev pub edited_from : State → List ℕ → List Given → List ℕ → Outcome

@@ -10,11 +10,11 @@ use Rattle.dgn_session.specs.State.{State, SessionValue}
 use Rattle.dgn_answers.specs.Commands.{begun}
 use Rattle.dgn_answers.specs.Given.{Given, refused_count}
 use Rattle.dgn_answers.specs.Logs.{entry_made}
-use Rattle.dgn_files.specs.Ended.{Outcome, ended, filed_then_said}
-use Rattle.dgn_files.specs.Ended.{status_with}
-use Rattle.listing_texts.specs.NumberedLines.{numbered}
+use Rattle.dgn_tool.specs.Ended.{Outcome, ended, filed_then_said}
+use Rattle.dgn_tool.specs.Ended.{status_with}
+use Rattle.dgn_listing.specs.NumberedLines.{numbered}
 use Rattle.dgn_answers.specs.Remaining.{Made, remaining}
-use Rattle.dgn_files.specs.declared.status.Status.TheVariants as statuses
+use Rattle.dgn_tool.specs.declared.status.Status.TheVariants as statuses
 use Rattle.patch_file.specs.declared.limits.TheConstants.{MOST_PATCH}
 
 -- its packed entry: that, with the bytes that it put there, and those that it appended

@@ -1,10 +1,10 @@
 -- IN, SCRIPT and the second files of its imports: what a run goes on with once they are read.
 use Rattle.std.specs.Prelude.{ℕ, ◌≡◌, List}
-use Rattle.host_desk.specs.Content.{Files}
+use Rattle.dgn_desk.specs.Content.{Files}
 use Rattle.elem_index.specs.Opened.{Opened}
-use Rattle.dgn_files.specs.Ended.{Outcome}
-use Rattle.dgn_files.specs.Ends.{Reading}
-use Rattle.dgn_files.specs.InBytes.{AllInBytes}
+use Rattle.dgn_tool.specs.Ended.{Outcome}
+use Rattle.dgn_tool.specs.Ends.{Reading}
+use Rattle.dgn_tool.specs.InBytes.{AllInBytes}
 use Rattle.dgn_answers.specs.Given.{Given}
 use Rattle.dgn_tool.specs.Outcome.{run_outcome}
 

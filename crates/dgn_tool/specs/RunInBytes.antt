@@ -1,10 +1,10 @@
 -- Which of the files that a run with a request read are known to be bytes.
 use Rattle.std.specs.Prelude.{Option, Some, None, ⊤}
-use Rattle.host_desk.specs.Content.{Files}
-use Rattle.dgn_files.specs.Request.{Request, Edit, Check, Gen, Pack, Apply}
+use Rattle.dgn_desk.specs.Content.{Files}
+use Rattle.dgn_tool.specs.Request.{Request, Edit, Check, Gen, Pack, Apply}
 use Rattle.dgn_drawing.specs.declared.limits.TheConstants.{MOST_DESIGN}
 use Rattle.patch_file.specs.declared.limits.TheConstants.{MOST_PATCH}
-use Rattle.dgn_files.specs.InBytes.{IsInBytes, InputInBytes, AllInBytes}
+use Rattle.dgn_tool.specs.InBytes.{IsInBytes, InputInBytes, AllInBytes}
 
 -- the files that a run with this request read are bytes
 abbrev pub FilesInBytes : Option Request → Files → Type 0

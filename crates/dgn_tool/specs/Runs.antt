@@ -1,18 +1,18 @@
 -- What a whole run ensures, said as one.
 use Rattle.std.specs.Prelude.{ℕ, ◌≡◌, ◌≤◌, [], Option, Result, Ok, Err, IfSome, IsNone, IsTrue}
-use Rattle.host_desk.specs.declared.desk.Desk.{Ghosts}
-use Rattle.host_desk.specs.Content.{Content, OnlyLeftDiffers}
-use Rattle.host_desk.specs.Desk.{Rose, StaysWilling}
-use Rattle.host_desk.specs.Seen.{Seen, seen}
-use Rattle.host_desk.specs.declared.stop.Stop.{Stop}
-use Rattle.host_desk.specs.declared.stop.Stop.TheVariants as stops
-use Rattle.dgn_files.specs.Request.{Request}
+use Rattle.dgn_desk.specs.declared.desk.Desk.{Ghosts}
+use Rattle.dgn_desk.specs.Content.{Content, OnlyLeftDiffers}
+use Rattle.dgn_desk.specs.Desk.{Rose, StaysWilling}
+use Rattle.dgn_desk.specs.Seen.{Seen, seen}
+use Rattle.dgn_desk.specs.declared.stop.Stop.{Stop}
+use Rattle.dgn_desk.specs.declared.stop.Stop.TheVariants as stops
+use Rattle.dgn_tool.specs.Request.{Request}
 use Rattle.dgn_tool.specs.RunInBytes.{FilesInBytes}
 use Rattle.dgn_tool.specs.EditedRuns.{EditsAsAsked}
 use Rattle.dgn_tool.specs.Outcome.{outcome_of, IsEnding, EndsAs, StoppedAs, IsFaultless, HasFiles, Reads}
-use Rattle.dgn_files.specs.Status.{number_of}
-use Rattle.dgn_files.specs.declared.status.Status.{Status}
-use Rattle.dgn_files.specs.declared.status.Status.TheVariants as statuses
+use Rattle.dgn_tool.specs.Status.{number_of}
+use Rattle.dgn_tool.specs.declared.status.Status.{Status}
+use Rattle.dgn_tool.specs.declared.status.Status.TheVariants as statuses
 
 -- a run with this request ended with this status: the clauses of `run`
 pub record Runs (request : Option Request) (old new : Seen) (status : Status) : Type 0 where

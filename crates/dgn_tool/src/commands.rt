@@ -1,17 +1,17 @@
 ghost use Rattle.std.specs.Prelude.{◌≡◌, IfOk, OnOk};
 ghost use Rattle.std.specs.List.{AllByRecursion};
-ghost use Rattle.host_desk.specs.Seen.{DeskWrites};
+ghost use Rattle.dgn_desk.specs.Seen.{DeskWrites};
 ghost use Rattle.dgn_session.specs.State.{state_of};
 ghost use Rattle.dgn_import.specs.Seconds.{IsSound};
 ghost use Rattle.dgn_answers.specs.Given.{given_all, after_all, texts_of, refused_count};
-ghost use Rattle.dgn_files.specs.Leaving.{SaysAs};
+ghost use Rattle.dgn_tool.specs.Leaving.{SaysAs};
 ghost use Rattle.dgn_import.specs.Seconds.{waiting};
 
 use dgn_answers::take_step;
+use dgn_desk::{Desk, Stop, say_all};
 use dgn_import::Second;
 use dgn_session::Session;
 use edit_script::Command;
-use host_desk::{Desk, Stop, say_all};
 use std::alloc::Global;
 
 /// Runs the commands in order in a session, each import with the next of the second files, says what each of them says

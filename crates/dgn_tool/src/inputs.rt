@@ -5,18 +5,18 @@ ghost use Rattle.std.specs.List.{AllByRecursion};
 ghost use Rattle.elem_index.specs.Design.{IsWhole};
 ghost use Rattle.elem_index.specs.Answers.{opened_of};
 ghost use Rattle.dgn_import.specs.Seconds.{IsSound};
-ghost use Rattle.dgn_files.specs.Ends.{DeskReads, DeskEndsEarly};
-ghost use Rattle.dgn_files.specs.InBytes.{AllInBytes};
+ghost use Rattle.dgn_tool.specs.Ends.{DeskReads, DeskEndsEarly};
+ghost use Rattle.dgn_tool.specs.InBytes.{AllInBytes};
 ghost use Rattle.dgn_answers.specs.Given.{given_all};
-ghost use Rattle.dgn_files.specs.InputOutcomes.{HasAll};
+ghost use Rattle.dgn_tool.specs.InputOutcomes.{HasAll};
 ghost use Rattle.dgn_tool.specs.ReadInputs.{AreRead, inputs_in};
 ghost use Rattle.dgn_import.specs.Seconds.{waiting};
 
-use dgn_files::{End, open_design, read_commands, read_seconds};
+use crate::{End, open_design, read_commands, read_seconds};
+use dgn_desk::Desk;
 use dgn_import::Second;
 use edit_script::Command;
 use elem_index::Design;
-use host_desk::Desk;
 use std::alloc::Global;
 
 // What a script is run with.

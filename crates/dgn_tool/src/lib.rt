@@ -1,19 +1,40 @@
-//! The editor's top calls: `run` reads a design file and a script, runs the commands in a session and writes the file;
-//! `answer` runs one command in a session, and `answer_import` one that is an import.
+//! The editor's top calls: `run` does what the words of the command line ask for, with `edit`, `pack`, `apply`, `check` and
+//! `gen`; `run_given` and `run_flushed` take the words as the runtime gives them. And the parts of a run: the words, reading
+//! and opening files, writing them, and how a run ends.
 #![tactic(auto)]
 
+mod apply;
+mod check;
 mod commands;
-mod editing;
-mod generating;
-mod given;
+mod drawing;
+mod edit;
+mod end;
+mod ending;
+mod entries;
+mod files;
+mod generation;
 mod inputs;
 pub mod laws;
-mod packing;
-mod top;
-mod writing;
+mod output;
+mod pack;
+mod put_end;
+mod request;
+mod runs;
+mod seconds;
+mod status;
+mod texts;
+mod words;
 
 pub use dgn_answers::{answer, answer_import};
-pub use dgn_files::Status;
 pub use dgn_generator::generate;
-pub use given::{run_flushed, run_given};
-pub use top::run;
+pub use end::End;
+pub use ending::Ending;
+pub use files::{open_design, read_commands};
+pub use output::{file_and_say, file_filled, filling_len, write_filled};
+pub use put_end::PutEnd;
+pub use request::{Request, read_words};
+pub use runs::run;
+pub use seconds::read_seconds;
+pub use status::Status;
+pub use texts::{end_numbered, end_with};
+pub use words::{run_flushed, run_given};

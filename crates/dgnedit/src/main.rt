@@ -1,8 +1,8 @@
 //! `dgnedit`: changes what a script asks for in a design file, and leaves every other byte.
 #![tactic(auto)]
 
+use dgn_desk::{HostDesk, words};
 use dgn_tool::run_flushed;
-use host_desk::{HostDesk, words};
 use std::process::ExitCode;
 
 fn main(rt: HostRuntime) -> ExitCode {

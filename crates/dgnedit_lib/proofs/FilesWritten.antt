@@ -3,8 +3,8 @@ use Rattle.std.proofs.Common.{◌≡◌, ℕ, ◌-◌, nat_lt, nat_le, Bool, tru
 use Rattle.std.proofs.Common.{Option, Some, None, option_map, Result, Ok, Err, refl, sym, ap, ◌∙◌}
 use Rattle.std.specs.List.{list_all}
 use Rattle.std.specs.Str.{bytes_eq}
-use Rattle.host_desk.specs.Content.{Files, bytes_of}
-use Rattle.host_desk.specs.FileLaws.{get-with_file-same}
+use Rattle.dgn_desk.specs.Content.{Files, bytes_of}
+use Rattle.dgn_desk.specs.FileLaws.{get-with_file-same}
 use Rattle.elem_index.specs.Opened.{Opened, opening}
 use Rattle.dgn_drawing.specs.Opening.{Fault}
 use Rattle.dgn_drawing.specs.Spelling.{spelling}
@@ -15,19 +15,19 @@ use Rattle.edit_script.specs.declared.fault.ScriptFault.{ScriptFault}
 use Rattle.edit_script.specs.declared.fault.ScriptFault.TheVariants as faults
 use Rattle.patch_file.specs.Reading.{patch_of}
 use Rattle.patch_file.specs.Spelling.{Packed, patch_spelling}
-use Rattle.dgn_files.specs.Applied.{patched, reading_outcome, patched_outcome, put_from, Patched, Made, Differs, Overruns}
-use Rattle.dgn_files.specs.Ended.{Outcome, ended}
-use Rattle.dgn_files.specs.InputOutcomes.{input_outcome, opened_outcome, scripted, script_outcome, fault_line, checked}
-use Rattle.dgn_files.specs.SecondFiles.{is_within, files_named, names_in}
-use Rattle.dgn_files.specs.declared.status.Status.{Status}
+use Rattle.dgn_tool.specs.Applied.{patched, reading_outcome, patched_outcome, put_from, Patched, Made, Differs, Overruns}
+use Rattle.dgn_tool.specs.Ended.{Outcome, ended}
+use Rattle.dgn_tool.specs.InputOutcomes.{input_outcome, opened_outcome, scripted, script_outcome, fault_line, checked}
+use Rattle.dgn_tool.specs.SecondFiles.{is_within, files_named, names_in}
+use Rattle.dgn_tool.specs.declared.status.Status.{Status}
 use Rattle.dgn_import.specs.Seconds.{second_of}
-use Rattle.listing_texts.specs.NumberedLines.{numbered}
+use Rattle.dgn_listing.specs.NumberedLines.{numbered}
 use Rattle.dgn_drawing.specs.declared.limits.TheConstants.{MOST_DESIGN}
 use Rattle.edit_script.specs.declared.limits.TheConstants.{MOST_SCRIPT}
 use Rattle.patch_file.specs.declared.limits.TheConstants.{MOST_PATCH}
-use Rattle.dgn_files.specs.Leaving.{files_after}
-use Rattle.dgn_files.specs.Request.{Request, Edit, Check, Gen, Pack, Apply, request_of, four_words, edit_of, pack_of, gen_of, generation_of, apply_of}
-use Rattle.dgn_files.specs.declared.status.Status.TheVariants as statuses
+use Rattle.dgn_tool.specs.Leaving.{files_after}
+use Rattle.dgn_tool.specs.Request.{Request, Edit, Check, Gen, Pack, Apply, request_of, four_words, edit_of, pack_of, gen_of, generation_of, apply_of}
+use Rattle.dgn_tool.specs.declared.status.Status.TheVariants as statuses
 use Rattle.dgn_tool.specs.Outcome.{outcome, outcome_of, run_outcome, stepped, edited, usage_line}
 use Rattle.dgn_tool.specs.Packing.{packed, packed_after, filed_patch}
 use Rattle.dgn_answers.specs.Commands.{begun}

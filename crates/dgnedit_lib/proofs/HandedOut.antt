@@ -1,12 +1,12 @@
 -- What a run leaves is what is handed out.
 use Rattle.std.proofs.Common.{◌≡◌, ℕ, List, [], ◌++◌, length, Option, Some, None, option_map, unwrap_or, is_some}
 use Rattle.std.proofs.Common.{Bool, true, false, nat_le, if◌then◌else◌, refl, sym, ap, ◌∙◌, arith}
-use Rattle.host_desk.specs.Content.{Files, Content, all_said}
-use Rattle.host_desk.specs.Desk.{Rose}
-use Rattle.dgn_files.specs.Leaving.{Leaves}
-use Rattle.dgn_files.specs.Status.{number_of}
-use Rattle.dgn_files.specs.declared.status.Status.{Status}
-use Rattle.dgn_files.specs.declared.status.Status.TheVariants as statuses
+use Rattle.dgn_desk.specs.Content.{Files, Content, all_said}
+use Rattle.dgn_desk.specs.Desk.{Rose}
+use Rattle.dgn_tool.specs.Leaving.{Leaves}
+use Rattle.dgn_tool.specs.Status.{number_of}
+use Rattle.dgn_tool.specs.declared.status.Status.{Status}
+use Rattle.dgn_tool.specs.declared.status.Status.TheVariants as statuses
 use Rattle.dgn_tool.specs.Outcome.{outcome, IsEnding}
 use Rattle.dgnedit_lib.specs.declared.ended.Ended.{Ended}
 use Rattle.dgnedit_lib.specs.Handing.{HandsOut, ended_of, bytes_filed, put_in}

@@ -1,8 +1,8 @@
 -- What a run over files that are lent hands out: how it ended, and its text and its file, each in a buffer of the caller's.
 use Rattle.std.specs.Prelude.{ℕ, ◌≡◌, nat_le, if◌then◌else◌, false, List, [], ◌++◌, length, drop, Option, is_some, option_map, unwrap_or}
-use Rattle.dgn_files.specs.Ended.{Outcome}
-use Rattle.dgn_files.specs.Status.{number_of}
-use Rattle.dgn_files.specs.declared.status.Status.{Status}
+use Rattle.dgn_tool.specs.Ended.{Outcome}
+use Rattle.dgn_tool.specs.Status.{number_of}
+use Rattle.dgn_tool.specs.declared.status.Status.{Status}
 use Rattle.dgnedit_lib.specs.declared.ended.Ended.{Ended}
 
 -- the ending with so many bytes of text and no file

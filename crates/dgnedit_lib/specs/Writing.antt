@@ -1,9 +1,9 @@
 -- Which file a run with such words writes that ended so: the one that the last of four words names, where all came to its end.
 use Rattle.std.specs.Prelude.{ℕ, Bool, true, false, List, [], ◌∷◌, Option, Some, None}
 use Rattle.std.specs.FinMap as maps
-use Rattle.host_desk.specs.Content.{Files}
-use Rattle.dgn_files.specs.declared.status.Status.{Status}
-use Rattle.dgn_files.specs.declared.status.Status.TheVariants as statuses
+use Rattle.dgn_desk.specs.Content.{Files}
+use Rattle.dgn_tool.specs.declared.status.Status.{Status}
+use Rattle.dgn_tool.specs.declared.status.Status.TheVariants as statuses
 
 -- the last of four words
 abbrev pub last_of_four : List (List ℕ) → Option (List ℕ)

@@ -1,8 +1,8 @@
 ghost use Rattle.std.specs.Prelude.{◌≡◌, ◌^◌, ◌<◌, length, false};
-ghost use Rattle.dgn_files.specs.Status.{number_of};
+ghost use Rattle.dgn_tool.specs.Status.{number_of};
 ghost use Rattle.dgnedit_lib.specs.Handing.{text_ended};
 
-use dgn_files::Status;
+use dgn_tool::Status;
 
 /// How a run ended, and how many bytes it hands out.
 #[repr(C)]

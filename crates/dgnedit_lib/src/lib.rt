@@ -8,15 +8,15 @@ mod word;
 
 ghost use Rattle.std.specs.Prelude.{◌≡◌, [], None};
 ghost use Rattle.dgn_desk.specs.LentDesk.{lent_files};
-ghost use Rattle.dgn_files.specs.Ended.{ended};
-ghost use Rattle.dgn_files.specs.Request.{request_of};
-ghost use Rattle.dgn_files.specs.declared.status.Status.TheVariants as statuses;
+ghost use Rattle.dgn_tool.specs.Ended.{ended};
+ghost use Rattle.dgn_tool.specs.Request.{request_of};
+ghost use Rattle.dgn_tool.specs.declared.status.Status.TheVariants as statuses;
 ghost use Rattle.dgn_tool.specs.Outcome.{outcome, HasFiles};
 ghost use Rattle.dgnedit_lib.specs.Handing.{HandsOut};
 ghost use Rattle.dgnedit_lib.specs.Words.{bytes_of_words, words_given};
 
 pub use dgn_desk::LentFile;
-use dgn_files::Status;
+use dgn_tool::Status;
 pub use ended::Ended;
 use given::given_words;
 use running::run_over;

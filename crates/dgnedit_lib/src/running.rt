@@ -1,17 +1,16 @@
 ghost use Rattle.std.specs.Prelude.{◌≡◌, ◌≤◌, [], map, string_bytes, length, Some, None};
 ghost use Rattle.std.specs.Option.{option_copied};
 ghost use Rattle.dgn_desk.specs.LentDesk.{lent_files};
-ghost use Rattle.dgn_files.specs.Ended.{ended};
-ghost use Rattle.dgn_files.specs.Request.{request_of};
-ghost use Rattle.dgn_files.specs.declared.status.Status.TheVariants as statuses;
+ghost use Rattle.dgn_tool.specs.Ended.{ended};
+ghost use Rattle.dgn_tool.specs.Request.{request_of};
+ghost use Rattle.dgn_tool.specs.declared.status.Status.TheVariants as statuses;
 ghost use Rattle.dgn_tool.specs.Outcome.{outcome, HasFiles};
 ghost use Rattle.dgnedit_lib.specs.Handing.{HandsOut, put_in};
 ghost use Rattle.dgnedit_lib.specs.Writing.{bytes_at, name_written, has_written, last_of_four};
 
 use crate::ended::Ended;
 use dgn_desk::{LentDesk, LentFile};
-use dgn_files::Status;
-use dgn_tool::run;
+use dgn_tool::{Status, run};
 use std::alloc::Global;
 
 // Runs the program with these words over these files.

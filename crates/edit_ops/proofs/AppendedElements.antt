@@ -23,18 +23,18 @@ use Rattle.dgn_drawing.specs.Opening.{dimension, BeginsWithTcb, Opens}
 use Rattle.dgn_drawing.proofs.FirstElements.{dimension_is}
 use Rattle.dgn_drawing.proofs.MadeElements.{made_good}
 use Rattle.nest_tree.proofs.NestingSteps.{flat-forest}
-use Rattle.edit_trees.specs.declared.cause.Cause.TheVariants as causes
+use Rattle.edit_ops.specs.declared.causes.cause.Cause.TheVariants as causes
 use Rattle.edit_ops.specs.declared.types.plan.Plan.{Plan}
-use Rattle.edit_trees.specs.Causes.{other_axes, too_long, bytes_appended, cause_of}
-use Rattle.edit_trees.specs.Applying.{Done, apply, changed_forest}
-use Rattle.edit_trees.specs.Fields.{Field, edited_fields, filled}
+use Rattle.edit_ops.specs.Causes.{other_axes, too_long, bytes_appended, cause_of}
+use Rattle.edit_ops.specs.Applying.{Done, apply, changed_forest}
+use Rattle.edit_ops.specs.Fields.{Field, edited_fields, filled}
 use Rattle.edit_ops.specs.Planned.{IsPlan}
 use Rattle.edit_ops.specs.Laws.{ChangesItsFields}
-use Rattle.edit_trees.proofs.PartPlace.{flat-joined}
-use Rattle.edit_trees.proofs.EachLive.{each_both}
-use Rattle.edit_trees.proofs.FirstElement.{tcb_long, same_dimension, some_element}
-use Rattle.edit_trees.proofs.AcceptedEdit.{none_both, met, unmet, done_is, done_without_cause}
-use Rattle.edit_parts.proofs.PartNestsAlone.{leaf_appended}
+use Rattle.edit_ops.proofs.PartPlace.{flat-joined}
+use Rattle.edit_ops.proofs.EachLive.{each_both}
+use Rattle.edit_ops.proofs.FirstElement.{tcb_long, same_dimension, some_element}
+use Rattle.edit_ops.proofs.AcceptedEdit.{none_both, met, unmet, done_is, done_without_cause}
+use Rattle.edit_ops.proofs.PartNestsAlone.{leaf_appended}
 use Rattle.dgn_drawing.specs.declared.limits.TheConstants.{MOST_DESIGN}
 
 -- elements that begin with the TCB do so with others behind them

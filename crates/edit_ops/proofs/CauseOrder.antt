@@ -11,18 +11,18 @@ use Rattle.dgn_drawing.specs.Spelling.{spell, spelling}
 use Rattle.dgn_drawing.specs.NewElements.{NewElement, made}
 use Rattle.dgn_drawing.specs.Opening.{Opens}
 use Rattle.dgn_drawing.specs.Nesting.{flat}
-use Rattle.edit_trees.specs.declared.cause.Cause.{Cause}
-use Rattle.edit_trees.specs.declared.cause.Cause.TheVariants as causes
-use Rattle.edit_trees.specs.declared.edit_fault.EditFault.{EditFault}
-use Rattle.edit_trees.specs.declared.edit_fault.EditFault.TheVariants as faults
+use Rattle.edit_ops.specs.declared.causes.cause.Cause.{Cause}
+use Rattle.edit_ops.specs.declared.causes.cause.Cause.TheVariants as causes
+use Rattle.edit_ops.specs.declared.causes.edit_fault.EditFault.{EditFault}
+use Rattle.edit_ops.specs.declared.causes.edit_fault.EditFault.TheVariants as faults
 use Rattle.edit_ops.specs.declared.types.plan.Plan.{Plan}
-use Rattle.edit_trees.specs.Causes.{unknown, part_cause, causes_of, first_of, target_of, target_cause, cause_of}
-use Rattle.edit_trees.specs.Applying.{Refused, unless, apply, changed_forest, copied, ChangesInPlace, IsEdit}
-use Rattle.edit_trees.specs.Written.{part_puts}
-use Rattle.edit_parts.specs.Copying.{IsStopped}
+use Rattle.edit_ops.specs.Causes.{unknown, part_cause, causes_of, first_of, target_of, target_cause, cause_of}
+use Rattle.edit_ops.specs.Applying.{Refused, unless, apply, changed_forest, copied, ChangesInPlace, IsEdit}
+use Rattle.edit_ops.specs.Written.{part_puts}
+use Rattle.edit_ops.specs.Copying.{IsStopped}
 use Rattle.edit_ops.specs.Planned.{IsPlan, IsRefused}
-use Rattle.edit_trees.proofs.ListedLive.{or_assoc}
-use Rattle.edit_trees.proofs.AcceptedEdit.{met}
+use Rattle.edit_ops.proofs.ListedLive.{or_assoc}
+use Rattle.edit_ops.proofs.AcceptedEdit.{met}
 use Rattle.edit_ops.proofs.AppendedElements.{append_plan}
 use Rattle.edit_ops.proofs.CopyEdits.{copy_plan}
 use Rattle.edit_ops.proofs.EditInPlace.{in_place, plan_is}

@@ -13,17 +13,17 @@ use Rattle.dgn_drawing.specs.Opening.{Opens}
 use Rattle.dgn_drawing.proofs.FirstElements.{dimension_is}
 use Rattle.nest_tree.proofs.NestingSteps.{flat-forest}
 use Rattle.edit_ops.specs.declared.types.plan.Plan.{Plan}
-use Rattle.edit_trees.specs.declared.asked.Test.TheVariants as tests
-use Rattle.edit_trees.specs.Trees.{tree_at, live_map, live_tree}
-use Rattle.edit_trees.specs.Causes.{first_cause, other_axes, too_long, bytes_appended, cause_of}
-use Rattle.edit_trees.specs.Applying.{Done, apply, copied, changed_forest}
+use Rattle.edit_ops.specs.declared.asking.test.Test.TheVariants as tests
+use Rattle.edit_ops.specs.Trees.{tree_at, live_map, live_tree}
+use Rattle.edit_ops.specs.Causes.{first_cause, other_axes, too_long, bytes_appended, cause_of}
+use Rattle.edit_ops.specs.Applying.{Done, apply, copied, changed_forest}
 use Rattle.edit_ops.specs.Planned.{IsPlan}
 use Rattle.edit_ops.specs.Laws.{ChangesItsFields}
-use Rattle.edit_trees.proofs.PartPlace.{flat-joined}
-use Rattle.edit_trees.proofs.AcceptedEdit.{IsAccepted, accepted, named_cause, none_both, done_is}
+use Rattle.edit_ops.proofs.PartPlace.{flat-joined}
+use Rattle.edit_ops.proofs.AcceptedEdit.{IsAccepted, accepted, named_cause, none_both, done_is}
 use Rattle.edit_ops.proofs.AppendedElements.{appended_opens, appended_changes, appended_fits, appended_plan}
 use Rattle.dgn_drawing.specs.declared.limits.TheConstants.{MOST_DESIGN}
-use Rattle.edit_parts.proofs.CopiedPart.{freed_first, copied_good, copied_long, copied_nests}
+use Rattle.edit_ops.proofs.CopiedPart.{freed_first, copied_good, copied_long, copied_nests}
 
 -- the elements that a copy leaves
 pub copy_leaves : (dim : ℕ) (es : List Element) (n : ℕ) (by : Displacement) → flat (changed_forest dim es (edit.Copy n by)) ≡ es

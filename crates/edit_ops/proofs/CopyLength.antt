@@ -8,12 +8,12 @@ use Rattle.dgn_drawing.specs.Spelling.{spelling}
 use Rattle.elem_index.specs.declared.design.Design.{Design}
 use Rattle.elem_index.specs.Design.{elements, IsWhole}
 use Rattle.elem_index.proofs.Places.{body_is}
-use Rattle.edit_trees.specs.declared.cause.Cause.{Cause}
-use Rattle.edit_trees.specs.declared.asked.Test.TheVariants as tests
-use Rattle.edit_trees.specs.Trees.{live_tree}
-use Rattle.edit_trees.specs.Causes.{other_axes, first_cause, too_long, bytes_appended, part_cause, causes_of, first_of}
-use Rattle.edit_parts.specs.Copying.{copy_cause}
-use Rattle.edit_trees.proofs.ListedLive.{or_nothing}
+use Rattle.edit_ops.specs.declared.causes.cause.Cause.{Cause}
+use Rattle.edit_ops.specs.declared.asking.test.Test.TheVariants as tests
+use Rattle.edit_ops.specs.Trees.{live_tree}
+use Rattle.edit_ops.specs.Causes.{other_axes, first_cause, too_long, bytes_appended, part_cause, causes_of, first_of}
+use Rattle.edit_ops.specs.Copying.{copy_cause}
+use Rattle.edit_ops.proofs.ListedLive.{or_nothing}
 
 -- the first of five that is there, the first two and the others taken together
 five_as_two : (a b c d e : Option Cause) → option_or a (first_of (b ∷ c ∷ d ∷ e ∷ [])) ≡ option_or (option_or a b) (option_or (option_or c d) e)

@@ -19,23 +19,23 @@ use Rattle.dgn_drawing.specs.WellFormed.{IsWellFormed}
 use Rattle.dgn_drawing.specs.Rows.{row_of}
 use Rattle.dgn_drawing.specs.Nesting.{flat, BeginsFree}
 use Rattle.dgn_drawing.specs.Opening.{dimension, Opens}
-use Rattle.edit_trees.specs.Trees.{live_map, live_tree, above_tree}
-use Rattle.edit_trees.specs.Causes.{target_of, cause_of, bytes_appended}
-use Rattle.edit_trees.specs.Applying.{Done, apply, change_of, above_change, altered, changed_forest, IsEdit, ChangesInPlace}
-use Rattle.edit_trees.specs.Fields.{IsIn, part_fields, edited_fields, filled}
-use Rattle.edit_trees.specs.Written.{part_puts}
+use Rattle.edit_ops.specs.Trees.{live_map, live_tree, above_tree}
+use Rattle.edit_ops.specs.Causes.{target_of, cause_of, bytes_appended}
+use Rattle.edit_ops.specs.Applying.{Done, apply, change_of, above_change, altered, changed_forest, IsEdit, ChangesInPlace}
+use Rattle.edit_ops.specs.Fields.{IsIn, part_fields, edited_fields, filled}
+use Rattle.edit_ops.specs.Written.{part_puts}
 use Rattle.edit_ops.specs.declared.types.plan.Plan.{Plan}
 use Rattle.edit_ops.specs.Planned.{IsPlan}
 use Rattle.edit_ops.specs.Laws.{ChangesItsFields}
-use Rattle.edit_trees.proofs.RowsKept.{rows_kept, nested_as, each_kept}
-use Rattle.edit_trees.proofs.TextTurns.{whole_turned, whole_span}
-use Rattle.edit_trees.proofs.LivePuts.{field_of, IsPut}
-use Rattle.edit_trees.proofs.HeaderPuts.{IsAbovePut}
+use Rattle.edit_ops.proofs.RowsKept.{rows_kept, nested_as, each_kept}
+use Rattle.edit_ops.proofs.TextTurns.{whole_turned, whole_span}
+use Rattle.edit_ops.proofs.LivePuts.{field_of, IsPut}
+use Rattle.edit_ops.proofs.HeaderPuts.{IsAbovePut}
 use Rattle.elem_index.proofs.Places.{opened_axes}
-use Rattle.edit_trees.proofs.EditedBytes.{IsWritten, written, all_so}
-use Rattle.edit_trees.proofs.AcceptedEdit.{IsAccepted, accepted, done_is, done_without_cause}
-use Rattle.edit_trees.proofs.FirstElement.{begins_same}
-use Rattle.edit_trees.proofs.PutFields.{held_by_none}
+use Rattle.edit_ops.proofs.EditedBytes.{IsWritten, written, all_so}
+use Rattle.edit_ops.proofs.AcceptedEdit.{IsAccepted, accepted, done_is, done_without_cause}
+use Rattle.edit_ops.proofs.FirstElement.{begins_same}
+use Rattle.edit_ops.proofs.PutFields.{held_by_none}
 use Rattle.dgn_drawing.specs.declared.limits.TheConstants.{MOST_DESIGN}
 
 -- a list that is as long as another has nothing behind it

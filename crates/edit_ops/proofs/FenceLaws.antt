@@ -18,22 +18,22 @@ use Rattle.dgn_drawing.specs.Rows.{row_of}
 use Rattle.dgn_drawing.specs.Nesting.{flat, BeginsFree}
 use Rattle.dgn_drawing.specs.Opening.{dimension, Opens}
 use Rattle.dgn_drawing.specs.declared.edit.Edit.TheVariants as edit
-use Rattle.edit_trees.specs.declared.cause.Cause.{Cause}
+use Rattle.edit_ops.specs.declared.causes.cause.Cause.{Cause}
 use Rattle.edit_ops.specs.declared.types.plan.Plan.{Plan}
-use Rattle.edit_trees.specs.Causes.{cause_of, bytes_appended}
-use Rattle.edit_trees.specs.Applying.{Done, changed_forest, unless}
-use Rattle.edit_trees.specs.Fields.{Field, IsIn, Rise, filled}
+use Rattle.edit_ops.specs.Causes.{cause_of, bytes_appended}
+use Rattle.edit_ops.specs.Applying.{Done, changed_forest, unless}
+use Rattle.edit_ops.specs.Fields.{Field, IsIn, Rise, filled}
 use Rattle.edit_ops.specs.Fenced.{edit_at, edits_at, cause_of_all, fenced_forest, fenced_fields, all_appended, apply_all, AreRoots, IsFenceEdit}
 use Rattle.edit_ops.specs.Planned.{IsFencePlan}
 use Rattle.edit_ops.specs.Laws.{FieldsLieApart}
 use Rattle.edit_ops.specs.FenceLaws.{FencedDrawingsOpen, FencedDrawingsFit, ChangesFencedFields, FenceEditsChangeTheirFields, FencedFieldsAreApart}
-use Rattle.edit_trees.proofs.TextTurns.{Turns, turns_none, turns_then, turned_reads, whole_turned, whole_span}
-use Rattle.edit_trees.proofs.LivePuts.{field_of}
-use Rattle.edit_trees.proofs.EditedBytes.{filled_reads}
-use Rattle.edit_trees.proofs.AcceptedEdit.{none_both, done_unless, done_without_cause}
+use Rattle.edit_ops.proofs.TextTurns.{Turns, turns_none, turns_then, turned_reads, whole_turned, whole_span}
+use Rattle.edit_ops.proofs.LivePuts.{field_of}
+use Rattle.edit_ops.proofs.EditedBytes.{filled_reads}
+use Rattle.edit_ops.proofs.AcceptedEdit.{none_both, done_unless, done_without_cause}
 use Rattle.edit_ops.proofs.AppendedElements.{appended_opens, short_left}
 use Rattle.edit_ops.proofs.CopyEdits.{copy_short}
-use Rattle.edit_trees.proofs.PutFields.{fields_rise, held_by_none}
+use Rattle.edit_ops.proofs.PutFields.{fields_rise, held_by_none}
 use Rattle.edit_ops.proofs.FieldsRise.{fields_apart}
 use Rattle.edit_ops.proofs.RootsTogether.{all_puts, all_bytes, IsFenced, root_fits, fenced}
 use Rattle.dgn_drawing.specs.declared.limits.TheConstants.{MOST_DESIGN}

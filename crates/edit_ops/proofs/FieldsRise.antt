@@ -14,21 +14,21 @@ use Rattle.dgn_drawing.specs.Nesting.{flat}
 use Rattle.dgn_drawing.specs.Numbering.{root_of, span_of}
 use Rattle.dgn_drawing.specs.Opening.{Opens}
 use Rattle.elem_index.specs.Offsets.{offset_of}
-use Rattle.edit_trees.specs.Trees.{Live, live_tree, above_tree}
-use Rattle.edit_trees.specs.Causes.{target_of}
-use Rattle.edit_trees.specs.Applying.{Done, apply, altered, above_change, change_of, IsEdit, ChangesInPlace}
-use Rattle.edit_trees.specs.Fields.{Field, Rise, fields_at, above_fields_at, above_fields, live_fields, part_fields, edited_fields}
-use Rattle.edit_trees.specs.Written.{puts_at, above_puts_at, part_puts}
+use Rattle.edit_ops.specs.Trees.{Live, live_tree, above_tree}
+use Rattle.edit_ops.specs.Causes.{target_of}
+use Rattle.edit_ops.specs.Applying.{Done, apply, altered, above_change, change_of, IsEdit, ChangesInPlace}
+use Rattle.edit_ops.specs.Fields.{Field, Rise, fields_at, above_fields_at, above_fields, live_fields, part_fields, edited_fields}
+use Rattle.edit_ops.specs.Written.{puts_at, above_puts_at, part_puts}
 use Rattle.edit_ops.specs.Laws.{LieIn, FieldsLieApart, EditedFieldsAreApart}
-use Rattle.edit_trees.proofs.EachLive.{each_both}
-use Rattle.edit_trees.proofs.TextTurns.{Turns, whole_span}
-use Rattle.edit_trees.proofs.LivePuts.{field_of, IsPut}
-use Rattle.edit_trees.proofs.HeaderPuts.{IsAbovePut}
-use Rattle.edit_trees.proofs.PutFields.{fields_rise}
-use Rattle.edit_trees.proofs.EditedBytes.{IsWritten, all_so}
-use Rattle.edit_trees.proofs.AcceptedEdit.{done_is}
+use Rattle.edit_ops.proofs.EachLive.{each_both}
+use Rattle.edit_ops.proofs.TextTurns.{Turns, whole_span}
+use Rattle.edit_ops.proofs.LivePuts.{field_of, IsPut}
+use Rattle.edit_ops.proofs.HeaderPuts.{IsAbovePut}
+use Rattle.edit_ops.proofs.PutFields.{fields_rise}
+use Rattle.edit_ops.proofs.EditedBytes.{IsWritten, all_so}
+use Rattle.edit_ops.proofs.AcceptedEdit.{done_is}
 use Rattle.edit_ops.proofs.EditInPlace.{IsInPlace, in_place, named_written}
-use Rattle.edit_trees.proofs.TreeSpread.{LiesBetween, LieInTree, lie_in_tree}
+use Rattle.edit_ops.proofs.TreeSpread.{LiesBetween, LieInTree, lie_in_tree}
 
 -- a field lies between two places
 abbrev LiesIn : ℕ → ℕ → Field → Type 0

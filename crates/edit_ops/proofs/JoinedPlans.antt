@@ -16,17 +16,17 @@ use Rattle.dgn_drawing.specs.Element.{Element}
 use Rattle.dgn_drawing.specs.Spelling.{spell, spelling}
 use Rattle.dgn_drawing.specs.Nesting.{flat}
 use Rattle.dgn_drawing.specs.Opening.{Opens}
-use Rattle.edit_trees.specs.declared.cause.Cause.{Cause}
-use Rattle.edit_trees.specs.declared.edit_fault.EditFault.{EditFault}
-use Rattle.edit_trees.specs.declared.edit_fault.EditFault.TheVariants as faults
+use Rattle.edit_ops.specs.declared.causes.cause.Cause.{Cause}
+use Rattle.edit_ops.specs.declared.causes.edit_fault.EditFault.{EditFault}
+use Rattle.edit_ops.specs.declared.causes.edit_fault.EditFault.TheVariants as faults
 use Rattle.edit_ops.specs.declared.types.plan.Plan.{Plan}
-use Rattle.edit_trees.specs.Causes.{cause_of, bytes_appended}
-use Rattle.edit_trees.specs.Applying.{Refused, unless, apply, copied, changed_forest, IsEdit}
-use Rattle.edit_trees.specs.Fields.{part_fields, filled}
-use Rattle.edit_trees.specs.Written.{part_puts}
+use Rattle.edit_ops.specs.Causes.{cause_of, bytes_appended}
+use Rattle.edit_ops.specs.Applying.{Refused, unless, apply, copied, changed_forest, IsEdit}
+use Rattle.edit_ops.specs.Fields.{part_fields, filled}
+use Rattle.edit_ops.specs.Written.{part_puts}
 use Rattle.edit_ops.specs.Planned.{IsPlan, IsFencePlan, IsRefused}
 use Rattle.edit_ops.specs.Fenced.{edit_at, edits_at, cause_of_all, fenced_forest, apply_all, AreRoots, IsFenceEdit}
-use Rattle.edit_trees.proofs.AcceptedEdit.{done_is}
+use Rattle.edit_ops.proofs.AcceptedEdit.{done_is}
 use Rattle.edit_ops.proofs.CopyEdits.{copy_leaves}
 use Rattle.edit_ops.proofs.EditInPlace.{IsInPlace, in_place, done_written, done_altered, long_in_place}
 use Rattle.edit_ops.proofs.EditLaws.{changes_fields}

@@ -2,10 +2,10 @@
 use Rattle.std.proofs.Common.{◌≡◌, ℕ, zero, suc, ◌+◌, ◌<◌, ◌≤◌, List, [], ◌∷◌, Option, Some, None, refl, ap, ◌∙◌, arith}
 use Rattle.std.specs.Prelude.{slice_get}
 use Rattle.std.specs.Option.{option_or}
-use Rattle.edit_trees.specs.declared.cause.Cause.{Cause}
-use Rattle.edit_trees.specs.declared.asked.Test.{Test}
-use Rattle.edit_trees.specs.Trees.{Live}
-use Rattle.edit_trees.specs.Causes.{cause_at, first_cause}
+use Rattle.edit_ops.specs.declared.causes.cause.Cause.{Cause}
+use Rattle.edit_ops.specs.declared.asking.test.Test.{Test}
+use Rattle.edit_ops.specs.Trees.{Live}
+use Rattle.edit_ops.specs.Causes.{cause_at, first_cause}
 use Rattle.edit_ops.specs.Laws.{NumbersRise, IsLeastCause, FirstCauseIsLeast}
 
 -- none of rising numbers is below the one from which they rise

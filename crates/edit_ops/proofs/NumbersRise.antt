@@ -9,9 +9,9 @@ use Rattle.dgn_drawing.specs.Rows.{row_of}
 use Rattle.dgn_drawing.specs.Nesting.{Forest, NoTree, Tree, flat, forest}
 use Rattle.dgn_drawing.specs.Numbering.{end_of}
 use Rattle.elem_index.specs.Offsets.{offset_of}
-use Rattle.edit_trees.specs.Trees.{Live, count_in, tree_at, live_from, live_tree, above_from, above_tree, path_to}
+use Rattle.edit_ops.specs.Trees.{Live, count_in, tree_at, live_from, live_tree, above_from, above_tree, path_to}
 use Rattle.edit_ops.specs.Laws.{NumbersRise, LiveNumbersRise, PathNumbersRise}
-use Rattle.edit_trees.proofs.EachLive.{live_first, live_behind, live_dead, live_alive}
+use Rattle.edit_ops.proofs.EachLive.{live_first, live_behind, live_dead, live_alive}
 
 -- numbers of elements rise from one on, and are below another
 abbrev RiseTo : ℕ → List Live → ℕ → Type 0

@@ -4,7 +4,7 @@ use Rattle.std.proofs.lemmas.List.{length-take-le, length-drop}
 use Rattle.dgn_layout.specs.declared.spot.Spot.{Spot}
 use Rattle.dgn_layout.specs.Spots.{Rise as SpotsRise}
 use Rattle.patch_bytes.specs.Puts.{Span}
-use Rattle.edit_trees.specs.Fields.{Field, Rise, spot_fields, filled}
+use Rattle.edit_ops.specs.Fields.{Field, Rise, spot_fields, filled}
 use Rattle.edit_ops.specs.WalkLaws.{FieldsRiseAsPatches, SpotsRiseAsFields}
 
 -- ---- fields, and the patches that have a text's bytes there

@@ -14,15 +14,15 @@ use Rattle.dgn_drawing.specs.Nesting.{Whole, Forest, flat, nest, forest, joined,
 use Rattle.dgn_drawing.specs.Opening.{BeginsWithTcb}
 use Rattle.nest_tree.proofs.NestingSteps.{nest_nil}
 use Rattle.nest_tree.proofs.TreesApart.{nest_apart, forest_apart}
-use Rattle.edit_trees.specs.Trees.{tree_at, live_map}
-use Rattle.edit_trees.specs.Applying.{copied}
+use Rattle.edit_ops.specs.Trees.{tree_at, live_map}
+use Rattle.edit_ops.specs.Applying.{copied}
 use Rattle.edit_ops.specs.Fenced.{edits_at, copies, all_appended}
-use Rattle.edit_trees.proofs.PartPlace.{flat-joined}
-use Rattle.edit_trees.proofs.EachLive.{each_both}
-use Rattle.edit_trees.proofs.AcceptedEdit.{IsAccepted}
-use Rattle.edit_trees.proofs.FirstElement.{some_element}
-use Rattle.edit_parts.proofs.TreesBehind.{first_spelled, joined_left, free_both}
-use Rattle.edit_parts.proofs.CopiedPart.{freed_first, copied_good, copied_long, copied_nests}
+use Rattle.edit_ops.proofs.PartPlace.{flat-joined}
+use Rattle.edit_ops.proofs.EachLive.{each_both}
+use Rattle.edit_ops.proofs.AcceptedEdit.{IsAccepted}
+use Rattle.edit_ops.proofs.FirstElement.{some_element}
+use Rattle.edit_ops.proofs.TreesBehind.{first_spelled, joined_left, free_both}
+use Rattle.edit_ops.proofs.CopiedPart.{freed_first, copied_good, copied_long, copied_nests}
 
 module _ (dim : ℕ) (es : List Element) (by : Displacement) where
   -- the copy of the tree of root n, and those of some roots

@@ -18,16 +18,16 @@ use Rattle.dgn_drawing.specs.Numbering.{end_of}
 use Rattle.dgn_drawing.specs.Shown.{roots}
 use Rattle.nest_tree.proofs.NestingSteps.{flat-forest}
 use Rattle.elem_index.specs.Offsets.{offset_of}
-use Rattle.edit_trees.specs.Trees.{count_in, tree_at, live_map, Live, live_from, live_tree, above_from, above_tree}
-use Rattle.edit_trees.specs.Applying.{change_of, IsEdit}
+use Rattle.edit_ops.specs.Trees.{count_in, tree_at, live_map, Live, live_from, live_tree, above_from, above_tree}
+use Rattle.edit_ops.specs.Applying.{change_of, IsEdit}
 use Rattle.edit_ops.specs.Fenced.{chosen_map}
-use Rattle.edit_trees.specs.Written.{puts_at, live_puts, IsReady}
-use Rattle.edit_trees.proofs.PartPlace.{flat-joined}
-use Rattle.edit_trees.proofs.EachLive.{each_both, each_first, each_last}
-use Rattle.edit_trees.proofs.RowsKept.{map-joined, live_looks, live_map_each}
-use Rattle.edit_trees.proofs.TextTurns.{Turns, turns_none, turns_then}
-use Rattle.edit_trees.proofs.LivePuts.{turns_as, forest_turned}
-use Rattle.edit_parts.proofs.TreesBehind.{first_spelled}
+use Rattle.edit_ops.specs.Written.{puts_at, live_puts, IsReady}
+use Rattle.edit_ops.proofs.PartPlace.{flat-joined}
+use Rattle.edit_ops.proofs.EachLive.{each_both, each_first, each_last}
+use Rattle.edit_ops.proofs.RowsKept.{map-joined, live_looks, live_map_each}
+use Rattle.edit_ops.proofs.TextTurns.{Turns, turns_none, turns_then}
+use Rattle.edit_ops.proofs.LivePuts.{turns_as, forest_turned}
+use Rattle.edit_ops.proofs.TreesBehind.{first_spelled}
 
 -- the live elements of the chosen trees, of trees whose first element has number n and begins at byte p
 abbrev pub chosen_live : (ℕ → Bool) → ℕ → ℕ → Forest Element → List Live

@@ -21,21 +21,21 @@ use Rattle.dgn_drawing.specs.Opening.{dimension, BeginsWithTcb, Opens}
 use Rattle.nest_tree.proofs.NestingSteps.{flat-forest}
 use Rattle.nest_tree.proofs.ByRows.{forest_rows, flat-map}
 use Rattle.nest_tree.proofs.SameTrees.{known}
-use Rattle.edit_trees.specs.Trees.{Live, live_map, live_tree, above_tree}
-use Rattle.edit_trees.specs.Causes.{target_of, cause_of, bytes_appended}
-use Rattle.edit_trees.specs.Applying.{change_of, copied, IsEdit, ChangesInPlace}
-use Rattle.edit_trees.specs.Fields.{above_fields_at, fields_at, live_fields, part_fields, edited_fields}
-use Rattle.edit_trees.specs.Written.{puts_at, above_puts, live_puts, part_puts, IsReady}
+use Rattle.edit_ops.specs.Trees.{Live, live_map, live_tree, above_tree}
+use Rattle.edit_ops.specs.Causes.{target_of, cause_of, bytes_appended}
+use Rattle.edit_ops.specs.Applying.{change_of, copied, IsEdit, ChangesInPlace}
+use Rattle.edit_ops.specs.Fields.{above_fields_at, fields_at, live_fields, part_fields, edited_fields}
+use Rattle.edit_ops.specs.Written.{puts_at, above_puts, live_puts, part_puts, IsReady}
 use Rattle.edit_ops.specs.Fenced.{edit_at, edits_at, cause_of_all, chosen_map, roots_changed, copies, fenced_forest, fenced_fields, all_appended, AreRoots}
 use Rattle.edit_ops.specs.Fenced.{IsFenceEdit}
-use Rattle.edit_trees.proofs.PartPlace.{flat-joined}
-use Rattle.edit_trees.proofs.EachLive.{each_both, live_tree_each}
-use Rattle.edit_trees.proofs.TextTurns.{Turns, turns_none}
-use Rattle.edit_trees.proofs.LivePuts.{field_of, IsPut, element_put, turns_as, fields_put}
+use Rattle.edit_ops.proofs.PartPlace.{flat-joined}
+use Rattle.edit_ops.proofs.EachLive.{each_both, live_tree_each}
+use Rattle.edit_ops.proofs.TextTurns.{Turns, turns_none}
+use Rattle.edit_ops.proofs.LivePuts.{field_of, IsPut, element_put, turns_as, fields_put}
 use Rattle.elem_index.proofs.Places.{opened_axes}
-use Rattle.edit_trees.proofs.EditedBytes.{all_so, all_both}
-use Rattle.edit_trees.proofs.AcceptedEdit.{IsAccepted, accepted, none_both}
-use Rattle.edit_trees.proofs.FirstElement.{BeginsWith, begins_as}
+use Rattle.edit_ops.proofs.EditedBytes.{all_so, all_both}
+use Rattle.edit_ops.proofs.AcceptedEdit.{IsAccepted, accepted, none_both}
+use Rattle.edit_ops.proofs.FirstElement.{BeginsWith, begins_as}
 use Rattle.edit_ops.proofs.ListMembers.{is_one_of, each_chosen, roots_among, zero_apart}
 use Rattle.edit_ops.proofs.RootsChanged.{chosen_live, chosen_looks, chosen_each, chosen_turned, roots_live, roots_above}
 use Rattle.edit_ops.proofs.RootCopies.{copies_free, copies_spelled, copies_good, copies_long, copies_nest}

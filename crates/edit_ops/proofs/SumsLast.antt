@@ -8,20 +8,20 @@ use Rattle.dgn_drawing.specs.declared.edit.Edit.{Edit}
 use Rattle.dgn_drawing.specs.declared.edit.Edit.TheVariants as edit
 use Rattle.dgn_drawing.specs.Element.{Element}
 use Rattle.elem_index.specs.Offsets.{offset_of}
-use Rattle.edit_trees.specs.declared.cause.Cause.{Cause}
-use Rattle.edit_trees.specs.declared.edit_fault.EditFault.{EditFault}
-use Rattle.edit_trees.specs.declared.asked.Test.TheVariants as tests
-use Rattle.edit_trees.specs.Trees.{Live, live_tree, above_tree, found_at}
-use Rattle.edit_trees.specs.Causes.{unwidened, first_cause, cause_at, other_axes, causes_of, first_of, target_of}
-use Rattle.edit_trees.specs.Applying.{ChangesInPlace}
-use Rattle.edit_trees.specs.Written.{MayWiden}
-use Rattle.edit_trees.proofs.AcceptedEdit.{IsKept, none_of, none_first, movable, looks, markable}
-use Rattle.edit_trees.proofs.EditedBytes.{all_so}
-use Rattle.edit_trees.proofs.HeaderClasses.{headers_head, all_spotted}
-use Rattle.edit_trees.proofs.ListedLive.{or_nothing}
-use Rattle.edit_parts.specs.Copying.{IsStopped}
-use Rattle.edit_parts.specs.Putting.{MayBePut, leaving}
-use Rattle.edit_parts.proofs.LeavingElements.{leaving_both, stopped_first}
+use Rattle.edit_ops.specs.declared.causes.cause.Cause.{Cause}
+use Rattle.edit_ops.specs.declared.causes.edit_fault.EditFault.{EditFault}
+use Rattle.edit_ops.specs.declared.asking.test.Test.TheVariants as tests
+use Rattle.edit_ops.specs.Trees.{Live, live_tree, above_tree, found_at}
+use Rattle.edit_ops.specs.Causes.{unwidened, first_cause, cause_at, other_axes, causes_of, first_of, target_of}
+use Rattle.edit_ops.specs.Applying.{ChangesInPlace}
+use Rattle.edit_ops.specs.Written.{MayWiden}
+use Rattle.edit_ops.proofs.AcceptedEdit.{IsKept, none_of, none_first, movable, looks, markable}
+use Rattle.edit_ops.proofs.EditedBytes.{all_so}
+use Rattle.edit_ops.proofs.HeaderClasses.{headers_head, all_spotted}
+use Rattle.edit_ops.proofs.ListedLive.{or_nothing}
+use Rattle.edit_ops.specs.Copying.{IsStopped}
+use Rattle.edit_ops.specs.Putting.{MayBePut, leaving}
+use Rattle.edit_ops.proofs.LeavingElements.{leaving_both, stopped_first}
 use Rattle.edit_ops.specs.Asked.{causes_asked}
 
 -- the last of five, apart from the others

@@ -13,9 +13,9 @@ use Rattle.dgn_drawing.specs.Numbering.{Mark, end_of, marks_of, mark_of, span_of
 use Rattle.nest_tree.proofs.LookUps.{found_of}
 use Rattle.nest_tree.proofs.ListStacks.{length-marks}
 use Rattle.nest_tree.proofs.NestingSteps.{flat-forest}
-use Rattle.edit_trees.specs.Trees.{Live, count_in, tree_at, exchange, above_from}
+use Rattle.edit_ops.specs.Trees.{Live, count_in, tree_at, exchange, above_from}
 use Rattle.edit_ops.specs.WalkLaws.{HeadersAreNumbered, PartsAreSpans, ExchangesAreLocal}
-use Rattle.edit_trees.proofs.PartPlace.{IsPlaced, placed, flat-joined}
+use Rattle.edit_ops.proofs.PartPlace.{IsPlaced, placed, flat-joined}
 
 -- ---- the headers above
 

@@ -7,11 +7,11 @@ use Rattle.dgn_drawing.specs.Values.{Displacement}
 use Rattle.dgn_drawing.specs.Element.{Display, Body, Silent, Shown, Cell, Line, Header, Plain, Element}
 use Rattle.dgn_drawing.specs.Spelling.{display_bytes, parts_bytes, body_bytes, spell, spelling}
 use Rattle.dgn_drawing.specs.Nesting.{nest_within, flat}
-use Rattle.edit_trees.specs.declared.cause.Cause.{Cause}
-use Rattle.edit_trees.specs.declared.cause.Cause.TheVariants as causes
-use Rattle.edit_trees.specs.Causes.{cause_of}
-use Rattle.edit_trees.specs.Applying.{Done, apply, copied}
-use Rattle.edit_trees.specs.Fields.{edited_fields}
+use Rattle.edit_ops.specs.declared.causes.cause.Cause.{Cause}
+use Rattle.edit_ops.specs.declared.causes.cause.Cause.TheVariants as causes
+use Rattle.edit_ops.specs.Causes.{cause_of}
+use Rattle.edit_ops.specs.Applying.{Done, apply, copied}
+use Rattle.edit_ops.specs.Fields.{edited_fields}
 
 -- a display part with these corners and this attribute index
 abbrev display : List ℤ → List ℤ → ℕ → Display

@@ -4,10 +4,10 @@ use Rattle.std.specs.Prelude.{ℕ, List, [], ◌∷◌, ◌++◌, Option}
 use Rattle.dgn_drawing.specs.declared.edit.Edit.{Edit}
 use Rattle.dgn_drawing.specs.declared.edit.Edit.TheVariants as edit
 use Rattle.dgn_drawing.specs.Element.{Element}
-use Rattle.edit_trees.specs.declared.cause.Cause.{Cause}
-use Rattle.edit_trees.specs.declared.asked.Test.TheVariants as tests
-use Rattle.edit_trees.specs.Trees.{live_tree, above_tree}
-use Rattle.edit_trees.specs.Causes.{first_cause, other_axes, causes_of}
+use Rattle.edit_ops.specs.declared.causes.cause.Cause.{Cause}
+use Rattle.edit_ops.specs.declared.asking.test.Test.TheVariants as tests
+use Rattle.edit_ops.specs.Trees.{live_tree, above_tree}
+use Rattle.edit_ops.specs.Causes.{first_cause, other_axes, causes_of}
 
 -- the causes of the edit but for a move's last: that an element would leave the design plane
 abbrev pub causes_asked : ℕ → List Element → Edit → List (Option Cause)

@@ -7,8 +7,8 @@ use Rattle.dgn_drawing.specs.Spelling.{spelling}
 use Rattle.dgn_drawing.specs.Rows.{row_of}
 use Rattle.dgn_drawing.specs.Nesting.{forest, BeginsFree}
 use Rattle.dgn_drawing.specs.Opening.{Opens}
-use Rattle.edit_trees.specs.Applying.{Done}
-use Rattle.edit_trees.specs.Fields.{IsIn, Rise, filled}
+use Rattle.edit_ops.specs.Applying.{Done}
+use Rattle.edit_ops.specs.Fields.{IsIn, Rise, filled}
 use Rattle.edit_ops.specs.Laws.{FieldsLieApart}
 use Rattle.edit_ops.specs.Fenced.{apply_all, fenced_forest, fenced_fields, edit_at, edits_at, all_appended, AreRoots, IsFenceEdit}
 use Rattle.dgn_drawing.specs.declared.limits.TheConstants.{MOST_DESIGN}

@@ -14,11 +14,11 @@ use Rattle.dgn_drawing.specs.Numbering.{end_of}
 use Rattle.dgn_drawing.specs.Shown.{roots}
 use Rattle.dgn_drawing.specs.Values.{IsShift, IsLook}
 use Rattle.dgn_drawing.specs.Changes.{shift, recolour, mark}
-use Rattle.edit_trees.specs.declared.cause.Cause.{Cause}
-use Rattle.edit_trees.specs.Trees.{live_map}
-use Rattle.edit_trees.specs.Causes.{bytes_appended, cause_of}
-use Rattle.edit_trees.specs.Applying.{Applied, copied, unless}
-use Rattle.edit_trees.specs.Fields.{Field, edited_fields}
+use Rattle.edit_ops.specs.declared.causes.cause.Cause.{Cause}
+use Rattle.edit_ops.specs.Trees.{live_map}
+use Rattle.edit_ops.specs.Causes.{bytes_appended, cause_of}
+use Rattle.edit_ops.specs.Applying.{Applied, copied, unless}
+use Rattle.edit_ops.specs.Fields.{Field, edited_fields}
 
 -- the edit of root n that it asks for
 abbrev pub edit_at : FenceEdit → ℕ → Edit

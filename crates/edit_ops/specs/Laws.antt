@@ -9,12 +9,12 @@ use Rattle.dgn_drawing.specs.Nesting.{forest, BeginsFree}
 use Rattle.dgn_drawing.specs.Numbering.{span_of, root_of}
 use Rattle.elem_index.specs.Offsets.{offset_of}
 use Rattle.dgn_drawing.specs.Opening.{Opens}
-use Rattle.edit_trees.specs.declared.cause.Cause.{Cause}
-use Rattle.edit_trees.specs.declared.asked.Test.{Test}
-use Rattle.edit_trees.specs.Trees.{Live, live_tree, above_tree, path_to}
-use Rattle.edit_trees.specs.Causes.{target_of, cause_at, first_cause, bytes_appended}
-use Rattle.edit_trees.specs.Applying.{Done, apply, changed_forest, IsEdit}
-use Rattle.edit_trees.specs.Fields.{Field, IsIn, Rise, fields_at, above_fields_at, edited_fields, filled}
+use Rattle.edit_ops.specs.declared.causes.cause.Cause.{Cause}
+use Rattle.edit_ops.specs.declared.asking.test.Test.{Test}
+use Rattle.edit_ops.specs.Trees.{Live, live_tree, above_tree, path_to}
+use Rattle.edit_ops.specs.Causes.{target_of, cause_at, first_cause, bytes_appended}
+use Rattle.edit_ops.specs.Applying.{Done, apply, changed_forest, IsEdit}
+use Rattle.edit_ops.specs.Fields.{Field, IsIn, Rise, fields_at, above_fields_at, edited_fields, filled}
 use Rattle.dgn_drawing.specs.declared.limits.TheConstants.{MOST_DESIGN}
 
 -- an edit that is done on the elements of a file: what it leaves opens in the same dimension, with the same tail

@@ -1,7 +1,16 @@
 pub mod Asked
-pub mod Edits
 pub mod Fenced
 pub mod Planned
 pub mod Laws
 pub mod FenceLaws
 pub mod WalkLaws
+pub mod Trees
+pub mod Causes
+pub mod Applying
+pub mod Fields
+pub mod Written
+pub mod Found
+pub mod Asking
+pub mod Copying
+pub mod Putting
+pub mod Lone

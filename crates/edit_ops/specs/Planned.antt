@@ -4,11 +4,11 @@ use Rattle.dgn_drawing.specs.declared.edit.Edit.{Edit}
 use Rattle.dgn_drawing.specs.declared.fence_edit.FenceEdit.{FenceEdit}
 use Rattle.dgn_drawing.specs.Element.{Element}
 use Rattle.dgn_drawing.specs.Spelling.{spelling}
-use Rattle.edit_trees.specs.declared.edit_fault.EditFault.{EditFault}
-use Rattle.edit_trees.specs.declared.edit_fault.EditFault.TheVariants as faults
+use Rattle.edit_ops.specs.declared.causes.edit_fault.EditFault.{EditFault}
+use Rattle.edit_ops.specs.declared.causes.edit_fault.EditFault.TheVariants as faults
 use Rattle.edit_ops.specs.declared.types.plan.Plan.{Plan}
-use Rattle.edit_trees.specs.Applying.{Applied, Done, Refused, apply}
-use Rattle.edit_trees.specs.Fields.{edited_fields, filled}
+use Rattle.edit_ops.specs.Applying.{Applied, Done, Refused, apply}
+use Rattle.edit_ops.specs.Fields.{edited_fields, filled}
 use Rattle.edit_ops.specs.Fenced.{apply_all, fenced_fields}
 
 -- the edit is done, and the plan is its fields with the bytes that the result has there, and the bytes of the

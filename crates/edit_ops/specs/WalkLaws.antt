@@ -9,8 +9,8 @@ use Rattle.dgn_drawing.specs.Element.{Element}
 use Rattle.dgn_drawing.specs.Rows.{row_of}
 use Rattle.dgn_drawing.specs.Nesting.{Forest, flat, forest}
 use Rattle.dgn_drawing.specs.Numbering.{span_of, headers_of}
-use Rattle.edit_trees.specs.Trees.{Live, tree_at, exchange, above_tree}
-use Rattle.edit_trees.specs.Fields.{Field, Rise, spot_fields, filled}
+use Rattle.edit_ops.specs.Trees.{Live, tree_at, exchange, above_tree}
+use Rattle.edit_ops.specs.Fields.{Field, Rise, spot_fields, filled}
 
 -- the headers above an element have the numbers that the numbering gives
 abbrev pub HeadersAreNumbered : Type 0

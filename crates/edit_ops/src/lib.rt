@@ -1,20 +1,31 @@
-//! What an edit of a drawing comes to: the first cause of its refusal, or the fields that it writes.
+//! What an edit of a drawing comes to: the first cause of its refusal, or the fields that it writes and the bytes that it
+//! appends; the same of one edit of several roots; and the copy of a part, also for another drawing.
 //!
 //! An edit changes or copies the part of one element, which is the element and all below it, or appends an
 //! element. Of a part it changes the live elements: those that neither are marked deleted nor stand below one that
 //! is. A move also widens the ranges of the headers above the part.
 #![tactic(auto)]
 
-mod above;
-mod edit_causes;
-mod fencing;
+mod asking;
+mod causes;
+mod copies;
+mod fenced;
 pub mod laws;
-mod numbers;
-mod patches;
-mod planning;
+mod parts;
+mod plans;
 pub mod types;
 
-pub use edit_parts::{copy_tree, part_bytes};
-pub use edit_trees::{Cause, EditFault};
-pub use fencing::plan_all;
-pub use planning::plan;
+pub use asking::first::{first_cause, move_cause};
+pub use asking::found::{Found, find};
+pub use asking::shift::same_shift;
+pub use asking::test::Test;
+pub use causes::cause::Cause;
+pub use causes::edit_fault::EditFault;
+pub use causes::part::{other_axes, part_cause, silent, too_long, unknown};
+pub use copies::imported::copy_tree;
+pub use copies::tree::{part_bytes, part_len};
+pub use fenced::plan_all;
+pub use parts::live::put_live_numbers;
+pub use parts::live_patches::{number_patch, push_live};
+pub use parts::lone::is_lone_root;
+pub use plans::edit::plan;

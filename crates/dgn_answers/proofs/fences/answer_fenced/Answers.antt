@@ -1,5 +1,5 @@
 use Rattle.std.proofs.Common.{◌≡◌, Option, None, ap, sym, subst, ◌∙◌}
-use Rattle.edit_trees.specs.Applying.{Applied}
+use Rattle.edit_ops.specs.Applying.{Applied}
 use Rattle.dgn_session.specs.Answers.{IsFenceRefused}
 use Rattle.dgn_session.specs.State.{state_of, fence_applied, pushed_if}
 use Rattle.dgn_answers.proofs.LogSteps.{fence_edit_logs}

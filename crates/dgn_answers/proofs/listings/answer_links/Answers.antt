@@ -1,5 +1,5 @@
 use Rattle.std.proofs.Common.{◌++◌, List, ℕ, ap, ◌∙◌, subst}
-use Rattle.listing_texts.specs.Lines.{AppendsFrontOf}
+use Rattle.dgn_listing.specs.Lines.{AppendsFrontOf}
 use Rattle.elem_index.proofs.Places.{sound_here}
 use Rattle.dgn_answers.proofs.Links.{links_answered, errs}
 use Rattle.dgn_answers.proofs.listings.answer_links.Goals as goal

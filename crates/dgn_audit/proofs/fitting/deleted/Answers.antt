@@ -1,4 +1,4 @@
-use Rattle.edit_trees.proofs.DesignElements.{head_fits}
+use Rattle.edit_ops.proofs.DesignElements.{head_fits}
 use Rattle.dgn_audit.proofs.FitQuestions.{dead_root, live_root}
 use Rattle.dgn_audit.proofs.fitting.deleted.Goals as goal
 

@@ -3,7 +3,7 @@ use Rattle.elem_index.specs.Design.{elements}
 use Rattle.dgn_drawing.specs.Rows.{row_of}
 use Rattle.dgn_drawing.specs.Numbering.{root_of}
 use Rattle.dgn_drawing.specs.Nesting.{itself}
-use Rattle.edit_trees.proofs.RootRows.{root_by_rows}
+use Rattle.edit_ops.proofs.RootRows.{root_by_rows}
 use Rattle.elem_index.proofs.Places.{axes_of}
 use Rattle.dgn_audit.proofs.FitQuestions.{ok_as, err_as, refused_cause}
 use Rattle.dgn_audit.proofs.TreePlaces.{root_known}

@@ -1,5 +1,5 @@
 use Rattle.std.proofs.Common.{refl}
-use Rattle.edit_trees.proofs.DesignElements.{head_fits, found_here}
+use Rattle.edit_ops.proofs.DesignElements.{head_fits, found_here}
 use Rattle.dgn_audit.proofs.FitQuestions.{kind_spotted, kind_holds}
 use Rattle.dgn_audit.proofs.fitting.push_range.Goals as goal
 

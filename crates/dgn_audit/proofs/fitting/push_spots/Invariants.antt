@@ -1,8 +1,8 @@
 use Rattle.std.proofs.Common.{◌≡◌, ◌++◌, length, map}
 use Rattle.dgn_layout.specs.Spots.{spots_of}
 use Rattle.dgn_layout.specs.SpotsLeft.{spots_left}
-use Rattle.spot_numbers.proofs.SpotSteps.{LieIn}
-use Rattle.edit_trees.proofs.WiderRanges.{of_ranges}
+use Rattle.dgn_drawing.proofs.SpotSteps.{LieIn}
+use Rattle.edit_ops.proofs.WiderRanges.{of_ranges}
 use Rattle.dgn_audit.specs.Fitting.{range_put}
 use Rattle.dgn_audit.proofs.fitting.push_spots.Given as goal
 

@@ -3,7 +3,7 @@ use Rattle.dgn_layout.specs.declared.spot.Spot.{Spot}
 use Rattle.dgn_layout.specs.declared.types.spots.Spots.{Spots}
 use Rattle.dgn_layout.specs.Spots.{spots_of}
 use Rattle.dgn_layout.specs.SpotsLeft.{spots_left}
-use Rattle.spot_numbers.proofs.SpotSteps.{LieIn, lie_in}
+use Rattle.dgn_drawing.proofs.SpotSteps.{LieIn, lie_in}
 use Rattle.dgn_audit.proofs.PointHulls.{blank, read_from, row_read}
 use Rattle.dgn_audit.proofs.hulls.points_hull.Goals as goal
 

@@ -1,7 +1,7 @@
 use Rattle.std.proofs.Common.{◌≡◌, length, None}
 use Rattle.dgn_layout.specs.Spots.{spots_of}
 use Rattle.dgn_layout.specs.SpotsLeft.{spots_left}
-use Rattle.spot_numbers.proofs.SpotSteps.{LieIn}
+use Rattle.dgn_drawing.proofs.SpotSteps.{LieIn}
 use Rattle.dgn_audit.proofs.PointHulls.{blank, read_from}
 use Rattle.dgn_audit.proofs.hulls.points_hull.Given as goal
 

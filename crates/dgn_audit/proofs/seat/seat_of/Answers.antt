@@ -1,7 +1,7 @@
 use Rattle.std.proofs.Common.{refl}
 use Rattle.elem_index.specs.Design.{elements}
 use Rattle.elem_index.specs.Offsets.{offset_of}
-use Rattle.edit_trees.proofs.DesignElements.{head_fits, found_here}
+use Rattle.edit_ops.proofs.DesignElements.{head_fits, found_here}
 use Rattle.dgn_audit.proofs.ElementSeats.{seat_mark, seat_marked, seat_end, seat_parent, seat_knot}
 use Rattle.dgn_audit.proofs.seat.seat_of.Goals as goal
 

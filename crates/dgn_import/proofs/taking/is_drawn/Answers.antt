@@ -2,8 +2,8 @@ use Rattle.std.proofs.Common.{refl, ap}
 use Rattle.std.specs.Prelude.{not}
 use Rattle.elem_index.specs.Design.{elements}
 use Rattle.elem_index.specs.Offsets.{offset_of}
-use Rattle.edit_trees.specs.declared.finding.Found.{Found}
-use Rattle.edit_trees.proofs.DesignElements.{head_fits, found_here}
+use Rattle.edit_ops.specs.declared.asking.found.Found.{Found}
+use Rattle.edit_ops.proofs.DesignElements.{head_fits, found_here}
 use Rattle.dgn_import.proofs.DrawnElements.{drawn_seen, drawn_silent}
 use Rattle.dgn_import.proofs.taking.is_drawn.Goals as goal
 

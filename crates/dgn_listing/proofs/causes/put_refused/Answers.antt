@@ -1,8 +1,8 @@
 use Rattle.std.proofs.Common.{◌≡◌, ◌++◌, ℕ, ap, ◌∙◌, subst}
 use Rattle.std.specs.Prelude.{decimal}
-use Rattle.listing_texts.specs.Lines.{line_feed, AppendsFrontOf}
+use Rattle.dgn_listing.specs.Lines.{line_feed, AppendsFrontOf}
 use Rattle.dgn_listing.specs.CauseTexts.{refused_text}
-use Rattle.listing_texts.proofs.Fronts.{first, later, last, said}
+use Rattle.dgn_listing.proofs.Fronts.{first, later, last, said}
 use Rattle.dgn_listing.proofs.causes.put_refused.Goals as goal
 
 pub returns-in_err-put-clause-front : goal.returns-in_err-put-clause-front

@@ -1,8 +1,8 @@
 use Rattle.std.proofs.Common.{◌≡◌, Result, ℕ, List, sym, subst}
 use Rattle.std.specs.Prelude.{OnErr}
-use Rattle.edit_trees.specs.declared.cause.Cause.{Cause}
-use Rattle.edit_trees.specs.declared.cause.Cause.TheVariants as causes
-use Rattle.listing_texts.specs.Lines.{AppendsFrontOf}
+use Rattle.edit_ops.specs.declared.causes.cause.Cause.{Cause}
+use Rattle.edit_ops.specs.declared.causes.cause.Cause.TheVariants as causes
+use Rattle.dgn_listing.specs.Lines.{AppendsFrontOf}
 use Rattle.dgn_listing.specs.CauseTexts.{cause_text}
 use Rattle.dgn_listing.proofs.causes.write_cause.Goals as goal
 

@@ -1,5 +1,5 @@
 use Rattle.std.proofs.Common.{codes}
-use Rattle.listing_texts.proofs.Fronts.{first, later, last, said}
+use Rattle.dgn_listing.proofs.Fronts.{first, later, last, said}
 use Rattle.dgn_listing.proofs.findings.put_corners.Goals as goal
 
 pub returns-in_err-put_point-clause-front : goal.returns-in_err-put_point-clause-front

@@ -1,7 +1,7 @@
 use Rattle.std.proofs.Common.{codes}
-use Rattle.listing_texts.specs.Lines.{line_feed}
-use Rattle.listing_texts.proofs.Fronts.{first, later, last, said}
-use Rattle.listing_texts.proofs.FindingLines.{five_written}
+use Rattle.dgn_listing.specs.Lines.{line_feed}
+use Rattle.dgn_listing.proofs.Fronts.{first, later, last, said}
+use Rattle.dgn_listing.proofs.FindingLines.{five_written}
 use Rattle.dgn_listing.proofs.findings.put_finding.Goals as goal
 
 pub returns-in_err-put_its_number-clause-front : goal.returns-in_err-put_its_number-clause-front

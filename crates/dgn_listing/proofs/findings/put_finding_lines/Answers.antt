@@ -1,6 +1,6 @@
 use Rattle.dgn_listing.specs.FindingTexts.{finding_line}
-use Rattle.listing_texts.proofs.Fronts.{among, said}
-use Rattle.listing_texts.proofs.FindingLines.{more_at, all_at}
+use Rattle.dgn_listing.proofs.Fronts.{among, said}
+use Rattle.dgn_listing.proofs.FindingLines.{more_at, all_at}
 use Rattle.dgn_listing.proofs.findings.put_finding_lines.Goals as goal
 
 pub returns-in_err-put_finding-clause-front : goal.returns-in_err-put_finding-clause-front

@@ -1,4 +1,4 @@
-use Rattle.listing_texts.proofs.Fronts.{first, last, said}
+use Rattle.dgn_listing.proofs.Fronts.{first, last, said}
 use Rattle.dgn_listing.proofs.findings.write_findings.Goals as goal
 
 pub returns-in_err-put_finding_lines-clause-front : goal.returns-in_err-put_finding_lines-clause-front

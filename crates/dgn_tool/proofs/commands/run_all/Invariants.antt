@@ -1,6 +1,6 @@
 use Rattle.std.proofs.Common.{◌≡◌, ◌≤◌, drop}
 use Rattle.std.specs.List.{AllByRecursion}
-use Rattle.host_desk.specs.Seen.{seen}
+use Rattle.dgn_desk.specs.Seen.{seen}
 use Rattle.dgn_session.specs.State.{state_of}
 use Rattle.dgn_import.specs.Seconds.{IsSound}
 use Rattle.dgn_answers.specs.Given.{given_all}

@@ -1,21 +1,21 @@
 use Rattle.std.proofs.Common.{List, refl, sym, subst}
 use Rattle.std.proofs.lemmas.Result.{err_from_is_err_and}
-use Rattle.host_desk.specs.Content.{bytes_of}
-use Rattle.host_desk.specs.Seen.{seen}
+use Rattle.dgn_desk.specs.Content.{bytes_of}
+use Rattle.dgn_desk.specs.Seen.{seen}
 use Rattle.dgn_drawing.specs.declared.command.Command.{Command}
 use Rattle.elem_index.specs.Answers.{opened_of}
-use Rattle.dgn_files.specs.Ends.{Has, ReadTo}
-use Rattle.dgn_files.specs.InBytes.{InputInBytes, ScriptInBytes, AreInBytes, AllInBytes}
+use Rattle.dgn_tool.specs.Ends.{Has, ReadTo}
+use Rattle.dgn_tool.specs.InBytes.{InputInBytes, ScriptInBytes, AreInBytes, AllInBytes}
 use Rattle.dgn_answers.specs.Given.{given_all}
-use Rattle.dgn_files.specs.InputOutcomes.{HasAll, scripted}
-use Rattle.dgn_files.specs.Readings.{OpensAs, ReadsAs, script_in, seconds_in}
+use Rattle.dgn_tool.specs.InputOutcomes.{HasAll, scripted}
+use Rattle.dgn_tool.specs.Readings.{OpensAs, ReadsAs, script_in, seconds_in}
 use Rattle.dgn_tool.specs.ReadInputs.{AreRead, inputs_in}
-use Rattle.dgn_files.specs.SecondFiles.{names_in, AreThere}
+use Rattle.dgn_tool.specs.SecondFiles.{names_in, AreThere}
 use Rattle.dgn_tool.specs.Outcome.{stepped}
 use Rattle.dgn_import.specs.Seconds.{waiting}
 use Rattle.dgn_tool.proofs.RunInputs.{to_script, to_seconds, all_read, seconds_there, seconds_bytes}
-use Rattle.dgn_files.proofs.InputOutcomes.{other_there}
-use Rattle.dgn_files.proofs.RunParts.{same_end, then_ends, then_reads}
+use Rattle.dgn_tool.proofs.InputOutcomes.{other_there}
+use Rattle.dgn_tool.proofs.RunParts.{same_end, then_ends, then_reads}
 use Rattle.dgn_tool.proofs.inputs.read_inputs.Goals as goal
 
 pub returns-in_err-design-clause-ended : goal.returns-in_err-design-clause-ended

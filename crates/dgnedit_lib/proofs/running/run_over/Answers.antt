@@ -1,6 +1,6 @@
 use Rattle.std.proofs.Common.{map, string_bytes, length, Some, None, true, ap, ◌∙◌}
-use Rattle.host_desk.specs.Content.{all_said}
-use Rattle.dgn_files.specs.Status.{number_of}
+use Rattle.dgn_desk.specs.Content.{all_said}
+use Rattle.dgn_tool.specs.Status.{number_of}
 use Rattle.dgnedit_lib.proofs.HandedOut.{ends, handed_out, put_none}
 use Rattle.dgnedit_lib.specs.Handing.{put_in, text_ended}
 use Rattle.dgnedit_lib.proofs.running.run_over.Goals as goal

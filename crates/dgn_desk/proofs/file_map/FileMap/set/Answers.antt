@@ -1,5 +1,5 @@
 use Rattle.std.proofs.Common.{string_bytes, ap, ◌∙◌}
-use Rattle.host_desk.specs.Content.{with_file}
+use Rattle.dgn_desk.specs.Content.{with_file}
 use Rattle.dgn_desk.specs.FileMap.{files_of}
 use Rattle.dgn_desk.proofs.FileMaps.{files_of-set}
 use Rattle.dgn_desk.proofs.file_map.FileMap.set.Goals as goal

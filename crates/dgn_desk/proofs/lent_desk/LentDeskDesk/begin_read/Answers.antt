@@ -1,6 +1,6 @@
 use Rattle.std.proofs.Common.{◌++◌, [], Some, unwrap_or, append-nil, ap, sym, ◌∙◌}
 use Rattle.std.specs.FinMap as maps
-use Rattle.host_desk.specs.Content.{opened}
+use Rattle.dgn_desk.specs.Content.{opened}
 use Rattle.dgn_desk.proofs.LentFiles.{get_written, get_lent, opened_over, none_there}
 use Rattle.dgn_desk.proofs.lent_desk.LentDeskDesk.begin_read.Goals as goal
 

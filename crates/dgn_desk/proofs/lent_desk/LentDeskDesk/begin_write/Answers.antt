@@ -1,5 +1,5 @@
 use Rattle.std.proofs.Common.{[], Some, option_map, string_bytes, ap, ◌∙◌}
-use Rattle.host_desk.specs.Content.{with_file, filed}
+use Rattle.dgn_desk.specs.Content.{with_file, filed}
 use Rattle.dgn_desk.proofs.LentFiles.{filed_over}
 use Rattle.dgn_desk.proofs.lent_desk.LentDeskDesk.begin_write.Goals as goal
 

@@ -1,5 +1,5 @@
 use Rattle.std.proofs.Common.{ap, sym, ◌∙◌, Some, string_bytes, option_map, length, take}
-use Rattle.host_desk.specs.Content.{written}
+use Rattle.dgn_desk.specs.Content.{written}
 use Rattle.dgn_desk.proofs.LentFiles.{written_over}
 use Rattle.dgn_desk.proofs.lent_desk.LentDeskDesk.write.Goals as goal
 

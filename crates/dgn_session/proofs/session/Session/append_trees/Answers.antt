@@ -1,6 +1,6 @@
 use Rattle.std.proofs.Common.{◌≡◌, ◌+◌, length, sym, ◌∙◌, subst}
 use Rattle.std.specs.Prelude.{None}
-use Rattle.edit_trees.specs.Causes.{too_long}
+use Rattle.edit_ops.specs.Causes.{too_long}
 use Rattle.dgn_session.specs.State.{SessionValue}
 use Rattle.dgn_session.specs.Laws.{IsSound}
 use Rattle.dgn_session.proofs.AppendedTrees.{IsImported, trees_sound, trees_made}

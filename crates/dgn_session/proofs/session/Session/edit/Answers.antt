@@ -1,7 +1,7 @@
 use Rattle.std.proofs.Common.{◌≡◌, ℕ, ◌+◌, length, Result, Ok, Err, sym, subst, arith}
 use Rattle.std.specs.Result.{IfErr, IsErrAnd}
 use Rattle.elem_index.specs.Design.{elements}
-use Rattle.edit_trees.specs.Applying.{apply}
+use Rattle.edit_ops.specs.Applying.{apply}
 use Rattle.edit_ops.specs.Planned.{IsRefused}
 use Rattle.dgn_session.specs.State.{SessionValue, state_of, applied}
 use Rattle.dgn_session.specs.Laws.{IsSound}

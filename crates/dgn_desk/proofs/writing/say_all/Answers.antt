@@ -1,0 +1,33 @@
+use Rattle.std.proofs.Common.{rules, ◌++◌, take, option_map, ap, ◌∙◌}
+use Rattle.std.proofs.lemmas.Result.{err_from_is_err_and}
+use Rattle.dgn_desk.specs.Content.{spoken}
+use Rattle.dgn_desk.proofs.Telling.{spoken-append, said_part, moved}
+use Rattle.dgn_desk.proofs.writing.say_all.Goals as goal
+
+pub returns-in_err-count : goal.returns-in_err-count
+returns-in_err-count g c =
+    let stopped = err_from_is_err_and c.from_residual.result c.from_residual.ensures.1 in
+    let before = c.pieces.invariant in
+    let told = said_part stopped.0 c.args.bytes.now before.done c.pieces.rest.now _ _ before.split (c.in_err-count.ensures.told ∙ before.told) in
+    rw stopped.1 (record {
+      cause = search rules;
+      other = c.in_err-count.ensures.other ∙ before.reads;
+      told = told;
+      stays = λ willing. c.in_err-count.ensures.stays (before.stays willing);
+      able = search rules;
+    })
+
+pub pieces-preserved : goal.pieces-preserved
+pieces-preserved g c =
+    let before = c.pieces.invariant in
+    let rest = c.pieces.rest.now in
+    let count = c.in_ok-count.count in
+    let said = c.in_ok-count.ensures in
+    record {
+      done = before.done ++ take count rest;
+      split = rw c.split_at.ensures.back (moved c.args.bytes.now before.done rest count before.split);
+      told = said.told ∙ ap (option_map (spoken (take count rest))) before.told ∙ spoken-append before.done (take count rest) _;
+      writes = said.cause ∙ before.writes;
+      reads = said.other ∙ before.reads;
+      stays = λ willing. said.stays (before.stays willing);
+    }

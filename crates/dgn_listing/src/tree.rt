@@ -1,0 +1,141 @@
+// What `tree N` says: a line for each element from N to the last one below it, and how many there are.
+
+ghost use Rattle.std.specs.Prelude.{◌≡◌, ◌-◌, ◌<◌, ◌≤◌, ◌++◌, length, map, OnOk, OnErr};
+ghost use Rattle.dgn_drawing.specs.Rows.{row_of};
+ghost use Rattle.elem_index.specs.Design.{elements, IsWhole};
+ghost use Rattle.dgn_listing.specs.Lines.{texts_from, AppendsFrontOf};
+ghost use Rattle.dgn_listing.specs.TreeTexts.{knot_text, state_text, orphan_text, numbers_text, line_text, element_text, tree_text};
+
+use crate::pieces::{put, put_ending, put_fields};
+use crate::tree_line::{TreeLine, tree_line};
+use elem_index::Design;
+use nest_tree::Knot;
+use nest_tree::types::Nest;
+use std::alloc::{AllocError, Global};
+
+/// Appends what `tree N` says of element `n` of the design `d`, of which `t` is the nesting: a line for
+/// each element of its span, and `tree K` with their number.
+///
+/// A line is the element's number, depth, type, level and knot, `live` or `deleted` by the element's own
+/// bit, and for an orphan the word `orphan`. Where there is no memory, `out` has grown by a front of
+/// that text.
+pub fn write_tree(
+    alloc: Global,
+    out: &mut Vec<u8>,
+    d: &Design,
+    t: &Nest,
+    n: u32,
+) -> Result<(), AllocError>
+    requires whole { IsWhole d.now }
+    requires nesting { t.now.rows ≡ map row_of (elements d.now) }
+    requires known { n < length (elements d.now) }
+    ensures text { OnOk result (out.new.items ≡ out.old.items ++ tree_text (elements d.now) n) }
+    ensures front { OnErr result
+        (AppendsFrontOf (tree_text (elements d.now) n) out.old.items out.new.items) }
+{
+    let Some((first, end)) = t.span(n) else {
+        unreachable!()
+    };
+    put_elements(out, d, t, first, end)?;
+    put_ending(out, b"tree", (end - first) as usize)
+}
+
+// Appends the lines of the elements from `first` on and before `end`.
+fn put_elements(
+    out: &mut Vec<u8>,
+    d: &Design,
+    t: &Nest,
+    first: u32,
+    end: u32,
+) -> Result<(), AllocError>
+    requires whole { IsWhole d.now }
+    requires nesting { t.now.rows ≡ map row_of (elements d.now) }
+    requires ordered { first ≤ end }
+    ensures text { OnOk result
+        (out.new.items ≡ out.old.items
+        ++ texts_from (element_text (elements d.now)) first (end - first)) }
+    ensures front { OnErr result
+        (AppendsFrontOf (texts_from (element_text (elements d.now)) first (end - first))
+        out.old.items out.new.items) }
+{
+    for n in first..end {
+        put_element(out, d, t, n)?;
+    }
+    Ok(())
+}
+
+// Appends the line of element `n`, where there is one.
+fn put_element(out: &mut Vec<u8>, d: &Design, t: &Nest, n: u32) -> Result<(), AllocError>
+    requires whole { IsWhole d.now }
+    requires nesting { t.now.rows ≡ map row_of (elements d.now) }
+    ensures text { OnOk result (out.new.items ≡ out.old.items ++ element_text (elements d.now) n) }
+    ensures front { OnErr result
+        (AppendsFrontOf (element_text (elements d.now) n) out.old.items out.new.items) }
+{
+    match tree_line(d, t, n) {
+        Some(line) => put_line(out, &line),
+        None => Ok(()),
+    }
+}
+
+// Appends a line.
+fn put_line(out: &mut Vec<u8>, line: &TreeLine) -> Result<(), AllocError>
+    ensures text { OnOk result (out.new.items ≡ out.old.items ++ line_text line.now) }
+    ensures front { OnErr result (AppendsFrontOf (line_text line.now) out.old.items out.new.items) }
+{
+    put_numbers(out, line)?;
+    put_knot(out, line.knot)?;
+    put_state(out, line.deleted)?;
+    put_orphan(out, line.orphan)?;
+    put(out, b"\n")
+}
+
+// Appends the numbers of a line.
+fn put_numbers(out: &mut Vec<u8>, line: &TreeLine) -> Result<(), AllocError>
+    ensures text { OnOk result (out.new.items ≡ out.old.items ++ numbers_text line.now) }
+    ensures front { OnErr result
+        (AppendsFrontOf (numbers_text line.now) out.old.items out.new.items) }
+{
+    put_fields(
+        out,
+        &[
+            u64::from(line.number),
+            u64::from(line.depth),
+            u64::from(line.kind),
+            u64::from(line.level),
+        ],
+    )
+}
+
+// Appends the word for what an element is in its tree.
+fn put_knot(out: &mut Vec<u8>, knot: Knot) -> Result<(), AllocError>
+    ensures text { OnOk result (out.new.items ≡ out.old.items ++ knot_text knot) }
+    ensures front { OnErr result (AppendsFrontOf (knot_text knot) out.old.items out.new.items) }
+{
+    match knot {
+        Knot::Leaf => put(out, b"leaf"),
+        Knot::Group => put(out, b"group"),
+        Knot::Run => put(out, b"run"),
+        Knot::Loose => put(out, b"loose"),
+    }
+}
+
+// Appends a blank, and whether the element itself is marked deleted.
+pub(crate) fn put_state(out: &mut Vec<u8>, deleted: bool) -> Result<(), AllocError>
+    ensures text { OnOk result (out.new.items ≡ out.old.items ++ state_text deleted) }
+    ensures front { OnErr result (AppendsFrontOf (state_text deleted) out.old.items out.new.items) }
+{
+    if deleted {
+        put(out, b" deleted")
+    } else {
+        put(out, b" live")
+    }
+}
+
+// Appends a blank and the word for an orphan, where the element is one.
+fn put_orphan(out: &mut Vec<u8>, orphan: bool) -> Result<(), AllocError>
+    ensures text { OnOk result (out.new.items ≡ out.old.items ++ orphan_text orphan) }
+    ensures front { OnErr result (AppendsFrontOf (orphan_text orphan) out.old.items out.new.items) }
+{
+    if orphan { put(out, b" orphan") } else { Ok(()) }
+}

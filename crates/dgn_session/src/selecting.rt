@@ -1,0 +1,139 @@
+// The roots that a fence chooses.
+
+ghost use Rattle.std.specs.Prelude.{ℕ, ◌≡◌, ◌<◌, length, map, option_map, Some, IfOk, IsFalse};
+ghost use Rattle.dgn_drawing.specs.Rows.{row_of};
+ghost use Rattle.dgn_drawing.specs.Nesting.{itself};
+ghost use Rattle.dgn_drawing.specs.Numbering.{mark_of};
+ghost use Rattle.dgn_drawing.specs.WellFormed.{IsDimension};
+ghost use Rattle.dgn_drawing.specs.declared.mask.Mask.{Mask};
+ghost use Rattle.dgn_drawing.specs.Faults.{IsSoundIn};
+ghost use Rattle.dgn_drawing.specs.Reading.{element_at};
+ghost use Rattle.dgn_drawing.specs.Shown.{tree_shown, shown_alone, IsRoot};
+ghost use Rattle.dgn_fence.specs.Selected.{selected};
+ghost use Rattle.dgn_fence.specs.Taken.{takes};
+ghost use Rattle.elem_index.specs.Design.{elements, IsWhole};
+ghost use Rattle.dgn_session.specs.Selecting.{HasNone};
+
+use dgn_drawing::types::Item;
+use dgn_drawing::{Mask, Mode};
+use dgn_fence::types::Fence;
+use elem_head::head;
+use elem_index::Design;
+use level_view::{lone_element, tree_items_into};
+use nest_tree::types::Nest;
+use std::alloc::{AllocError, Global};
+
+/// The numbers of the roots, in file order, whose items under the mask the fence takes in this mode (`dgn_fence`). The items
+/// of one header at a time are made, in one list for all. An error says that there was no memory.
+pub fn select(
+    alloc: Global,
+    design: &Design,
+    nest: &Nest,
+    mask: Mask,
+    fence: &Fence,
+    mode: Mode,
+) -> Result<Vec<u32>, AllocError>
+    requires whole { IsWhole design.now }
+    requires nesting { nest.now.rows ≡ map row_of (elements design.now) }
+    ensures { IfOk result (λ found. found.items ≡ selected design.now.dim mask fence.now mode (elements design.now)) }
+{
+    let mut found = Vec::new(alloc);
+    let mut items = Vec::new(alloc);
+    let count = design.count();
+    let mut root = 0;
+    'roots: while root < count {
+        let taken = takes_root(alloc, design, nest, root, mask, fence, mode, &mut items)?;
+        if taken {
+            found.push(root)?;
+        }
+        root = end_of(nest, root);
+    }
+    Ok(found)
+}
+
+// Whether the fence takes what the tree of a root shows. The items of a header are put into `items`, in the place of
+// what stands there, but for where an overlap is needed and no element of the tree has one. A leaf is asked by its bytes.
+fn takes_root(
+    alloc: Global,
+    design: &Design,
+    nest: &Nest,
+    root: u32,
+    mask: Mask,
+    fence: &Fence,
+    mode: Mode,
+    items: &mut Vec<Item>,
+) -> Result<bool, AllocError>
+    requires whole { IsWhole design.now }
+    requires nesting { nest.now.rows ≡ map row_of (elements design.now) }
+    requires root { IsRoot itself nest.now.rows root }
+    ensures { IfOk result
+        (λ taken. taken ≡ takes mode fence.now (tree_shown design.now.dim mask (elements design.now) root)) }
+{
+    if let Some(b) = lone_element(design, nest, root) {
+        return takes_lone(alloc, design.dim, b, mask, fence, mode);
+    }
+    let needs_overlap = matches!(mode, Mode::Inside | Mode::Overlap);
+    if needs_overlap && !some_overlaps(alloc, design, nest, root, fence)? {
+        return Ok(false);
+    }
+    tree_items_into(alloc, design, nest, root, mask, items)?;
+    Ok(fence.takes(mode, items))
+}
+
+// Whether some element of the tree of a root, shown or not, overlaps the fence by itself. Where none does, no part of what
+// the tree shows is inside or overlaps.
+fn some_overlaps(
+    alloc: Global,
+    design: &Design,
+    nest: &Nest,
+    root: u32,
+    fence: &Fence,
+) -> Result<bool, AllocError>
+    requires whole { IsWhole design.now }
+    requires nesting { nest.now.rows ≡ map row_of (elements design.now) }
+    requires root { IsRoot itself nest.now.rows root }
+    ensures none { IfOk result (λ some. IsFalse some → (mask : Mask) → HasNone fence.now (tree_shown design.now.dim mask (elements design.now) root)) }
+{
+    let end = end_of(nest, root);
+    'elements: for n in root..end {
+        let Some(b) = design.element(n) else {
+            unreachable!()
+        };
+        if fence.takes_element(alloc, Mode::Overlap, design.dim, b)? {
+            return Ok(true);
+        }
+    }
+    Ok(false)
+}
+
+// Whether the fence takes what the element `b` shows by itself.
+fn takes_lone(
+    alloc: Global,
+    dim: u8,
+    b: &[u8],
+    mask: Mask,
+    fence: &Fence,
+    mode: Mode,
+) -> Result<bool, AllocError>
+    requires dimension { IsDimension dim }
+    requires element { IsSoundIn dim b.now }
+    ensures { IfOk result
+        (λ taken. (number depth : ℕ) → taken ≡ takes mode fence.now (shown_alone dim mask number depth (element_at dim b.now))) }
+{
+    let head = head(b);
+    if head.deleted || !mask.shows(head.level) {
+        return Ok(false);
+    }
+    fence.takes_element(alloc, mode, dim, b)
+}
+
+// The number behind the last element of the tree of a root.
+fn end_of(nest: &Nest, root: u32) -> u32
+    requires { root < length nest.now.rows }
+    ensures { Some result ≡ option_map (λ m. m.end) (mark_of itself nest.now.rows root) }
+{
+    let Some((_, end)) = nest.span(root) else {
+        unreachable!()
+    };
+    end
+}

@@ -1,0 +1,87 @@
+// Editing a design file by a script.
+
+ghost use Rattle.std.specs.List.{AllByRecursion};
+ghost use Rattle.dgn_import.specs.Seconds.{IsSound};
+ghost use Rattle.elem_index.specs.Design.{IsWhole};
+ghost use Rattle.elem_index.specs.Answers.{opened_of};
+ghost use Rattle.dgn_session.specs.State.{state_of};
+ghost use Rattle.dgn_tool.specs.Ends.{DeskComes, DeskEnds};
+ghost use Rattle.dgn_tool.specs.InBytes.{AllInBytes};
+ghost use Rattle.dgn_answers.specs.Given.{given_all};
+ghost use Rattle.dgn_tool.specs.InputOutcomes.{HasAll};
+ghost use Rattle.dgn_tool.specs.Outcome.{run_outcome, edited, edited_from};
+ghost use Rattle.dgn_import.specs.Seconds.{waiting};
+
+use crate::commands::run_all;
+use crate::drawing::write_drawing;
+use crate::inputs::{Inputs, read_inputs};
+use crate::{End, Ending};
+use dgn_desk::{Desk, Stop};
+use dgn_import::Second;
+use dgn_session::Session;
+use edit_script::Command;
+use elem_index::Design;
+use std::alloc::Global;
+
+// Reads IN, SCRIPT and the second files of its imports, runs the commands, says what each of them says, and writes OUT.
+pub(crate) fn edit<D: Desk>(
+    alloc: Global,
+    desk: &mut D,
+    input: &str,
+    script: &str,
+    output: &str,
+) -> End
+    ensures { DeskEnds D.Desk (HasAll input.now script.now) (AllInBytes input.now script.now)
+        (λ files. run_outcome input.now script.now files (λ d gs. edited d gs output.now)) desk.old desk.new result }
+{
+    match read_inputs(alloc, desk, input, script) {
+        Ok(
+            Inputs {
+                design,
+                commands,
+                mut seconds,
+            },
+        ) => End::of(run_script(alloc, desk, design, &commands, &mut seconds, output)),
+        Err(end) => end,
+    }
+}
+
+// Begins a session, and goes on with the commands.
+fn run_script<D: Desk>(
+    alloc: Global,
+    desk: &mut D,
+    design: Design,
+    commands: &[Command],
+    seconds: &mut Vec<Second>,
+    output: &str,
+) -> Result<Ending, Stop>
+    requires whole { IsWhole design }
+    requires sound { AllByRecursion IsSound seconds.old.items }
+    ensures { DeskComes D.Desk
+        (λ _. edited (opened_of design) (given_all commands.now (waiting seconds.old.items)) output.now)
+        desk.old desk.new result }
+{
+    let mut session = Session::start(alloc, design)?;
+    finish(alloc, desk, &mut session, commands, seconds, output)
+}
+
+// Runs the commands and writes OUT.
+fn finish<D: Desk>(
+    alloc: Global,
+    desk: &mut D,
+    session: &mut Session,
+    commands: &[Command],
+    seconds: &mut Vec<Second>,
+    output: &str,
+) -> Result<Ending, Stop>
+    requires { AllByRecursion IsSound seconds.old.items }
+    ensures { DeskComes D.Desk
+        (λ _. edited_from (state_of session.old) session.old.tail
+        (given_all commands.now (waiting seconds.old.items)) output.now)
+        desk.old desk.new result }
+{
+    let before = session.design().body.len();
+    let refused = run_all(alloc, desk, session, commands, seconds)?;
+    write_drawing(desk, output, before, session)?;
+    Ok(Ending::of_refused(refused))
+}

@@ -1,0 +1,113 @@
+-- What an edit puts into a header above its element turns the header's bytes into those of the changed one.
+use Rattle.std.proofs.Common.{◌≡◌, ℕ, ◌≤◌, List, [], ◌∷◌, ◌++◌, map, take, true, false, refl, sym, ap, ◌∙◌, subst, arith, inl, inr}
+use Rattle.std.specs.Prelude.{Option, Some}
+use Rattle.std.specs.List.{AllByRecursion}
+use Rattle.std.proofs.lemmas.List.{map-append}
+use Rattle.dgn_layout.specs.declared.types.Class.{Class}
+use Rattle.dgn_layout.specs.Classes.{class_of, is_silent}
+use Rattle.dgn_layout.specs.Spots.{range_spots, has_spots, Rise as SpotsRise}
+use Rattle.dgn_layout.specs.declared.spot.Spot.{Spot}
+use Rattle.patch_bytes.specs.Puts.{Put, Span}
+use Rattle.dgn_drawing.specs.declared.edit.Edit.{Edit}
+use Rattle.dgn_drawing.specs.declared.edit.Edit.TheVariants as edit
+use Rattle.dgn_drawing.specs.Values.{Displacement}
+use Rattle.dgn_drawing.specs.Element.{Display, Parts, Body, Shown, Element}
+use Rattle.dgn_drawing.specs.Spelling.{spell, size_of}
+use Rattle.dgn_drawing.specs.SpotNumbers.{value_at, wider, widened_put}
+use Rattle.dgn_drawing.specs.WellFormed.{IsDimension, HasBody, IsWellFormed}
+use Rattle.dgn_drawing.specs.Changes.{shift, body_displaced, display_displaced, parts_displaced, range_in, widen}
+use Rattle.dgn_drawing.specs.Rows.{row_of}
+use Rattle.dgn_drawing.proofs.WiderRecords.{widen_put}
+use Rattle.edit_ops.specs.Trees.{Live}
+use Rattle.edit_ops.specs.Applying.{holding, above_change, IsEdit}
+use Rattle.edit_ops.specs.Fields.{Field, spot_fields, above_fields_at, above_fields}
+use Rattle.edit_ops.specs.Written.{holding_puts, above_puts_at, above_puts, IsReady}
+use Rattle.edit_ops.proofs.ReadableElements.{IsShown, is_shown, shown_long}
+use Rattle.edit_ops.proofs.TextTurns.{Turns, turns_none, turns_inside}
+use Rattle.edit_ops.proofs.LivePuts.{field_of, moved_numbers, numbers_rise, number_fields, span_from, element_put}
+
+-- the spots of a range rise within 36 bytes
+range_rises : (dim size : ℕ) → IsDimension dim → 36 ≤ size → SpotsRise 4 (range_spots dim) size
+range_rises dim size axes long = elim axes [
+  | inl two ↦ subst (λ (n : ℕ). SpotsRise 4 (range_spots n) size) (sym two) (omega arith, (omega arith, (omega arith, (omega arith, omega arith))))
+  | inr three ↦ subst (λ (n : ℕ). SpotsRise 4 (range_spots n) size) (sym three)
+      (omega arith, (omega arith, (omega arith, (omega arith, (omega arith, (omega arith, omega arith))))))
+]
+
+-- what a range that is to be held puts into a header: it turns its bytes into those of the one that holds it, which
+-- is well formed and nests as it did, and is laid over the range
+record IsHeld (dim : ℕ) (b : Body) (h : Element) : Type 0 where
+  turned : (p : ℕ) → Turns p (spell h) (holding_puts dim b p (spell h)) (spell (holding dim b h))
+  good : IsWellFormed dim (holding dim b h)
+  row : row_of (holding dim b h) ≡ row_of h
+  fields : (p : ℕ) → map field_of (holding_puts dim b p (spell h)) ≡ spot_fields p (range_spots dim)
+
+-- where the body of which the range is to be held, and the header, are shown
+held : (dim : ℕ) (d : Display) (parts : Parts) (rest : List ℕ) (h : Element) → IsDimension dim → HasBody dim (Shown d parts rest) → IsWellFormed dim h
+    → IsShown h → IsHeld dim (Shown d parts rest) h
+held dim d parts rest h axes body good shown =
+    let wide = widen_put dim (range_in d) h shown.display shown.parts shown.rest axes body.0.low body.0.high good shown.body in
+    let rise = numbers_rise (λ (s : Spot). wider (range_in d) s (value_at (spell h) s)) (size_of h) (range_spots dim) 4
+    (range_rises dim (size_of h) axes (shown_long dim h good shown)) in
+    let span : Span 0 (map (widened_put (range_in d) (spell h)) (range_spots dim)) (size_of h) = span_from 0 4 (size_of h) _ (omega arith) rise in
+    let one = λ (p : ℕ). turns_inside p (spell h) (spell (widen dim (range_in d) h)) (map (widened_put (range_in d) (spell h)) (range_spots dim))
+    span wide.spelled in
+    record {
+      turned = λ p. subst (λ (ps : List Put). Turns p (spell h) ps (spell (widen dim (range_in d) h)))
+          (moved_numbers (λ (s : Spot). wider (range_in d) s (value_at (spell h) s)) p (range_spots dim)) (one p);
+      good = wide.good;
+      row = wide.row;
+      fields = λ p. number_fields (λ (s : Spot). wider (range_in d) s (value_at (spell h) s)) p (range_spots dim);
+    }
+
+-- what an edit puts into a header above its element, which is given
+pub record IsAbovePut (dim : ℕ) (e : Edit) (head : Option Element) (h : Element) : Type 0 where
+  pub turned : (p : ℕ) → Turns p (spell h) (above_puts_at dim e head p h) (spell (above_change dim e head h))
+  pub good : IsWellFormed dim (above_change dim e head h)
+  pub row : row_of (above_change dim e head h) ≡ row_of h
+  pub fields : (p : ℕ) → map field_of (above_puts_at dim e head p h) ≡ above_fields_at dim e p
+
+-- an element with spots isn't silent
+spots_read : (c : Class) → has_spots c ≡ true → is_silent c ≡ false
+spots_read Class.Vertices spots = refl
+spots_read Class.Words spots = refl
+spots_read Class.Counted spots = refl
+spots_read Class.Run spots = refl
+spots_read Class.Floating spots = refl
+spots_read Class.Boxed spots = refl
+spots_read Class.Silent spots = absurd (let x = spots in cc)
+
+-- a header that is to hold the range of a moved element
+held_moved : (dim n : ℕ) (by : Displacement) (v h : Element) → IsDimension dim → IsEdit (edit.Move n by) → IsWellFormed dim v → IsReady dim (edit.Move n by) v
+    → IsWellFormed dim h → IsShown h → IsHeld dim (shift dim by v).body h
+held_moved dim n by v h axes fits well ready good shown =
+    let seen : IsShown v = is_shown dim v well (spots_read (class_of v.kind) ready.0) in
+    let body : (shift dim by v).body ≡ Shown (display_displaced (take dim by.by) seen.display) (parts_displaced (take dim by.by) seen.parts) seen.rest
+    = ap (body_displaced (take dim by.by)) seen.body in
+    let fields : HasBody dim (Shown (display_displaced (take dim by.by) seen.display) (parts_displaced (take dim by.by) seen.parts) seen.rest)
+    = subst (HasBody dim) body (element_put dim axes (edit.Move n by) fits v well ready).good.parts in
+    subst (λ (b : Body). IsHeld dim b h) (sym body)
+    (held dim (display_displaced (take dim by.by) seen.display) (parts_displaced (take dim by.by) seen.parts) seen.rest h axes fields good shown)
+
+-- where nothing stands against an edit of the element, it puts into a shown header what it should
+pub above_put : (dim : ℕ) → IsDimension dim → (e : Edit) → IsEdit e → (v h : Element) → IsWellFormed dim v → IsReady dim e v → IsWellFormed dim h
+    → IsShown h → IsAbovePut dim e (Some v) h
+above_put dim axes (edit.Move n by) fits v h well ready good shown =
+    let x = held_moved dim n by v h axes fits well ready good shown in
+    record { turned = x.turned; good = x.good; row = x.row; fields = x.fields }
+above_put dim axes (edit.Copy n by) fits v h well ready good shown =
+    record { turned = λ p. turns_none p (spell h); good = good; row = refl; fields = λ p. refl }
+above_put dim axes (edit.Sym n change) fits v h well ready good shown =
+    record { turned = λ p. turns_none p (spell h); good = good; row = refl; fields = λ p. refl }
+above_put dim axes (edit.Delete n) fits v h well ready good shown = record { turned = λ p. turns_none p (spell h); good = good; row = refl; fields = λ p. refl }
+above_put dim axes (edit.Append new) fits v h well ready good shown =
+    record { turned = λ p. turns_none p (spell h); good = good; row = refl; fields = λ p. refl }
+
+-- what is put into headers is laid over their fields
+pub above_fields_put : (dim : ℕ) (e : Edit) (head : Option Element) (vs : List Live) → AllByRecursion (λ v. IsAbovePut dim e head v.element) vs
+    → map field_of (above_puts dim e head vs) ≡ above_fields dim e vs
+above_fields_put dim e head [] puts = refl
+above_fields_put dim e head (v ∷ vs) puts =
+    map-append field_of (above_puts_at dim e head v.place v.element) (above_puts dim e head vs)
+    ∙ ap (λ (fs : List Field). fs ++ map field_of (above_puts dim e head vs)) (puts.0.fields v.place)
+    ∙ ap (λ (fs : List Field). above_fields_at dim e v.place ++ fs) (above_fields_put dim e head vs puts.1)

@@ -1,0 +1,21 @@
+use Rattle.std.proofs.Common.{◌≡◌, List, ℕ, ◌++◌, length, map}
+use Rattle.std.specs.List.{list_all}
+use Rattle.range_code.specs.Plane.{is_on_plane}
+use Rattle.dgn_layout.specs.Spots.{spots_of}
+use Rattle.dgn_layout.specs.SpotsLeft.{spots_left}
+use Rattle.dgn_drawing.specs.SpotNumbers.{sum_at}
+use Rattle.patch_bytes.specs.Puts.{write}
+use Rattle.edit_ops.specs.Written.{sum_put}
+use Rattle.dgn_drawing.proofs.SpotSteps.{LieIn}
+use Rattle.edit_ops.proofs.copies.lone.lay_sums.Given as goal
+
+-- what is left lies in the bytes, stays exactly where all do, and laid there gives what all of it gives
+abbrev pub invariant-spots : goal.invariant-spots
+invariant-spots l = record {
+  long : length l.copy ≡ length l.found.bytes.now;
+  lie : LieIn (length l.found.bytes.now) (spots_left l.spot-iterator);
+  same : list_all (λ s. is_on_plane (sum_at l.by l.found.bytes.now s)) (spots_left l.spot-iterator)
+      ≡ list_all (λ s. is_on_plane (sum_at l.by l.found.bytes.now s)) (spots_of l.dim l.found.kind l.found.bytes.now);
+  give : (a : List ℕ) → length a ≡ l.found.place → write (a ++ l.copy) (map (sum_put l.by l.found.place l.found.bytes.now) (spots_left l.spot-iterator))
+      ≡ write (a ++ l.fn.copy) (map (sum_put l.by l.found.place l.found.bytes.now) (spots_of l.dim l.found.kind l.found.bytes.now));
+}

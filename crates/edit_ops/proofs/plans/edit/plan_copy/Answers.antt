@@ -1,0 +1,46 @@
+use Rattle.std.proofs.Common.{◌≡◌, List, Option, Some, None, sym, ap, ◌∙◌, subst}
+use Rattle.std.specs.Prelude.{IfOk}
+use Rattle.std.specs.Option.{option_or}
+use Rattle.dgn_drawing.specs.Values.{Displacement}
+use Rattle.elem_index.specs.Design.{elements}
+use Rattle.edit_ops.specs.declared.asking.test.Test.TheVariants as tests
+use Rattle.edit_ops.specs.declared.causes.cause.Cause.{Cause}
+use Rattle.edit_ops.specs.Trees.{Live, live_tree}
+use Rattle.edit_ops.specs.Causes.{other_axes, first_cause, part_cause}
+use Rattle.edit_ops.specs.Copying.{copy_cause}
+use Rattle.edit_ops.specs.Written.{found}
+use Rattle.edit_ops.proofs.CopyLength.{long_copy, short_copy}
+use Rattle.edit_ops.proofs.ElementMoves.{ok_so}
+use Rattle.edit_ops.proofs.plans.edit.plan_copy.Goals as goal
+
+pub returns-in-Some-growth_cause-clause-refused : goal.returns-in-Some-growth_cause-clause-refused
+returns-in-Some-growth_cause-clause-refused c =
+    let d = c.args.d.now in
+    let es = elements c.args.d.now in
+    let free : option_or (part_cause d.dim es c.args.n) (other_axes d.dim c.args.by.now.axes) ≡ None =
+    ap (λ (by : Displacement). option_or (part_cause d.dim es c.args.n) (other_axes d.dim by.axes)) (sym c.by.view_is)
+    ∙ ap (option_or (part_cause d.dim es c.args.n)) (sym c.other_axes.ensures)
+    ∙ ap (λ (o : Option Cause). option_or o c.other_axes.result) (sym c.part_cause.ensures)
+    ∙ sym c.or-first.ensures ∙ c.in_default.is in
+    let are : found es c.deref-in-Some-growth_cause.result.now ≡ live_tree es c.args.n =
+    ap (found es) c.deref-in-Some-growth_cause.ensures.value ∙ c.in_ok-put_live_numbers.ensures.found in
+    let itself : c.move_cause.result ≡ copy_cause d.dim es c.args.by.now c.args.n =
+    c.move_cause.ensures ∙ ap (λ (vs : List Live). option_or (first_cause d.dim tests.Moves vs) (first_cause d.dim (tests.Leaves c.args.by.now) vs)) are in
+    long_copy d c.requires.whole c.args.n c.args.pending c.part_len.result c.args.by.now free c.part_len.ensures.exact c.move_cause.result
+    c.in-Some-growth_cause.long itself
+    (sym c.growth_cause.ensures ∙ c.in-Some-growth_cause.is)
+    ∙ ap (λ (x : Cause). Some x) (sym c.unwrap_or-cause.ensures)
+
+pub returns-clause-free : goal.returns-clause-free
+returns-clause-free c =
+    let d = c.args.d.now in
+    let es = elements c.args.d.now in
+    let free : option_or (part_cause d.dim es c.args.n) (other_axes d.dim c.args.by.now.axes) ≡ None =
+    ap (λ (by : Displacement). option_or (part_cause d.dim es c.args.n) (other_axes d.dim by.axes)) (sym c.by.view_is)
+    ∙ ap (option_or (part_cause d.dim es c.args.n)) (sym c.other_axes.ensures)
+    ∙ ap (λ (o : Option Cause). option_or o c.other_axes.result) (sym c.part_cause.ensures)
+    ∙ sym c.or-first.ensures ∙ c.in_default.is in
+    let all = short_copy d c.requires.whole c.args.n c.args.pending c.part_len.result c.args.by.now free c.part_len.ensures.exact
+    (sym c.growth_cause.ensures ∙ c.in_default-growth_cause.is) in
+    subst (λ (o : Option Cause). IfOk c.copy_tree.result (λ _. o ≡ None)) (sym all)
+    (ok_so c.copy_tree.result (copy_cause d.dim es c.args.by.now c.args.n ≡ None) c.copy_tree.ensures.accepted)

@@ -1,0 +1,84 @@
+use Rattle.std.proofs.Common.{◌≡◌, ◌+◌, ◌++◌, [], ◌<◌, length, None, refl, sym, ap, ◌∙◌}
+use Rattle.std.specs.Option.{option_or}
+use Rattle.dgn_drawing.specs.declared.edit.Edit.{Edit}
+use Rattle.dgn_drawing.specs.declared.edit.Edit.TheVariants as edit
+use Rattle.dgn_drawing.specs.Spelling.{spelling}
+use Rattle.dgn_drawing.specs.Nesting.{flat}
+use Rattle.elem_index.specs.Design.{elements}
+use Rattle.edit_ops.specs.declared.types.plan.Plan.{Plan}
+use Rattle.edit_ops.specs.Applying.{copied}
+use Rattle.edit_ops.specs.Causes.{part_cause, causes_of, first_of}
+use Rattle.edit_ops.specs.Copying.{tree_copy}
+use Rattle.edit_ops.specs.Planned.{IsPlanBehind}
+use Rattle.edit_ops.specs.Written.{part_puts}
+use Rattle.edit_ops.proofs.PlanBehind.{appends_behind, writes_behind}
+use Rattle.edit_ops.proofs.CauseOrder.{known_is, unknown_refused, later_first, stopped_refused, copied_plan, changed_plan, causes_in_place, is_in_place}
+use Rattle.edit_ops.proofs.CauseOrder.{copy_named}
+use Rattle.edit_ops.proofs.ElementMoves.{both_ok}
+use Rattle.edit_ops.proofs.plans.edit.plan_part.Goals as goal
+
+pub returns-in-Some : goal.returns-in-Some
+returns-in-Some c = record {
+  planned = tt;
+  refused =
+      unknown_refused c.args.d.now.dim (elements c.args.d.now) (length c.args.d.now.tail.items + c.args.pending)
+      c.args.edit.now c.args.n c.in-Some.cause c.requires.target (sym c.unknown.ensures ∙ c.in-Some.is);
+  known = λ memory. absurd (let x = memory in cc);
+}
+
+pub returns-in-Copy : goal.returns-in-Copy
+returns-in-Copy c =
+    let d = c.args.d.now in
+    let es = elements c.args.d.now in
+    let rest = length c.args.d.now.tail.items + c.args.pending in
+    let e : Edit = c.args.edit.now in
+    let known : c.args.n < length es = known_is c.args.n es (sym c.unknown.ensures ∙ c.in_default.is) in
+    let named : e ≡ edit.Copy c.args.n c.in-Copy.by = copy_named e c.in-Copy.n c.args.n c.in-Copy.by c.in-Copy.is c.requires.target in
+    let same = ap (λ (x : Edit). option_or (part_cause d.dim es c.args.n) (first_of (causes_of d.dim es rest x))) named in
+    let bytes = spelling (flat (tree_copy d.dim es c.in-Copy.by c.args.n)) in
+    let after : Plan = record { patches = c.args.all.now.patches; append = c.plan_copy.new.append } in
+    record {
+      planned = both_ok c.plan_copy.result
+          (option_or (part_cause d.dim es c.args.n) (first_of (causes_of d.dim es rest (edit.Copy c.args.n c.in-Copy.by))) ≡ None)
+          (c.plan_copy.new.append ≡ c.args.all.now.append ++ bytes)
+          (IsPlanBehind d.dim es rest e c.args.all.now after)
+          c.plan_copy.ensures.copied c.plan_copy.ensures.free
+          (λ more free.
+          appends_behind d.dim es rest e c.args.all.now after bytes
+          (copied_plan d.dim es rest e c.args.n c.args.n c.in-Copy.by (record { patches = []; append = bytes }) c.requires.target named
+          (later_first d.dim es rest e c.args.n c.requires.target known ∙ same ∙ free) refl
+          (ap (λ (x : Edit). spelling (flat (copied d.dim es x c.args.n))) (sym named)))
+          refl more);
+      refused = stopped_refused d.dim es rest e c.args.n _ c.plan_copy.result c.requires.target known same c.plan_copy.ensures.refused;
+      known = λ _. known;
+    }
+
+pub plan_in_place-requires-clause-in_place : goal.plan_in_place-requires-clause-in_place
+plan_in_place-requires-clause-in_place c = is_in_place c.args.edit.now c.args.n c.requires.target c.in_default-edit.not-Copy
+
+pub returns : goal.returns
+returns c =
+    let d = c.args.d.now in
+    let es = elements c.args.d.now in
+    let rest = length c.args.d.now.tail.items + c.args.pending in
+    let e : Edit = c.args.edit.now in
+    let known : c.args.n < length es = known_is c.args.n es (sym c.unknown.ensures ∙ c.in_default.is) in
+    let here = is_in_place e c.args.n c.requires.target c.in_default-edit.not-Copy in
+    let same = ap (option_or (part_cause d.dim es c.args.n)) (causes_in_place d.dim es rest e here) in
+    let puts = part_puts d.dim es e c.args.n in
+    let after : Plan = record { patches = c.plan_in_place.new.patches; append = c.args.all.now.append } in
+    record {
+      planned = both_ok c.plan_in_place.result
+          (option_or (part_cause d.dim es c.args.n) (first_of (causes_of d.dim es 0 e)) ≡ None)
+          (c.plan_in_place.new.patches ≡ c.args.all.now.patches ++ puts)
+          (IsPlanBehind d.dim es rest e c.args.all.now after)
+          c.plan_in_place.ensures.planned c.plan_in_place.ensures.free
+          (λ more free.
+          writes_behind d.dim es rest e c.args.all.now after puts
+          (changed_plan (d.body.items ++ d.tail.items) d.dim es d.tail.items rest e c.args.n (record { patches = puts; append = [] })
+          c.requires.fits c.requires.whole.is_open.opens c.requires.target
+          c.in_default-edit.not-Copy (later_first d.dim es rest e c.args.n c.requires.target known ∙ same ∙ free) refl refl)
+          more refl);
+      refused = stopped_refused d.dim es rest e c.args.n _ c.plan_in_place.result c.requires.target known same c.plan_in_place.ensures.refused;
+      known = λ _. known;
+    }

@@ -1,0 +1,145 @@
+ghost use Rattle.std.specs.Prelude.{◌≡◌, ◌<◌, ◌≤◌, length, slice_get, IsFalse, if◌then◌else◌};
+ghost use Rattle.std.specs.Option.{option_or};
+ghost use Rattle.dgn_layout.specs.Classes.{class_of, is_silent};
+ghost use Rattle.elem_index.specs.Design.{elements, IsWhole};
+ghost use Rattle.edit_ops.specs.Causes.{unwidened, unmovable, lookless, unmarkable, first_cause};
+ghost use Rattle.edit_ops.specs.Asking.{cause_in, MayBeAsked, MayBeAskedOf, locked_in};
+ghost use Rattle.edit_ops.specs.Written.{found};
+
+use crate::asking::shift::same_shift;
+use crate::{Cause, Test, find};
+use dgn_drawing::{Shift, stays_on_plane};
+use dgn_layout::types::Class;
+use dgn_layout::{END_MARK, class, is_silent};
+use elem_head::properties;
+use elem_index::Design;
+
+// The bit of an element's properties, 0x0100, that says that it is locked.
+const LOCKED: u32 = 8;
+
+/// What is against moving or copying the live elements of these numbers: Floating or Opaque, where not all coordinates of
+/// one are read; or else OffPlane, where one would leave the design plane. Each has the first such number.
+pub fn move_cause(d: &Design, live: &[u32], by: &Shift) -> Option<Cause>
+    requires { IsWhole d.now }
+    ensures { result ≡ option_or (first_cause d.now.dim Test.Moves (found (elements d.now) live.now))
+        (first_cause d.now.dim (Test.Leaves by.now) (found (elements d.now) live.now)) }
+{
+    let cause = first_cause(d, live, &Test::Moves);
+    if cause.is_some() {
+        cause
+    } else {
+        first_cause(d, live, &leaves(by))
+    }
+}
+
+// The test of whether elements stay on the plane with this displacement.
+fn leaves(by: &Shift) -> Test
+    ensures { result ≡ Test.Leaves by.now }
+{
+    Test::Leaves(same_shift(by))
+}
+
+/// What a test has against the first of the elements of these numbers against which it has something.
+pub fn first_cause(d: &Design, live: &[u32], test: &Test) -> Option<Cause>
+    requires whole { IsWhole d.now }
+    requires asked { MayBeAsked d.now.dim test.now (found (elements d.now) live.now) }
+    ensures { result ≡ first_cause d.now.dim test.now (found (elements d.now) live.now) }
+{
+    'live: for m in live {
+        let cause = cause_against(d, test, *m);
+        if cause.is_some() {
+            return cause;
+        }
+    }
+    None
+}
+
+// What a test has against element m.
+pub fn cause_against(d: &Design, test: &Test, m: u32) -> Option<Cause>
+    requires whole { IsWhole d.now }
+    requires asked { MayBeAskedOf test.now (slice_get (elements d.now) m) }
+    ensures { result ≡ cause_in d.now.dim test.now m (slice_get (elements d.now) m) }
+{
+    let found = find(d, m)?;
+    match test {
+        Test::Lives => deleted(m, found.deleted),
+        Test::Unlocked => locked_at(m, found.kind, found.bytes),
+        Test::Widens => unwidened(m, class(found.kind)),
+        Test::Moves => unmovable(m, class(found.kind)),
+        Test::Looks => lookless(m, class(found.kind)),
+        Test::Marks => unmarkable(m, found.kind),
+        Test::Leaves(by) => {
+            if stays_on_plane(d.dim, found.kind, found.bytes, by) {
+                None
+            } else {
+                Some(Cause::OffPlane(m))
+            }
+        }
+    }
+}
+
+// Element m is marked deleted.
+fn deleted(m: u32, deleted: bool) -> Option<Cause>
+    ensures { result ≡ (if deleted then Some (Cause.Deleted m) else None) }
+{
+    if deleted {
+        Some(Cause::Deleted(m))
+    } else {
+        None
+    }
+}
+
+// Element m, of that type and with the bytes b, is locked.
+fn locked_at(m: u32, kind: u8, b: &[u8]) -> Option<Cause>
+    requires kind { kind < 128 }
+    requires long { IsFalse (is_silent (class_of kind)) → 36 ≤ length b.now }
+    ensures { result ≡ (if locked_in kind b.now then Some (Cause.Locked m) else None) }
+{
+    if !is_silent(kind) && (properties(b) >> LOCKED) & 1 == 1 {
+        Some(Cause::Locked(m))
+    } else {
+        None
+    }
+}
+
+// The range of header m can't be made wider, by its class.
+fn unwidened(m: u32, class: Class) -> Option<Cause>
+    ensures { result ≡ unwidened m class }
+{
+    match class {
+        Class::Run => Some(Cause::Opaque(m)),
+        _ => None,
+    }
+}
+
+// Element m has coordinates that aren't read, by its class.
+pub fn unmovable(m: u32, class: Class) -> Option<Cause>
+    ensures { result ≡ unmovable m class }
+{
+    match class {
+        Class::Floating => Some(Cause::Floating(m)),
+        Class::Boxed | Class::Run | Class::Silent => Some(Cause::Opaque(m)),
+        Class::Vertices | Class::Words | Class::Counted => None,
+    }
+}
+
+// Element m has no look that can be changed, by its class.
+fn lookless(m: u32, class: Class) -> Option<Cause>
+    ensures { result ≡ lookless m class }
+{
+    match class {
+        Class::Run | Class::Silent => Some(Cause::Opaque(m)),
+        _ => None,
+    }
+}
+
+// Element m can't be marked deleted, by its type.
+fn unmarkable(m: u32, kind: u8) -> Option<Cause>
+    ensures { result ≡ unmarkable m kind }
+{
+    if kind == END_MARK {
+        Some(Cause::Opaque(m))
+    } else {
+        None
+    }
+}

@@ -1,0 +1,97 @@
+ghost use Rattle.std.specs.Prelude.{◌≡◌, ◌<◌, map, slice_get, Some, None, if◌then◌else◌};
+ghost use Rattle.dgn_layout.specs.Classes.{class_of, is_silent};
+ghost use Rattle.dgn_drawing.specs.Rows.{row_of};
+ghost use Rattle.dgn_drawing.specs.Nesting.{itself};
+ghost use Rattle.dgn_drawing.specs.Numbering.{root_of};
+ghost use Rattle.elem_index.specs.Design.{elements, IsWhole};
+ghost use Rattle.edit_ops.specs.Trees.{above_tree};
+ghost use Rattle.edit_ops.specs.Causes.{unknown, broken, silent, other_axes, too_long, part_cause};
+ghost use Rattle.edit_ops.specs.Asking.{broken_by};
+ghost use Rattle.edit_ops.specs.Written.{found};
+
+use crate::asking::first::{cause_against, first_cause};
+use crate::{Cause, Test, find};
+use dgn_drawing::MOST_DESIGN;
+use dgn_layout::is_silent;
+use elem_index::Design;
+use nest_tree::types::Nest;
+
+/// Unknown, where the design `d` has no element `n`; else None.
+pub fn unknown(d: &Design, n: u32) -> Option<Cause>
+    requires { IsWhole d.now }
+    ensures { result ≡ unknown n (elements d.now) }
+{
+    if n < d.count() {
+        None
+    } else {
+        Some(Cause::Unknown(n))
+    }
+}
+
+/// What keeps the part of element `n`, which there is, from any edit: Broken, with the least broken number of its tree; or
+/// Deleted, with the least of it and the headers above it that is marked deleted. `t` is the nesting of the design `d`, and
+/// `above` has the numbers of these headers.
+pub fn part_cause(d: &Design, t: &Nest, n: u32, above: &[u32]) -> Option<Cause>
+    requires whole { IsWhole d.now }
+    requires nesting { t.now.rows ≡ map row_of (elements d.now) }
+    requires above { found (elements d.now) above.now ≡ above_tree (elements d.now) n }
+    ensures { result ≡ part_cause d.now.dim (elements d.now) n }
+{
+    broken(t, n)
+        .or(first_cause(d, above, &Test::Lives))
+        .or(cause_against(d, &Test::Lives, n))
+}
+
+// The tree that holds element n has a broken number.
+fn broken(t: &Nest, n: u32) -> Option<Cause>
+    ensures { result ≡ broken (broken_by t.now.rows (root_of itself t.now.rows n)) }
+{
+    let root = t.root(n)?;
+    match t.first_broken(root) {
+        Some(Some(least)) => Some(Cause::Broken(least)),
+        _ => None,
+    }
+}
+
+/// Dimension, where an edit that is given for `axes` axes isn't for a file of `dim`; else None.
+pub fn other_axes(dim: u8, axes: u8) -> Option<Cause>
+    ensures { result ≡ other_axes dim axes }
+{
+    if axes == dim {
+        None
+    } else {
+        Some(Cause::Dimension)
+    }
+}
+
+/// Opaque, where the class of element `n` is silent; None, where it isn't or there is no such element.
+pub fn silent(d: &Design, n: u32) -> Option<Cause>
+    requires { IsWhole d.now }
+    ensures { result ≡ silent n (slice_get (elements d.now) n) }
+{
+    let found = find(d, n)?;
+    silent_at(n, found.kind)
+}
+
+// Nothing is read of element n, by its type.
+fn silent_at(n: u32, kind: u8) -> Option<Cause>
+    requires { kind < 128 }
+    ensures { result ≡ (if is_silent (class_of kind) then Some (Cause.Opaque n) else None) }
+{
+    if is_silent(kind) {
+        Some(Cause::Opaque(n))
+    } else {
+        None
+    }
+}
+
+/// TooLong, where a file of so many bytes is longer than a design file may be; else None.
+pub fn too_long(bytes: usize) -> Option<Cause>
+    ensures { result ≡ too_long bytes }
+{
+    if bytes <= MOST_DESIGN {
+        None
+    } else {
+        Some(Cause::TooLong)
+    }
+}

@@ -1,0 +1,86 @@
+ghost use Rattle.std.specs.Prelude.{◌≡◌, ◌<◌, ◌++◌, length, map, None, IfErr, OnOk, OnErr};
+ghost use Rattle.dgn_drawing.specs.Rows.{row_of};
+ghost use Rattle.dgn_drawing.specs.Spelling.{spelling};
+ghost use Rattle.dgn_drawing.specs.Nesting.{flat};
+ghost use Rattle.elem_index.specs.Design.{elements, IsWhole};
+ghost use Rattle.edit_ops.specs.Copying.{tree_copy, copy_cause, IsStopped};
+
+use crate::asking::first::first_cause;
+use crate::asking::shift::same_shift;
+use crate::copies::lone::push_lone_copy;
+use crate::copies::tree::push_copy;
+use crate::parts::live::live_numbers;
+use crate::parts::lone::lone_at;
+use crate::{EditFault, Test};
+use dgn_drawing::{Edit, Shift};
+use elem_index::Design;
+use nest_tree::types::Nest;
+use patch_bytes::ByteList;
+use std::alloc::Global;
+use std::mem;
+
+/// Appends to `out` the bytes of a copy of the part of element `n`, which there is, of the design `d`, of which `t` is
+/// the nesting: the bytes of the part, where its live elements stand displaced by `by`. `plan` copies a part by it.
+///
+/// Refused comes exactly where the displacement of a live element is refused: with Floating or Opaque for the least
+/// one of which not all coordinates are read, and else with OffPlane for the least one that would leave the design
+/// plane. Nothing else refuses it: not the length of a file, of which `out` needn't become a part. After a refusal,
+/// and where there is no memory, `out` is as before.
+///
+/// It takes the time of the part.
+pub fn copy_tree(
+    alloc: Global,
+    d: &Design,
+    t: &Nest,
+    n: u32,
+    by: &Shift,
+    out: &mut ByteList,
+) -> Result<(), EditFault>
+    requires whole { IsWhole d.now }
+    requires nesting { t.now.rows ≡ map row_of (elements d.now) }
+    requires known { n < length (elements d.now) }
+    ensures copied { OnOk result
+        (out.new ≡ out.old ++ spelling (flat (tree_copy d.now.dim (elements d.now) by.now n))) }
+    ensures accepted { OnOk result (copy_cause d.now.dim (elements d.now) by.now n ≡ None) }
+    ensures refused { IfErr result (IsStopped (copy_cause d.now.dim (elements d.now) by.now n)) }
+    ensures kept { OnErr result (out.new ≡ out.old) }
+{
+    let mut bytes = mem::replace(out, ByteList::new(alloc)).into_vec();
+    let copied = push_tree_copy(alloc, d, t, n, by, &mut bytes);
+    *out = ByteList::from_vec(bytes);
+    copied
+}
+
+// Appends the bytes of a copy to a vector, or says what refuses it.
+fn push_tree_copy(
+    alloc: Global,
+    d: &Design,
+    t: &Nest,
+    n: u32,
+    by: &Shift,
+    out: &mut Vec<u8>,
+) -> Result<(), EditFault>
+    requires whole { IsWhole d.now }
+    requires nesting { t.now.rows ≡ map row_of (elements d.now) }
+    requires known { n < length (elements d.now) }
+    ensures copied { OnOk result
+        (out.new.items ≡ out.old.items ++ spelling (flat (tree_copy d.now.dim (elements d.now) by.now n))) }
+    ensures accepted { OnOk result (copy_cause d.now.dim (elements d.now) by.now n ≡ None) }
+    ensures refused { IfErr result (IsStopped (copy_cause d.now.dim (elements d.now) by.now n)) }
+    ensures kept { OnErr result (out.new.items ≡ out.old.items) }
+{
+    if let Some(found) = lone_at(d, t, n) {
+        return push_lone_copy(d, n, found, by, out);
+    }
+    let live = live_numbers(alloc, d, t, n)?;
+    if let Some(cause) = first_cause(d, &live, &Test::Moves) {
+        return Err(EditFault::Refused(cause));
+    }
+    // What a displacement holds is such as its type keeps, which is known where a value of it is read.
+    let _axes = by.axes;
+    let edit = Edit::Copy {
+        n,
+        by: same_shift(by),
+    };
+    push_copy(alloc, d, t, n, &live, &edit, out)
+}

@@ -1,0 +1,121 @@
+// A copy of a part that is one live element by itself. Its bytes are copied once, and the sums are found once and laid
+// there: where one is off the plane, the copy is refused.
+
+ghost use Rattle.std.specs.Prelude.{ℕ, ◌≡◌, ◌+◌, ◌<◌, ◌≤◌, List, ◌++◌, length, map, None, IfErr, IsTrue, OnOk, OnErr};
+ghost use Rattle.std.specs.List.{list_all};
+ghost use Rattle.std.specs.Option.{option_to_list};
+ghost use Rattle.range_code.specs.Plane.{is_on_plane};
+ghost use Rattle.dgn_layout.specs.Classes.{class_of};
+ghost use Rattle.dgn_layout.specs.Spots.{HoldsPoints, spots_of};
+ghost use Rattle.dgn_drawing.specs.Nesting.{flat, forest};
+ghost use Rattle.dgn_drawing.specs.Rows.{row_of};
+ghost use Rattle.dgn_drawing.specs.Spelling.{spelling};
+ghost use Rattle.dgn_drawing.specs.SpotNumbers.{sum_at, number_bytes};
+ghost use Rattle.dgn_drawing.specs.Values.{IsShift};
+ghost use Rattle.dgn_drawing.specs.WellFormed.{IsDimension};
+ghost use Rattle.elem_index.specs.Design.{elements, IsWhole};
+ghost use Rattle.patch_bytes.specs.Puts.{lay, write};
+ghost use Rattle.edit_ops.specs.Causes.{unmovable};
+ghost use Rattle.edit_ops.specs.Copying.{tree_copy, copy_cause, IsStopped};
+ghost use Rattle.edit_ops.specs.Found.{IsFound};
+ghost use Rattle.edit_ops.specs.Trees.{found_at, live_tree, tree_at};
+ghost use Rattle.edit_ops.specs.Written.{sum_put};
+
+use crate::asking::first::unmovable;
+use crate::copies::tree::free_first;
+use crate::{Cause, EditFault, Found};
+use dgn_drawing::{Shift, put_number, spots_in, sum};
+use dgn_layout::{Spot, class};
+use elem_index::Design;
+
+// Appends the bytes of a copy of the part of element n, which is found and is all of its part and live, or says what
+// stands against it. Then, and where there is no memory, `out` is as before.
+pub fn push_lone_copy(
+    d: &Design,
+    n: u32,
+    found: Found,
+    by: &Shift,
+    out: &mut Vec<u8>,
+) -> Result<(), EditFault>
+    requires whole { IsWhole d.now }
+    requires found { IsFound d.now n found }
+    requires part { spelling (flat (tree_at n (forest row_of (elements d.now)))) ≡ found.bytes.now }
+    requires live { live_tree (elements d.now) n ≡ option_to_list (found_at (elements d.now) n) }
+    ensures copied { OnOk result
+        (out.new.items ≡ out.old.items ++ spelling (flat (tree_copy d.now.dim (elements d.now) by.now n))) }
+    ensures accepted { OnOk result (copy_cause d.now.dim (elements d.now) by.now n ≡ None) }
+    ensures refused { IfErr result (IsStopped (copy_cause d.now.dim (elements d.now) by.now n)) }
+    ensures kept { OnErr result (out.new.items ≡ out.old.items) }
+{
+    if let Some(cause) = unmovable(n, class(found.kind)) {
+        return Err(EditFault::Refused(cause));
+    }
+    // What a displacement holds is such as its type keeps, which is known where a value of it is read.
+    let _axes = by.axes;
+    let start = out.len();
+    out.extend_from_slice(found.bytes)?;
+    if !lay_copy(&mut out[start..], d, n, found, by) {
+        out.truncate(start);
+        return Err(EditFault::Refused(Cause::OffPlane(n)));
+    }
+    Ok(())
+}
+
+// Makes the bytes of such an element those of its copy, and answers whether each sum is on the design plane. Where one
+// isn't, some of them are laid.
+fn lay_copy(copy: &mut [u8], d: &Design, n: u32, found: Found, by: &Shift) -> bool
+    requires whole { IsWhole d.now }
+    requires found { IsFound d.now n found }
+    requires part { spelling (flat (tree_at n (forest row_of (elements d.now)))) ≡ found.bytes.now }
+    requires live { live_tree (elements d.now) n ≡ option_to_list (found_at (elements d.now) n) }
+    requires movable { unmovable n (class_of found.kind) ≡ None }
+    requires same { copy.old ≡ found.bytes.now }
+    requires fits { IsShift by.now }
+    ensures stays { result ≡ list_all (λ s. is_on_plane (sum_at by.now found.entry.bytes.now s))
+        (spots_of d.now.dim found.entry.kind found.entry.bytes.now) }
+    ensures copied { IsTrue result
+        → copy.new ≡ spelling (flat (tree_copy d.now.dim (elements d.now) by.now n)) }
+{
+    let stays = lay_sums(copy, d.dim, found, by);
+    free_first(copy);
+    stays
+}
+
+// Lays the sums at all spots of an element into as many bytes as it has, and answers whether each is on the design plane.
+fn lay_sums(copy: &mut [u8], dim: u8, found: Found, by: &Shift) -> bool
+    requires dimension { IsDimension dim }
+    requires kind { found.kind < 128 }
+    requires holds { HoldsPoints dim found.kind found.bytes.now (length found.bytes.now) }
+    requires long { length copy.old ≡ length found.bytes.now }
+    ensures stays { result ≡ list_all (λ s. is_on_plane (sum_at by.now found.entry.bytes.now s))
+        (spots_of dim found.entry.kind found.entry.bytes.now) }
+    ensures laid { IsTrue result → (a : List ℕ) → length a ≡ found.entry.place → write (a ++ copy.old)
+        (map (sum_put by.now found.entry.place found.entry.bytes.now) (spots_of dim found.entry.kind found.entry.bytes.now))
+        ≡ a ++ copy.new }
+{
+    'spots: for spot in spots_in(dim, found.kind, found.bytes) {
+        if !put_sum(copy, found, spot, by) {
+            return false;
+        }
+    }
+    true
+}
+
+// Writes the sum at a spot there, and answers whether it is on the design plane. Where it isn't, nothing is written.
+fn put_sum(copy: &mut [u8], found: Found, spot: Spot, by: &Shift) -> bool
+    requires within { spot.at + 4 ≤ length found.bytes.now }
+    requires long { length copy.old ≡ length found.bytes.now }
+    ensures stays { result ≡ is_on_plane (sum_at by.now found.entry.bytes.now spot) }
+    ensures laid { IsTrue result → copy.new ≡ lay copy.old (record {
+      at = spot.at;
+      bytes = number_bytes spot (sum_at by.now found.entry.bytes.now spot);
+    }) }
+{
+    match sum(found.bytes, spot, by) {
+        Some(number) => {
+            put_number(copy, spot, number);
+            true
+        }
+        None => false,
+    }
+}

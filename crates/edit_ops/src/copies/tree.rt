@@ -1,0 +1,129 @@
+ghost use Rattle.std.specs.Prelude.{ℕ, ◌≡◌, ◌+◌, ◌%◌, ◌<◌, ◌≤◌, List, ◌++◌, length, map, slice_index, slice_set, None, IfOk, IfErr, OnOk, OnErr};
+ghost use Rattle.std.specs.List.{AllByRecursion};
+ghost use Rattle.dgn_drawing.specs.Rows.{row_of};
+ghost use Rattle.dgn_drawing.specs.Nesting.{flat, forest};
+ghost use Rattle.dgn_drawing.specs.Spelling.{spelling};
+ghost use Rattle.elem_index.specs.Design.{elements, IsWhole};
+ghost use Rattle.elem_index.specs.Offsets.{offset_of};
+ghost use Rattle.edit_ops.specs.Trees.{tree_at, live_tree};
+ghost use Rattle.patch_bytes.specs.Puts.{write, Span};
+ghost use Rattle.edit_ops.specs.Applying.{IsEdit, copied};
+ghost use Rattle.edit_ops.specs.Written.{found, live_puts, IsReady};
+ghost use Rattle.edit_ops.specs.Copying.{IsStopped};
+ghost use Rattle.edit_ops.specs.Putting.{MayBePut, leaving};
+
+use crate::EditFault;
+use crate::parts::live::end_of;
+use crate::parts::live_patches::push_live;
+use dgn_drawing::{Edit, MOST_DESIGN};
+use elem_index::Design;
+use nest_tree::types::Nest;
+use patch_bytes::{Patch, PatchList, swap_in};
+use std::alloc::Global;
+
+// Bit C of an element's first byte.
+const BIT_C: u8 = 0x80;
+
+// The byte at which element n begins, or behind the last one.
+fn place_of(d: &Design, n: u32) -> usize
+    requires whole { IsWhole d.now }
+    requires known { n ≤ length (elements d.now) }
+    ensures { result ≡ offset_of (elements d.now) n }
+{
+    d.offset(n).unwrap_or(d.body.len())
+}
+
+/// The bytes of the part of element `n` of the design `d`, of which `t` is the nesting: of the element, which there is,
+/// and of all below it.
+pub fn part_bytes<'a>(d: &'a Design, t: &Nest, n: u32) -> &'a [u8]
+    requires whole { IsWhole d.now }
+    requires nesting { t.now.rows ≡ map row_of (elements d.now) }
+    requires known { n < length (elements d.now) }
+    ensures { result.now ≡ spelling (flat (tree_at n (forest row_of (elements d.now)))) }
+{
+    let start = place_of(d, n);
+    let end = place_of(d, end_of(t, n));
+    &d.body[start..end]
+}
+
+/// How many bytes the part of element `n` of the design `d` has, which there is; `t` is the nesting of `d`.
+pub fn part_len(d: &Design, t: &Nest, n: u32) -> usize
+    requires whole { IsWhole d.now }
+    requires nesting { t.now.rows ≡ map row_of (elements d.now) }
+    requires known { n < length (elements d.now) }
+    ensures exact { result ≡ length (spelling (flat (tree_at n (forest row_of (elements d.now))))) }
+    ensures few { result ≤ MOST_DESIGN }
+{
+    place_of(d, end_of(t, n)) - place_of(d, n)
+}
+
+// Appends the bytes of the copy of the part of element n: those of the part with what the edit puts into its live
+// elements, of which `live` has the numbers, and the head without bit C; or says that one would leave the plane. Then, and
+// where there is no memory, `out` is as before.
+pub fn push_copy(
+    alloc: Global,
+    d: &Design,
+    t: &Nest,
+    n: u32,
+    live: &[u32],
+    edit: &Edit,
+    out: &mut Vec<u8>,
+) -> Result<(), EditFault>
+    requires whole { IsWhole d.now }
+    requires nesting { t.now.rows ≡ map row_of (elements d.now) }
+    requires known { n < length (elements d.now) }
+    requires fits { IsEdit edit.now }
+    requires live { found (elements d.now) live.now ≡ live_tree (elements d.now) n }
+    requires readable { AllByRecursion (λ v. MayBePut edit.now v.element) (live_tree (elements d.now) n) }
+    ensures copied { OnOk result
+        (out.new.items ≡ out.old.items ++ spelling (flat (copied d.now.dim (elements d.now) edit.now n))) }
+    ensures accepted { IfOk result (λ _. leaving d.now.dim edit.now (live_tree (elements d.now) n) ≡ None) }
+    ensures refused { IfErr result (IsStopped (leaving d.now.dim edit.now (live_tree (elements d.now) n))) }
+    ensures kept { OnErr result (out.new.items ≡ out.old.items) }
+{
+    let mut patches = PatchList::new(alloc);
+    push_live(&mut patches, d, live, edit)?;
+    let start = out.len();
+    out.extend_from_slice(part_bytes(d, t, n))?;
+    lay_part(&mut out[start..], d, n, edit, &patches);
+    Ok(())
+}
+
+// Makes the bytes of the part of element n those of its copy, by the patches of the edit `_edit`.
+fn lay_part(copy: &mut [u8], d: &Design, n: u32, _edit: &Edit, patches: &PatchList)
+    requires whole { IsWhole d.now }
+    requires known { n < length (elements d.now) }
+    requires fits { IsEdit _edit.now }
+    requires ready { AllByRecursion (λ v. IsReady d.now.dim _edit.now v.element) (live_tree (elements d.now) n) }
+    requires patches { patches.now ≡ live_puts d.now.dim _edit.now (live_tree (elements d.now) n) }
+    requires same { copy.old ≡ spelling (flat (tree_at n (forest row_of (elements d.now)))) }
+    ensures { copy.new ≡ spelling (flat (copied d.now.dim (elements d.now) _edit.now n)) }
+{
+    lay_all(copy, place_of(d, n) as u32, patches);
+    free_first(copy);
+}
+
+// Takes bit C, which is its highest, from the first of some bytes.
+pub fn free_first(bytes: &mut [u8])
+    ensures { bytes.new ≡ slice_set bytes.old 0 (slice_index bytes.old 0 % 128) }
+{
+    if let Some(first) = bytes.first_mut() {
+        *first %= BIT_C;
+    }
+}
+
+// Lays patches that rise within `bytes`, with places counted from `start` bytes before the first of them.
+fn lay_all(bytes: &mut [u8], start: u32, patches: &PatchList)
+    requires { Span start patches.now (start + length bytes.old) }
+    ensures { (a : List ℕ) → length a ≡ start → write (a ++ bytes.old) patches.now ≡ a ++ bytes.new }
+{
+    let list = patches.as_slice();
+    'patches: for patch in list {
+        let lower = Patch {
+            at: patch.at - start,
+            len: patch.len,
+            bytes: patch.bytes,
+        };
+        let _ = swap_in(bytes, lower);
+    }
+}

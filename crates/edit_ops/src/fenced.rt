@@ -1,0 +1,149 @@
+ghost use Rattle.std.specs.Prelude.{◌≡◌, ◌+◌, ◌<◌, ◌≤◌, [], length, map, IfOk, IfErr, IsErrOf};
+ghost use Rattle.dgn_drawing.specs.Rows.{row_of};
+ghost use Rattle.elem_index.specs.Design.{elements, IsWhole};
+ghost use Rattle.edit_ops.specs.Applying.{apply};
+ghost use Rattle.edit_ops.specs.Fenced.{edit_at, apply_all, AreRoots, IsFenceEdit};
+ghost use Rattle.edit_ops.specs.Planned.{IsPlanBehind, IsFencePlan, IsRefused};
+
+use crate::plans::edit::plan_behind;
+use crate::plans::numbers::{Numbers, no_numbers};
+use crate::types::Plan;
+use crate::{EditFault, same_shift};
+use dgn_drawing::{Edit, FenceEdit, MOST_DESIGN, Shift, SymbChange};
+use elem_index::Design;
+use nest_tree::types::Nest;
+use patch_bytes::{ByteList, PatchList};
+use std::alloc::Global;
+
+/// What an edit of the trees of these roots comes to on the design `d`, of which `t` is the nesting. `roots` are the
+/// numbers of some of its roots, in file order.
+///
+/// Each root is edited as `plan` says, on the design as it was, where the bytes that the roots before it append are
+/// pending. Refused comes exactly with the first cause of the first root that has one, and then nothing is planned.
+/// Otherwise the plan has the patches of all roots in their order, and the bytes that each appends, one behind the
+/// other. Of no root it is a plan without either.
+///
+/// It takes the time of the trees that it edits. Memory says that there was none for the plan of some root.
+pub fn plan_all(
+    alloc: Global,
+    d: &Design,
+    t: &Nest,
+    roots: &[u32],
+    edit: &FenceEdit,
+) -> Result<Plan, EditFault>
+    requires whole { IsWhole d.now }
+    requires nesting { t.now.rows ≡ map row_of (elements d.now) }
+    requires roots { AreRoots (elements d.now) roots.now }
+    ensures planned { IfOk result
+        (IsFencePlan d.now.dim (elements d.now) (length d.now.tail.items) edit.now roots.now) }
+    ensures kept { IfOk result (λ _. IsFenceEdit edit.now) }
+    ensures refused { IfErr result
+        (IsRefused (apply_all d.now.dim (elements d.now) (length d.now.tail.items) edit.now roots.now)) }
+    ensures some { IsErrOf result EditFault.Memory → 0 < length roots.now }
+{
+    keep_values(edit);
+    let mut all = Plan {
+        patches: PatchList::new(alloc),
+        append: ByteList::new(alloc),
+    };
+    join_plans(alloc, d, t, roots, edit, &mut all)?;
+    Ok(all)
+}
+
+// Joins the plans of these roots to `all`, in which nothing is planned yet.
+fn join_plans(
+    alloc: Global,
+    d: &Design,
+    t: &Nest,
+    roots: &[u32],
+    edit: &FenceEdit,
+    all: &mut Plan,
+) -> Result<(), EditFault>
+    requires whole { IsWhole d.now }
+    requires nesting { t.now.rows ≡ map row_of (elements d.now) }
+    requires roots { AreRoots (elements d.now) roots.now }
+    requires fits { IsFenceEdit edit.now }
+    requires no_patches { all.old.patches ≡ [] }
+    requires no_bytes { all.old.append ≡ [] }
+    ensures planned { IfOk result
+        (λ _. IsFencePlan d.now.dim (elements d.now) (length d.now.tail.items) edit.now roots.now all.new) }
+    ensures refused { IfErr result
+        (IsRefused (apply_all d.now.dim (elements d.now) (length d.now.tail.items) edit.now roots.now)) }
+    ensures some { IsErrOf result EditFault.Memory → 0 < length roots.now }
+{
+    let mut numbers = no_numbers(alloc);
+    'roots: for n in roots {
+        join_root(alloc, d, t, *n, edit, &mut numbers, all)?;
+    }
+    Ok(())
+}
+
+// Joins the plan of root n, for which the bytes that `all` appends are pending.
+fn join_root(
+    alloc: Global,
+    d: &Design,
+    t: &Nest,
+    n: u32,
+    edit: &FenceEdit,
+    numbers: &mut Numbers,
+    all: &mut Plan,
+) -> Result<(), EditFault>
+    requires whole { IsWhole d.now }
+    requires nesting { t.now.rows ≡ map row_of (elements d.now) }
+    requires room { length d.now.body.items + (length d.now.tail.items + length all.old.append) ≤ MOST_DESIGN }
+    ensures planned { IfOk result
+        (λ _. IsPlanBehind d.now.dim (elements d.now) (length d.now.tail.items + length all.old.append) (edit_at edit.now n) all.old all.new) }
+    ensures refused { IfErr result
+        (IsRefused (apply d.now.dim (elements d.now) (length d.now.tail.items + length all.old.append) (edit_at edit.now n))) }
+{
+    let pending = all.append.len();
+    plan_behind(alloc, d, t, &root_edit(edit, n), pending, numbers, all)
+}
+
+// The edit of root n.
+fn root_edit(edit: &FenceEdit, n: u32) -> Edit
+    ensures { result ≡ edit_at edit.now n }
+{
+    match edit {
+        FenceEdit::Move(by) => Edit::Move {
+            n,
+            by: same_shift(by),
+        },
+        FenceEdit::Copy(by) => Edit::Copy {
+            n,
+            by: same_shift(by),
+        },
+        FenceEdit::Sym(change) => Edit::Sym {
+            n,
+            change: same_look(change),
+        },
+        FenceEdit::Delete => Edit::Delete { n },
+    }
+}
+
+// A second value of a change of the look.
+fn same_look(change: &SymbChange) -> SymbChange
+    ensures { result ≡ change.now }
+{
+    SymbChange {
+        color: change.color,
+        weight: change.weight,
+        style: change.style,
+    }
+}
+
+// Reads the values of an edit, which are such as its type keeps. It does nothing else.
+fn keep_values(edit: &FenceEdit)
+    ensures { IsFenceEdit edit.now }
+{
+    match edit {
+        FenceEdit::Move(by) | FenceEdit::Copy(by) => {
+            // Read, so that what its type keeps is known.
+            let _axes = by.axes;
+        }
+        FenceEdit::Sym(change) => {
+            let _color = change.color;
+        }
+        FenceEdit::Delete => {}
+    }
+}

@@ -1,0 +1,237 @@
+ghost use Rattle.std.specs.Prelude.{◌≡◌, ◌+◌, ◌<◌, ◌≤◌, ◌∷◌, [], ◌++◌, length, map, min, None, OnOk, IfOk, IfErr, OnSome, IfSome, IfNone, IsTrue, IsFalse};
+ghost use Rattle.std.specs.List.{AllByRecursion, list_all};
+ghost use Rattle.std.specs.Option.{option_to_list};
+ghost use Rattle.elem_head.specs.Head.{symbology_of};
+ghost use Rattle.dgn_layout.specs.Classes.{class_of};
+ghost use Rattle.dgn_layout.specs.Spots.{HoldsPoints, has_spots, spots_of};
+ghost use Rattle.dgn_drawing.specs.WellFormed.{IsDimension};
+ghost use Rattle.elem_index.specs.Design.{elements, IsWhole};
+ghost use Rattle.patch_bytes.specs.PatchView.{put_of};
+ghost use Rattle.range_code.specs.Plane.{is_on_plane};
+ghost use Rattle.dgn_drawing.specs.SpotNumbers.{sum_at, number_bytes};
+ghost use Rattle.edit_ops.specs.Causes.{off_plane};
+ghost use Rattle.edit_ops.specs.Trees.{found_at};
+ghost use Rattle.edit_ops.specs.Written.{found, live_puts, sum_put, new_look};
+ghost use Rattle.edit_ops.specs.Copying.{IsStopped};
+ghost use Rattle.edit_ops.specs.Putting.{MayBePut, leaving, all_spots};
+
+use crate::{Cause, EditFault, Found, find};
+use dgn_drawing::{Edit, MOST_DESIGN, Shift, SymbChange, bytes_at, spots_in, sum};
+use dgn_layout::Spot;
+use elem_head::symb;
+use elem_index::Design;
+use patch_bytes::{Patch, PatchList};
+use std::alloc::AllocError;
+
+// The bit of an element's second byte that marks it deleted.
+const DELETED: u8 = 0x80;
+
+/// Appends what an edit puts into live elements, or into the copies of them, of which `live` has the numbers. The sums of a
+/// move and of a copy are made here alone, so it is here that one is found to leave the design plane.
+///
+/// Refused comes exactly where one does, with OffPlane for the first such element. Then, and where there is no memory,
+/// `patches` may have some of it.
+pub fn push_live(
+    patches: &mut PatchList,
+    d: &Design,
+    live: &[u32],
+    edit: &Edit,
+) -> Result<(), EditFault>
+    requires whole { IsWhole d.now }
+    requires readable { AllByRecursion (λ v. MayBePut edit.now v.element) (found (elements d.now) live.now) }
+    ensures put { OnOk result (patches.new ≡ patches.old
+        ++ live_puts d.now.dim edit.now (found (elements d.now) live.now)) }
+    ensures stay { IfOk result (λ _. leaving d.now.dim edit.now (found (elements d.now) live.now) ≡ None) }
+    ensures refused { IfErr result (IsStopped (leaving d.now.dim edit.now (found (elements d.now) live.now))) }
+{
+    make_room(patches, d, live, edit)?;
+    'live: for m in live {
+        push_patches(patches, d, *m, edit)?;
+    }
+    Ok(())
+}
+
+// Makes room at once for the sums of several live elements that are moved, so that the list doesn't grow by steps. It stays
+// as it was.
+fn make_room(
+    patches: &mut PatchList,
+    d: &Design,
+    live: &[u32],
+    edit: &Edit,
+) -> Result<(), AllocError>
+    requires whole { IsWhole d.now }
+    requires readable { AllByRecursion (λ v. MayBePut edit.now v.element) (found (elements d.now) live.now) }
+    ensures { patches.new ≡ patches.old }
+{
+    match edit {
+        Edit::Move { .. } if live.len() > 1 => patches.reserve(numbers_in(d, live)),
+        _ => Ok(()),
+    }
+}
+
+// How many coordinate fields the elements of these numbers have, as far as the number goes.
+fn numbers_in(d: &Design, live: &[u32]) -> usize
+    requires whole { IsWhole d.now }
+    requires spotted { AllByRecursion (λ v. IsTrue (has_spots (class_of v.element.kind))) (found (elements d.now) live.now) }
+    ensures { result ≡ min (length (all_spots d.now.dim (found (elements d.now) live.now))) 18446744073709551615 }
+{
+    let mut count = 0_usize;
+    'live: for m in live {
+        count = count.saturating_add(numbers_at(d, *m));
+    }
+    count
+}
+
+// How many coordinate fields element m has, where there is one.
+fn numbers_at(d: &Design, m: u32) -> usize
+    requires whole { IsWhole d.now }
+    requires spotted { AllByRecursion (λ v. IsTrue (has_spots (class_of v.element.kind)))
+        (option_to_list (found_at (elements d.now) m)) }
+    ensures { result ≡ length (all_spots d.now.dim (option_to_list (found_at (elements d.now) m))) }
+{
+    let Some(found) = find(d, m) else {
+        return 0;
+    };
+    spots_in(d.dim, found.kind, found.bytes).len()
+}
+
+// Appends what an edit puts into element m, where there is one, or says that it would leave the plane.
+fn push_patches(patches: &mut PatchList, d: &Design, m: u32, edit: &Edit) -> Result<(), EditFault>
+    requires whole { IsWhole d.now }
+    requires readable { AllByRecursion (λ v. MayBePut edit.now v.element) (option_to_list (found_at (elements d.now) m)) }
+    ensures put { OnOk result (patches.new ≡ patches.old
+        ++ live_puts d.now.dim edit.now (option_to_list (found_at (elements d.now) m))) }
+    ensures stay { IfOk result
+        (λ _. leaving d.now.dim edit.now (option_to_list (found_at (elements d.now) m)) ≡ None) }
+    ensures refused { IfErr result
+        (IsStopped (leaving d.now.dim edit.now (option_to_list (found_at (elements d.now) m)))) }
+{
+    let Some(found) = find(d, m) else {
+        return Ok(());
+    };
+    match edit {
+        Edit::Move { by, .. } => push_moved(patches, d.dim, m, found, by),
+        Edit::Copy { by, .. } => push_moved(patches, d.dim, m, found, by),
+        Edit::Sym { change, .. } => {
+            patches.push(look_patch(found, change))?;
+            Ok(())
+        }
+        Edit::Delete { .. } => {
+            patches.push(mark_patch(found))?;
+            Ok(())
+        }
+        Edit::Append(_) => Ok(()),
+    }
+}
+
+// Appends the sums at all spots of element m, or says that one leaves the plane.
+fn push_moved(
+    patches: &mut PatchList,
+    dim: u8,
+    m: u32,
+    found: Found,
+    by: &Shift,
+) -> Result<(), EditFault>
+    requires dimension { IsDimension dim }
+    requires kind { found.kind < 128 }
+    requires holds { HoldsPoints dim found.kind found.bytes.now (length found.bytes.now) }
+    requires few { found.place + length found.bytes.now ≤ MOST_DESIGN }
+    ensures put { OnOk result (patches.new ≡ patches.old
+        ++ map (sum_put by.now found.entry.place found.entry.bytes.now) (spots_of dim found.entry.kind found.entry.bytes.now)) }
+    ensures stay { IfOk result (λ _. IsTrue (list_all (λ s. is_on_plane (sum_at by.now found.entry.bytes.now s))
+        (spots_of dim found.entry.kind found.entry.bytes.now))) }
+    ensures refused { IfErr result (IsStopped (off_plane m
+        (list_all (λ s. is_on_plane (sum_at by.now found.entry.bytes.now s)) (spots_of dim found.entry.kind found.entry.bytes.now)))) }
+{
+    if push_sums(patches, dim, found, by)? {
+        Ok(())
+    } else {
+        Err(EditFault::Refused(Cause::OffPlane(m)))
+    }
+}
+
+// Appends the sums at all spots of an element, and answers whether each is on the design plane. Where one isn't, those
+// before it are appended.
+fn push_sums(patches: &mut PatchList, dim: u8, found: Found, by: &Shift) -> Result<bool, AllocError>
+    requires dimension { IsDimension dim }
+    requires kind { found.kind < 128 }
+    requires holds { HoldsPoints dim found.kind found.bytes.now (length found.bytes.now) }
+    requires few { found.place + length found.bytes.now ≤ MOST_DESIGN }
+    ensures stays { IfOk result (λ stays. stays ≡ list_all (λ s. is_on_plane (sum_at by.now found.entry.bytes.now s))
+        (spots_of dim found.entry.kind found.entry.bytes.now)) }
+    ensures put { IfOk result (λ stays. IsTrue stays → patches.new ≡ patches.old
+        ++ map (sum_put by.now found.entry.place found.entry.bytes.now) (spots_of dim found.entry.kind found.entry.bytes.now)) }
+{
+    let spots = spots_in(dim, found.kind, found.bytes);
+    patches.reserve(spots.len())?;
+    'spots: for spot in spots {
+        let Some(patch) = sum_patch(found, spot, by) else {
+            return Ok(false);
+        };
+        patches.push(patch)?;
+    }
+    Ok(true)
+}
+
+// The sum at a spot, or None exactly where it is off the design plane.
+fn sum_patch(found: Found, spot: Spot, by: &Shift) -> Option<Patch>
+    requires within { spot.at + 4 ≤ length found.bytes.now }
+    requires few { found.place + length found.bytes.now ≤ MOST_DESIGN }
+    ensures on { OnSome result (IsTrue (is_on_plane (sum_at by.now found.entry.bytes.now spot))) }
+    ensures off { IfNone result (IsFalse (is_on_plane (sum_at by.now found.entry.bytes.now spot))) }
+    ensures put { IfSome result
+        (λ patch. put_of patch ≡ sum_put by.now found.entry.place found.entry.bytes.now spot) }
+{
+    let number = sum(found.bytes, spot, by)?;
+    Some(number_patch(found, spot, number))
+}
+
+/// A number at a spot of an element.
+pub fn number_patch(found: Found, spot: Spot, number: i32) -> Patch
+    requires within { spot.at + 4 ≤ length found.bytes.now }
+    requires few { found.place + length found.bytes.now ≤ MOST_DESIGN }
+    ensures { put_of result ≡ record {
+      at = found.entry.place + spot.at;
+      bytes = number_bytes spot number;
+    } }
+{
+    Patch {
+        at: found.place as u32 + spot.at,
+        len: 4,
+        bytes: bytes_at(spot, number),
+    }
+}
+
+// The two bytes of an element's look with what is given of another.
+fn look_patch(found: Found, change: &SymbChange) -> Patch
+    requires long { 36 ≤ length found.bytes.now }
+    requires few { found.place + length found.bytes.now ≤ MOST_DESIGN }
+    ensures { put_of result ≡ record {
+      at = found.entry.place + 34;
+      bytes = new_look change.now (symbology_of found.entry.bytes.now);
+    } }
+{
+    let look = symb(found.bytes);
+    let style = change.style.unwrap_or(look.style);
+    let weight = change.weight.unwrap_or(look.weight);
+    let color = change.color.unwrap_or(look.color);
+    Patch {
+        at: found.place as u32 + 34,
+        len: 2,
+        bytes: [style + 8 * weight, color, 0, 0],
+    }
+}
+
+// The type and the deleted bit of an element, with the bit set.
+fn mark_patch(found: Found) -> Patch
+    requires kind { found.kind < 128 }
+    requires long { 4 ≤ length found.bytes.now }
+    requires few { found.place + length found.bytes.now ≤ MOST_DESIGN }
+    ensures { put_of result ≡ record { at = found.entry.place + 1; bytes = (found.entry.kind + 128) ∷ [] } }
+{
+    Patch {
+        at: found.place as u32 + 1,
+        len: 1,
+        bytes: [found.kind + DELETED, 0, 0, 0],
+    }
+}

@@ -1,0 +1,62 @@
+// Parts that are one live element by itself, which is then found once.
+
+ghost use Rattle.std.specs.Prelude.{◌≡◌, ◌↔◌, ◌<◌, length, map, false, Some, None, IfSome, IsNone, IsTrue};
+ghost use Rattle.std.specs.Option.{option_to_list};
+ghost use Rattle.dgn_drawing.specs.Nesting.{flat, forest, itself};
+ghost use Rattle.dgn_drawing.specs.Numbering.{parent_of, first_broken_of};
+ghost use Rattle.dgn_drawing.specs.Rows.{row_of};
+ghost use Rattle.dgn_drawing.specs.Spelling.{spelling};
+ghost use Rattle.elem_index.specs.Design.{elements, IsWhole};
+ghost use Rattle.edit_ops.specs.Found.{IsFound, IsLone};
+ghost use Rattle.edit_ops.specs.Trees.{found_at, live_tree, tree_at};
+ghost use Rattle.edit_ops.specs.Lone.{IsOnePart, IsLoneRoot};
+
+use crate::parts::live::end_of;
+use crate::{Found, find};
+use elem_index::Design;
+use nest_tree::types::Nest;
+
+// Element n, which there is, where it is its whole part and isn't marked deleted.
+pub fn lone_at<'a>(d: &'a Design, t: &Nest, n: u32) -> Option<Found<'a>>
+    requires whole { IsWhole d.now }
+    requires nesting { t.now.rows ≡ map row_of (elements d.now) }
+    requires known { n < length (elements d.now) }
+    ensures found { IfSome result (IsFound d.now n) }
+    ensures alive { IfSome result (λ f. f.deleted ≡ false) }
+    ensures part { IfSome result
+        (λ f. spelling (flat (tree_at n (forest row_of (elements d.now)))) ≡ f.bytes.now) }
+    ensures live { IfSome result (λ _. live_tree (elements d.now) n ≡ option_to_list (found_at (elements d.now) n)) }
+    ensures one { IfSome result (λ _. IsOnePart (elements d.now) n) }
+    ensures more { IsNone result → ¬ IsOnePart (elements d.now) n }
+{
+    if end_of(t, n) - n != 1 {
+        return None;
+    }
+    let found = find(d, n)?;
+    if found.deleted {
+        return None;
+    }
+    Some(found)
+}
+
+/// Whether element `n`, which there is, is its whole part, live, and a root that isn't broken. Where it is, nothing keeps
+/// it from any edit.
+pub fn is_lone_root(d: &Design, t: &Nest, n: u32) -> bool
+    requires whole { IsWhole d.now }
+    requires nesting { t.now.rows ≡ map row_of (elements d.now) }
+    requires known { n < length (elements d.now) }
+    ensures exact { IsTrue result ↔ IsLoneRoot (elements d.now) n }
+    ensures free { IsTrue result → IsLone d.now n }
+{
+    is_sound_root(t, n) && matches!(lone_at(d, t, n), Some(_))
+}
+
+// Whether element n is a root in whose tree no number is broken.
+fn is_sound_root(t: &Nest, n: u32) -> bool
+    ensures root { IsTrue result → parent_of itself t.now.rows n ≡ Some None }
+    ensures sound { IsTrue result → first_broken_of itself t.now.rows n ≡ Some None }
+    ensures all { parent_of itself t.now.rows n ≡ Some None → first_broken_of itself t.now.rows n ≡ Some None
+        → IsTrue result }
+{
+    matches!(t.parent(n), Some(None)) && matches!(t.first_broken(n), Some(None))
+}

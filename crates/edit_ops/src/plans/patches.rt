@@ -1,0 +1,179 @@
+ghost use Rattle.std.specs.Prelude.{◌≡◌, ◌+◌, ◌<◌, ◌≤◌, ◌+ℤ◌, [], ◌∷◌, ◌++◌, length, map, take, slice_get, None, IfSome, IfOk, IfErr, OnOk, IsTrue};
+ghost use Rattle.std.specs.List.{AllByRecursion, list_all, flat_map};
+ghost use Rattle.std.specs.Option.{option_to_list};
+ghost use Rattle.elem_head.specs.Head.{symbology_of};
+ghost use Rattle.dgn_words.specs.Numbers.{range_long_at};
+ghost use Rattle.range_code.specs.Ranges.{on_axis, corner_at};
+ghost use Rattle.dgn_layout.specs.Classes.{class_of};
+ghost use Rattle.dgn_layout.specs.Spots.{HoldsPoints, has_spots, spots_of};
+ghost use Rattle.dgn_drawing.specs.Spelling.{spell};
+ghost use Rattle.dgn_drawing.specs.Changes.{displaced};
+ghost use Rattle.dgn_drawing.specs.WellFormed.{IsDimension};
+ghost use Rattle.elem_index.specs.Design.{elements, IsWhole};
+ghost use Rattle.patch_bytes.specs.PatchView.{put_of};
+ghost use Rattle.range_code.specs.Plane.{is_on_plane};
+ghost use Rattle.dgn_drawing.specs.SpotNumbers.{sum_at, wider};
+ghost use Rattle.edit_ops.specs.Causes.{part_cause};
+ghost use Rattle.edit_ops.specs.Trees.{found_at, above_tree, live_tree};
+ghost use Rattle.edit_ops.specs.Written.{found, above_puts, part_puts, wider_put, wider_puts, MayWiden};
+ghost use Rattle.edit_ops.specs.Copying.{IsStopped};
+ghost use Rattle.edit_ops.specs.Putting.{MayBePut, leaving};
+
+use crate::{Cause, EditFault, Found, find, number_patch, push_live};
+use dgn_drawing::{Edit, MOST_DESIGN, Shift, moved_number, spots_in, stays_on_plane, value, wider};
+use dgn_layout::Spot;
+use dgn_words::range_long;
+use elem_index::Design;
+use patch_bytes::{Patch, PatchList};
+use range_code::Box3;
+use std::alloc::AllocError;
+
+// Appends what an edit of the part of element n puts into the headers above it and into its live elements, of which
+// `above` and `live` have the numbers, or says which of these would leave the design plane.
+pub fn push_part(
+    patches: &mut PatchList,
+    d: &Design,
+    n: u32,
+    above: &[u32],
+    live: &[u32],
+    edit: &Edit,
+) -> Result<(), EditFault>
+    requires whole { IsWhole d.now }
+    requires known { n < length (elements d.now) }
+    requires unkept { part_cause d.now.dim (elements d.now) n ≡ None }
+    requires above { found (elements d.now) above.now ≡ above_tree (elements d.now) n }
+    requires live { found (elements d.now) live.now ≡ live_tree (elements d.now) n }
+    requires widens { MayWiden edit.now (above_tree (elements d.now) n) }
+    requires readable { AllByRecursion (λ v. MayBePut edit.now v.element) (live_tree (elements d.now) n) }
+    ensures put { OnOk result (patches.new ≡ patches.old ++ part_puts d.now.dim (elements d.now) edit.now n) }
+    ensures stay { IfOk result (λ _. leaving d.now.dim edit.now (live_tree (elements d.now) n) ≡ None) }
+    ensures refused { IfErr result (IsStopped (leaving d.now.dim edit.now (live_tree (elements d.now) n))) }
+{
+    push_above(patches, d, n, above, edit)?;
+    push_live(patches, d, live, edit)
+}
+
+// Appends what an edit of the part of element n puts into the headers above it, of which `above` has the numbers. A moved
+// element that leaves the plane has no range for them to hold.
+fn push_above(
+    patches: &mut PatchList,
+    d: &Design,
+    n: u32,
+    above: &[u32],
+    edit: &Edit,
+) -> Result<(), EditFault>
+    requires whole { IsWhole d.now }
+    requires head { IfSome (slice_get (elements d.now) n) (MayBePut edit.now) }
+    requires widens { MayWiden edit.now (found (elements d.now) above.now) }
+    ensures put { OnOk result (patches.new ≡ patches.old
+        ++ above_puts d.now.dim edit.now (slice_get (elements d.now) n) (found (elements d.now) above.now)) }
+    ensures refused { IfErr result
+        (IsStopped (leaving d.now.dim edit.now (option_to_list (found_at (elements d.now) n)))) }
+{
+    if above.is_empty() {
+        return Ok(());
+    }
+    let Edit::Move { by, .. } = edit else {
+        return Ok(());
+    };
+    let Some(head) = find(d, n) else {
+        return Ok(());
+    };
+    if !stays_on_plane(d.dim, head.kind, head.bytes, by) {
+        return Err(EditFault::Refused(Cause::OffPlane(n)));
+    }
+    push_all_wider(patches, d, above, moved_range(d.dim, head.bytes, by))?;
+    Ok(())
+}
+
+// Appends the range numbers of each of the headers of these numbers made to hold a range too.
+fn push_all_wider(
+    patches: &mut PatchList,
+    d: &Design,
+    above: &[u32],
+    r: Box3,
+) -> Result<(), AllocError>
+    requires whole { IsWhole d.now }
+    requires spotted { AllByRecursion (λ v. IsTrue (has_spots (class_of v.element.kind))) (found (elements d.now) above.now) }
+    ensures { OnOk result (patches.new ≡ patches.old
+        ++ flat_map (λ v. wider_puts d.now.dim r v.place (spell v.element)) (found (elements d.now) above.now)) }
+{
+    'above: for m in above {
+        push_wider(patches, d, *m, r)?;
+    }
+    Ok(())
+}
+
+// The range of an element with the bytes b, moved by a displacement along the file's axes.
+fn moved_range(dim: u8, b: &[u8], by: &Shift) -> Box3
+    requires dimension { IsDimension dim }
+    requires long { 36 ≤ length b.now }
+    requires low { IsTrue (list_all is_on_plane (take dim (displaced (take dim by.now.by) (corner_at b.now 4)))) }
+    requires high { IsTrue (list_all is_on_plane (take dim (displaced (take dim by.now.by) (corner_at b.now 16)))) }
+    ensures { result ≡ record {
+      lo = displaced (take dim by.now.by) (corner_at b.now 4);
+      hi = displaced (take dim by.now.by) (corner_at b.now 16);
+    } }
+{
+    Box3 {
+        lo: moved_corner(dim, b, 4, by),
+        hi: moved_corner(dim, b, 16, by),
+    }
+}
+
+// The corner at byte `at`, moved along the file's axes, along which it stays on the design plane.
+fn moved_corner(dim: u8, b: &[u8], at: u32, by: &Shift) -> [i32; 3]
+    requires dimension { IsDimension dim }
+    requires low { at ≤ 16 }
+    requires long { at + 12 ≤ length b.now }
+    requires plane { IsTrue (list_all is_on_plane (take dim (displaced (take dim by.now.by) (corner_at b.now at)))) }
+    ensures { result ≡ displaced (take dim by.now.by) (corner_at b.now at) }
+{
+    let x = moved_number(b, at, 0, by);
+    let y = moved_number(b, at + 4, 1, by);
+    if dim == 3 {
+        [x, y, moved_number(b, at + 8, 2, by)]
+    } else {
+        [x, y, range_long(b, at as usize + 8)]
+    }
+}
+
+// Appends the range numbers of header m, where there is one, made to hold a range too.
+fn push_wider(patches: &mut PatchList, d: &Design, m: u32, r: Box3) -> Result<(), AllocError>
+    requires whole { IsWhole d.now }
+    requires spotted { AllByRecursion (λ v. IsTrue (has_spots (class_of v.element.kind)))
+        (option_to_list (found_at (elements d.now) m)) }
+    ensures { OnOk result (patches.new ≡ patches.old
+        ++ flat_map (λ v. wider_puts d.now.dim r v.place (spell v.element)) (option_to_list (found_at (elements d.now) m))) }
+{
+    let Some(found) = find(d, m) else {
+        return Ok(());
+    };
+    push_range(patches, d.dim, found, r)
+}
+
+// Appends the numbers at the range spots of an element, made to hold a range too.
+fn push_range(patches: &mut PatchList, dim: u8, found: Found, r: Box3) -> Result<(), AllocError>
+    requires dimension { IsDimension dim }
+    requires kind { found.kind < 128 }
+    requires spotted { IsTrue (has_spots (class_of found.kind)) }
+    requires holds { HoldsPoints dim found.kind found.bytes.now (length found.bytes.now) }
+    requires few { found.place + length found.bytes.now ≤ MOST_DESIGN }
+    ensures { OnOk result (patches.new ≡ patches.old ++ wider_puts dim r found.entry.place found.entry.bytes.now) }
+{
+    'spots: for spot in spots_in(dim, found.kind, found.bytes) {
+        if spot.offset {
+            patches.push(wider_patch(found, spot, r))?;
+        }
+    }
+    Ok(())
+}
+
+// The number at a range spot, made to hold a range too.
+fn wider_patch(found: Found, spot: Spot, r: Box3) -> Patch
+    requires within { spot.at + 4 ≤ length found.bytes.now }
+    requires few { found.place + length found.bytes.now ≤ MOST_DESIGN }
+    ensures { put_of result ≡ wider_put r found.entry.place found.entry.bytes.now spot }
+{
+    number_patch(found, spot, wider(spot, value(found.bytes, spot), r))
+}

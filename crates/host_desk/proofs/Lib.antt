@@ -1,4 +1,0 @@
-pub mod Gathering
-pub mod InTurn
-pub mod Telling
-pub mod Moving

@@ -1,5 +1,0 @@
-pub mod Content
-pub mod Holding
-pub mod Desk
-pub mod Seen
-pub mod FileLaws

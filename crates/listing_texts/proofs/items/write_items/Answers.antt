@@ -1,8 +1,0 @@
-use Rattle.listing_texts.proofs.Fronts.{first, last, said}
-use Rattle.listing_texts.proofs.items.write_items.Goals as goal
-
-pub returns-in_err-put_lines-clause-front : goal.returns-in_err-put_lines-clause-front
-returns-in_err-put_lines-clause-front c = said _ _ _ _ (first _ _ _ _ c.in_err-put_lines.ensures.front)
-
-pub returns-clause-front : goal.returns-clause-front
-returns-clause-front c = last _ _ _ _ _ _ c.in_ok-put_lines.ensures.text (c.put_ending.ensures.front)

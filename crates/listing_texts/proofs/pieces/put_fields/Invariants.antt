@@ -1,6 +1,0 @@
-use Rattle.std.proofs.Common.{◌≡◌, ◌++◌, take}
-use Rattle.listing_texts.specs.Lines.{fields_text}
-use Rattle.listing_texts.proofs.pieces.put_fields.Given as goal
-
-abbrev pub invariant-loop-n : goal.invariant-loop-n
-invariant-loop-n l = l.out.items ≡ l.fn.out.items ++ fields_text (take l.n-index l.numbers)

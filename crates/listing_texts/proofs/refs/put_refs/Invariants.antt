@@ -1,8 +1,0 @@
-use Rattle.std.proofs.Common.{◌≡◌, ◌++◌}
-use Rattle.elem_index.specs.Design.{elements}
-use Rattle.listing_texts.specs.Lines.{texts_from}
-use Rattle.listing_texts.specs.RefTexts.{ref_line}
-use Rattle.listing_texts.proofs.refs.put_refs.Given as goal
-
-abbrev pub invariant-loop-n : goal.invariant-loop-n
-invariant-loop-n l = l.out.items ≡ l.fn.out.items ++ texts_from (ref_line (elements l.d)) 0 l.n

@@ -1,7 +1,0 @@
-use Rattle.std.proofs.Common.{◌≡◌, take}
-use Rattle.elem_index.specs.Design.{elements}
-use Rattle.listing_texts.specs.RefTexts.{ref_count}
-use Rattle.listing_texts.proofs.refs.ref_count.Given as goal
-
-abbrev pub invariant-loop-n : goal.invariant-loop-n
-invariant-loop-n l = l.found ≡ ref_count (take l.n (elements l.d))

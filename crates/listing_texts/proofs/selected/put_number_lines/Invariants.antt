@@ -1,6 +1,0 @@
-use Rattle.std.proofs.Common.{◌≡◌, ◌++◌, take}
-use Rattle.listing_texts.specs.SelectedTexts.{number_lines}
-use Rattle.listing_texts.proofs.selected.put_number_lines.Given as goal
-
-abbrev pub invariant-loop-n : goal.invariant-loop-n
-invariant-loop-n l = l.out.items ≡ l.fn.out.items ++ number_lines (take l.n-index l.numbers)

@@ -1,8 +1,0 @@
-use Rattle.std.proofs.Common.{◌≡◌, ◌++◌, ◌-◌}
-use Rattle.elem_index.specs.Design.{elements}
-use Rattle.listing_texts.specs.Lines.{texts_from}
-use Rattle.listing_texts.specs.TreeTexts.{element_text}
-use Rattle.listing_texts.proofs.tree.put_elements.Given as goal
-
-abbrev pub invariant-loop-n : goal.invariant-loop-n
-invariant-loop-n l = l.out.items ≡ l.fn.out.items ++ texts_from (element_text (elements l.d)) l.first (l.n - l.first)

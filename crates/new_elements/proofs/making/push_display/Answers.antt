@@ -1,7 +1,0 @@
-use Rattle.std.proofs.Common.{rules, append_assoc}
-use Rattle.dgn_drawing.specs.Spelling.{display_bytes}
-use Rattle.new_elements.proofs.making.push_display.Goals as goal
-
-pub returns : goal.returns
-unfolding display_bytes
-returns c = search (rules, append_assoc)

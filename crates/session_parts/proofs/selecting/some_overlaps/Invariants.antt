@@ -1,7 +1,0 @@
-use Rattle.elem_index.specs.Design.{elements}
-use Rattle.session_parts.proofs.ItemsApart.{ClearTo}
-use Rattle.session_parts.proofs.selecting.some_overlaps.Given as goal
-
--- no element before the next one overlaps the fence by itself
-abbrev pub invariant-elements : goal.invariant-elements
-invariant-elements l = ClearTo l.fence l.design.dim (elements l.design) l.root l.n

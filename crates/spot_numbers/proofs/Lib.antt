@@ -1,2 +1,0 @@
-pub mod SpotSteps
-pub mod WrittenNumbers
