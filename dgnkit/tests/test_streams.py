@@ -15,6 +15,12 @@ SOURCES = str(samples.TOP / 'dgnkit' / 'src')
 Ran = Tuple[int, str, str]
 
 
+def heed_signals() -> None:
+    """Has a command heed signals as on a terminal, also where the tests run in the background, which ignores some."""
+    for number in (signal.SIGINT, signal.SIGHUP):
+        signal.signal(number, signal.SIG_DFL)
+
+
 class AsAProcess(samples.WithProgram):
     def words(self, *words: object) -> List[str]:
         return [sys.executable, '-m', 'dgnkit', *map(str, words)]
@@ -124,7 +130,9 @@ class AsAProcess(samples.WithProgram):
         temporary.mkdir(exist_ok=True)
         place = self.place(DGNEDIT=slow, TMPDIR=str(temporary))
         command = self.words('run', broken, self.put('s', 'color 1 3\n'), self.path('o.dgn'))
-        child = subprocess.Popen(command, env=place, stdout=subprocess.PIPE, stderr=subprocess.PIPE)
+        child = subprocess.Popen(
+            command, env=place, stdout=subprocess.PIPE, stderr=subprocess.PIPE, preexec_fn=heed_signals
+        )
         end = time.monotonic() + 60
         while wait == 0 and not os.path.exists(slow + '.begun') and time.monotonic() < end:
             time.sleep(0.02)
@@ -167,7 +175,12 @@ class AsAProcess(samples.WithProgram):
                 'sys.meta_path.insert(0, Stop())\n'
                 'it.command()' % at
             )
-            ran = subprocess.run([sys.executable, '-c', begin + '\n' + stop], env=self.place(), stderr=subprocess.PIPE)
+            ran = subprocess.run(
+                [sys.executable, '-c', begin + '\n' + stop],
+                env=self.place(),
+                stderr=subprocess.PIPE,
+                preexec_fn=heed_signals,
+            )
             self.assertEqual((ran.returncode, ran.stderr), (130, b''), at)
 
 
