@@ -25,7 +25,8 @@ use Rattle.dgn_audit.specs.declared.keep.Keep.TheVariants as keeps
 use Rattle.dgn_audit.specs.declared.finding.Finding.{Finding}
 use Rattle.dgn_audit.specs.Hulls.{hull_join, on_axes, box_of, stored_of, is_vertices, points_hull, range_hull, hull_in, tree_hull, hull_of}
 use Rattle.dgn_audit.specs.Findings.{same_corner, same_box, is_fitted, is_kept, finding_of, finding_as, findings_in}
-use Rattle.dgn_audit.specs.Fitting.{display_fitted, body_fitted, with_range, head_fitted, fitted, fitted_forest}
+use Rattle.dgn_drawing.specs.Changes.{display_ranged, body_ranged, with_range}
+use Rattle.dgn_audit.specs.Fitting.{head_fitted, fitted, fitted_forest}
 use Rattle.dgn_audit.specs.Laws.{is_outside, FitsEndFindings}
 use Rattle.dgn_audit.proofs.Boxes.{IsOnAxes, set_on_axes, point_on_axes, hulls_on_axes}
 use Rattle.dgn_audit.proofs.FittedBytes.{hull_shown}
@@ -71,10 +72,10 @@ module _ (dim : ℕ) (axes : IsDimension dim) where
 
 -- another range leaves the hull of what is fitted
 body_stays : (dim : ℕ) (knot : Knot) (kind : ℕ) (b : Body) (r : Box3) (members : Option Box3) → is_fitted knot kind ≡ true
-    → hull_in dim knot kind (body_fitted dim r b) members ≡ hull_in dim knot kind b members
+    → hull_in dim knot kind (body_ranged dim r b) members ≡ hull_in dim knot kind b members
 body_stays dim knot kind (Silent rest) r members is = refl
 body_stays dim Leaf kind (Shown d parts rest) r members is =
-    cond-true (is_vertices (class_of kind)) (points_hull dim (points_in parts)) (range_hull dim kind (display_fitted dim r d)) is
+    cond-true (is_vertices (class_of kind)) (points_hull dim (points_in parts)) (range_hull dim kind (display_ranged dim r d)) is
     ∙ sym (cond-true (is_vertices (class_of kind)) (points_hull dim (points_in parts)) (range_hull dim kind d) is)
 body_stays dim Group kind (Shown d parts rest) r members is = refl
 body_stays dim Run kind (Shown d parts rest) r members is = absurd (both_ways false refl is)
@@ -128,9 +129,9 @@ over_corner dim a b axes = in_both (λ (d : ℕ). in_space (take d (take d (in_s
 
 -- what is stored of a box that is put there is the box
 stored_fitted : (dim : ℕ) (r : Box3) (d : Display) (parts : Parts) (rest : List ℕ) → IsDimension dim → on_axes dim r ≡ r
-    → stored_of dim (body_fitted dim r (Shown d parts rest)) ≡ r
+    → stored_of dim (body_ranged dim r (Shown d parts rest)) ≡ r
 stored_fitted dim r d parts rest axes on =
-    ap (λ (x : Box3). stored_of dim (body_fitted dim x (Shown d parts rest))) (sym on)
+    ap (λ (x : Box3). stored_of dim (body_ranged dim x (Shown d parts rest))) (sym on)
     ∙ ap (λ (l : List ℤ). record { lo = l; hi = in_space (take dim (take dim (in_space (take dim r.hi)) ++ drop dim d.high)) })
     (over_corner dim r.lo d.low axes)
     ∙ ap (λ (h : List ℤ). record { lo = in_space (take dim r.lo); hi = h }) (over_corner dim r.hi d.high axes)
@@ -167,7 +168,7 @@ module _ (dim : ℕ) (axes : IsDimension dim) where
   fitted_same knot e members r is on =
       cond_both (is_fitted knot e.kind) (with_range dim r e) e (λ (x : Element). stored_of dim x.body ≡ r)
       (λ _. let shown = hull_shown dim knot e members r is in
-      ap (λ (b : Body). stored_of dim (body_fitted dim r b)) shown.body ∙ stored_fitted dim r shown.display shown.parts shown.rest axes on)
+      ap (λ (b : Body). stored_of dim (body_ranged dim r b)) shown.body ∙ stored_fitted dim r shown.display shown.parts shown.rest axes on)
       (λ other. stored_other dim knot e.kind e.body members r (alive e.deleted is) other)
     where
       alive : (t : Bool) → cond t None (hull_in dim knot e.kind e.body members) ≡ Some r → hull_in dim knot e.kind e.body members ≡ Some r

@@ -12,7 +12,8 @@ use Rattle.patch_bytes.specs.Puts.{Put}
 use Rattle.dgn_drawing.specs.Element.{Display, Parts, Body, Silent, Shown, Element, Line, Points, Text, Node, Cell, Header, Plain}
 use Rattle.dgn_drawing.specs.Spelling.{spell, spelling, size_of}
 use Rattle.dgn_drawing.specs.WellFormed.{IsDimension, IsPoint, HasParts, HasBody, IsWellFormed}
-use Rattle.dgn_drawing.specs.Changes.{points_in}
+use Rattle.dgn_drawing.specs.Changes.{points_in, with_range}
+use Rattle.dgn_drawing.specs.SpotNumbers.{number_in, range_puts}
 use Rattle.dgn_drawing.specs.Rows.{row_of}
 use Rattle.dgn_drawing.specs.Nesting.{Knot, Leaf, Group, Run, Loose, Forest, NoTree, Tree, flat, forest}
 use Rattle.dgn_drawing.specs.Numbering.{end_of, root_of}
@@ -32,12 +33,13 @@ use Rattle.dgn_audit.specs.declared.keep.Keep.TheVariants as keeps
 use Rattle.dgn_audit.specs.declared.finding.Finding.{Finding}
 use Rattle.dgn_audit.specs.Hulls.{hull_join, on_axes, box_of, is_vertices, points_hull, range_hull, hull_in, tree_hull, hull_of}
 use Rattle.dgn_audit.specs.Findings.{is_fitted, finding_of, finding_as, findings_in, fitted_in}
-use Rattle.dgn_audit.specs.Fitting.{with_range, head_fitted, fitted, fitted_forest, number_in, range_puts, fit_puts, root_fields, fit_root}
+use Rattle.dgn_audit.specs.Fitting.{head_fitted, fitted, fitted_forest, fit_puts, root_fields, fit_root}
 use Rattle.edit_ops.specs.declared.causes.cause.Cause.{Cause}
 use Rattle.edit_ops.specs.Applying.{unless}
 use Rattle.dgn_audit.specs.Planned.{IsPlanOfRoot, IsFitPlan}
 use Rattle.dgn_audit.proofs.TreePlaces.{IsRooted, rooted}
-use Rattle.dgn_audit.proofs.RangesPut.{IsBox, ranged, flat_good, joined_good}
+use Rattle.dgn_drawing.proofs.RangesPut.{IsBox, joined_good}
+use Rattle.dgn_audit.proofs.RangesPut.{ranged, flat_good}
 
 -- a box, if there is one, has points for corners
 abbrev pub IsGood : Option Box3 → Type 0

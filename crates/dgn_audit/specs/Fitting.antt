@@ -1,16 +1,15 @@
 -- What a fit comes to: the stored range of each fitted element of one tree replaced by its hull, or the first cause
 -- against it.
-use Rattle.std.specs.Prelude.{ℕ, ℤ, ◌+◌, nat_lt, if◌then◌else◌, Option, Some, None, List, [], ◌∷◌, ◌++◌, map, take, drop, slice_get}
+use Rattle.std.specs.Prelude.{ℕ, ◌+◌, if◌then◌else◌, Option, Some, None, List, [], ◌∷◌, ◌++◌, slice_get}
 use Rattle.std.specs.List.{flat_map}
 use Rattle.std.specs.Option.{option_or}
 use Rattle.range_code.specs.declared.Box3.{Box3}
-use Rattle.range_code.specs.Ranges.{on_axis}
-use Rattle.dgn_layout.specs.declared.spot.Spot.{Spot}
 use Rattle.dgn_layout.specs.Spots.{range_spots}
 use Rattle.patch_bytes.specs.Puts.{Put}
-use Rattle.dgn_drawing.specs.Element.{Display, Body, Silent, Shown, Element}
+use Rattle.dgn_drawing.specs.Element.{Element}
 use Rattle.dgn_drawing.specs.Rows.{row_of}
-use Rattle.dgn_drawing.specs.SpotNumbers.{number_bytes}
+use Rattle.dgn_drawing.specs.Changes.{with_range}
+use Rattle.dgn_drawing.specs.SpotNumbers.{range_puts}
 use Rattle.dgn_drawing.specs.Nesting.{Knot, Forest, NoTree, Tree, flat, forest}
 use Rattle.dgn_drawing.specs.Numbering.{root_of, first_broken_of}
 use Rattle.elem_index.specs.Offsets.{offset_of}
@@ -23,35 +22,6 @@ use Rattle.edit_ops.specs.Fields.{Field, spot_fields}
 use Rattle.dgn_audit.specs.declared.finding.Finding.{Finding}
 use Rattle.dgn_audit.specs.Hulls.{tree_hull, hull_of}
 use Rattle.dgn_audit.specs.Findings.{is_fitted, fitted_in}
-
--- the display part with its range replaced by a box, on the file's axes
-abbrev pub display_fitted : ℕ → Box3 → Display → Display
-display_fitted dim r d = record {
-  low = take dim r.lo ++ drop dim d.low;
-  high = take dim r.hi ++ drop dim d.high;
-  group = d.group;
-  index = d.index;
-  properties = d.properties;
-  style = d.style;
-  weight = d.weight;
-  color = d.color;
-}
-
--- the body with that range
-abbrev pub body_fitted : ℕ → Box3 → Body → Body
-body_fitted dim r (Silent rest) = Silent rest
-body_fitted dim r (Shown display parts rest) = Shown (display_fitted dim r display) parts rest
-
--- the element with that range
-abbrev pub with_range : ℕ → Box3 → Element → Element
-with_range dim r e = record {
-  level = e.level;
-  bit6 = e.bit6;
-  cbit = e.cbit;
-  kind = e.kind;
-  deleted = e.deleted;
-  body = body_fitted dim r e.body;
-}
 
 -- a live element, by its hull: where it can be fitted and has a hull, with that as its range
 abbrev pub head_fitted : ℕ → Knot → Element → Option Box3 → Element
@@ -106,18 +76,6 @@ root_fields dim es (Some root) = flat_map (λ f. spot_fields (offset_of es f.num
 -- those of a fit of the tree that holds element n
 abbrev pub fit_fields : ℕ → List Element → ℕ → List Field
 fit_fields dim es n = root_fields dim es (root_of row_of es n)
-
--- the number of a box at a range spot: of its low corner, which stands before byte 16, or of its high one
-abbrev pub number_in : Box3 → Spot → ℤ
-number_in r s = if nat_lt s.at 16 then on_axis r.lo s.axis else on_axis r.hi s.axis
-
--- what a fit puts at a range spot of an element that begins at byte p
-abbrev pub range_put : Box3 → ℕ → Spot → Put
-range_put r p s = record { at = p + s.at; bytes = number_bytes s (number_in r s) }
-
--- and into all of them
-abbrev pub range_puts : ℕ → Box3 → ℕ → List Put
-range_puts dim r p = map (range_put r p) (range_spots dim)
 
 -- what is put into fitted elements
 abbrev pub fit_puts : ℕ → List Element → List Finding → List Put

@@ -14,7 +14,8 @@ ghost use Rattle.elem_index.specs.Offsets.{offset_of};
 ghost use Rattle.elem_index.specs.Design.{elements, IsWhole};
 ghost use Rattle.dgn_audit.specs.Findings.{fitted_in};
 ghost use Rattle.dgn_audit.specs.FitCauses.{edit_cause};
-ghost use Rattle.dgn_audit.specs.Fitting.{against, lock_cause, first_locked, tree_cause, apply_fit, number_in, range_put, range_puts};
+ghost use Rattle.dgn_drawing.specs.SpotNumbers.{number_in, range_put, range_puts};
+ghost use Rattle.dgn_audit.specs.Fitting.{against, lock_cause, first_locked, tree_cause, apply_fit};
 ghost use Rattle.dgn_audit.specs.Planned.{IsFitPlan, IsFitRefused, IsPlanOfRoot, ArePatchesOf, IsCause, IsSpotted};
 
 use crate::finding::Finding;

@@ -26,7 +26,7 @@ pub mod MovedPieces
 pub mod SpotValues
 pub mod DisplacedRecords
 pub mod MarkedRecords
-pub mod WiderRecords
+pub mod RangesPut
 pub mod FreedRecords
 pub mod WorkedSpots
 pub mod MadeElements

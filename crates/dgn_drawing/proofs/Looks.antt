@@ -58,7 +58,7 @@ put-over front x behind y p at same =
 
 -- the element with this body
 abbrev pub with_body : Element → Body → Element
-with_body e b = record { level = e.level; bit6 = e.bit6; cbit = e.cbit; kind = e.kind; deleted = e.deleted; body = b }
+with_body e b = record e { body = b }
 
 -- the bytes of a shown element before its look, if so many words follow
 front : Element → ℕ → Display → List ℕ

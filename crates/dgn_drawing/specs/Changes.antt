@@ -6,18 +6,13 @@ use Rattle.std.specs.Prelude.{ℕ, ◌+◌, ◌*◌, Bool, true, false, List, []
 use Rattle.std.specs.List.{list_all, flat_map}
 use Rattle.range_code.specs.declared.Box3.{Box3}
 use Rattle.range_code.specs.Plane.{is_on_plane}
-use Rattle.range_code.specs.Ranges.{least_corner, greatest_corner}
+use Rattle.range_code.specs.Ranges.{join_of}
 use Rattle.dgn_drawing.specs.Values.{Displacement, LookChange}
 use Rattle.dgn_drawing.specs.Element.{Display, Parts, Line, Points, Text, Node, Cell, Header, Plain, Body, Silent, Shown, Element}
 
 -- the display part with those of colour, weight and style that are given
 abbrev pub look_changed : LookChange → Display → Display
-look_changed change d = record {
-  low = d.low;
-  high = d.high;
-  group = d.group;
-  index = d.index;
-  properties = d.properties;
+look_changed change d = record d {
   style = unwrap_or change.style d.style;
   weight = unwrap_or change.weight d.weight;
   color = unwrap_or change.color d.color;
@@ -30,14 +25,7 @@ recoloured_body change (Shown display parts rest) = Shown (look_changed change d
 
 -- the element with another look
 abbrev pub recolour : LookChange → Element → Element
-recolour change e = record {
-  level = e.level;
-  bit6 = e.bit6;
-  cbit = e.cbit;
-  kind = e.kind;
-  deleted = e.deleted;
-  body = recoloured_body change e.body;
-}
+recolour change e = record e { body = recoloured_body change e.body }
 
 -- the two bytes of the look: style and weight in one, and the colour
 abbrev pub look_bytes : Display → List ℕ
@@ -45,14 +33,7 @@ look_bytes d = (d.style + 8 * d.weight) ∷ d.color ∷ []
 
 -- the element marked deleted
 abbrev pub mark : Element → Element
-mark e = record {
-  level = e.level;
-  bit6 = e.bit6;
-  cbit = e.cbit;
-  kind = e.kind;
-  deleted = true;
-  body = e.body;
-}
+mark e = record e { deleted = true }
 
 -- numbers and how far each is displaced, one by one. A number for which nothing is given stays
 abbrev pub displaced : List ℤ → List ℤ → List ℤ
@@ -62,16 +43,7 @@ displaced (d ∷ ds) (x ∷ xs) = (x +ℤ d) ∷ displaced ds xs
 
 -- the display part with its corners displaced
 abbrev pub display_displaced : List ℤ → Display → Display
-display_displaced ds d = record {
-  low = displaced ds d.low;
-  high = displaced ds d.high;
-  group = d.group;
-  index = d.index;
-  properties = d.properties;
-  style = d.style;
-  weight = d.weight;
-  color = d.color;
-}
+display_displaced ds d = record d { low = displaced ds d.low; high = displaced ds d.high }
 
 -- the parts with their points displaced
 abbrev pub parts_displaced : List ℤ → Parts → Parts
@@ -90,14 +62,7 @@ body_displaced ds (Shown display parts rest) = Shown (display_displaced ds displ
 
 -- the element displaced, in a file of that dimension
 abbrev pub shift : ℕ → Displacement → Element → Element
-shift dim by e = record {
-  level = e.level;
-  bit6 = e.bit6;
-  cbit = e.cbit;
-  kind = e.kind;
-  deleted = e.deleted;
-  body = body_displaced (take dim by.by) e.body;
-}
+shift dim by e = record e { body = body_displaced (take dim by.by) e.body }
 
 -- the points of the parts
 abbrev pub points_in : Parts → List (List ℤ)
@@ -123,42 +88,28 @@ stays_on_plane dim by e = list_all is_on_plane (numbers_in dim (shift dim by e).
 abbrev pub range_in : Display → Box3
 range_in d = record { lo = d.low; hi = d.high }
 
--- the display part with a range that holds this one too, on the file's axes: the lesser lows, the greater highs
-abbrev pub display_widened : ℕ → Box3 → Display → Display
-display_widened dim r d = record {
-  low = take dim (least_corner d.low r.lo) ++ drop dim d.low;
-  high = take dim (greatest_corner d.high r.hi) ++ drop dim d.high;
-  group = d.group;
-  index = d.index;
-  properties = d.properties;
-  style = d.style;
-  weight = d.weight;
-  color = d.color;
-}
+-- the display part with another range, on the file's axes
+abbrev pub display_ranged : ℕ → Box3 → Display → Display
+display_ranged dim r d = record d { low = take dim r.lo ++ drop dim d.low; high = take dim r.hi ++ drop dim d.high }
 
--- the body with the wider range
+-- the body with that range
+abbrev pub body_ranged : ℕ → Box3 → Body → Body
+body_ranged dim r (Silent rest) = Silent rest
+body_ranged dim r (Shown display parts rest) = Shown (display_ranged dim r display) parts rest
+
+-- the element with that range, in a file of that dimension
+abbrev pub with_range : ℕ → Box3 → Element → Element
+with_range dim r e = record e { body = body_ranged dim r e.body }
+
+-- the body with the least range that holds its own and this one
 abbrev pub body_widened : ℕ → Box3 → Body → Body
 body_widened dim r (Silent rest) = Silent rest
-body_widened dim r (Shown display parts rest) = Shown (display_widened dim r display) parts rest
+body_widened dim r (Shown display parts rest) = Shown (display_ranged dim (join_of (range_in display) r) display) parts rest
 
 -- the element with the wider range, in a file of that dimension
 abbrev pub widen : ℕ → Box3 → Element → Element
-widen dim r e = record {
-  level = e.level;
-  bit6 = e.bit6;
-  cbit = e.cbit;
-  kind = e.kind;
-  deleted = e.deleted;
-  body = body_widened dim r e.body;
-}
+widen dim r e = record e { body = body_widened dim r e.body }
 
 -- the element without bit C
 abbrev pub freed : Element → Element
-freed e = record {
-  level = e.level;
-  bit6 = e.bit6;
-  cbit = false;
-  kind = e.kind;
-  deleted = e.deleted;
-  body = e.body;
-}
+freed e = record e { cbit = false }

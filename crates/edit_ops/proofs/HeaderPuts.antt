@@ -17,7 +17,7 @@ use Rattle.dgn_drawing.specs.SpotNumbers.{value_at, wider, widened_put}
 use Rattle.dgn_drawing.specs.WellFormed.{IsDimension, HasBody, IsWellFormed}
 use Rattle.dgn_drawing.specs.Changes.{shift, body_displaced, display_displaced, parts_displaced, range_in, widen}
 use Rattle.dgn_drawing.specs.Rows.{row_of}
-use Rattle.dgn_drawing.proofs.WiderRecords.{widen_put}
+use Rattle.dgn_drawing.proofs.RangesPut.{widen_put}
 use Rattle.edit_ops.specs.Trees.{Live}
 use Rattle.edit_ops.specs.Applying.{holding, above_change, IsEdit}
 use Rattle.edit_ops.specs.Fields.{Field, spot_fields, above_fields_at, above_fields}

@@ -6,7 +6,7 @@ use Rattle.dgn_layout.specs.Spots.{spots_of}
 use Rattle.dgn_layout.specs.SpotsLeft.{spots_left}
 use Rattle.dgn_drawing.proofs.SpotSteps.{LieIn, lie_in}
 use Rattle.edit_ops.proofs.WiderRanges.{of_ranges, ranges_are}
-use Rattle.dgn_audit.specs.Fitting.{range_put}
+use Rattle.dgn_drawing.specs.SpotNumbers.{range_put}
 use Rattle.dgn_audit.proofs.fitting.push_spots.Goals as goal
 
 pub spots-init : goal.spots-init

@@ -3,7 +3,7 @@ use Rattle.dgn_layout.specs.Spots.{spots_of}
 use Rattle.dgn_layout.specs.SpotsLeft.{spots_left}
 use Rattle.dgn_drawing.proofs.SpotSteps.{LieIn}
 use Rattle.edit_ops.proofs.WiderRanges.{of_ranges}
-use Rattle.dgn_audit.specs.Fitting.{range_put}
+use Rattle.dgn_drawing.specs.SpotNumbers.{range_put}
 use Rattle.dgn_audit.proofs.fitting.push_spots.Given as goal
 
 -- what is put so far and what is put at the range spots that are left are all

@@ -1,4 +1,4 @@
-use Rattle.dgn_drawing.proofs.WiderRecords.{widen_put}
+use Rattle.dgn_drawing.proofs.RangesPut.{widen_put}
 use Rattle.dgn_drawing.proofs.laws.widenings_are_wider.Goals as goal
 
 pub returns : goal.returns
