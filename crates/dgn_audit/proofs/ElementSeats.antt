@@ -69,49 +69,49 @@ module _ (d : Design) (whole : IsWhole d) (n : ℕ) (s : Seat) (is : IsSeat d n 
   axes = axes_of d whole
 
   -- of a loud one the display header is there, and of a row its points
-  pub seat_long : is_silent (class_of s.kind) ≡ false → 36 ≤ length s.bytes.now
+  pub seat_long : is_silent (class_of s.view.kind) ≡ false → 36 ≤ length s.view.bytes.now
   seat_long loud =
-      let said : is_silent (class_of is.element.kind) ≡ false = ap (λ (k : ℕ). is_silent (class_of k)) (sym is.kind) ∙ loud in
-      subst (λ (b : List ℕ). 36 ≤ length b) (sym is.bytes) (loud_long d.dim axes is.element is.good said)
+      let said : is_silent (class_of is.view.element.kind) ≡ false = ap (λ (k : ℕ). is_silent (class_of k)) (sym is.view.kind) ∙ loud in
+      subst (λ (b : List ℕ). 36 ≤ length b) (sym is.view.bytes) (loud_long d.dim axes is.view.element is.view.good said)
 
-  pub seat_holds : is_vertices (class_of s.kind) ≡ true → HoldsPoints d.dim s.kind s.bytes.now (length s.bytes.now)
+  pub seat_holds : is_vertices (class_of s.view.kind) ≡ true → HoldsPoints d.dim s.view.kind s.view.bytes.now (length s.view.bytes.now)
   seat_holds row =
-      let said : is_vertices (class_of is.element.kind) ≡ true = ap (λ (k : ℕ). is_vertices (class_of k)) (sym is.kind) ∙ row in
-      subst (λ (b : List ℕ). HoldsPoints d.dim s.kind b (length b)) (sym is.bytes)
-      (subst (λ (k : ℕ). HoldsPoints d.dim k (spell is.element) (length (spell is.element))) (sym is.kind) (row_holds d.dim axes is.element is.good said))
+      let said : is_vertices (class_of is.view.element.kind) ≡ true = ap (λ (k : ℕ). is_vertices (class_of k)) (sym is.view.kind) ∙ row in
+      subst (λ (b : List ℕ). HoldsPoints d.dim s.view.kind b (length b)) (sym is.view.bytes)
+      (subst (λ (k : ℕ). HoldsPoints d.dim k (spell is.view.element) (length (spell is.view.element))) (sym is.view.kind) (row_holds d.dim axes is.view.element is.view.good said))
 
   -- the hull that is read is that of its tree
-  hull_is : (members : Option Box3) → hull_read d.dim s.knot s.kind s.bytes.now members ≡ hull_in d.dim is.mark.knot is.element.kind is.element.body members
+  hull_is : (members : Option Box3) → hull_read d.dim s.knot s.view.kind s.view.bytes.now members ≡ hull_in d.dim is.mark.knot is.view.element.kind is.view.element.body members
   hull_is members =
-      ap (λ (k : code.Knot). hull_read d.dim k s.kind s.bytes.now members) is.knot
-      ∙ ap (λ (k : ℕ). hull_read d.dim (code_knot is.mark.knot) k s.bytes.now members) is.kind
-      ∙ ap (λ (b : List ℕ). hull_read d.dim (code_knot is.mark.knot) is.element.kind b members) is.bytes
-      ∙ hull_said d.dim axes is.element is.good is.mark.knot members
+      ap (λ (k : code.Knot). hull_read d.dim k s.view.kind s.view.bytes.now members) is.knot
+      ∙ ap (λ (k : ℕ). hull_read d.dim (code_knot is.mark.knot) k s.view.bytes.now members) is.view.kind
+      ∙ ap (λ (b : List ℕ). hull_read d.dim (code_knot is.mark.knot) is.view.element.kind b members) is.view.bytes
+      ∙ hull_said d.dim axes is.view.element is.view.good is.mark.knot members
 
-  module _ (hull : Box3) (members : Option Box3) (some : Some hull ≡ hull_read d.dim s.knot s.kind s.bytes.now members) where
+  module _ (hull : Box3) (members : Option Box3) (some : Some hull ≡ hull_read d.dim s.knot s.view.kind s.view.bytes.now members) where
     -- an element of which a hull is read has its display header
-    loud : is_silent (class_of s.kind) ≡ false
-    loud = hull_loud d.dim is.mark.knot s.kind s.bytes.now members hull (some ∙ ap (λ (k : code.Knot). hull_read d.dim k s.kind s.bytes.now members) is.knot)
+    loud : is_silent (class_of s.view.kind) ≡ false
+    loud = hull_loud d.dim is.mark.knot s.view.kind s.view.bytes.now members hull (some ∙ ap (λ (k : code.Knot). hull_read d.dim k s.view.kind s.view.bytes.now members) is.knot)
 
-    pub hull_long : 36 ≤ length s.bytes.now
+    pub hull_long : 36 ≤ length s.view.bytes.now
     hull_long = seat_long loud
 
-    finding_is : (keep : Keep) → finding_read keep d.dim s.knot n s.kind s.bytes.now hull ≡ finding_as keep d.dim is.mark.knot n is.element (Some hull)
+    finding_is : (keep : Keep) → finding_read keep d.dim s.knot n s.view.kind s.view.bytes.now hull ≡ finding_as keep d.dim is.mark.knot n is.view.element (Some hull)
     finding_is keep =
-        ap (λ (k : code.Knot). finding_read keep d.dim k n s.kind s.bytes.now hull) is.knot
-        ∙ ap (λ (k : ℕ). finding_read keep d.dim (code_knot is.mark.knot) n k s.bytes.now hull) is.kind
-        ∙ ap (λ (b : List ℕ). finding_read keep d.dim (code_knot is.mark.knot) n is.element.kind b hull) is.bytes
-        ∙ loud_findings d.dim axes is.element is.good (ap (λ (k : ℕ). is_silent (class_of k)) (sym is.kind) ∙ loud) keep is.mark.knot n hull
+        ap (λ (k : code.Knot). finding_read keep d.dim k n s.view.kind s.view.bytes.now hull) is.knot
+        ∙ ap (λ (k : ℕ). finding_read keep d.dim (code_knot is.mark.knot) n k s.view.bytes.now hull) is.view.kind
+        ∙ ap (λ (b : List ℕ). finding_read keep d.dim (code_knot is.mark.knot) n is.view.element.kind b hull) is.view.bytes
+        ∙ loud_findings d.dim axes is.view.element is.view.good (ap (λ (k : ℕ). is_silent (class_of k)) (sym is.view.kind) ∙ loud) keep is.mark.knot n hull
 
   module _ (keep : Keep) (os : List OpenBox) (fs : List Finding) where
     -- what was read behind it
     abbrev before : Pass
     before = record { open_boxes = os; noted = fs }
 
-    marked_is : read_one keep d.dim n is.mark is.element (record { open_boxes = os; noted = fs })
+    marked_is : read_one keep d.dim n is.mark is.view.element (record { open_boxes = os; noted = fs })
         ≡ read_marked keep d.dim n (mark_of row_of (elements d) n) (slice_get (elements d) n) (record { open_boxes = os; noted = fs })
     marked_is =
-        ap (λ (o : Option Element). read_marked keep d.dim n (Some is.mark) o before) (sym is.there)
+        ap (λ (o : Option Element). read_marked keep d.dim n (Some is.mark) o before) (sym is.view.there)
         ∙ ap (λ (o : Option Mark). read_marked keep d.dim n o (slice_get (elements d) n) before) (sym is.marked)
 
     abbrev made : Option Box3 → List Finding → Pass
@@ -122,47 +122,47 @@ module _ (d : Design) (whole : IsWhole d) (n : ℕ) (s : Seat) (is : IsSeat d n 
     no_hull (Some p) boxes = refl
 
     -- a dead one takes what is told of the elements below it away
-    pub dead_read : s.deleted ≡ true → record { open_boxes = without n os; noted = past s.end fs }
+    pub dead_read : s.view.deleted ≡ true → record { open_boxes = without n os; noted = past s.end fs }
         ≡ read_marked keep d.dim n (mark_of row_of (elements d) n) (slice_get (elements d) n) (record { open_boxes = os; noted = fs })
     dead_read dead =
-        let died : is.element.deleted ≡ true = sym is.deleted ∙ dead in
+        let died : is.view.element.deleted ≡ true = sym is.view.deleted ∙ dead in
         ap (λ (k : ℕ). record { open_boxes = without n os; noted = past k fs }) is.end
         ∙ ap (λ (b : List OpenBox). record { open_boxes = b; noted = past is.mark.end fs }) (sym (no_hull is.mark.parent (without n os)))
         ∙ ap (λ (h : Option Box3). made h (past is.mark.end fs))
-        (sym (cond-true is.element.deleted None (hull_in d.dim is.mark.knot is.element.kind is.element.body (box_for n os)) died))
-        ∙ ap (made (tree_hull d.dim is.mark.knot is.element (box_for n os)))
-        (sym (cond-true is.element.deleted (past is.mark.end fs)
-        (finding_as keep d.dim is.mark.knot n is.element (tree_hull d.dim is.mark.knot is.element (box_for n os)) ++ fs) died))
+        (sym (cond-true is.view.element.deleted None (hull_in d.dim is.mark.knot is.view.element.kind is.view.element.body (box_for n os)) died))
+        ∙ ap (made (tree_hull d.dim is.mark.knot is.view.element (box_for n os)))
+        (sym (cond-true is.view.element.deleted (past is.mark.end fs)
+        (finding_as keep d.dim is.mark.knot n is.view.element (tree_hull d.dim is.mark.knot is.view.element (box_for n os)) ++ fs) died))
         ∙ marked_is
 
-    module _ (lives : s.deleted ≡ false) where
-      alive : is.element.deleted ≡ false
-      alive = sym is.deleted ∙ lives
+    module _ (lives : s.view.deleted ≡ false) where
+      alive : is.view.element.deleted ≡ false
+      alive = sym is.view.deleted ∙ lives
 
-      tree_is : tree_hull d.dim is.mark.knot is.element (box_for n os) ≡ hull_read d.dim s.knot s.kind s.bytes.now (box_for n os)
-      tree_is = cond-false is.element.deleted None (hull_in d.dim is.mark.knot is.element.kind is.element.body (box_for n os)) alive
+      tree_is : tree_hull d.dim is.mark.knot is.view.element (box_for n os) ≡ hull_read d.dim s.knot s.view.kind s.view.bytes.now (box_for n os)
+      tree_is = cond-false is.view.element.deleted None (hull_in d.dim is.mark.knot is.view.element.kind is.view.element.body (box_for n os)) alive
           ∙ sym (hull_is (box_for n os))
 
-      live_is : (hull : Option Box3) → hull ≡ hull_read d.dim s.knot s.kind s.bytes.now (box_for n os)
-          → made hull (finding_as keep d.dim is.mark.knot n is.element hull ++ fs)
+      live_is : (hull : Option Box3) → hull ≡ hull_read d.dim s.knot s.view.kind s.view.bytes.now (box_for n os)
+          → made hull (finding_as keep d.dim is.mark.knot n is.view.element hull ++ fs)
           ≡ read_marked keep d.dim n (mark_of row_of (elements d) n) (slice_get (elements d) n) (record { open_boxes = os; noted = fs })
       live_is hull read =
-          ap (λ (h : Option Box3). made h (finding_as keep d.dim is.mark.knot n is.element h ++ fs)) (read ∙ sym tree_is)
-          ∙ ap (made (tree_hull d.dim is.mark.knot is.element (box_for n os)))
-          (sym (cond-false is.element.deleted (past is.mark.end fs)
-          (finding_as keep d.dim is.mark.knot n is.element (tree_hull d.dim is.mark.knot is.element (box_for n os)) ++ fs) alive))
+          ap (λ (h : Option Box3). made h (finding_as keep d.dim is.mark.knot n is.view.element h ++ fs)) (read ∙ sym tree_is)
+          ∙ ap (made (tree_hull d.dim is.mark.knot is.view.element (box_for n os)))
+          (sym (cond-false is.view.element.deleted (past is.mark.end fs)
+          (finding_as keep d.dim is.mark.knot n is.view.element (tree_hull d.dim is.mark.knot is.view.element (box_for n os)) ++ fs) alive))
           ∙ marked_is
 
       -- one without a hull leaves all
-      pub bare_read : None ≡ hull_read d.dim s.knot s.kind s.bytes.now (box_for n os)
+      pub bare_read : None ≡ hull_read d.dim s.knot s.view.kind s.view.bytes.now (box_for n os)
           → record { open_boxes = without n os; noted = fs }
           ≡ read_marked keep d.dim n (mark_of row_of (elements d) n) (slice_get (elements d) n) (record { open_boxes = os; noted = fs })
       bare_read none =
           ap (λ (b : List OpenBox). record { open_boxes = b; noted = fs }) (sym (no_hull is.mark.parent (without n os))) ∙ live_is None none
 
       -- one with a hull adds it to its header's box, and is told of
-      pub hull_is_read : (hull : Box3) (boxes : List OpenBox) (noted : List Finding) → Some hull ≡ hull_read d.dim s.knot s.kind s.bytes.now (box_for n os)
-          → boxes ≡ with_hulls s.parent (Some hull) (without n os) → noted ≡ finding_read keep d.dim s.knot n s.kind s.bytes.now hull ++ fs
+      pub hull_is_read : (hull : Box3) (boxes : List OpenBox) (noted : List Finding) → Some hull ≡ hull_read d.dim s.knot s.view.kind s.view.bytes.now (box_for n os)
+          → boxes ≡ with_hulls s.parent (Some hull) (without n os) → noted ≡ finding_read keep d.dim s.knot n s.view.kind s.view.bytes.now hull ++ fs
           → record { open_boxes = boxes; noted = noted }
           ≡ read_marked keep d.dim n (mark_of row_of (elements d) n) (slice_get (elements d) n) (record { open_boxes = os; noted = fs })
       hull_is_read hull boxes noted some held are =
@@ -172,8 +172,8 @@ module _ (d : Design) (whole : IsWhole d) (n : ℕ) (s : Seat) (is : IsSeat d n 
 
 -- the hull that is read with the box of the members
 pub hull_from : (dim : ℕ) (s : Seat) (n : ℕ) (members hull : Option Box3) (os : List OpenBox)
-    → hull ≡ hull_read dim s.knot s.kind s.bytes.now members → members ≡ box_for n os → hull ≡ hull_read dim s.knot s.kind s.bytes.now (box_for n os)
-hull_from dim s n members hull os is held = is ∙ ap (hull_read dim s.knot s.kind s.bytes.now) held
+    → hull ≡ hull_read dim s.knot s.view.kind s.view.bytes.now members → members ≡ box_for n os → hull ≡ hull_read dim s.knot s.view.kind s.view.bytes.now (box_for n os)
+hull_from dim s n members hull os is held = is ∙ ap (hull_read dim s.knot s.view.kind s.view.bytes.now) held
 
 -- the step from what was read behind an element
 pub back_step : (keep : Keep) (dim : ℕ) (es : List Element) (n next end : ℕ) (pass made : Pass) → next ≡ n + 1 → next ≤ end

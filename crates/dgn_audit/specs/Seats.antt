@@ -1,13 +1,12 @@
 -- Where a part begins and ends, and what is read of one element of a design. Contracts of private functions alone cite this.
-use Rattle.std.specs.Prelude.{ℕ, ◌≡◌, Option, Some, None, List, length, slice_get, unwrap_or}
+use Rattle.std.specs.Prelude.{ℕ, ◌≡◌, Option, Some, None, List, length, unwrap_or}
 use Rattle.dgn_drawing.specs.Element.{Element}
-use Rattle.dgn_drawing.specs.Spelling.{spell}
-use Rattle.dgn_drawing.specs.WellFormed.{IsWellFormed}
 use Rattle.dgn_drawing.specs.Rows.{row_of}
 use Rattle.dgn_drawing.specs.Numbering.{Mark, mark_of, span_of}
 use Rattle.elem_index.specs.declared.design.Design.{Design}
 use Rattle.elem_index.specs.Design.{elements}
 use Rattle.nest_tree.specs.Shapes.{code_knot}
+use Rattle.edit_ops.specs.Found.{IsFound}
 use Rattle.dgn_audit.specs.declared.seat.Seat.{Seat}
 
 -- the numbers of the first element of the part of element n and behind its last one, or of all elements where none is named
@@ -19,12 +18,7 @@ bounds_of es (Some n) = unwrap_or (span_of row_of es n) (n, n)
 pub record IsSeat (d : Design) (n : ℕ) (s : Seat) : Type 0 where
   pub mark : Mark
   pub marked : mark_of row_of (elements d) n ≡ Some mark
-  pub element : Element
-  pub there : slice_get (elements d) n ≡ Some element
-  pub good : IsWellFormed d.dim element
   pub knot : s.knot ≡ code_knot mark.knot
   pub parent : s.parent ≡ mark.parent
   pub end : s.end ≡ mark.end
-  pub kind : s.kind ≡ element.kind
-  pub deleted : s.deleted ≡ element.deleted
-  pub bytes : s.bytes.now ≡ spell element
+  pub view : IsFound d n s.view

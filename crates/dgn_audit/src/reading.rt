@@ -123,13 +123,13 @@ fn tell(
     noted: &mut Vec<Finding>,
 ) -> Result<(), AllocError>
     requires dimension { IsDimension dim }
-    requires kind { seat.kind < 128 }
-    requires long { 36 ≤ length seat.bytes.now }
+    requires kind { seat.view.kind < 128 }
+    requires long { 36 ≤ length seat.view.bytes.now }
     ensures { OnOk result (reverse noted.new.items
-        ≡ finding_read keep dim seat.entry.knot n seat.entry.kind seat.entry.bytes.now hull ++ reverse noted.old.items) }
+        ≡ finding_read keep dim seat.entry.knot n seat.entry.view.kind seat.entry.view.bytes.now hull ++ reverse noted.old.items) }
 {
-    let stored = stored_range(dim, seat.bytes);
-    if is_kept(keep, seat.knot, seat.kind, stored, hull) {
+    let stored = stored_range(dim, seat.view.bytes);
+    if is_kept(keep, seat.knot, seat.view.kind, stored, hull) {
         noted.push(Finding {
             number: n,
             axes: dim,
@@ -178,11 +178,11 @@ pub(crate) fn read_part(
     for n in (first..end).rev() {
         let seat = seat_of(d, t, n);
         let members = take_box(&mut boxes, n);
-        if seat.deleted {
+        if seat.view.deleted {
             cut_below(&mut noted, seat.end);
             continue;
         }
-        if let Some(hull) = hull_of(d.dim, seat.knot, seat.kind, seat.bytes, members) {
+        if let Some(hull) = hull_of(d.dim, seat.knot, seat.view.kind, seat.view.bytes, members) {
             add_hull(&mut boxes, seat.parent, hull);
             tell(d.dim, keep, n, seat, hull, &mut noted)?;
         }

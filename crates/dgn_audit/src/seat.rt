@@ -3,7 +3,7 @@ ghost use Rattle.dgn_drawing.specs.Rows.{row_of};
 ghost use Rattle.elem_index.specs.Design.{elements, IsWhole};
 ghost use Rattle.dgn_audit.specs.Seats.{IsSeat};
 
-use elem_head::head;
+use edit_ops::{Found, find};
 use elem_index::Design;
 use nest_tree::Knot;
 use nest_tree::types::Nest;
@@ -17,12 +17,8 @@ pub(crate) struct Seat<'a> {
     pub(crate) parent: Option<u32>,
     // The number behind the last element below it.
     pub(crate) end: u32,
-    // Its type.
-    pub(crate) kind: u8,
-    // Whether it is marked deleted.
-    pub(crate) deleted: bool,
-    // Its bytes.
-    pub(crate) bytes: &'a [u8],
+    // What is read of it.
+    pub(crate) view: Found<'a>,
 }
 
 // Element `n`, which there is.
@@ -32,7 +28,7 @@ pub(crate) fn seat_of<'a>(d: &'a Design, t: &Nest, n: u32) -> Seat<'a>
     requires known { n < length (elements d.now) }
     ensures { IsSeat d.now n result }
 {
-    let Some(bytes) = d.element(n) else {
+    let Some(view) = find(d, n) else {
         unreachable!()
     };
     let Some(knot) = t.knot(n) else {
@@ -44,13 +40,10 @@ pub(crate) fn seat_of<'a>(d: &'a Design, t: &Nest, n: u32) -> Seat<'a>
     let Some((_, end)) = t.span(n) else {
         unreachable!()
     };
-    let head = head(bytes);
     Seat {
         knot,
         parent,
         end,
-        kind: head.kind,
-        deleted: head.deleted,
-        bytes,
+        view,
     }
 }

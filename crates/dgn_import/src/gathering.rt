@@ -11,9 +11,9 @@ ghost use Rattle.dgn_import.specs.Answers.{TellsFault, TellsCause};
 use crate::gathered::Gathered;
 use crate::import_fault::ImportFault;
 use crate::second::Second;
-use crate::taking::{end_of, is_taken};
+use crate::taking::is_taken;
 use dgn_drawing::Shift;
-use edit_ops::{copy_tree, part_bytes};
+use edit_ops::{copy_tree, part_bytes, part_end};
 use elem_index::Design;
 use nest_tree::types::Nest;
 use patch_bytes::ByteList;
@@ -113,7 +113,7 @@ fn taken_trees(
             push_tree(alloc, d, t, root, by, &mut bytes)?;
             trees += 1;
         }
-        root = end_of(t, root);
+        root = part_end(t, root);
     }
     Ok(Gathered { bytes, trees })
 }

@@ -1,9 +1,9 @@
 // Which trees of a second drawing are taken.
 
-ghost use Rattle.std.specs.Prelude.{◌≡◌, ◌<◌, length, map, option_map, slice_get, Some};
+ghost use Rattle.std.specs.Prelude.{◌≡◌, map, slice_get, Some};
 ghost use Rattle.dgn_drawing.specs.Rows.{row_of};
 ghost use Rattle.dgn_drawing.specs.Nesting.{itself};
-ghost use Rattle.dgn_drawing.specs.Numbering.{mark_of, first_broken_of};
+ghost use Rattle.dgn_drawing.specs.Numbering.{first_broken_of};
 ghost use Rattle.elem_index.specs.Design.{elements, IsWhole};
 ghost use Rattle.dgn_import.specs.Gathering.{is_drawn, is_unbroken, is_taken};
 
@@ -11,17 +11,6 @@ use dgn_layout::is_silent;
 use elem_head::head;
 use elem_index::Design;
 use nest_tree::types::Nest;
-
-// The number behind the last element of the tree of a root.
-pub(crate) fn end_of(t: &Nest, root: u32) -> u32
-    requires { root < length t.now.rows }
-    ensures { Some result ≡ option_map (λ m. m.end) (mark_of itself t.now.rows root) }
-{
-    let Some((_, end)) = t.span(root) else {
-        unreachable!()
-    };
-    end
-}
 
 // Whether the tree of root n is taken.
 pub(crate) fn is_taken(d: &Design, t: &Nest, n: u32) -> bool

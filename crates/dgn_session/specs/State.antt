@@ -36,7 +36,7 @@ begun dim es rest = record { dim = dim; rest = rest; top = es; earlier = []; mas
 
 -- the state with another stack
 abbrev pub with_stack : List Element → List (List Element) → State → State
-with_stack top earlier s = record { dim = s.dim; rest = s.rest; top = top; earlier = earlier; mask = s.mask; fence = s.fence }
+with_stack top earlier s = record s { top = top; earlier = earlier }
 
 -- what an edit comes to in a state
 abbrev pub applied : Edit → State → Applied
@@ -89,11 +89,11 @@ undo_refused s = is_none s.earlier
 
 -- a mask is set
 abbrev pub with_mask : Mask → State → State
-with_mask mask s = record { dim = s.dim; rest = s.rest; top = s.top; earlier = s.earlier; mask = mask; fence = s.fence }
+with_mask mask s = record s { mask = mask }
 
 -- a fence is set, or cleared
 abbrev pub with_fence : Option (List Pt) → State → State
-with_fence fence s = record { dim = s.dim; rest = s.rest; top = s.top; earlier = s.earlier; mask = s.mask; fence = fence }
+with_fence fence s = record s { fence = fence }
 
 -- a session's value, as plain data: dimension, body and tail, the entries of the log, the oldest first, the mask, and
 -- the fence, where there is one
@@ -118,8 +118,7 @@ state_of v = record {
   rest = length v.tail;
   top = elements_of v.dim v.body;
   earlier = earlier_of v.dim v.body (reverse v.entries);
-  mask =
-      v.mask;
+  mask = v.mask;
   fence = v.fence;
 }
 
@@ -138,12 +137,12 @@ fence_entry dim es e ns = entry_with es (fenced_fields dim es e ns)
 
 -- a session's value with another mask
 abbrev pub value_with_mask : Mask → SessionValue → SessionValue
-value_with_mask mask v = record { dim = v.dim; body = v.body; tail = v.tail; entries = v.entries; mask = mask; fence = v.fence }
+value_with_mask mask v = record v { mask = mask }
 
 -- with another fence
 abbrev pub value_with_fence : Option (List Pt) → SessionValue → SessionValue
-value_with_fence fence v = record { dim = v.dim; body = v.body; tail = v.tail; entries = v.entries; mask = v.mask; fence = fence }
+value_with_fence fence v = record v { fence = fence }
 
 -- and with another body and other entries
 abbrev pub value_with : List ℕ → List Entry → SessionValue → SessionValue
-value_with body entries v = record { dim = v.dim; body = body; tail = v.tail; entries = entries; mask = v.mask; fence = v.fence }
+value_with body entries v = record v { body = body; entries = entries }

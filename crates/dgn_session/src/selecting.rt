@@ -1,9 +1,8 @@
 // The roots that a fence chooses.
 
-ghost use Rattle.std.specs.Prelude.{ℕ, ◌≡◌, ◌<◌, length, map, option_map, Some, IfOk, IsFalse};
+ghost use Rattle.std.specs.Prelude.{ℕ, ◌≡◌, ◌<◌, map, Some, IfOk, IsFalse};
 ghost use Rattle.dgn_drawing.specs.Rows.{row_of};
 ghost use Rattle.dgn_drawing.specs.Nesting.{itself};
-ghost use Rattle.dgn_drawing.specs.Numbering.{mark_of};
 ghost use Rattle.dgn_drawing.specs.WellFormed.{IsDimension};
 ghost use Rattle.dgn_drawing.specs.declared.mask.Mask.{Mask};
 ghost use Rattle.dgn_drawing.specs.Faults.{IsSoundIn};
@@ -17,6 +16,7 @@ ghost use Rattle.dgn_session.specs.Selecting.{HasNone};
 use dgn_drawing::types::Item;
 use dgn_drawing::{Mask, Mode};
 use dgn_fence::types::Fence;
+use edit_ops::part_end;
 use elem_head::head;
 use elem_index::Design;
 use level_view::{lone_element, tree_items_into};
@@ -46,7 +46,7 @@ pub fn select(
         if taken {
             found.push(root)?;
         }
-        root = end_of(nest, root);
+        root = part_end(nest, root);
     }
     Ok(found)
 }
@@ -94,7 +94,7 @@ fn some_overlaps(
     requires root { IsRoot itself nest.now.rows root }
     ensures none { IfOk result (λ some. IsFalse some → (mask : Mask) → HasNone fence.now (tree_shown design.now.dim mask (elements design.now) root)) }
 {
-    let end = end_of(nest, root);
+    let end = part_end(nest, root);
     'elements: for n in root..end {
         let Some(b) = design.element(n) else {
             unreachable!()
@@ -125,15 +125,4 @@ fn takes_lone(
         return Ok(false);
     }
     fence.takes_element(alloc, mode, dim, b)
-}
-
-// The number behind the last element of the tree of a root.
-fn end_of(nest: &Nest, root: u32) -> u32
-    requires { root < length nest.now.rows }
-    ensures { Some result ≡ option_map (λ m. m.end) (mark_of itself nest.now.rows root) }
-{
-    let Some((_, end)) = nest.span(root) else {
-        unreachable!()
-    };
-    end
 }

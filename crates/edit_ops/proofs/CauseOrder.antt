@@ -1,6 +1,6 @@
 -- Whether an edit is refused, in the order in which its causes are asked.
 use Rattle.std.proofs.Common.{◌≡◌, ℕ, ◌<◌, List, [], length, Bool, cond, Option, Some, None, Result, Ok, Err, refl, sym, ap, ◌∙◌, subst}
-use Rattle.std.specs.Prelude.{nat_lt, IfErr}
+use Rattle.std.specs.Prelude.{nat_lt, ◌++◌}
 use Rattle.std.specs.Option.{option_or}
 use Rattle.std.proofs.lemmas.Bool.{ltb-true, lt-ltb}
 use Rattle.dgn_drawing.specs.declared.edit.Edit.{Edit}
@@ -19,8 +19,8 @@ use Rattle.edit_ops.specs.declared.types.plan.Plan.{Plan}
 use Rattle.edit_ops.specs.Causes.{unknown, part_cause, causes_of, first_of, target_of, target_cause, cause_of}
 use Rattle.edit_ops.specs.Applying.{Refused, unless, apply, changed_forest, copied, ChangesInPlace, IsEdit}
 use Rattle.edit_ops.specs.Written.{part_puts}
-use Rattle.edit_ops.specs.Copying.{IsStopped}
-use Rattle.edit_ops.specs.Planned.{IsPlan, IsRefused}
+use Rattle.edit_ops.specs.Copying.{AddsUnless}
+use Rattle.edit_ops.specs.Planned.{IsPlan, IsPlanBehind, PlansUnless}
 use Rattle.edit_ops.proofs.ListedLive.{or_assoc}
 use Rattle.edit_ops.proofs.AcceptedEdit.{met}
 use Rattle.edit_ops.proofs.AppendedElements.{append_plan}
@@ -117,10 +117,11 @@ is_in_place (edit.Sym m change) n named other = tt
 is_in_place (edit.Delete m) n named other = tt
 is_in_place (edit.Append new) n named other = let x = named in cc
 
--- a part's edit that is stopped by its first later cause is refused with it
-pub stopped_refused : (dim : ℕ) (es : List Element) (rest : ℕ) (e : Edit) (n : ℕ) (o : Option Cause) (r : Result Unit EditFault) → target_of e ≡ Some n
-    → n < length es
-    → option_or (part_cause dim es n) (first_of (causes_of dim es rest e)) ≡ o → IfErr r (IsStopped o) → IfErr r (IsRefused (apply dim es rest e))
-stopped_refused dim es rest e n o (Ok x) named known is stopped = tt
-stopped_refused dim es rest e n o (Err (faults.Refused c)) named known is stopped = later_refused dim es rest e n c named known (is ∙ stopped)
-stopped_refused dim es rest e n o (Err faults.Memory) named known is stopped = tt
+-- what was added unless a later cause stood makes the plan of a part's edit, or refuses it
+pub planned_unless : {A : Type 0} {added old new : List A} (dim : ℕ) (es : List Element) (rest : ℕ) (e : Edit) (n : ℕ) {o : Option Cause}
+    (r : Result (Unit {0}) EditFault) (before after : Plan) → target_of e ≡ Some n → n < length es
+    → option_or (part_cause dim es n) (first_of (causes_of dim es rest e)) ≡ o → AddsUnless o added r old new
+    → (new ≡ old ++ added → o ≡ None → IsPlanBehind dim es rest e before after) → PlansUnless dim es rest e r before after
+planned_unless dim es rest e n (Ok x) before after named known is adds plan = plan adds.0 adds.1
+planned_unless dim es rest e n (Err (faults.Refused c)) before after named known is adds plan = later_refused dim es rest e n c named known (is ∙ adds)
+planned_unless dim es rest e n (Err faults.Memory) before after named known is adds plan = tt

@@ -160,6 +160,18 @@ module _ (d : Design) (whole : IsWhole d) (m : ℕ) (f : Found) (found : IsFound
       ∙ ap (λ (p : ℕ). record { at = p + 34; bytes = new_look change (symbology_of (spell e)) } ∷ []) (sym found.place)
       ∙ ap (λ (b : List ℕ). record { at = f.place + 34; bytes = new_look change (symbology_of b) } ∷ []) (sym found.bytes)
 
+  -- what a move or a copy puts into it
+  pub moved_found : (by : Displacement) (n : ℕ) → live_puts d.dim (edit.Move n by) (option_to_list (found_at (elements d) m))
+      ≡ map (sum_put by f.place f.bytes.now) (spots_of d.dim f.kind f.bytes.now)
+  moved_found by n =
+      let e : Element = found.element in
+      ap (λ (o : Option Element). live_puts d.dim (edit.Move n by)
+      (option_to_list (option_map (λ (x : Element). record { number = m; place = offset_of (elements d) m; element = x }) o))) found.there
+      ∙ append-nil (map (sum_put by (offset_of (elements d) m) (spell e)) (spots_of d.dim e.kind (spell e)))
+      ∙ ap (λ (p : ℕ). map (sum_put by p (spell e)) (spots_of d.dim e.kind (spell e))) (sym found.place)
+      ∙ ap (λ (k : ℕ). map (sum_put by f.place (spell e)) (spots_of d.dim k (spell e))) (sym found.kind)
+      ∙ ap (λ (b : List ℕ). map (sum_put by f.place b) (spots_of d.dim f.kind b)) (sym found.bytes)
+
   -- it is locked where its bytes say so
   pub lock_found : locked_in f.kind f.bytes.now ≡ is_locked found.element.body
   lock_found =

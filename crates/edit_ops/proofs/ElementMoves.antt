@@ -1,6 +1,6 @@
--- What is read of one element says whether it can be moved; and what holds of an answer at Ok.
-use Rattle.std.proofs.Common.{◌≡◌, ℕ, List, ◌∷◌, Bool, true, Option, None, Result, Ok, Err, sym, ap, ◌∙◌}
-use Rattle.std.specs.Prelude.{◌&&◌, slice_get, OnOk, IfOk}
+-- What is read of one element says whether it can be moved.
+use Rattle.std.proofs.Common.{◌≡◌, ℕ, List, ◌∷◌, Bool, true, Option, None, sym, ap, ◌∙◌}
+use Rattle.std.specs.Prelude.{◌&&◌, slice_get}
 use Rattle.std.specs.List.{list_all}
 use Rattle.dgn_layout.specs.Classes.{class_of}
 use Rattle.dgn_layout.specs.Spots.{has_spots}
@@ -29,13 +29,3 @@ module _ (d : Design) (whole : IsWhole d) (m : ℕ) (f : Found) (found : IsFound
 -- a spot at which the sum stays says nothing of all the others
 pub stays_next : (test : Spot → Bool) (s : Spot) (ss : List Spot) → test s ≡ true → list_all test ss ≡ list_all test (s ∷ ss)
 stays_next test s ss is = sym (ap (λ (b : Bool). b && list_all test ss) is)
-
--- what holds at Ok, whatever the answer is there
-pub ok_so : {A E : Type 0} (r : Result A E) (P : Type 0) → OnOk r P → IfOk r (λ _. P)
-ok_so (Ok x) P so = so
-ok_so (Err e) P so = tt
-
--- what holds at Ok, of two things that do
-pub both_ok : {A E : Type 0} (r : Result A E) (P Q R : Type 0) → OnOk r Q → IfOk r (λ _. P) → (Q → P → R) → IfOk r (λ _. R)
-both_ok (Ok x) P Q R q p so = so q p
-both_ok (Err e) P Q R q p so = tt

@@ -1,6 +1,6 @@
 -- Which of some live elements a move or a copy would have leave the design plane, one after the other.
 use Rattle.std.proofs.Common.{◌≡◌, ℕ, ◌+◌, ◌<◌, List, ◌++◌, length, drop, get_or, Bool, true, Option, None, Result, Ok, Err, refl, sym, ap, ◌∙◌}
-use Rattle.std.specs.Prelude.{slice_get, IfOk}
+use Rattle.std.specs.Prelude.{slice_get, OnOk, IfErr}
 use Rattle.std.specs.List.{AllByRecursion, list_all}
 use Rattle.std.specs.Option.{option_or, option_to_list}
 use Rattle.range_code.specs.Plane.{is_on_plane}
@@ -27,7 +27,7 @@ use Rattle.edit_ops.specs.Found.{IsFound}
 use Rattle.edit_ops.proofs.AcceptedEdit.{met, movable, none_first}
 use Rattle.edit_ops.proofs.EditedBytes.{all_both, all_so}
 use Rattle.edit_ops.proofs.ListedLive.{found_next, cause_both, cause_alone}
-use Rattle.edit_ops.specs.Copying.{IsStopped}
+use Rattle.edit_ops.specs.Copying.{IsStopped, AddsUnless}
 use Rattle.edit_ops.specs.Putting.{MayBePut, leaving}
 use Rattle.edit_ops.proofs.ElementAnswers.{plane_cause, stays_found}
 
@@ -85,8 +85,15 @@ leaving_found d whole m f found by spots =
     (list_all (λ s. is_on_plane (sum_at by f.bytes.now s)) (spots_of d.dim f.kind f.bytes.now)) refl found.there
     (sym (stays_found d whole m f found by spots))
 
--- where an answer is Ok only if all sums stay, the element doesn't leave
-pub ok_stays : {A E : Type 0} (r : Result A E) (m : ℕ) (stays : Bool) {o : Option Cause} → IfOk r (λ _. stays ≡ true) → o ≡ off_plane m stays
-    → IfOk r (λ _. o ≡ None)
-ok_stays (Ok x) m stays is are = are ∙ ap (off_plane m) is
-ok_stays (Err e) m stays is are = tt
+-- what was added, where nothing stood against it, or the cause
+pub adds_of : {A : Type 0} (cause : Option Cause) {added : List A} (r : Result (Unit {0}) EditFault) (old new : List A)
+    → OnOk r (new ≡ old ++ added) → OnOk r (cause ≡ None) → IfErr r (IsStopped cause) → AddsUnless cause added r old new
+adds_of cause (Ok x) old new are free stopped = (are, free)
+adds_of cause (Err fault) old new are free stopped = stopped
+
+-- what is added unless a cause stands, by the same cause and the same that is added
+pub adds_same : {A : Type 0} {cause other : Option Cause} {added same : List A} (r : Result (Unit {0}) EditFault) (old new : List A)
+    → cause ≡ other → added ≡ same → AddsUnless other same r old new → AddsUnless cause added r old new
+adds_same {A} {cause} {other} {added} {same} r old new causes are adds =
+    subst (λ (o : Option Cause). AddsUnless o added r old new) (sym causes)
+    (subst (λ (l : List A). AddsUnless other l r old new) (sym are) adds)

@@ -1,5 +1,5 @@
 -- The copy of one element's part, taken by itself: what it has, and what refuses it.
-use Rattle.std.specs.Prelude.{ℕ, ◌≡◌, List, Option, Some}
+use Rattle.std.specs.Prelude.{ℕ, ◌≡◌, List, ◌++◌, Option, Some, None, Result, Ok, Err}
 use Rattle.std.specs.Option.{option_or}
 use Rattle.dgn_drawing.specs.declared.edit.Edit.TheVariants as edit
 use Rattle.dgn_drawing.specs.Values.{Displacement}
@@ -25,3 +25,8 @@ copy_cause dim es by n = option_or (first_cause dim tests.Moves (live_tree es n)
 abbrev pub IsStopped : Option Cause → EditFault → Type 0
 IsStopped first (faults.Refused cause) = first ≡ Some cause
 IsStopped first faults.Memory = Unit {0}
+
+-- nothing stood against it, and this was put behind what was there; or that is the first cause
+abbrev pub AddsUnless : {A : Type 0} → Option Cause → List A → Result (Unit {0}) EditFault → List A → List A → Type 0
+AddsUnless cause added (Ok x) old new = (new ≡ old ++ added) × (cause ≡ None)
+AddsUnless cause added (Err fault) old new = IsStopped cause fault

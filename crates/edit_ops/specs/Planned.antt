@@ -1,5 +1,5 @@
 -- What the answer of a plan says.
-use Rattle.std.specs.Prelude.{ℕ, ◌≡◌, List, ◌++◌, length, drop}
+use Rattle.std.specs.Prelude.{ℕ, ◌≡◌, List, ◌++◌, length, drop, Result, Ok, Err}
 use Rattle.dgn_drawing.specs.declared.edit.Edit.{Edit}
 use Rattle.dgn_drawing.specs.declared.fence_edit.FenceEdit.{FenceEdit}
 use Rattle.dgn_drawing.specs.Element.{Element}
@@ -37,3 +37,8 @@ pub record IsFencePlan (dim : ℕ) (es : List Element) (rest : ℕ) (e : FenceEd
 abbrev pub IsRefused : Applied → EditFault → Type 0
 IsRefused applied (faults.Refused cause) = applied ≡ Refused cause
 IsRefused applied faults.Memory = Unit {0}
+
+-- the edit is done, and its plan was put behind another one; or it is refused with the cause that is told
+abbrev pub PlansUnless : ℕ → List Element → ℕ → Edit → Result (Unit {0}) EditFault → Plan → Plan → Type 0
+PlansUnless dim es rest e (Ok x) before after = IsPlanBehind dim es rest e before after
+PlansUnless dim es rest e (Err fault) before after = IsRefused (apply dim es rest e) fault

@@ -1,9 +1,8 @@
 ghost use Rattle.std.specs.Prelude.{◌≡◌, ◌+◌, ◌<◌, ◌≤◌, [], length, map, IfOk, IfErr, IsErrOf};
 ghost use Rattle.dgn_drawing.specs.Rows.{row_of};
 ghost use Rattle.elem_index.specs.Design.{elements, IsWhole};
-ghost use Rattle.edit_ops.specs.Applying.{apply};
 ghost use Rattle.edit_ops.specs.Fenced.{edit_at, apply_all, AreRoots, IsFenceEdit};
-ghost use Rattle.edit_ops.specs.Planned.{IsPlanBehind, IsFencePlan, IsRefused};
+ghost use Rattle.edit_ops.specs.Planned.{IsFencePlan, IsRefused, PlansUnless};
 
 use crate::plans::edit::plan_behind;
 use crate::plans::numbers::{Numbers, no_numbers};
@@ -91,10 +90,7 @@ fn join_root(
     requires whole { IsWhole d.now }
     requires nesting { t.now.rows ≡ map row_of (elements d.now) }
     requires room { length d.now.body.items + (length d.now.tail.items + length all.old.append) ≤ MOST_DESIGN }
-    ensures planned { IfOk result
-        (λ _. IsPlanBehind d.now.dim (elements d.now) (length d.now.tail.items + length all.old.append) (edit_at edit.now n) all.old all.new) }
-    ensures refused { IfErr result
-        (IsRefused (apply d.now.dim (elements d.now) (length d.now.tail.items + length all.old.append) (edit_at edit.now n))) }
+    ensures { PlansUnless d.now.dim (elements d.now) (length d.now.tail.items + length all.old.append) (edit_at edit.now n) result all.old all.new }
 {
     let pending = all.append.len();
     plan_behind(alloc, d, t, &root_edit(edit, n), pending, numbers, all)

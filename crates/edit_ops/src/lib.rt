@@ -15,17 +15,20 @@ mod parts;
 mod plans;
 pub mod types;
 
-pub use asking::first::{first_cause, move_cause};
 pub use asking::found::{Found, find};
-pub use asking::shift::same_shift;
-pub use asking::test::Test;
 pub use causes::cause::Cause;
 pub use causes::edit_fault::EditFault;
-pub use causes::part::{other_axes, part_cause, silent, too_long, unknown};
 pub use copies::imported::copy_tree;
-pub use copies::tree::{part_bytes, part_len};
+pub use copies::tree::part_bytes;
 pub use fenced::plan_all;
-pub use parts::live::put_live_numbers;
-pub use parts::live_patches::{number_patch, push_live};
-pub use parts::lone::is_lone_root;
+pub use parts::live::part_end;
 pub use plans::edit::plan;
+
+pub(crate) use asking::first::{first_cause, move_cause};
+pub(crate) use asking::shift::same_shift;
+pub(crate) use asking::test::Test;
+pub(crate) use causes::part::{other_axes, part_cause, silent, too_long, unknown};
+pub(crate) use copies::tree::part_len;
+pub(crate) use parts::live::put_live_numbers;
+pub(crate) use parts::live_patches::{number_patch, push_live};
+pub(crate) use parts::lone::is_lone_root;

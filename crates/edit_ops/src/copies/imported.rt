@@ -3,7 +3,7 @@ ghost use Rattle.dgn_drawing.specs.Rows.{row_of};
 ghost use Rattle.dgn_drawing.specs.Spelling.{spelling};
 ghost use Rattle.dgn_drawing.specs.Nesting.{flat};
 ghost use Rattle.elem_index.specs.Design.{elements, IsWhole};
-ghost use Rattle.edit_ops.specs.Copying.{tree_copy, copy_cause, IsStopped};
+ghost use Rattle.edit_ops.specs.Copying.{tree_copy, copy_cause, IsStopped, AddsUnless};
 
 use crate::asking::first::first_cause;
 use crate::asking::shift::same_shift;
@@ -63,10 +63,8 @@ fn push_tree_copy(
     requires whole { IsWhole d.now }
     requires nesting { t.now.rows ≡ map row_of (elements d.now) }
     requires known { n < length (elements d.now) }
-    ensures copied { OnOk result
-        (out.new.items ≡ out.old.items ++ spelling (flat (tree_copy d.now.dim (elements d.now) by.now n))) }
-    ensures accepted { OnOk result (copy_cause d.now.dim (elements d.now) by.now n ≡ None) }
-    ensures refused { IfErr result (IsStopped (copy_cause d.now.dim (elements d.now) by.now n)) }
+    ensures copied { AddsUnless (copy_cause d.now.dim (elements d.now) by.now n)
+        (spelling (flat (tree_copy d.now.dim (elements d.now) by.now n))) result out.old.items out.new.items }
     ensures kept { OnErr result (out.new.items ≡ out.old.items) }
 {
     if let Some(found) = lone_at(d, t, n) {

@@ -1,4 +1,4 @@
-ghost use Rattle.std.specs.Prelude.{ℕ, ◌≡◌, ◌+◌, ◌%◌, ◌<◌, ◌≤◌, List, ◌++◌, length, map, slice_index, slice_set, None, IfOk, IfErr, OnOk, OnErr};
+ghost use Rattle.std.specs.Prelude.{ℕ, ◌≡◌, ◌+◌, ◌%◌, ◌<◌, ◌≤◌, List, ◌++◌, length, map, slice_index, slice_set, OnErr};
 ghost use Rattle.std.specs.List.{AllByRecursion};
 ghost use Rattle.dgn_drawing.specs.Rows.{row_of};
 ghost use Rattle.dgn_drawing.specs.Nesting.{flat, forest};
@@ -9,11 +9,11 @@ ghost use Rattle.edit_ops.specs.Trees.{tree_at, live_tree};
 ghost use Rattle.patch_bytes.specs.Puts.{write, Span};
 ghost use Rattle.edit_ops.specs.Applying.{IsEdit, copied};
 ghost use Rattle.edit_ops.specs.Written.{found, live_puts, IsReady};
-ghost use Rattle.edit_ops.specs.Copying.{IsStopped};
+ghost use Rattle.edit_ops.specs.Copying.{AddsUnless};
 ghost use Rattle.edit_ops.specs.Putting.{MayBePut, leaving};
 
 use crate::EditFault;
-use crate::parts::live::end_of;
+use crate::parts::live::part_end;
 use crate::parts::live_patches::push_live;
 use dgn_drawing::{Edit, MOST_DESIGN};
 use elem_index::Design;
@@ -42,7 +42,7 @@ pub fn part_bytes<'a>(d: &'a Design, t: &Nest, n: u32) -> &'a [u8]
     ensures { result.now ≡ spelling (flat (tree_at n (forest row_of (elements d.now)))) }
 {
     let start = place_of(d, n);
-    let end = place_of(d, end_of(t, n));
+    let end = place_of(d, part_end(t, n));
     &d.body[start..end]
 }
 
@@ -54,7 +54,7 @@ pub fn part_len(d: &Design, t: &Nest, n: u32) -> usize
     ensures exact { result ≡ length (spelling (flat (tree_at n (forest row_of (elements d.now))))) }
     ensures few { result ≤ MOST_DESIGN }
 {
-    place_of(d, end_of(t, n)) - place_of(d, n)
+    place_of(d, part_end(t, n)) - place_of(d, n)
 }
 
 // Appends the bytes of the copy of the part of element n: those of the part with what the edit puts into its live
@@ -75,10 +75,8 @@ pub fn push_copy(
     requires fits { IsEdit edit.now }
     requires live { found (elements d.now) live.now ≡ live_tree (elements d.now) n }
     requires readable { AllByRecursion (λ v. MayBePut edit.now v.element) (live_tree (elements d.now) n) }
-    ensures copied { OnOk result
-        (out.new.items ≡ out.old.items ++ spelling (flat (copied d.now.dim (elements d.now) edit.now n))) }
-    ensures accepted { IfOk result (λ _. leaving d.now.dim edit.now (live_tree (elements d.now) n) ≡ None) }
-    ensures refused { IfErr result (IsStopped (leaving d.now.dim edit.now (live_tree (elements d.now) n))) }
+    ensures copied { AddsUnless (leaving d.now.dim edit.now (live_tree (elements d.now) n))
+        (spelling (flat (copied d.now.dim (elements d.now) edit.now n))) result out.old.items out.new.items }
     ensures kept { OnErr result (out.new.items ≡ out.old.items) }
 {
     let mut patches = PatchList::new(alloc);

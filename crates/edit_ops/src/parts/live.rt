@@ -11,8 +11,8 @@ use elem_index::Design;
 use nest_tree::types::Nest;
 use std::alloc::{AllocError, Global};
 
-// The number behind the last element below element n, which there is.
-pub fn end_of(t: &Nest, n: u32) -> u32
+/// The number behind the last element of the part of element `n`, which there is: of the element and all below it.
+pub fn part_end(t: &Nest, n: u32) -> u32
     requires { n < length t.now.rows }
     ensures { Some result ≡ option_map (λ m. m.end) (mark_of itself t.now.rows n) }
 {
@@ -57,11 +57,11 @@ pub fn put_live_numbers(d: &Design, t: &Nest, n: u32, live: &mut Vec<u32>) -> Re
     ensures found { OnOk result (found (elements d.now) live.new.items ≡ live_tree (elements d.now) n) }
 {
     live.clear();
-    let end = end_of(t, n);
+    let end = part_end(t, n);
     let mut i = n;
     'elements: while i < end {
         if is_deleted(d, i) {
-            i = end_of(t, i);
+            i = part_end(t, i);
         } else {
             live.push(i)?;
             i += 1;

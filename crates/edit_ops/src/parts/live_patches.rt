@@ -1,4 +1,4 @@
-ghost use Rattle.std.specs.Prelude.{◌≡◌, ◌+◌, ◌<◌, ◌≤◌, ◌∷◌, [], ◌++◌, length, map, min, None, OnOk, IfOk, IfErr, OnSome, IfSome, IfNone, IsTrue, IsFalse};
+ghost use Rattle.std.specs.Prelude.{◌≡◌, ◌+◌, ◌<◌, ◌≤◌, ◌∷◌, [], ◌++◌, length, map, min, None, IfOk, OnSome, IfSome, IfNone, IsTrue, IsFalse};
 ghost use Rattle.std.specs.List.{AllByRecursion, list_all};
 ghost use Rattle.std.specs.Option.{option_to_list};
 ghost use Rattle.elem_head.specs.Head.{symbology_of};
@@ -12,7 +12,7 @@ ghost use Rattle.dgn_drawing.specs.SpotNumbers.{sum_at, number_bytes};
 ghost use Rattle.edit_ops.specs.Causes.{off_plane};
 ghost use Rattle.edit_ops.specs.Trees.{found_at};
 ghost use Rattle.edit_ops.specs.Written.{found, live_puts, sum_put, new_look};
-ghost use Rattle.edit_ops.specs.Copying.{IsStopped};
+ghost use Rattle.edit_ops.specs.Copying.{AddsUnless};
 ghost use Rattle.edit_ops.specs.Putting.{MayBePut, leaving, all_spots};
 
 use crate::{Cause, EditFault, Found, find};
@@ -39,10 +39,8 @@ pub fn push_live(
 ) -> Result<(), EditFault>
     requires whole { IsWhole d.now }
     requires readable { AllByRecursion (λ v. MayBePut edit.now v.element) (found (elements d.now) live.now) }
-    ensures put { OnOk result (patches.new ≡ patches.old
-        ++ live_puts d.now.dim edit.now (found (elements d.now) live.now)) }
-    ensures stay { IfOk result (λ _. leaving d.now.dim edit.now (found (elements d.now) live.now) ≡ None) }
-    ensures refused { IfErr result (IsStopped (leaving d.now.dim edit.now (found (elements d.now) live.now))) }
+    ensures { AddsUnless (leaving d.now.dim edit.now (found (elements d.now) live.now))
+        (live_puts d.now.dim edit.now (found (elements d.now) live.now)) result patches.old patches.new }
 {
     make_room(patches, d, live, edit)?;
     'live: for m in live {
@@ -99,12 +97,8 @@ fn numbers_at(d: &Design, m: u32) -> usize
 fn push_patches(patches: &mut PatchList, d: &Design, m: u32, edit: &Edit) -> Result<(), EditFault>
     requires whole { IsWhole d.now }
     requires readable { AllByRecursion (λ v. MayBePut edit.now v.element) (option_to_list (found_at (elements d.now) m)) }
-    ensures put { OnOk result (patches.new ≡ patches.old
-        ++ live_puts d.now.dim edit.now (option_to_list (found_at (elements d.now) m))) }
-    ensures stay { IfOk result
-        (λ _. leaving d.now.dim edit.now (option_to_list (found_at (elements d.now) m)) ≡ None) }
-    ensures refused { IfErr result
-        (IsStopped (leaving d.now.dim edit.now (option_to_list (found_at (elements d.now) m)))) }
+    ensures { AddsUnless (leaving d.now.dim edit.now (option_to_list (found_at (elements d.now) m)))
+        (live_puts d.now.dim edit.now (option_to_list (found_at (elements d.now) m))) result patches.old patches.new }
 {
     let Some(found) = find(d, m) else {
         return Ok(());
@@ -136,12 +130,10 @@ fn push_moved(
     requires kind { found.kind < 128 }
     requires holds { HoldsPoints dim found.kind found.bytes.now (length found.bytes.now) }
     requires few { found.place + length found.bytes.now ≤ MOST_DESIGN }
-    ensures put { OnOk result (patches.new ≡ patches.old
-        ++ map (sum_put by.now found.entry.place found.entry.bytes.now) (spots_of dim found.entry.kind found.entry.bytes.now)) }
-    ensures stay { IfOk result (λ _. IsTrue (list_all (λ s. is_on_plane (sum_at by.now found.entry.bytes.now s))
-        (spots_of dim found.entry.kind found.entry.bytes.now))) }
-    ensures refused { IfErr result (IsStopped (off_plane m
-        (list_all (λ s. is_on_plane (sum_at by.now found.entry.bytes.now s)) (spots_of dim found.entry.kind found.entry.bytes.now)))) }
+    ensures { AddsUnless
+        (off_plane m (list_all (λ s. is_on_plane (sum_at by.now found.entry.bytes.now s)) (spots_of dim found.entry.kind found.entry.bytes.now)))
+        (map (sum_put by.now found.entry.place found.entry.bytes.now) (spots_of dim found.entry.kind found.entry.bytes.now))
+        result patches.old patches.new }
 {
     if push_sums(patches, dim, found, by)? {
         Ok(())

@@ -11,7 +11,7 @@ ghost use Rattle.edit_ops.specs.Found.{IsFound, IsLone};
 ghost use Rattle.edit_ops.specs.Trees.{found_at, live_tree, tree_at};
 ghost use Rattle.edit_ops.specs.Lone.{IsOnePart, IsLoneRoot};
 
-use crate::parts::live::end_of;
+use crate::parts::live::part_end;
 use crate::{Found, find};
 use elem_index::Design;
 use nest_tree::types::Nest;
@@ -29,7 +29,7 @@ pub fn lone_at<'a>(d: &'a Design, t: &Nest, n: u32) -> Option<Found<'a>>
     ensures one { IfSome result (λ _. IsOnePart (elements d.now) n) }
     ensures more { IsNone result → ¬ IsOnePart (elements d.now) n }
 {
-    if end_of(t, n) - n != 1 {
+    if part_end(t, n) - n != 1 {
         return None;
     }
     let found = find(d, n)?;

@@ -1,4 +1,4 @@
-ghost use Rattle.std.specs.Prelude.{◌≡◌, ◌+◌, ◌<◌, ◌≤◌, ◌++◌, length, map, Some, None, IfOk, IfErr, IfSome, IsErrOf, OnOk};
+ghost use Rattle.std.specs.Prelude.{◌≡◌, ◌+◌, ◌<◌, ◌≤◌, length, map, Some, None, IfOk, IfErr, IfSome, IsErrOf};
 ghost use Rattle.std.specs.Option.{option_or};
 ghost use Rattle.dgn_drawing.specs.declared.edit.Edit.{Edit};
 ghost use Rattle.dgn_drawing.specs.Spelling.{spelling};
@@ -8,8 +8,8 @@ ghost use Rattle.elem_index.specs.Design.{elements, IsWhole};
 ghost use Rattle.edit_ops.specs.Trees.{above_tree, live_tree};
 ghost use Rattle.edit_ops.specs.Applying.{apply, ChangesInPlace, IsEdit};
 ghost use Rattle.edit_ops.specs.Causes.{target_of, part_cause, causes_of, first_of};
-ghost use Rattle.edit_ops.specs.Copying.{tree_copy, IsStopped};
-ghost use Rattle.edit_ops.specs.Planned.{IsPlan, IsPlanBehind, IsRefused};
+ghost use Rattle.edit_ops.specs.Copying.{tree_copy, AddsUnless};
+ghost use Rattle.edit_ops.specs.Planned.{IsPlan, IsRefused, PlansUnless};
 ghost use Rattle.edit_ops.specs.Written.{found, part_puts};
 
 use crate::causes::edit::{append_cause, edit_cause, growth_cause};
@@ -88,11 +88,8 @@ pub(crate) fn plan_behind(
     requires whole { IsWhole d.now }
     requires nesting { t.now.rows ≡ map row_of (elements d.now) }
     requires room { length d.now.body.items + (length d.now.tail.items + pending) ≤ MOST_DESIGN }
-    ensures planned { IfOk result
-        (λ _. IsPlanBehind d.now.dim (elements d.now) (length d.now.tail.items + pending) edit.now all.old all.new) }
+    ensures planned { PlansUnless d.now.dim (elements d.now) (length d.now.tail.items + pending) edit.now result all.old all.new }
     ensures kept { IfOk result (λ _. IsEdit edit.now) }
-    ensures refused { IfErr result
-        (IsRefused (apply d.now.dim (elements d.now) (length d.now.tail.items + pending) edit.now)) }
     ensures known { IsErrOf result EditFault.Memory → IfSome (target_of edit.now) (λ n. n < length (elements d.now)) }
 {
     match target(edit) {
@@ -117,10 +114,7 @@ fn plan_part(
     requires room { length d.now.body.items + (length d.now.tail.items + pending) ≤ MOST_DESIGN }
     requires target { target_of edit.now ≡ Some n }
     requires fits { IsEdit edit.now }
-    ensures planned { IfOk result
-        (λ _. IsPlanBehind d.now.dim (elements d.now) (length d.now.tail.items + pending) edit.now all.old all.new) }
-    ensures refused { IfErr result
-        (IsRefused (apply d.now.dim (elements d.now) (length d.now.tail.items + pending) edit.now)) }
+    ensures planned { PlansUnless d.now.dim (elements d.now) (length d.now.tail.items + pending) edit.now result all.old all.new }
     ensures known { IsErrOf result EditFault.Memory → n < length (elements d.now) }
 {
     if let Some(cause) = unknown(d, n) {
@@ -150,12 +144,9 @@ fn plan_copy(
     requires room { length d.now.body.items + (length d.now.tail.items + pending) ≤ MOST_DESIGN }
     requires known { n < length (elements d.now) }
     requires above { found (elements d.now) numbers.old.above.items ≡ above_tree (elements d.now) n }
-    ensures copied { OnOk result
-        (append.new ≡ append.old ++ spelling (flat (tree_copy d.now.dim (elements d.now) by.now n))) }
-    ensures free { IfOk result (λ _. option_or (part_cause d.now.dim (elements d.now) n)
-        (first_of (causes_of d.now.dim (elements d.now) (length d.now.tail.items + pending) (Edit.Copy n by.now))) ≡ None) }
-    ensures refused { IfErr result (IsStopped (option_or (part_cause d.now.dim (elements d.now) n)
-        (first_of (causes_of d.now.dim (elements d.now) (length d.now.tail.items + pending) (Edit.Copy n by.now))))) }
+    ensures { AddsUnless (option_or (part_cause d.now.dim (elements d.now) n)
+        (first_of (causes_of d.now.dim (elements d.now) (length d.now.tail.items + pending) (Edit.Copy n by.now))))
+        (spelling (flat (tree_copy d.now.dim (elements d.now) by.now n))) result append.old append.new }
 {
     let first = part_cause(d, t, n, &numbers.above).or(other_axes(d.dim, by.axes));
     if let Some(cause) = first {
@@ -186,12 +177,8 @@ fn plan_in_place(
     requires target { target_of edit.now ≡ Some n }
     requires in_place { ChangesInPlace edit.now }
     requires fits { IsEdit edit.now }
-    ensures planned { OnOk result
-        (patches.new ≡ patches.old ++ part_puts d.now.dim (elements d.now) edit.now n) }
-    ensures free { IfOk result (λ _. option_or (part_cause d.now.dim (elements d.now) n)
-        (first_of (causes_of d.now.dim (elements d.now) 0 edit.now)) ≡ None) }
-    ensures refused { IfErr result (IsStopped (option_or (part_cause d.now.dim (elements d.now) n)
-        (first_of (causes_of d.now.dim (elements d.now) 0 edit.now)))) }
+    ensures { AddsUnless (option_or (part_cause d.now.dim (elements d.now) n) (first_of (causes_of d.now.dim (elements d.now) 0 edit.now)))
+        (part_puts d.now.dim (elements d.now) edit.now n) result patches.old patches.new }
 {
     if is_lone_root(d, t, n) {
         return plan_found(d, n, edit, &[], &[n], patches);
@@ -222,10 +209,8 @@ fn plan_found(
     requires unkept { part_cause d.now.dim (elements d.now) n ≡ None }
     requires above { found (elements d.now) above.now ≡ above_tree (elements d.now) n }
     requires live { found (elements d.now) live.now ≡ live_tree (elements d.now) n }
-    ensures planned { OnOk result
-        (patches.new ≡ patches.old ++ part_puts d.now.dim (elements d.now) edit.now n) }
-    ensures free { IfOk result (λ _. first_of (causes_of d.now.dim (elements d.now) 0 edit.now) ≡ None) }
-    ensures refused { IfErr result (IsStopped (first_of (causes_of d.now.dim (elements d.now) 0 edit.now))) }
+    ensures { AddsUnless (first_of (causes_of d.now.dim (elements d.now) 0 edit.now)) (part_puts d.now.dim (elements d.now) edit.now n)
+        result patches.old patches.new }
 {
     if let Some(cause) = edit_cause(d, edit, above, live) {
         return Err(EditFault::Refused(cause));
@@ -245,10 +230,7 @@ fn plan_append(
     requires room { length d.now.body.items + (length d.now.tail.items + pending) ≤ MOST_DESIGN }
     requires target { target_of edit.now ≡ None }
     requires fits { IsEdit edit.now }
-    ensures planned { IfOk result
-        (λ _. IsPlanBehind d.now.dim (elements d.now) (length d.now.tail.items + pending) edit.now all.old all.new) }
-    ensures refused { IfErr result
-        (IsRefused (apply d.now.dim (elements d.now) (length d.now.tail.items + pending) edit.now)) }
+    ensures planned { PlansUnless d.now.dim (elements d.now) (length d.now.tail.items + pending) edit.now result all.old all.new }
     ensures known { IsErrOf result EditFault.Memory → IfSome (target_of edit.now) (λ n. n < length (elements d.now)) }
 {
     let Edit::Append(new) = edit else {

@@ -1,22 +1,20 @@
-ghost use Rattle.std.specs.Prelude.{◌≡◌, ◌+◌, ◌<◌, ◌≤◌, ◌+ℤ◌, [], ◌∷◌, ◌++◌, length, map, take, slice_get, None, IfSome, IfOk, IfErr, OnOk, IsTrue};
+ghost use Rattle.std.specs.Prelude.{◌≡◌, ◌+◌, ◌<◌, ◌≤◌, ◌++◌, length, take, slice_get, None, IfSome, IfErr, OnOk, IsTrue};
 ghost use Rattle.std.specs.List.{AllByRecursion, list_all, flat_map};
 ghost use Rattle.std.specs.Option.{option_to_list};
-ghost use Rattle.elem_head.specs.Head.{symbology_of};
-ghost use Rattle.dgn_words.specs.Numbers.{range_long_at};
-ghost use Rattle.range_code.specs.Ranges.{on_axis, corner_at};
+ghost use Rattle.range_code.specs.Ranges.{corner_at};
 ghost use Rattle.dgn_layout.specs.Classes.{class_of};
-ghost use Rattle.dgn_layout.specs.Spots.{HoldsPoints, has_spots, spots_of};
+ghost use Rattle.dgn_layout.specs.Spots.{HoldsPoints, has_spots};
 ghost use Rattle.dgn_drawing.specs.Spelling.{spell};
 ghost use Rattle.dgn_drawing.specs.Changes.{displaced};
 ghost use Rattle.dgn_drawing.specs.WellFormed.{IsDimension};
 ghost use Rattle.elem_index.specs.Design.{elements, IsWhole};
 ghost use Rattle.patch_bytes.specs.PatchView.{put_of};
 ghost use Rattle.range_code.specs.Plane.{is_on_plane};
-ghost use Rattle.dgn_drawing.specs.SpotNumbers.{sum_at, wider};
+ghost use Rattle.dgn_drawing.specs.SpotNumbers.{wider};
 ghost use Rattle.edit_ops.specs.Causes.{part_cause};
 ghost use Rattle.edit_ops.specs.Trees.{found_at, above_tree, live_tree};
 ghost use Rattle.edit_ops.specs.Written.{found, above_puts, part_puts, wider_put, wider_puts, MayWiden};
-ghost use Rattle.edit_ops.specs.Copying.{IsStopped};
+ghost use Rattle.edit_ops.specs.Copying.{IsStopped, AddsUnless};
 ghost use Rattle.edit_ops.specs.Putting.{MayBePut, leaving};
 
 use crate::{Cause, EditFault, Found, find, number_patch, push_live};
@@ -45,9 +43,8 @@ pub fn push_part(
     requires live { found (elements d.now) live.now ≡ live_tree (elements d.now) n }
     requires widens { MayWiden edit.now (above_tree (elements d.now) n) }
     requires readable { AllByRecursion (λ v. MayBePut edit.now v.element) (live_tree (elements d.now) n) }
-    ensures put { OnOk result (patches.new ≡ patches.old ++ part_puts d.now.dim (elements d.now) edit.now n) }
-    ensures stay { IfOk result (λ _. leaving d.now.dim edit.now (live_tree (elements d.now) n) ≡ None) }
-    ensures refused { IfErr result (IsStopped (leaving d.now.dim edit.now (live_tree (elements d.now) n))) }
+    ensures { AddsUnless (leaving d.now.dim edit.now (live_tree (elements d.now) n)) (part_puts d.now.dim (elements d.now) edit.now n)
+        result patches.old patches.new }
 {
     push_above(patches, d, n, above, edit)?;
     push_live(patches, d, live, edit)

@@ -45,7 +45,7 @@ add_hull-requires c =
     (omega (arith, c.loop-n-test.true)) c.loop-n.auto.n c.loop-n.invariant.pass
     (hull_is_read d c.requires.whole (c.loop-n.n - 1) s c.seat_of-seat.ensures c.args.keep os (reverse c.loop-n.noted.items) c.if-seat.false
     c.in-Some.hull (with_hulls s.parent (Some c.in-Some.hull) (without (c.loop-n.n - 1) os))
-    (finding_read c.args.keep d.dim s.knot (c.loop-n.n - 1) s.kind s.bytes.now c.in-Some.hull ++ reverse c.loop-n.noted.items)
+    (finding_read c.args.keep d.dim s.knot (c.loop-n.n - 1) s.view.kind s.view.bytes.now c.in-Some.hull ++ reverse c.loop-n.noted.items)
     (hull_from d.dim s (c.loop-n.n - 1) _ _ os c.in-Some.ensures c.take_box-members.ensures.found) refl refl) in
     omega (
       arith,

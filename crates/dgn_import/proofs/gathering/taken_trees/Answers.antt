@@ -16,9 +16,9 @@ roots-init c =
 pub roots-smaller : goal.roots-smaller
 roots-smaller c =
     let known : c.roots.root < length (elements c.args.d.now) = omega (arith, c.roots-test.true, c.count-count.ensures) in
-    let on : c.roots.root < c.end_of-root.result =
+    let on : c.roots.root < c.part_end-root.result =
     goes_on c.args.d.now.dim (elements c.args.d.now) (option_map (λ b. b.now) c.args.by)
-    c.args.t.now.rows c.requires.nesting c.roots.root c.roots.trees c.roots.bytes c.roots.invariant known c.end_of-root.result c.end_of-root.ensures in
+    c.args.t.now.rows c.requires.nesting c.roots.root c.roots.trees c.roots.bytes c.roots.invariant known c.part_end-root.result c.part_end-root.ensures in
     omega (arith, on, c.roots-test.true)
 
 pub overflow_add-trees : goal.overflow_add-trees
@@ -43,12 +43,12 @@ roots-preserved c =
       | then-is_taken+in_ok-push_tree w ↦
           rw (w.bytes-is, w.trees-is)
           (next_gathered c.args.d.now.dim (elements c.args.d.now) (option_map (λ b. b.now) c.args.by)
-          c.args.t.now.rows c.requires.nesting c.roots.root c.roots.trees c.roots.bytes c.roots.invariant known c.end_of-root.result c.end_of-root.ensures
+          c.args.t.now.rows c.requires.nesting c.roots.root c.roots.trees c.roots.bytes c.roots.invariant known c.part_end-root.result c.part_end-root.ensures
           (sym c.is_taken.ensures ∙ w.if-is_taken.true) w.push_tree.new.out w.in_ok-push_tree.ensures.accepted w.in_ok-push_tree.ensures.pushed)
       | else-is_taken w ↦
           rw (w.bytes-is, w.trees-is)
           (next_left c.args.d.now.dim (elements c.args.d.now) (option_map (λ b. b.now) c.args.by)
-          c.args.t.now.rows c.requires.nesting c.roots.root c.roots.trees c.roots.bytes c.roots.invariant known c.end_of-root.result c.end_of-root.ensures
+          c.args.t.now.rows c.requires.nesting c.roots.root c.roots.trees c.roots.bytes c.roots.invariant known c.part_end-root.result c.part_end-root.ensures
           (sym c.is_taken.ensures ∙ w.if-is_taken.false))
     ]
 

@@ -20,10 +20,10 @@ takes_root-requires-clause-root c = c.roots.invariant.root (omega (arith, c.root
 pub roots-smaller : goal.roots-smaller
 roots-smaller c =
     let known : c.roots.root < length (elements c.args.design.now) = omega (arith, c.roots-test.true, c.count-count.ensures) in
-    let on : c.roots.root < c.end_of-root.result =
+    let on : c.roots.root < c.part_end-root.result =
     further (elements c.args.design.now) c.args.nest.now.rows c.requires.nesting
     (λ n. takes c.args.mode c.args.fence.now (tree_shown c.args.design.now.dim c.args.mask (elements c.args.design.now) n))
-    c.roots.root c.end_of-root.result c.roots.found.items c.roots.invariant known c.end_of-root.ensures in
+    c.roots.root c.part_end-root.result c.roots.found.items c.roots.invariant known c.part_end-root.ensures in
     omega (arith, c.roots-test.true)
 
 pub roots-preserved : goal.roots-preserved
@@ -35,18 +35,18 @@ roots-preserved c =
     elim c.if-taken.branch [
       | then-taken+in_ok-push w ↦
           subst (λ (ns : List ℕ). StandsAt (elements c.args.design.now) c.args.nest.now.rows
-          (λ n. takes c.args.mode c.args.fence.now (tree_shown c.args.design.now.dim c.args.mask (elements c.args.design.now) n)) c.end_of-root.result ns)
+          (λ n. takes c.args.mode c.args.fence.now (tree_shown c.args.design.now.dim c.args.mask (elements c.args.design.now) n)) c.part_end-root.result ns)
           (sym (ap (λ v. v.items) w.found-is ∙ w.in_ok-push.ensures.items))
           (stands_taken (elements c.args.design.now) c.args.nest.now.rows c.requires.nesting
           (λ n. takes c.args.mode c.args.fence.now (tree_shown c.args.design.now.dim c.args.mask (elements c.args.design.now) n))
-          c.roots.root c.end_of-root.result c.roots.found.items c.roots.invariant known c.end_of-root.ensures (sym asked ∙ w.if-taken.true))
+          c.roots.root c.part_end-root.result c.roots.found.items c.roots.invariant known c.part_end-root.ensures (sym asked ∙ w.if-taken.true))
       | else-taken w ↦
           subst (λ (ns : List ℕ). StandsAt (elements c.args.design.now) c.args.nest.now.rows
-          (λ n. takes c.args.mode c.args.fence.now (tree_shown c.args.design.now.dim c.args.mask (elements c.args.design.now) n)) c.end_of-root.result ns)
+          (λ n. takes c.args.mode c.args.fence.now (tree_shown c.args.design.now.dim c.args.mask (elements c.args.design.now) n)) c.part_end-root.result ns)
           (sym (ap (λ v. v.items) w.found-is))
           (stands_left (elements c.args.design.now) c.args.nest.now.rows c.requires.nesting
           (λ n. takes c.args.mode c.args.fence.now (tree_shown c.args.design.now.dim c.args.mask (elements c.args.design.now) n))
-          c.roots.root c.end_of-root.result c.roots.found.items c.roots.invariant known c.end_of-root.ensures (sym asked ∙ w.if-taken.false))
+          c.roots.root c.part_end-root.result c.roots.found.items c.roots.invariant known c.part_end-root.ensures (sym asked ∙ w.if-taken.false))
     ]
 
 pub returns : goal.returns

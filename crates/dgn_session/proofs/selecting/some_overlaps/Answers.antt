@@ -5,13 +5,13 @@ use Rattle.level_view.proofs.Places.{sound_here, element_here}
 use Rattle.dgn_session.proofs.ItemsApart.{root_there, tree_within, next_clear, tree_clear}
 use Rattle.dgn_session.proofs.selecting.some_overlaps.Goals as goal
 
-pub end_of-end-requires : goal.end_of-end-requires
-end_of-end-requires c = root_there (elements c.args.design.now) c.args.nest.now.rows c.requires.nesting c.args.root c.requires.root
+pub part_end-end-requires : goal.part_end-end-requires
+part_end-end-requires c = root_there (elements c.args.design.now) c.args.nest.now.rows c.requires.nesting c.args.root c.requires.root
 
 pub unreachable-requires : goal.unreachable-requires
 unreachable-requires c =
     let few = tree_within (elements c.args.design.now)
-    c.args.nest.now.rows c.requires.nesting c.args.root c.requires.root c.end_of-end.result c.end_of-end.ensures in
+    c.args.nest.now.rows c.requires.nesting c.args.root c.requires.root c.part_end-end.result c.part_end-end.ensures in
     absurd (omega (arith, few, c.elements-test.true, c.in_default.ensures.none.0 refl))
 
 pub takes_element-requires-clause-element : goal.takes_element-requires-clause-element
@@ -27,6 +27,6 @@ elements-preserved c =
 pub returns : goal.returns
 returns c = record {
   none = λ all mask. tree_clear c.args.fence.now c.args.design.now.dim (elements c.args.design.now)
-      c.args.nest.now.rows c.requires.nesting c.args.root c.end_of-end.result c.requires.root
-      c.end_of-end.ensures (λ k depth e low high there. c.elements.invariant k depth e low (omega (arith, high, c.elements-test.false)) there) mask;
+      c.args.nest.now.rows c.requires.nesting c.args.root c.part_end-end.result c.requires.root
+      c.part_end-end.ensures (λ k depth e low high there. c.elements.invariant k depth e low (omega (arith, high, c.elements-test.false)) there) mask;
 }

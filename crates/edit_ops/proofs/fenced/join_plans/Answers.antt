@@ -11,13 +11,13 @@ returns-in_err-join_root-clause-refused c =
     let is : IsRefused (apply_all d.dim (elements d) (length d.tail.items) c.args.edit.now c.args.roots.now) c.in_err-join_root.field-0.0 =
     next_refused d.dim (elements d) (length d.tail.items)
     c.args.edit.now c.args.roots.now c.roots.n-index c.roots.all.patches c.roots.all.append c.roots-test.true
-    (length c.roots.all.append) c.in_err-join_root.field-0.0 refl c.roots.invariant c.in_err-join_root.ensures.refused in
+    (length c.roots.all.append) c.in_err-join_root.field-0.0 refl c.roots.invariant c.in_err-join_root.ensures in
     search rules
 
 pub roots-preserved : goal.roots-preserved
 roots-preserved c =
     let d = c.args.d.now in
-    let next = c.in_ok-join_root.ensures.planned in
+    let next = c.in_ok-join_root.ensures in
     next_planned d.dim (elements d) (length d.tail.items) c.args.edit.now c.args.roots.now (d.body.items ++ d.tail.items)
     d.tail.items c.requires.whole.is_open.opens c.requires.fits
     c.roots.n-index c.roots.all.patches c.roots.all.append c.roots-test.true (length c.roots.all.append)

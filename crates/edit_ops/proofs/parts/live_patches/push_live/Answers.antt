@@ -26,18 +26,18 @@ live-preserved c =
           c.args.live.now c.live.m-index c.live-test.true c.live.invariant.readable).1;
       all =
           ap (λ (ps : List Put). ps ++ live_puts c.args.d.now.dim c.args.edit.now (found (elements c.args.d.now) (drop (c.live.m-index + 1) c.args.live.now)))
-          c.in_ok-push_patches.ensures.put
+          c.in_ok-push_patches.ensures.0
           ∙ puts_next c.args.d.now.dim c.args.edit.now (elements c.args.d.now) c.args.live.now c.live.m-index c.live.patches c.live-test.true
           ∙ c.live.invariant.all;
       same =
           ap (λ (o : Option Cause). option_or o (leaving d.dim c.args.edit.now (found es (drop (c.live.m-index + 1) c.args.live.now))))
-          (sym c.in_ok-push_patches.ensures.stay)
+          (sym c.in_ok-push_patches.ensures.1)
           ∙ sym (leaving_next d.dim c.args.edit.now es c.args.live.now c.live.m-index c.live-test.true)
           ∙ c.live.invariant.same;
     }
 
-pub returns-in_err-push_patches-clause-refused : goal.returns-in_err-push_patches-clause-refused
-returns-in_err-push_patches-clause-refused c =
+pub returns-in_err-push_patches : goal.returns-in_err-push_patches
+returns-in_err-push_patches c =
     let d = c.args.d.now in
     let es = elements c.args.d.now in
     let m = get_or c.args.live.now c.live.m-index 0 in
@@ -47,4 +47,4 @@ returns-in_err-push_patches-clause-refused c =
     rw (p.1, p.2)
     (subst (λ (o : Option Cause). IsStopped o c.in_err-push_patches.field-0.0)
     (sym (leaving_next d.dim c.args.edit.now es c.args.live.now c.live.m-index c.live-test.true) ∙ c.live.invariant.same)
-    (stopped_first first others c.in_err-push_patches.field-0.0 c.in_err-push_patches.ensures.refused))
+    (stopped_first first others c.in_err-push_patches.field-0.0 c.in_err-push_patches.ensures))

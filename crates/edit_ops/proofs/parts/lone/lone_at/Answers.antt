@@ -6,43 +6,43 @@ use Rattle.edit_ops.proofs.LiveWalk.{end_said}
 use Rattle.edit_ops.proofs.PartSpan.{part_above, from_to, same_end, span_by, alone_bytes, alone_live}
 use Rattle.edit_ops.proofs.parts.lone.lone_at.Goals as goal
 
-pub overflow_sub-end_of : goal.overflow_sub-end_of
-overflow_sub-end_of c =
-    let above = part_above (elements c.args.d.now) c.args.n c.requires.known c.end_of.result
-    (end_said (elements c.args.d.now) c.args.t.now.rows c.args.n c.end_of.result c.requires.nesting c.end_of.ensures) in
+pub overflow_sub-part_end : goal.overflow_sub-part_end
+overflow_sub-part_end c =
+    let above = part_above (elements c.args.d.now) c.args.n c.requires.known c.part_end.result
+    (end_said (elements c.args.d.now) c.args.t.now.rows c.args.n c.part_end.result c.requires.nesting c.part_end.ensures) in
     omega arith
 
 pub returns-clause-part : goal.returns-clause-part
 returns-clause-part c =
     let found = c.in_ok-found.ensures.found in
-    alone_bytes (elements c.args.d.now) c.args.n c.requires.known c.end_of.result
-    (end_said (elements c.args.d.now) c.args.t.now.rows c.args.n c.end_of.result c.requires.nesting c.end_of.ensures) (omega arith) found.element found.there
+    alone_bytes (elements c.args.d.now) c.args.n c.requires.known c.part_end.result
+    (end_said (elements c.args.d.now) c.args.t.now.rows c.args.n c.part_end.result c.requires.nesting c.part_end.ensures) (omega arith) found.element found.there
     ∙ sym found.bytes
 
 pub returns-clause-live : goal.returns-clause-live
 returns-clause-live c =
     let found = c.in_ok-found.ensures.found in
-    alone_live (elements c.args.d.now) c.args.n c.requires.known c.end_of.result
-    (end_said (elements c.args.d.now) c.args.t.now.rows c.args.n c.end_of.result c.requires.nesting c.end_of.ensures) (omega arith) found.element found.there
+    alone_live (elements c.args.d.now) c.args.n c.requires.known c.part_end.result
+    (end_said (elements c.args.d.now) c.args.t.now.rows c.args.n c.part_end.result c.requires.nesting c.part_end.ensures) (omega arith) found.element found.there
     (sym found.deleted ∙ c.if-found.false)
 
 -- an element of several has a longer span
-pub returns-then-end_of-n-ne1-clause-more : goal.returns-then-end_of-n-ne1-clause-more
-returns-then-end_of-n-ne1-clause-more c = λ _ part.
-    let next : c.end_of.result ≡ c.args.n + 1 =
-    same_end c.args.n c.end_of.result (c.args.n + 1)
-    (sym (span_by (elements c.args.d.now) c.args.n c.end_of.result
-    (end_said (elements c.args.d.now) c.args.t.now.rows c.args.n c.end_of.result c.requires.nesting c.end_of.ensures)) ∙ part.one) in
+pub returns-then-part_end-n-ne1-clause-more : goal.returns-then-part_end-n-ne1-clause-more
+returns-then-part_end-n-ne1-clause-more c = λ _ part.
+    let next : c.part_end.result ≡ c.args.n + 1 =
+    same_end c.args.n c.part_end.result (c.args.n + 1)
+    (sym (span_by (elements c.args.d.now) c.args.n c.part_end.result
+    (end_said (elements c.args.d.now) c.args.t.now.rows c.args.n c.part_end.result c.requires.nesting c.part_end.ensures)) ∙ part.one) in
     omega arith
 
 pub returns-clause-one : goal.returns-clause-one
 returns-clause-one c =
     let found = c.in_ok-found.ensures.found in
-    let next : c.end_of.result ≡ c.args.n + 1 = omega arith in
+    let next : c.part_end.result ≡ c.args.n + 1 = omega arith in
     record {
       one =
-          span_by (elements c.args.d.now) c.args.n c.end_of.result
-          (end_said (elements c.args.d.now) c.args.t.now.rows c.args.n c.end_of.result c.requires.nesting c.end_of.ensures)
+          span_by (elements c.args.d.now) c.args.n c.part_end.result
+          (end_said (elements c.args.d.now) c.args.t.now.rows c.args.n c.part_end.result c.requires.nesting c.part_end.ensures)
           ∙ ap (from_to c.args.n) next;
       alive = ap (option_map (λ (e : Element). e.deleted)) found.there ∙ ap Some (sym found.deleted ∙ c.if-found.false);
     }

@@ -1,5 +1,4 @@
 use Rattle.std.proofs.Common.{◌≡◌, List, Option, Some, None, sym, ap, ◌∙◌, subst}
-use Rattle.std.specs.Prelude.{IfOk}
 use Rattle.std.specs.Option.{option_or}
 use Rattle.dgn_drawing.specs.Values.{Displacement}
 use Rattle.elem_index.specs.Design.{elements}
@@ -10,11 +9,11 @@ use Rattle.edit_ops.specs.Causes.{other_axes, first_cause, part_cause}
 use Rattle.edit_ops.specs.Copying.{copy_cause}
 use Rattle.edit_ops.specs.Written.{found}
 use Rattle.edit_ops.proofs.CopyLength.{long_copy, short_copy}
-use Rattle.edit_ops.proofs.ElementMoves.{ok_so}
+use Rattle.edit_ops.proofs.LeavingElements.{adds_same, adds_of}
 use Rattle.edit_ops.proofs.plans.edit.plan_copy.Goals as goal
 
-pub returns-in-Some-growth_cause-clause-refused : goal.returns-in-Some-growth_cause-clause-refused
-returns-in-Some-growth_cause-clause-refused c =
+pub returns-in-Some-growth_cause : goal.returns-in-Some-growth_cause
+returns-in-Some-growth_cause c =
     let d = c.args.d.now in
     let es = elements c.args.d.now in
     let free : option_or (part_cause d.dim es c.args.n) (other_axes d.dim c.args.by.now.axes) ≡ None =
@@ -31,8 +30,8 @@ returns-in-Some-growth_cause-clause-refused c =
     (sym c.growth_cause.ensures ∙ c.in-Some-growth_cause.is)
     ∙ ap (λ (x : Cause). Some x) (sym c.unwrap_or-cause.ensures)
 
-pub returns-clause-free : goal.returns-clause-free
-returns-clause-free c =
+pub returns : goal.returns
+returns c =
     let d = c.args.d.now in
     let es = elements c.args.d.now in
     let free : option_or (part_cause d.dim es c.args.n) (other_axes d.dim c.args.by.now.axes) ≡ None =
@@ -42,5 +41,6 @@ returns-clause-free c =
     ∙ sym c.or-first.ensures ∙ c.in_default.is in
     let all = short_copy d c.requires.whole c.args.n c.args.pending c.part_len.result c.args.by.now free c.part_len.ensures.exact
     (sym c.growth_cause.ensures ∙ c.in_default-growth_cause.is) in
-    subst (λ (o : Option Cause). IfOk c.copy_tree.result (λ _. o ≡ None)) (sym all)
-    (ok_so c.copy_tree.result (copy_cause d.dim es c.args.by.now c.args.n ≡ None) c.copy_tree.ensures.accepted)
+    adds_same c.copy_tree.result c.args.append.now c.copy_tree.new.out all refl
+    (adds_of (copy_cause d.dim es c.args.by.now c.args.n) c.copy_tree.result c.args.append.now c.copy_tree.new.out
+    c.copy_tree.ensures.copied c.copy_tree.ensures.accepted c.copy_tree.ensures.refused)

@@ -9,18 +9,15 @@ use Rattle.edit_ops.specs.declared.types.plan.Plan.{Plan}
 use Rattle.edit_ops.specs.Applying.{copied}
 use Rattle.edit_ops.specs.Causes.{part_cause, causes_of, first_of}
 use Rattle.edit_ops.specs.Copying.{tree_copy}
-use Rattle.edit_ops.specs.Planned.{IsPlanBehind}
 use Rattle.edit_ops.specs.Written.{part_puts}
 use Rattle.edit_ops.proofs.PlanBehind.{appends_behind, writes_behind}
-use Rattle.edit_ops.proofs.CauseOrder.{known_is, unknown_refused, later_first, stopped_refused, copied_plan, changed_plan, causes_in_place, is_in_place}
+use Rattle.edit_ops.proofs.CauseOrder.{known_is, unknown_refused, later_first, planned_unless, copied_plan, changed_plan, causes_in_place, is_in_place}
 use Rattle.edit_ops.proofs.CauseOrder.{copy_named}
-use Rattle.edit_ops.proofs.ElementMoves.{both_ok}
 use Rattle.edit_ops.proofs.plans.edit.plan_part.Goals as goal
 
 pub returns-in-Some : goal.returns-in-Some
 returns-in-Some c = record {
-  planned = tt;
-  refused =
+  planned =
       unknown_refused c.args.d.now.dim (elements c.args.d.now) (length c.args.d.now.tail.items + c.args.pending)
       c.args.edit.now c.args.n c.in-Some.cause c.requires.target (sym c.unknown.ensures ∙ c.in-Some.is);
   known = λ memory. absurd (let x = memory in cc);
@@ -38,18 +35,13 @@ returns-in-Copy c =
     let bytes = spelling (flat (tree_copy d.dim es c.in-Copy.by c.args.n)) in
     let after : Plan = record { patches = c.args.all.now.patches; append = c.plan_copy.new.append } in
     record {
-      planned = both_ok c.plan_copy.result
-          (option_or (part_cause d.dim es c.args.n) (first_of (causes_of d.dim es rest (edit.Copy c.args.n c.in-Copy.by))) ≡ None)
-          (c.plan_copy.new.append ≡ c.args.all.now.append ++ bytes)
-          (IsPlanBehind d.dim es rest e c.args.all.now after)
-          c.plan_copy.ensures.copied c.plan_copy.ensures.free
+      planned = planned_unless d.dim es rest e c.args.n c.plan_copy.result c.args.all.now after c.requires.target known same c.plan_copy.ensures
           (λ more free.
           appends_behind d.dim es rest e c.args.all.now after bytes
           (copied_plan d.dim es rest e c.args.n c.args.n c.in-Copy.by (record { patches = []; append = bytes }) c.requires.target named
           (later_first d.dim es rest e c.args.n c.requires.target known ∙ same ∙ free) refl
           (ap (λ (x : Edit). spelling (flat (copied d.dim es x c.args.n))) (sym named)))
           refl more);
-      refused = stopped_refused d.dim es rest e c.args.n _ c.plan_copy.result c.requires.target known same c.plan_copy.ensures.refused;
       known = λ _. known;
     }
 
@@ -68,17 +60,12 @@ returns c =
     let puts = part_puts d.dim es e c.args.n in
     let after : Plan = record { patches = c.plan_in_place.new.patches; append = c.args.all.now.append } in
     record {
-      planned = both_ok c.plan_in_place.result
-          (option_or (part_cause d.dim es c.args.n) (first_of (causes_of d.dim es 0 e)) ≡ None)
-          (c.plan_in_place.new.patches ≡ c.args.all.now.patches ++ puts)
-          (IsPlanBehind d.dim es rest e c.args.all.now after)
-          c.plan_in_place.ensures.planned c.plan_in_place.ensures.free
+      planned = planned_unless d.dim es rest e c.args.n c.plan_in_place.result c.args.all.now after c.requires.target known same c.plan_in_place.ensures
           (λ more free.
           writes_behind d.dim es rest e c.args.all.now after puts
           (changed_plan (d.body.items ++ d.tail.items) d.dim es d.tail.items rest e c.args.n (record { patches = puts; append = [] })
           c.requires.fits c.requires.whole.is_open.opens c.requires.target
           c.in_default-edit.not-Copy (later_first d.dim es rest e c.args.n c.requires.target known ∙ same ∙ free) refl refl)
           more refl);
-      refused = stopped_refused d.dim es rest e c.args.n _ c.plan_in_place.result c.requires.target known same c.plan_in_place.ensures.refused;
       known = λ _. known;
     }

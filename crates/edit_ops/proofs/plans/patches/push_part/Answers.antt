@@ -20,8 +20,8 @@ push_above-requires-clause-widens c = subst (MayWiden c.args.edit.now) (sym c.re
 pub push_live-requires-clause-readable : goal.push_live-requires-clause-readable
 push_live-requires-clause-readable c = subst (AllByRecursion (λ (v : Live). MayBePut c.args.edit.now v.element)) (sym c.requires.live) c.requires.readable
 
-pub returns-in_err-push_above-clause-refused : goal.returns-in_err-push_above-clause-refused
-returns-in_err-push_above-clause-refused c =
+pub returns-in_err-push_above : goal.returns-in_err-push_above
+returns-in_err-push_above c =
     let d = c.args.d.now in
     let p = err_from_is_err_and c.from_residual.result c.from_residual.ensures.1 in
     rw (p.1, p.2)
