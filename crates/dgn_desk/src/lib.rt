@@ -20,9 +20,8 @@ mod sure_desk;
 mod writing;
 
 pub use act::Act;
-pub use buffered_desk::{BufferedDesk, MOST_HELD};
+pub use buffered_desk::BufferedDesk;
 pub use desk::Desk;
-pub use failing::failed;
 pub use given_words::words;
 pub use host_desk::HostDesk;
 pub use lent_desk::LentDesk;

@@ -1,4 +1,6 @@
-//! Elements of a design file as records, and the words that the crates above share.
+//! Elements of a design file as records, what opens as a design file, and the words that the crates above share. The check
+//! of one element, its row and what is shown of it; the numbers at its coordinate fields; and the bytes of an element that is
+//! appended.
 #![tactic(auto)]
 
 mod body_fault;

@@ -22,7 +22,7 @@ mod tree_line;
 pub use causes::write_cause;
 pub use elements::write_elements;
 pub use findings::write_findings;
-pub use items::{put_point, write_items};
+pub use items::write_items;
 pub use links::write_links;
 pub use numbered::{numbered_line, push_numbered};
 pub use refs::write_refs;

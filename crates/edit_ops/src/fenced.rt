@@ -4,6 +4,7 @@ ghost use Rattle.elem_index.specs.Design.{elements, IsWhole};
 ghost use Rattle.edit_ops.specs.Fenced.{edit_at, apply_all, AreRoots, IsFenceEdit};
 ghost use Rattle.edit_ops.specs.Planned.{IsFencePlan, IsRefused, PlansUnless};
 
+use crate::asking::shift::is_shift;
 use crate::plans::edit::plan_behind;
 use crate::plans::numbers::{Numbers, no_numbers};
 use crate::types::Plan;
@@ -40,7 +41,7 @@ pub fn plan_all(
         (IsRefused (apply_all d.now.dim (elements d.now) (length d.now.tail.items) edit.now roots.now)) }
     ensures some { IsErrOf result EditFault.Memory → 0 < length roots.now }
 {
-    keep_values(edit);
+    is_fence_edit(edit);
     let mut all = Plan {
         patches: PatchList::new(alloc),
         append: ByteList::new(alloc),
@@ -128,17 +129,14 @@ fn same_look(change: &SymbChange) -> SymbChange
     }
 }
 
-// Reads the values of an edit, which are such as its type keeps. It does nothing else.
-fn keep_values(edit: &FenceEdit)
+// The values of an edit are such as its type keeps. It does nothing.
+fn is_fence_edit(edit: &FenceEdit)
     ensures { IsFenceEdit edit.now }
 {
     match edit {
-        FenceEdit::Move(by) | FenceEdit::Copy(by) => {
-            // Read, so that what its type keeps is known.
-            let _axes = by.axes;
-        }
+        FenceEdit::Move(by) | FenceEdit::Copy(by) => is_shift(by),
         FenceEdit::Sym(change) => {
-            let _color = change.color;
+            let _ = change.color;
         }
         FenceEdit::Delete => {}
     }

@@ -15,20 +15,19 @@ mod parts;
 mod plans;
 pub mod types;
 
-pub use asking::found::{Found, find};
-pub use causes::cause::Cause;
-pub use causes::edit_fault::EditFault;
-pub use copies::imported::copy_tree;
-pub use copies::tree::part_bytes;
-pub use fenced::plan_all;
-pub use parts::live::part_end;
-pub use plans::edit::plan;
-
 pub(crate) use asking::first::{first_cause, move_cause};
+pub use asking::found::{Found, find};
 pub(crate) use asking::shift::same_shift;
 pub(crate) use asking::test::Test;
+pub use causes::cause::Cause;
+pub use causes::edit_fault::EditFault;
 pub(crate) use causes::part::{other_axes, part_cause, silent, too_long, unknown};
+pub use copies::imported::copy_tree;
+pub use copies::tree::part_bytes;
 pub(crate) use copies::tree::part_len;
+pub use fenced::plan_all;
+pub use parts::live::part_end;
 pub(crate) use parts::live::put_live_numbers;
 pub(crate) use parts::live_patches::{number_patch, push_live};
 pub(crate) use parts::lone::is_lone_root;
+pub use plans::edit::plan;

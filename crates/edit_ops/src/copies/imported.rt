@@ -6,7 +6,7 @@ ghost use Rattle.elem_index.specs.Design.{elements, IsWhole};
 ghost use Rattle.edit_ops.specs.Copying.{tree_copy, copy_cause, IsStopped, AddsUnless};
 
 use crate::asking::first::first_cause;
-use crate::asking::shift::same_shift;
+use crate::asking::shift::{is_shift, same_shift};
 use crate::copies::lone::push_lone_copy;
 use crate::copies::tree::push_copy;
 use crate::parts::live::live_numbers;
@@ -74,8 +74,7 @@ fn push_tree_copy(
     if let Some(cause) = first_cause(d, &live, &Test::Moves) {
         return Err(EditFault::Refused(cause));
     }
-    // What a displacement holds is such as its type keeps, which is known where a value of it is read.
-    let _axes = by.axes;
+    is_shift(by);
     let edit = Edit::Copy {
         n,
         by: same_shift(by),

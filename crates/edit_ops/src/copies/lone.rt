@@ -22,6 +22,7 @@ ghost use Rattle.edit_ops.specs.Trees.{found_at, live_tree, tree_at};
 ghost use Rattle.edit_ops.specs.Written.{sum_put};
 
 use crate::asking::first::unmovable;
+use crate::asking::shift::is_shift;
 use crate::copies::tree::free_first;
 use crate::{Cause, EditFault, Found};
 use dgn_drawing::{Shift, put_number, spots_in, sum};
@@ -48,8 +49,7 @@ pub fn push_lone_copy(
     if let Some(cause) = unmovable(n, class(found.kind)) {
         return Err(EditFault::Refused(cause));
     }
-    // What a displacement holds is such as its type keeps, which is known where a value of it is read.
-    let _axes = by.axes;
+    is_shift(by);
     let start = out.len();
     out.extend_from_slice(found.bytes)?;
     if !lay_copy(&mut out[start..], d, n, found, by) {

@@ -12,6 +12,7 @@ ghost use Rattle.edit_ops.specs.Copying.{tree_copy, AddsUnless};
 ghost use Rattle.edit_ops.specs.Planned.{IsPlan, IsRefused, PlansUnless};
 ghost use Rattle.edit_ops.specs.Written.{found, part_puts};
 
+use crate::asking::shift::is_shift;
 use crate::causes::edit::{append_cause, edit_cause, growth_cause};
 use crate::parts::above::put_numbers_above;
 use crate::plans::numbers::{Numbers, no_numbers};
@@ -92,6 +93,7 @@ pub(crate) fn plan_behind(
     ensures kept { IfOk result (λ _. IsEdit edit.now) }
     ensures known { IsErrOf result EditFault.Memory → IfSome (target_of edit.now) (λ n. n < length (elements d.now)) }
 {
+    is_edit(edit);
     match target(edit) {
         Some(n) => plan_part(alloc, d, t, n, edit, pending, numbers, all),
         None => plan_append(alloc, d, edit, pending, all),
@@ -244,26 +246,29 @@ fn plan_append(
     Ok(())
 }
 
-// The element whose part an edit changes or copies, where it names one. What an edit holds is such as its type keeps,
-// which is known where a value of it is read.
-fn target(edit: &Edit) -> Option<u32>
-    ensures target { result ≡ target_of edit.now }
-    ensures kept { IsEdit edit.now }
+// The values of an edit are such as its type keeps. It does nothing.
+fn is_edit(edit: &Edit)
+    ensures { IsEdit edit.now }
 {
     match edit {
-        Edit::Move { n, by } | Edit::Copy { n, by } => {
-            // Read, so that what its type keeps is known.
-            let _axes = by.axes;
-            Some(*n)
+        Edit::Move { by, .. } | Edit::Copy { by, .. } => is_shift(by),
+        Edit::Sym { change, .. } => {
+            let _ = change.color;
         }
-        Edit::Sym { n, change } => {
-            let _color = change.color;
-            Some(*n)
-        }
-        Edit::Delete { n } => Some(*n),
+        Edit::Delete { .. } => {}
         Edit::Append(new) => {
-            let _level = new.level;
-            None
+            let _ = new.level;
         }
+    }
+}
+
+// The element whose part an edit changes or copies, where it names one.
+fn target(edit: &Edit) -> Option<u32>
+    ensures { result ≡ target_of edit.now }
+{
+    match edit {
+        Edit::Move { n, .. } | Edit::Copy { n, .. } | Edit::Sym { n, .. } | Edit::Delete { n } =>
+            Some(*n),
+        Edit::Append(_) => None,
     }
 }

@@ -70,7 +70,7 @@ returns-in_ok-push-in-Sym c =
     let one = option_to_list (found_at (elements d) c.args.m) in
     let puts = look_found d c.requires.whole c.args.m c.in-Some.found found c.in-Sym.change c.in-Sym.n readable in (
       c.in_ok-push-in-Sym.ensures.ok
-      ∙ ap (λ (q : Put). c.args.patches.now ++ q ∷ []) c.look_patch.ensures ∙ ap (λ (qs : List Put). c.args.patches.now ++ qs) (sym puts)
-      ∙ ap (λ (e : Edit). c.args.patches.now ++ live_puts d.dim e one) (sym c.in-Sym.is),
+          ∙ ap (λ (q : Put). c.args.patches.now ++ q ∷ []) c.look_patch.ensures ∙ ap (λ (qs : List Put). c.args.patches.now ++ qs) (sym puts)
+          ∙ ap (λ (e : Edit). c.args.patches.now ++ live_puts d.dim e one) (sym c.in-Sym.is),
       ap (λ (e : Edit). leaving d.dim e one) c.in-Sym.is,
     )
