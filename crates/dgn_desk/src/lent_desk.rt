@@ -6,9 +6,10 @@ ghost use Rattle.dgn_desk.specs.Content.{all_said, HasFile, opened};
 ghost use Rattle.dgn_desk.specs.Desk.{Counts, Changes, DoesNotFail};
 ghost use Rattle.dgn_desk.specs.LentDesk.{lent_files};
 
+use crate::failing::failed;
 use crate::file_map::FileMap;
 use crate::lent_file::LentFile;
-use crate::{Desk, Stop, failed};
+use crate::{Desk, Stop};
 use std::alloc::Global;
 use std::marker::Model;
 

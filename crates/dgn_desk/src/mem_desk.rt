@@ -8,8 +8,9 @@ ghost use Rattle.dgn_desk.specs.Desk.{Counts, TakesFirst, TakesSome, StaysWillin
 ghost use Rattle.dgn_desk.specs.NumberedDesk.{is_listed, none_ahead, is_missing, has_no_target, Answers};
 
 use crate::act::Act;
+use crate::failing::failed;
 use crate::sure_desk::SureDesk;
-use crate::{Desk, Stop, failed};
+use crate::{Desk, Stop};
 use std::alloc::{AllocError, Global};
 use std::marker::Model;
 
