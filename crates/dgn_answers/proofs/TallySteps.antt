@@ -3,7 +3,7 @@ use Rattle.std.proofs.Common.{◌≡◌, ℕ, ◌+◌, Bool, List, [], ◌∷◌
 use Rattle.std.specs.Int.{from_bool}
 use Rattle.std.proofs.lemmas.List.{append-nil}
 use Rattle.dgn_session.specs.State.{State}
-use Rattle.dgn_answers.specs.Given.{Given, step_refused, step_trees, after_step, after_all, refused_count, trees_of_all}
+use Rattle.dgn_answers.specs.Given.{Given, step_answer, after_all, refused_count, trees_of_all}
 
 -- the commands before these are done
 pub record Tallied (all left : List Given) (refused : ℕ) (trees : List ℕ) (from s : State) : Type 0 where
@@ -20,15 +20,15 @@ sum_zero a = omega arith
 -- one more command
 pub tallied_more : (all left : List Given) (g : Given) (refused : ℕ) (was : Bool) (trees : List ℕ) (count : ℕ) (from s new : State)
     → Tallied all (g ∷ left) refused trees from s
-    → new ≡ after_step s g → was ≡ step_refused s g → count ≡ step_trees s g
+    → new ≡ (step_answer s g).state → was ≡ (step_answer s g).refused → count ≡ (step_answer s g).trees
     → Tallied all left (refused + from_bool was) (trees ++ count ∷ []) from new
 tallied_more all left g refused was trees count from s new done new_is was_is count_is = record {
   count = done.count
-      ∙ ap (λ (t : State). refused + (from_bool (step_refused s g) + refused_count left t)) (sym new_is)
-      ∙ sum_moved refused (from_bool (step_refused s g)) (refused_count left new)
+      ∙ ap (λ (t : State). refused + (from_bool (step_answer s g).refused + refused_count left t)) (sym new_is)
+      ∙ sum_moved refused (from_bool (step_answer s g).refused) (refused_count left new)
       ∙ ap (λ (b : Bool). (refused + from_bool b) + refused_count left new) (sym was_is);
   edited = done.edited
-      ∙ ap (λ (t : State). trees ++ step_trees s g ∷ trees_of_all left t) (sym new_is)
+      ∙ ap (λ (t : State). trees ++ (step_answer s g).trees ∷ trees_of_all left t) (sym new_is)
       ∙ ap (λ (k : ℕ). trees ++ k ∷ trees_of_all left new) (sym count_is)
       ∙ sym (append_assoc trees (count ∷ []) (trees_of_all left new));
   state = done.state ∙ ap (after_all left) (sym new_is);

@@ -1,6 +1,6 @@
 -- The steps of a run: its commands, each import with what its second file comes to. What they do to the state of a
 -- session, and what they say.
-use Rattle.std.specs.Prelude.{ℕ, ◌+◌, Bool, Option, List, [], ◌∷◌, ◌++◌, drop}
+use Rattle.std.specs.Prelude.{ℕ, ◌+◌, Option, List, [], ◌∷◌, ◌++◌, drop, reverse}
 use Rattle.std.specs.Int.{from_bool}
 use Rattle.dgn_drawing.specs.Values.{Displacement}
 use Rattle.dgn_import.specs.declared.second_fault.SecondFault.TheVariants as faults
@@ -8,8 +8,10 @@ use Rattle.dgn_import.specs.Seconds.{SecondValue, Faulty}
 use Rattle.dgn_session.specs.State.{State}
 use Rattle.dgn_drawing.specs.declared.command.Command.{Command}
 use Rattle.dgn_drawing.specs.declared.command.Command.TheVariants as command
-use Rattle.dgn_answers.specs.Commands.{text_of, is_refused, after_command, trees_of}
-use Rattle.dgn_answers.specs.Imports.{importing_of, import_answer, import_refused, import_left}
+use Rattle.dgn_answers.specs.Imports.{importing_of}
+use Rattle.dgn_answers.specs.Remaining.{Made}
+use Rattle.dgn_answers.specs.Answer.{Answer, imports}
+use Rattle.dgn_answers.specs.Commands.{answer_of}
 
 -- a command that is no import, or an import with what its second file comes to
 pub data Given : Type 0 where
@@ -36,42 +38,36 @@ abbrev pub given_all : List Command → List SecondValue → List Given
 given_all [] vs = []
 given_all (c ∷ cs) vs = given c vs ∷ given_all cs (seconds_behind c vs)
 
--- what a step says
-abbrev pub step_text : State → Given → List ℕ
-step_text s (Plain c) = text_of s c
-step_text s (Import v by) = import_answer (importing_of s v by)
-
--- whether it is refused
-abbrev pub step_refused : State → Given → Bool
-step_refused s (Plain c) = is_refused s c
-step_refused s (Import v by) = import_refused (importing_of s v by)
-
--- what it leaves
-abbrev pub after_step : State → Given → State
-after_step s (Plain c) = after_command s c
-after_step s (Import v by) = import_left (importing_of s v by) s
-
--- how many trees it edited, as an edit of all that a fence chooses
-abbrev pub step_trees : State → Given → ℕ
-step_trees s (Plain c) = trees_of s c
-step_trees s (Import v by) = 0
+-- what a session answers to a step in a state
+abbrev pub step_answer : State → Given → Answer
+step_answer s (Plain c) = answer_of s c
+step_answer s (Import v by) = imports s (importing_of s v by)
 
 -- what all steps leave, the first one first
 abbrev pub after_all : List Given → State → State
 after_all [] s = s
-after_all (g ∷ gs) s = after_all gs (after_step s g)
+after_all (g ∷ gs) s = after_all gs (step_answer s g).state
 
 -- what all steps say
 abbrev pub texts_of : List Given → State → List ℕ
 texts_of [] s = []
-texts_of (g ∷ gs) s = step_text s g ++ texts_of gs (after_step s g)
+texts_of (g ∷ gs) s = (step_answer s g).text ++ texts_of gs (step_answer s g).state
 
 -- how many steps are refused
 abbrev pub refused_count : List Given → State → ℕ
 refused_count [] s = 0
-refused_count (g ∷ gs) s = from_bool (step_refused s g) + refused_count gs (after_step s g)
+refused_count (g ∷ gs) s = from_bool (step_answer s g).refused + refused_count gs (step_answer s g).state
 
 -- and how many trees each of all steps edited
 abbrev pub trees_of_all : List Given → State → List ℕ
 trees_of_all [] s = []
-trees_of_all (g ∷ gs) s = step_trees s g ∷ trees_of_all gs (after_step s g)
+trees_of_all (g ∷ gs) s = (step_answer s g).trees ∷ trees_of_all gs (step_answer s g).state
+
+-- what all steps leave of the edits that are left, which stand the newest first
+abbrev pub with_steps : List Given → State → List Made → List Made
+with_steps [] s left = left
+with_steps (g ∷ gs) s left = with_steps gs (step_answer s g).state ((step_answer s g).left left)
+
+-- the edits that a run of these steps leaves: those that were done and not taken back, the first one first
+abbrev pub remaining : List Given → State → List Made
+remaining gs s = reverse (with_steps gs s [])

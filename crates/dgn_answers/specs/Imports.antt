@@ -67,9 +67,9 @@ FitsBehind dim (gatherings.Refused cause) = IsOfATree cause
 FitsBehind dim other = Unit {0}
 
 -- what an import says
-abbrev pub import_answer : Importing → List ℕ
-import_answer (Appends b count) = numbered (codes "ok ") count
-import_answer (Declines line) = line
+abbrev pub import_text : Importing → List ℕ
+import_text (Appends b count) = numbered (codes "ok ") count
+import_text (Declines line) = line
 
 -- whether it is refused
 abbrev pub import_refused : Importing → Bool

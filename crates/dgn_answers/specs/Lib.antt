@@ -1,5 +1,7 @@
-pub mod Commands
+pub mod Texts
 pub mod Imports
-pub mod Given
 pub mod Remaining
+pub mod Answer
+pub mod Commands
+pub mod Given
 pub mod Logs

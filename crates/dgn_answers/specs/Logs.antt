@@ -1,11 +1,13 @@
--- What a session's log holds of the edits that are left.
-use Rattle.std.specs.Prelude.{◌≡◌, ℕ, List, map, reverse}
+-- What running a step came to, and what the session's log holds then of the edits that are left.
+use Rattle.std.specs.Prelude.{◌≡◌, ◌++◌, ℕ, List, map, reverse, Result, IfOk, OnOk, OnErr}
+use Rattle.std.specs.declared.alloc.AllocError.{AllocError}
 use Rattle.undo_log.specs.declared.entry.Entry.{Entry}
+use Rattle.dgn_listing.specs.Lines.{AppendsFrontOf}
 use Rattle.dgn_session.specs.State.{SessionValue, state_of, entry_with}
-use Rattle.dgn_drawing.specs.declared.command.Command.{Command}
-use Rattle.dgn_answers.specs.Imports.{Importing}
-use Rattle.dgn_answers.specs.Given.{Given}
-use Rattle.dgn_answers.specs.Remaining.{Made, with_command, with_import, with_step, with_steps, fields_made}
+use Rattle.dgn_answers.specs.declared.answered.Answered.{Answered}
+use Rattle.dgn_answers.specs.Remaining.{Made, fields_made}
+use Rattle.dgn_answers.specs.Answer.{Answer}
+use Rattle.dgn_answers.specs.Given.{Given, with_steps}
 
 -- the log's entry of an edit that is left: the bytes that stood in the fields that it wrote, and how many there were
 abbrev pub entry_made : ℕ → Made → Entry
@@ -15,18 +17,22 @@ entry_made dim m = entry_with m.on (fields_made dim m.on m.making)
 abbrev pub IsLogOf : SessionValue → List Made → Type 0
 IsLogOf v left = reverse v.entries ≡ map (entry_made v.dim) left
 
--- a command changes the log as it changes the edits that are left
-abbrev pub LogsAs : Command → SessionValue → SessionValue → Type 0
-LogsAs c old new = (left : List Made) → IsLogOf old left → IsLogOf new (with_command (state_of old) c left)
+-- the log changes as the edits that are left do
+abbrev pub LogsAs : (List Made → List Made) → SessionValue → SessionValue → Type 0
+LogsAs change old new = (left : List Made) → IsLogOf old left → IsLogOf new (change left)
 
--- an import changes it so too
-abbrev pub ImportLogsAs : Importing → SessionValue → SessionValue → Type 0
-ImportLogsAs came old new = (left : List Made) → IsLogOf old left → IsLogOf new (with_import came (state_of old) left)
-
--- a step changes the log as it changes the edits that are left
-abbrev pub StepLogsAs : Given → SessionValue → SessionValue → Type 0
-StepLogsAs g old new = (left : List Made) → IsLogOf old left → IsLogOf new (with_step (state_of old) g left)
-
--- and so do steps, the first one first
+-- so it is with steps, the first one first
 abbrev pub AllLogAs : List Given → SessionValue → SessionValue → Type 0
-AllLogAs gs old new = (left : List Made) → IsLogOf old left → IsLogOf new (with_steps gs (state_of old) left)
+AllLogAs gs old new = LogsAs (with_steps gs (state_of old)) old new
+
+-- the step was run and its text appended; where there is no memory, the session is as before, and a front of the text is
+-- appended
+pub record Answers (came : Result Answered AllocError) (a : Answer) (old new : SessionValue) (before after : List ℕ) : Type 0 where
+  pub text : OnOk came (after ≡ before ++ a.text)
+  pub refused : IfOk came (λ answered. answered.refused ≡ a.refused)
+  pub trees : IfOk came (λ answered. answered.trees ≡ a.trees)
+  pub state : OnOk came (state_of new ≡ a.state)
+  pub logged : OnOk came (LogsAs a.left old new)
+  pub tail : new.tail ≡ old.tail
+  pub kept : OnErr came (new ≡ old)
+  pub front : OnErr came (AppendsFrontOf a.text before after)

@@ -1,8 +1,8 @@
-ghost use Rattle.std.specs.Prelude.{◌≡◌, ◌+◌, ◌≤◌, ◌++◌, codes, false, length, vec_len, vec_capacity, IfOk, OnOk, OnErr};
+ghost use Rattle.std.specs.Prelude.{◌≡◌, ◌+◌, ◌≤◌, ◌++◌, false, length, vec_len, vec_capacity, IfOk, OnOk, OnErr};
 ghost use Rattle.dgn_listing.specs.Lines.{AppendsFrontOf};
-ghost use Rattle.dgn_session.specs.State.{state_of, applied, edited, undone, undo_refused, with_mask, is_refused as is_refusal};
-ghost use Rattle.dgn_answers.specs.Commands.{edit_answer, undo_answer, is_import, text_of, is_refused, after_command, trees_of};
-ghost use Rattle.dgn_answers.specs.Logs.{LogsAs};
+ghost use Rattle.dgn_session.specs.State.{state_of};
+ghost use Rattle.dgn_answers.specs.Commands.{answer_of, is_import};
+ghost use Rattle.dgn_answers.specs.Logs.{LogsAs, Answers};
 ghost use Rattle.dgn_drawing.specs.declared.command.Command.{Command};
 
 use crate::answered::Answered;
@@ -30,13 +30,13 @@ pub fn answer(
     out: &mut Vec<u8>,
 ) -> Result<bool, AllocError>
     requires { is_import c.now ≡ false }
-    ensures text { OnOk result (out.new.items ≡ out.old.items ++ text_of (state_of s.old) c.now) }
-    ensures refused { IfOk result (λ refused. refused ≡ is_refused (state_of s.old) c.now) }
-    ensures state { OnOk result (state_of s.new ≡ after_command (state_of s.old) c.now) }
-    ensures logged { OnOk result (LogsAs c.now s.old s.new) }
+    ensures text { OnOk result (out.new.items ≡ out.old.items ++ (answer_of (state_of s.old) c.now).text) }
+    ensures refused { IfOk result (λ refused. refused ≡ (answer_of (state_of s.old) c.now).refused) }
+    ensures state { OnOk result (state_of s.new ≡ (answer_of (state_of s.old) c.now).state) }
+    ensures logged { OnOk result (LogsAs (answer_of (state_of s.old) c.now).left s.old s.new) }
     ensures tail { s.new.tail ≡ s.old.tail }
     ensures kept { OnErr result (s.new ≡ s.old) }
-    ensures front { OnErr result (AppendsFrontOf (text_of (state_of s.old) c.now) out.old.items out.new.items) }
+    ensures front { OnErr result (AppendsFrontOf (answer_of (state_of s.old) c.now).text out.old.items out.new.items) }
 {
     let answered = respond(alloc, s, c, out)?;
     Ok(answered.refused)
@@ -50,14 +50,7 @@ pub(crate) fn respond(
     out: &mut Vec<u8>,
 ) -> Result<Answered, AllocError>
     requires { is_import c.now ≡ false }
-    ensures text { OnOk result (out.new.items ≡ out.old.items ++ text_of (state_of s.old) c.now) }
-    ensures refused { IfOk result (λ a. a.refused ≡ is_refused (state_of s.old) c.now) }
-    ensures trees { IfOk result (λ a. a.trees ≡ trees_of (state_of s.old) c.now) }
-    ensures state { OnOk result (state_of s.new ≡ after_command (state_of s.old) c.now) }
-    ensures logged { OnOk result (LogsAs c.now s.old s.new) }
-    ensures tail { s.new.tail ≡ s.old.tail }
-    ensures kept { OnErr result (s.new ≡ s.old) }
-    ensures front { OnErr result (AppendsFrontOf (text_of (state_of s.old) c.now) out.old.items out.new.items) }
+    ensures { Answers result (answer_of (state_of s.old) c.now) s.old s.new out.old.items out.new.items }
 {
     match c {
         Command::Edit(edit) => answer_edit(alloc, s, edit, out),
@@ -66,10 +59,10 @@ pub(crate) fn respond(
         Command::Fence(corners) => answer_fence(alloc, s, corners.as_slice(), out),
         Command::NoFence => answer_no_fence(s, out),
         Command::Show => answer_show(alloc, s, out),
-        Command::Tree(n) => answer_tree(alloc, s.design(), s.nesting(), *n, out),
-        Command::Elements => answer_elements(alloc, s.design(), out),
-        Command::Refs => answer_refs(alloc, s.design(), out),
-        Command::Links(n) => answer_links(alloc, s.design(), *n, out),
+        Command::Tree(n) => answer_tree(alloc, s, *n, out),
+        Command::Elements => answer_elements(alloc, s, out),
+        Command::Refs => answer_refs(alloc, s, out),
+        Command::Links(n) => answer_links(alloc, s, *n, out),
         Command::Select(mode) => answer_select(alloc, s, *mode, out),
         Command::Fenced(mode, edit) => answer_fenced(alloc, s, *mode, edit, out),
         Command::Audit => answer_audit(alloc, s, out),
@@ -80,14 +73,7 @@ pub(crate) fn respond(
 
 // Shows these levels from now on, says so, and answers that this is done.
 fn answer_levels(s: &mut Session, levels: Mask, out: &mut Vec<u8>) -> Result<Answered, AllocError>
-    ensures text { OnOk result (out.new.items ≡ out.old.items ++ codes "ok\n") }
-    ensures refused { IfOk result (λ a. a.refused ≡ false) }
-    ensures trees { IfOk result (λ a. a.trees ≡ 0) }
-    ensures state { OnOk result (state_of s.new ≡ with_mask levels (state_of s.old)) }
-    ensures logged { OnOk result (LogsAs (Command.Levels levels) s.old s.new) }
-    ensures tail { s.new.tail ≡ s.old.tail }
-    ensures kept { OnErr result (s.new ≡ s.old) }
-    ensures bytes { OnErr result (out.new.items ≡ out.old.items) }
+    ensures { Answers result (answer_of (state_of s.old) (Command.Levels levels)) s.old s.new out.old.items out.new.items }
 {
     out.reserve(ROOM)?;
     s.set_mask(levels);
@@ -102,15 +88,7 @@ fn answer_edit(
     edit: &Edit,
     out: &mut Vec<u8>,
 ) -> Result<Answered, AllocError>
-    ensures text { OnOk result (out.new.items ≡ out.old.items ++ edit_answer (applied edit.now (state_of s.old))) }
-    ensures refused { IfOk result (λ a. a.refused ≡ is_refusal (applied edit.now (state_of s.old))) }
-    ensures trees { IfOk result (λ a. a.trees ≡ 0) }
-    ensures state { OnOk result (state_of s.new ≡ edited edit.now (state_of s.old)) }
-    ensures logged { OnOk result (LogsAs (Command.Edit edit.now) s.old s.new) }
-    ensures tail { s.new.tail ≡ s.old.tail }
-    ensures kept { OnErr result (s.new ≡ s.old) }
-    ensures front { OnErr result
-        (AppendsFrontOf (edit_answer (applied edit.now (state_of s.old))) out.old.items out.new.items) }
+    ensures { Answers result (answer_of (state_of s.old) (Command.Edit edit.now)) s.old s.new out.old.items out.new.items }
 {
     out.reserve(ROOM)?;
     match s.edit(edit) {
@@ -128,14 +106,7 @@ fn answer_edit(
 
 // Takes the last edit back, appends what is said of it, and answers what it came to.
 fn answer_undo(s: &mut Session, out: &mut Vec<u8>) -> Result<Answered, AllocError>
-    ensures text { OnOk result (out.new.items ≡ out.old.items ++ undo_answer (undo_refused (state_of s.old))) }
-    ensures refused { IfOk result (λ a. a.refused ≡ undo_refused (state_of s.old)) }
-    ensures trees { IfOk result (λ a. a.trees ≡ 0) }
-    ensures state { OnOk result (state_of s.new ≡ undone (state_of s.old)) }
-    ensures logged { OnOk result (LogsAs Command.Undo s.old s.new) }
-    ensures tail { s.new.tail ≡ s.old.tail }
-    ensures kept { OnErr result (s.new ≡ s.old) }
-    ensures bytes { OnErr result (out.new.items ≡ out.old.items) }
+    ensures { Answers result (answer_of (state_of s.old) Command.Undo) s.old s.new out.old.items out.new.items }
 {
     out.reserve(ROOM)?;
     match s.undo() {

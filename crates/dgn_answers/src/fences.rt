@@ -1,12 +1,10 @@
 // What a session answers to the commands on its fence.
 
-ghost use Rattle.std.specs.Prelude.{◌≡◌, ◌+◌, ◌≤◌, ◌++◌, codes, false, None, vec_len, vec_capacity, IfOk, OnOk, OnErr};
-ghost use Rattle.dgn_listing.specs.Lines.{AppendsFrontOf};
-ghost use Rattle.dgn_session.specs.State.{state_of, selection, fence_applied, fence_edited, with_fence};
+ghost use Rattle.std.specs.Prelude.{◌≡◌, ◌+◌, ◌≤◌, ◌++◌, codes, false, vec_len, vec_capacity};
+ghost use Rattle.dgn_session.specs.State.{state_of};
 ghost use Rattle.dgn_listing.specs.NumberedLines.{numbered};
-ghost use Rattle.dgn_answers.specs.Commands.{fence_edit_answer, fenced_refused, trees_edited, fence_answer, fence_refused, fence_set};
-ghost use Rattle.dgn_answers.specs.Commands.{selection_answer, selection_refused};
-ghost use Rattle.dgn_answers.specs.Logs.{LogsAs};
+ghost use Rattle.dgn_answers.specs.Commands.{answer_of};
+ghost use Rattle.dgn_answers.specs.Logs.{Answers};
 ghost use Rattle.dgn_drawing.specs.declared.command.Command.{Command};
 
 use crate::answered::Answered;
@@ -27,18 +25,7 @@ pub(crate) fn answer_fenced(
     edit: &FenceEdit,
     out: &mut Vec<u8>,
 ) -> Result<Answered, AllocError>
-    ensures text { OnOk result (out.new.items ≡ out.old.items
-        ++ fence_edit_answer (fence_applied mode edit.now (state_of s.old)) (selection mode (state_of s.old))) }
-    ensures refused { IfOk result (λ a. a.refused ≡ fenced_refused (fence_applied mode edit.now (state_of s.old))) }
-    ensures trees { IfOk result (λ a. a.trees
-        ≡ trees_edited (fence_applied mode edit.now (state_of s.old)) (selection mode (state_of s.old))) }
-    ensures state { OnOk result (state_of s.new ≡ fence_edited mode edit.now (state_of s.old)) }
-    ensures logged { OnOk result (LogsAs (Command.Fenced mode edit.now) s.old s.new) }
-    ensures tail { s.new.tail ≡ s.old.tail }
-    ensures kept { OnErr result (s.new ≡ s.old) }
-    ensures front { OnErr result (AppendsFrontOf
-        (fence_edit_answer (fence_applied mode edit.now (state_of s.old)) (selection mode (state_of s.old)))
-        out.old.items out.new.items) }
+    ensures { Answers result (answer_of (state_of s.old) (Command.Fenced mode edit.now)) s.old s.new out.old.items out.new.items }
 {
     out.reserve(ROOM)?;
     match s.edit_fence(mode, edit) {
@@ -79,14 +66,7 @@ pub(crate) fn answer_fence(
     corners: &[Pt],
     out: &mut Vec<u8>,
 ) -> Result<Answered, AllocError>
-    ensures text { OnOk result (out.new.items ≡ out.old.items ++ fence_answer corners.now) }
-    ensures refused { IfOk result (λ a. a.refused ≡ fence_refused corners.now) }
-    ensures trees { IfOk result (λ a. a.trees ≡ 0) }
-    ensures state { OnOk result (state_of s.new ≡ fence_set corners.now (state_of s.old)) }
-    ensures logged { OnOk result (LogsAs (Command.Fence corners.now) s.old s.new) }
-    ensures tail { s.new.tail ≡ s.old.tail }
-    ensures kept { OnErr result (s.new ≡ s.old) }
-    ensures bytes { OnErr result (out.new.items ≡ out.old.items) }
+    ensures { Answers result (answer_of (state_of s.old) (Command.Fence corners.now)) s.old s.new out.old.items out.new.items }
 {
     out.reserve(ROOM)?;
     match fence(alloc, corners) {
@@ -109,14 +89,7 @@ pub(crate) fn answer_fence(
 
 // Clears the fence, says so, and answers that this is done.
 pub(crate) fn answer_no_fence(s: &mut Session, out: &mut Vec<u8>) -> Result<Answered, AllocError>
-    ensures text { OnOk result (out.new.items ≡ out.old.items ++ codes "ok\n") }
-    ensures refused { IfOk result (λ a. a.refused ≡ false) }
-    ensures trees { IfOk result (λ a. a.trees ≡ 0) }
-    ensures state { OnOk result (state_of s.new ≡ with_fence None (state_of s.old)) }
-    ensures logged { OnOk result (LogsAs Command.NoFence s.old s.new) }
-    ensures tail { s.new.tail ≡ s.old.tail }
-    ensures kept { OnErr result (s.new ≡ s.old) }
-    ensures bytes { OnErr result (out.new.items ≡ out.old.items) }
+    ensures { Answers result (answer_of (state_of s.old) Command.NoFence) s.old s.new out.old.items out.new.items }
 {
     out.reserve(ROOM)?;
     s.clear_fence();
@@ -131,11 +104,7 @@ pub(crate) fn answer_select(
     mode: Mode,
     out: &mut Vec<u8>,
 ) -> Result<Answered, AllocError>
-    ensures text { OnOk result (out.new.items ≡ out.old.items ++ selection_answer (selection mode (state_of s.now))) }
-    ensures refused { IfOk result (λ a. a.refused ≡ selection_refused (selection mode (state_of s.now))) }
-    ensures trees { IfOk result (λ a. a.trees ≡ 0) }
-    ensures front { OnErr result
-        (AppendsFrontOf (selection_answer (selection mode (state_of s.now))) out.old.items out.new.items) }
+    ensures { Answers result (answer_of (state_of s.now) (Command.Select mode)) s.now s.now out.old.items out.new.items }
 {
     match s.select(mode) {
         Ok(found) => {

@@ -9,9 +9,12 @@ ghost use Rattle.dgn_listing.specs.Lines.{AppendsFrontOf};
 ghost use Rattle.dgn_session.specs.State.{state_of};
 ghost use Rattle.dgn_listing.specs.NumberedLines.{numbered};
 ghost use Rattle.dgn_answers.specs.Imports.{second_fault_line, tree_cause_line, importing, importing_of, gathering_of, FitsBehind};
-ghost use Rattle.dgn_answers.specs.Imports.{import_answer, import_refused, import_left};
-ghost use Rattle.dgn_answers.specs.Logs.{ImportLogsAs};
+ghost use Rattle.dgn_answers.specs.Imports.{import_text, import_refused, import_left};
+ghost use Rattle.dgn_answers.specs.Remaining.{with_import};
+ghost use Rattle.dgn_answers.specs.Answer.{imports};
+ghost use Rattle.dgn_answers.specs.Logs.{LogsAs, Answers};
 
+use crate::answered::Answered;
 use crate::answers::{ROOM, put_known};
 use crate::fences::put_count;
 use crate::gathering::Gathering;
@@ -40,21 +43,22 @@ pub fn answer_import(
 ) -> Result<bool, AllocError>
     requires sound { IsSound second.now }
     ensures text { OnOk result (out.new.items ≡ out.old.items
-        ++ import_answer (importing_of (state_of s.old) (value_of second.now) (option_map (λ b. b.now) by.entry))) }
+        ++ import_text (importing_of (state_of s.old) (value_of second.now) (option_map (λ b. b.now) by.entry))) }
     ensures refused { IfOk result (λ refused. refused
         ≡ import_refused (importing_of (state_of s.old) (value_of second.now) (option_map (λ b. b.now) by.entry))) }
     ensures state { OnOk result (state_of s.new
         ≡ import_left (importing_of (state_of s.old) (value_of second.now) (option_map (λ b. b.now) by.entry)) (state_of s.old)) }
     ensures logged { OnOk result
-        (ImportLogsAs (importing_of (state_of s.old) (value_of second.now) (option_map (λ b. b.now) by.entry)) s.old s.new) }
+        (LogsAs (with_import (importing_of (state_of s.old) (value_of second.now) (option_map (λ b. b.now) by.entry)) (state_of s.old)) s.old s.new) }
     ensures tail { s.new.tail ≡ s.old.tail }
     ensures kept { OnErr result (s.new ≡ s.old) }
     ensures front { OnErr result (AppendsFrontOf
-        (import_answer (importing_of (state_of s.old) (value_of second.now) (option_map (λ b. b.now) by.entry)))
+        (import_text (importing_of (state_of s.old) (value_of second.now) (option_map (λ b. b.now) by.entry)))
         out.old.items out.new.items) }
 {
     let gathering = gather_second(alloc, s, second, by)?;
-    answer_gathering(alloc, s, gathering, out)
+    let answered = answer_gathering(alloc, s, gathering, out)?;
+    Ok(answered.refused)
 }
 
 // What is gathered from a second drawing for an import in a session.
@@ -93,26 +97,15 @@ pub(crate) fn gather_last(
     gather_second(alloc, s, &second, by)
 }
 
-// Appends the trees that were gathered from a second drawing, appends to `out` what the import says, and answers whether it was
-// refused.
+// Appends the trees that were gathered from a second drawing, appends to `out` what the import says, and answers what it came to.
 pub(crate) fn answer_gathering(
     alloc: Global,
     s: &mut Session,
     gathering: Gathering,
     out: &mut Vec<u8>,
-) -> Result<bool, AllocError>
+) -> Result<Answered, AllocError>
     requires fits { FitsBehind s.old.dim gathering }
-    ensures text { OnOk result (out.new.items ≡ out.old.items
-        ++ import_answer (importing (state_of s.old) (gathering_of gathering))) }
-    ensures refused { IfOk result (λ refused. refused
-        ≡ import_refused (importing (state_of s.old) (gathering_of gathering))) }
-    ensures state { OnOk result (state_of s.new
-        ≡ import_left (importing (state_of s.old) (gathering_of gathering)) (state_of s.old)) }
-    ensures logged { OnOk result (ImportLogsAs (importing (state_of s.old) (gathering_of gathering)) s.old s.new) }
-    ensures tail { s.new.tail ≡ s.old.tail }
-    ensures kept { OnErr result (s.new ≡ s.old) }
-    ensures front { OnErr result (AppendsFrontOf
-        (import_answer (importing (state_of s.old) (gathering_of gathering))) out.old.items out.new.items) }
+    ensures { Answers result (imports (state_of s.old) (importing (state_of s.old) (gathering_of gathering))) s.old s.new out.old.items out.new.items }
 {
     out.reserve(ROOM)?;
     // What a session holds is such as its type keeps, which is known where a value of it is read.
@@ -121,50 +114,39 @@ pub(crate) fn answer_gathering(
         Gathering::Trees(found) => append_gathered(alloc, s, &found, out),
         Gathering::Bad(fault) => {
             put_fault(out, fault);
-            Ok(true)
+            Ok(Answered::REFUSED)
         }
         Gathering::Dimension => {
             put_known(out, b"refused import dimension\n");
-            Ok(true)
+            Ok(Answered::REFUSED)
         }
         Gathering::Refused(cause) => {
             put_tree_cause(out, cause);
-            Ok(true)
+            Ok(Answered::REFUSED)
         }
     }
 }
 
-// Appends trees that were gathered, says so, and answers whether the drawing would have been too long with them.
+// Appends trees that were gathered, says so, and answers what it came to.
 fn append_gathered(
     alloc: Global,
     s: &mut Session,
     found: &Gathered,
     out: &mut Vec<u8>,
-) -> Result<bool, AllocError>
+) -> Result<Answered, AllocError>
     requires trees { AreTrees s.old.dim found.now.bytes }
     requires body { s.old.body ≡ spelling (state_of s.old).top }
     requires room { vec_len out.old + 64 ≤ vec_capacity out.old }
-    ensures text { OnOk result (out.new.items ≡ out.old.items
-        ++ import_answer (importing (state_of s.old) (Trees found.now.bytes found.now.trees))) }
-    ensures refused { IfOk result (λ refused. refused
-        ≡ import_refused (importing (state_of s.old) (Trees found.now.bytes found.now.trees))) }
-    ensures state { OnOk result (state_of s.new
-        ≡ import_left (importing (state_of s.old) (Trees found.now.bytes found.now.trees)) (state_of s.old)) }
-    ensures logged { OnOk result
-        (ImportLogsAs (importing (state_of s.old) (Trees found.now.bytes found.now.trees)) s.old s.new) }
-    ensures tail { s.new.tail ≡ s.old.tail }
-    ensures kept { OnErr result (s.new ≡ s.old) }
-    ensures front { OnErr result (AppendsFrontOf
-        (import_answer (importing (state_of s.old) (Trees found.now.bytes found.now.trees))) out.old.items out.new.items) }
+    ensures { Answers result (imports (state_of s.old) (importing (state_of s.old) (Trees found.now.bytes found.now.trees))) s.old s.new out.old.items out.new.items }
 {
     match s.append_trees(found.bytes.as_slice()) {
         Ok(()) => {
             put_count(out, found.trees);
-            Ok(false)
+            Ok(Answered::DONE)
         }
         Err(EditFault::Refused(cause)) => {
             write_cause(alloc, out, &cause)?;
-            Ok(true)
+            Ok(Answered::REFUSED)
         }
         Err(EditFault::Memory) => Err(AllocError),
     }

@@ -1,11 +1,8 @@
 // What a session answers to the commands on its stored ranges.
 
-ghost use Rattle.std.specs.Prelude.{◌≡◌, ◌++◌, false, IfOk, OnOk, OnErr};
-ghost use Rattle.dgn_listing.specs.Lines.{AppendsFrontOf};
-ghost use Rattle.dgn_session.specs.State.{state_of, is_refused as is_refusal};
-ghost use Rattle.dgn_session.specs.Fits.{fit_applied, fit_made};
-ghost use Rattle.dgn_answers.specs.Commands.{edit_answer, text_of};
-ghost use Rattle.dgn_answers.specs.Logs.{LogsAs};
+ghost use Rattle.dgn_session.specs.State.{state_of};
+ghost use Rattle.dgn_answers.specs.Commands.{answer_of};
+ghost use Rattle.dgn_answers.specs.Logs.{Answers};
 ghost use Rattle.dgn_drawing.specs.declared.command.Command.{Command};
 
 use crate::answered::Answered;
@@ -21,11 +18,7 @@ pub(crate) fn answer_audit(
     s: &Session,
     out: &mut Vec<u8>,
 ) -> Result<Answered, AllocError>
-    ensures text { OnOk result (out.new.items ≡ out.old.items ++ text_of (state_of s.now) Command.Audit) }
-    ensures refused { IfOk result (λ a. a.refused ≡ false) }
-    ensures trees { IfOk result (λ a. a.trees ≡ 0) }
-    ensures front { OnErr result
-        (AppendsFrontOf (text_of (state_of s.now) Command.Audit) out.old.items out.new.items) }
+    ensures { Answers result (answer_of (state_of s.now) Command.Audit) s.now s.now out.old.items out.new.items }
 {
     let found = s.audit()?;
     write_findings(alloc, out, &found)?;
@@ -39,15 +32,7 @@ pub(crate) fn answer_fit(
     n: u32,
     out: &mut Vec<u8>,
 ) -> Result<Answered, AllocError>
-    ensures text { OnOk result (out.new.items ≡ out.old.items ++ edit_answer (fit_applied n (state_of s.old))) }
-    ensures refused { IfOk result (λ a. a.refused ≡ is_refusal (fit_applied n (state_of s.old))) }
-    ensures trees { IfOk result (λ a. a.trees ≡ 0) }
-    ensures state { OnOk result (state_of s.new ≡ fit_made n (state_of s.old)) }
-    ensures logged { OnOk result (LogsAs (Command.Fit n) s.old s.new) }
-    ensures tail { s.new.tail ≡ s.old.tail }
-    ensures kept { OnErr result (s.new ≡ s.old) }
-    ensures front { OnErr result
-        (AppendsFrontOf (edit_answer (fit_applied n (state_of s.old))) out.old.items out.new.items) }
+    ensures { Answers result (answer_of (state_of s.old) (Command.Fit n)) s.old s.new out.old.items out.new.items }
 {
     out.reserve(ROOM)?;
     match s.fit(n) {

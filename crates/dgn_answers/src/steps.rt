@@ -1,12 +1,11 @@
 // The steps of a run: its commands, each import with its second file.
 
-ghost use Rattle.std.specs.Prelude.{◌≡◌, ◌++◌, drop, IfOk, OnOk, OnErr};
+ghost use Rattle.std.specs.Prelude.{◌≡◌, drop};
 ghost use Rattle.std.specs.List.{AllByRecursion};
 ghost use Rattle.dgn_import.specs.Seconds.{value_of, IsSound};
-ghost use Rattle.dgn_listing.specs.Lines.{AppendsFrontOf};
 ghost use Rattle.dgn_session.specs.State.{state_of};
-ghost use Rattle.dgn_answers.specs.Given.{first_second, given, seconds_behind, step_text, step_refused, step_trees, after_step};
-ghost use Rattle.dgn_answers.specs.Logs.{StepLogsAs};
+ghost use Rattle.dgn_answers.specs.Given.{first_second, given, seconds_behind, step_answer};
+ghost use Rattle.dgn_answers.specs.Logs.{Answers};
 ghost use Rattle.dgn_import.specs.Seconds.{waiting};
 
 use crate::answered::Answered;
@@ -27,28 +26,16 @@ pub fn take_step(
     out: &mut Vec<u8>,
 ) -> Result<Answered, AllocError>
     requires { AllByRecursion IsSound seconds.old.items }
-    ensures text { OnOk result (out.new.items
-        ≡ out.old.items ++ step_text (state_of s.old) (given c.now (waiting seconds.old.items))) }
-    ensures refused { IfOk result
-        (λ a. a.refused ≡ step_refused (state_of s.old) (given c.now (waiting seconds.old.items))) }
-    ensures trees { IfOk result
-        (λ a. a.trees ≡ step_trees (state_of s.old) (given c.now (waiting seconds.old.items))) }
-    ensures state { OnOk result
-        (state_of s.new ≡ after_step (state_of s.old) (given c.now (waiting seconds.old.items))) }
-    ensures logged { OnOk result (StepLogsAs (given c.now (waiting seconds.old.items)) s.old s.new) }
-    ensures tail { s.new.tail ≡ s.old.tail }
+    ensures answered { Answers result (step_answer (state_of s.old) (given c.now (waiting seconds.old.items)))
+        s.old s.new out.old.items out.new.items }
     ensures left { waiting seconds.new.items ≡ seconds_behind c.now (waiting seconds.old.items) }
     ensures sound { AllByRecursion IsSound seconds.new.items }
-    ensures kept { OnErr result (s.new ≡ s.old) }
-    ensures front { OnErr result (AppendsFrontOf
-        (step_text (state_of s.old) (given c.now (waiting seconds.old.items))) out.old.items out.new.items) }
 {
     match c {
         Command::Import(_, by) => {
             let second = next_second(seconds);
             let gathering = gather_last(alloc, s, second, by.as_ref())?;
-            let refused = answer_gathering(alloc, s, gathering, out)?;
-            Ok(Answered { refused, trees: 0 })
+            answer_gathering(alloc, s, gathering, out)
         }
         _ => respond(alloc, s, c, out),
     }

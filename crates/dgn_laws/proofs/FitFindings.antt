@@ -15,9 +15,9 @@ use Rattle.dgn_listing.specs.FindingTexts.{findings_text}
 use Rattle.dgn_session.specs.State as machine
 use Rattle.dgn_session.specs.State.{State, pushed}
 use Rattle.dgn_drawing.specs.declared.command.Command.TheVariants as command
-use Rattle.dgn_answers.specs.Commands.{begun, text_of}
-use Rattle.dgn_answers.specs.Given.{Given, after_all}
-use Rattle.dgn_answers.specs.Remaining.{Made, with_steps}
+use Rattle.dgn_answers.specs.Remaining.{Made}
+use Rattle.dgn_answers.specs.Commands.{begun, answer_of}
+use Rattle.dgn_answers.specs.Given.{Given, after_all, with_steps}
 use Rattle.dgn_tool.specs.Laws.{steps_of}
 use Rattle.dgn_laws.specs.FitLaws.{FitsEndFindings}
 use Rattle.dgn_tool.proofs.OpenSeconds.{IsStep, steps_given}
@@ -27,7 +27,7 @@ use Rattle.dgn_tool.proofs.LinkedEdits.{top_of, top_opens, stack_top, steps_link
 -- a fit that is done ends the findings of its tree
 fit_ends : (s : State) (t : List ℕ) (n root end : ℕ) (came : Applied) → apply_fit s.dim s.top n ≡ came → Opens (spelling s.top ++ t) s.dim s.top t
     → machine.is_refused came ≡ false → root_of row_of s.top n ≡ Some root → span_of row_of s.top root ≡ Some (root, end)
-    → text_of (pushed came s) command.Audit ≡ findings_text (filter (is_outside root end) (findings s.dim s.top))
+    → (answer_of (pushed came s) command.Audit).text ≡ findings_text (filter (is_outside root end) (findings s.dim s.top))
 fit_ends s t n root end (Refused cause) is opens done at spanned = absurd (let x = done in cc)
 fit_ends s t n root end (Done made) is opens done at spanned =
     ap findings_text (ends_findings (spelling s.top ++ t) s.dim s.top t n made root end opens is at spanned)

@@ -20,9 +20,9 @@ use Rattle.dgn_session.specs.State.{State}
 use Rattle.dgn_session.proofs.Leading.{leads_back}
 use Rattle.dgn_session.proofs.Rising.{rise_long, filled_rise, olds_filled}
 use Rattle.edit_ops.specs.Fields.{Field, Rise, filled}
+use Rattle.dgn_answers.specs.Remaining.{Made, fields_made}
 use Rattle.dgn_answers.specs.Commands.{begun}
-use Rattle.dgn_answers.specs.Given.{Given, after_all}
-use Rattle.dgn_answers.specs.Remaining.{Made, fields_made, with_steps}
+use Rattle.dgn_answers.specs.Given.{Given, after_all, with_steps}
 use Rattle.dgn_tool.specs.Packing.{packed_made, packed_after}
 use Rattle.dgn_answers.specs.Logs.{entry_made}
 use Rattle.dgn_tool.specs.Applied.{AllFit}

@@ -11,7 +11,7 @@ use Rattle.dgn_session.specs.State.{State}
 use Rattle.dgn_drawing.specs.declared.command.Command.{Command}
 use Rattle.dgn_drawing.specs.declared.command.Command.TheVariants as command
 use Rattle.elem_index.specs.Opened.{Opened}
-use Rattle.dgn_answers.specs.Commands.{begun, text_of, is_refused, after_command}
+use Rattle.dgn_answers.specs.Commands.{begun, answer_of}
 use Rattle.dgn_answers.specs.Given.{after_all}
 use Rattle.dgn_tool.specs.Laws.{IsEditIn, steps_of}
 
@@ -19,8 +19,8 @@ use Rattle.dgn_tool.specs.Laws.{IsEditIn, steps_of}
 abbrev pub FitEndsFindings : State → Type 0
 FitEndsFindings s =
     (n root end : ℕ)
-    → is_refused s (command.Fit n) ≡ false → root_of row_of s.top n ≡ Some root → span_of row_of s.top root ≡ Some (root, end)
-    → text_of (after_command s (command.Fit n)) command.Audit ≡ findings_text (filter (is_outside root end) (findings s.dim s.top))
+    → (answer_of s (command.Fit n)).refused ≡ false → root_of row_of s.top n ≡ Some root → span_of row_of s.top root ≡ Some (root, end)
+    → (answer_of (answer_of s (command.Fit n)).state command.Audit).text ≡ findings_text (filter (is_outside root end) (findings s.dim s.top))
 
 -- so it is behind all commands of a script, with any second files
 abbrev pub FitsEndFindings : Type 0

@@ -14,9 +14,9 @@ use Rattle.dgn_session.specs.State.{State}
 use Rattle.dgn_drawing.specs.declared.command.Command.{Command}
 use Rattle.elem_index.specs.Opened.{Opened}
 use Rattle.dgn_listing.specs.NumberedLines.{numbered}
+use Rattle.dgn_answers.specs.Imports.{Importing, importing_of, import_refused, import_left, import_text}
 use Rattle.dgn_answers.specs.Commands.{begun}
 use Rattle.dgn_answers.specs.Given.{after_all}
-use Rattle.dgn_answers.specs.Imports.{Importing, importing_of, import_answer, import_refused, import_left}
 use Rattle.dgn_tool.specs.Laws.{IsEditIn, steps_of}
 use Rattle.dgn_drawing.specs.declared.limits.TheConstants.{MOST_DESIGN}
 
@@ -40,7 +40,7 @@ pub record TreesFollow (s : State) (g : List ℕ) (by : Option Displacement) (ca
   pub can : CanFollow s drawing by
   pub trees : forest row_of (import_left came s).top ≡ joined (forest row_of s.top) (trees_taken drawing by)
   pub bytes : spelling (import_left came s).top ≡ spelling s.top ++ spelling (flat (trees_taken drawing by))
-  pub said : import_answer came ≡ numbered (codes "ok ") (length (taken drawing.elements))
+  pub said : import_text came ≡ numbered (codes "ok ") (length (taken drawing.elements))
 
 -- so it is of each import of a second file that is accepted in the state
 abbrev pub NestApartIn : State → Type 0

@@ -1,9 +1,7 @@
 pub mod NumberTexts
 pub mod CountsGrow
-pub mod Fronts
 pub mod AttributeData
 pub mod Listings
 pub mod SpanEnds
 pub mod LineFields
 pub mod WorkedLines
-pub mod FindingLines

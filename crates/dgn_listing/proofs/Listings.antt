@@ -3,7 +3,8 @@ use Rattle.std.proofs.Common.{ℕ, ◌≡◌, ◌+◌, ◌≤◌, List, [], ◌�
 use Rattle.std.specs.Prelude.{Option, Some, None, Bool, option_map, slice_get}
 use Rattle.std.specs.Option.{unwrap_or}
 use Rattle.std.specs.Map.{lookup}
-use Rattle.std.proofs.lemmas.List.{map-append, length-map}
+use Rattle.std.proofs.lemmas.List.{map-append, length-map, take_more}
+use Rattle.std.proofs.lemmas.Option.{get_or_from_slice_get, slice_get_within}
 use Rattle.std.proofs.lemmas.List.Sums.{sum_by-append}
 use Rattle.indexmap.specs.IndexMap.{insert_entry}
 use Rattle.elem_head.specs.declared.types.Head.{Head}
@@ -18,8 +19,11 @@ use Rattle.dgn_listing.specs.Counts.{times, counts}
 use Rattle.dgn_listing.specs.RefTexts.{is_ref, ref_count}
 use Rattle.dgn_listing.specs.ElementTexts.{listed_of, listed_at}
 use Rattle.dgn_listing.proofs.CountsGrow.{counts-more, lookup-counts, times-few}
-use Rattle.dgn_listing.proofs.Fronts.{take_found}
 use Rattle.dgn_listing.proofs.LineFields.{HeadIs, taken, head_is}
+
+-- the elements before one that is found, and that one
+take_found : {X : Type 0} (xs : List X) (i : ℕ) (x : X) → slice_get xs i ≡ Some x → take (i + 1) xs ≡ take i xs ++ x ∷ []
+take_found {X} xs i x found = take_more xs i x (slice_get_within xs i x found) ∙ ap (λ (y : X). take i xs ++ y ∷ []) (get_or_from_slice_get xs i x x found)
 
 -- what is read of the bytes
 abbrev pub read_of : ℕ → ℕ → ℕ → ℕ → ℕ → Bool → Bool → Listed

@@ -1,7 +1,7 @@
 -- The pieces that lines of a listing are made of.
 use Rattle.std.specs.Prelude.{ℕ, zero, suc, ◌+◌, List, [], ◌∷◌, ◌++◌, codes, decimal}
 use Rattle.std.specs.List.{flat_map}
-pub use Rattle.patch_bytes.specs.Fronts.{AppendsFrontOf}
+pub use Rattle.patch_bytes.specs.Fronts.{Appends, AppendsFrontOf}
 
 -- words of a line stand one blank apart, and each line ends with a line feed
 abbrev pub blank : List ℕ

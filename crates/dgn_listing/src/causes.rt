@@ -1,7 +1,6 @@
 // What an edit says that is refused: one line with the cause.
 
-ghost use Rattle.std.specs.Prelude.{◌≡◌, ◌++◌, OnOk, OnErr};
-ghost use Rattle.dgn_listing.specs.Lines.{AppendsFrontOf};
+ghost use Rattle.dgn_listing.specs.Lines.{Appends};
 ghost use Rattle.dgn_listing.specs.CauseTexts.{refused_text, cause_text};
 
 use crate::pieces::{put, put_number};
@@ -13,8 +12,7 @@ use std::alloc::{AllocError, Global};
 ///
 /// Where there is no memory, `out` has grown by a front of that text.
 pub fn write_cause(alloc: Global, out: &mut Vec<u8>, c: &Cause) -> Result<(), AllocError>
-    ensures text { OnOk result (out.new.items ≡ out.old.items ++ cause_text c.now) }
-    ensures front { OnErr result (AppendsFrontOf (cause_text c.now) out.old.items out.new.items) }
+    ensures { Appends result (cause_text c.now) out.old.items out.new.items }
 {
     match c {
         Cause::Unknown(n) => put_refused(out, b"refused unknown ", *n),
@@ -31,9 +29,7 @@ pub fn write_cause(alloc: Global, out: &mut Vec<u8>, c: &Cause) -> Result<(), Al
 
 // Appends these words, the number of an element and the end of the line.
 fn put_refused(out: &mut Vec<u8>, words: &[u8], n: u32) -> Result<(), AllocError>
-    ensures text { OnOk result (out.new.items ≡ out.old.items ++ refused_text words.now n) }
-    ensures front { OnErr result
-        (AppendsFrontOf (refused_text words.now n) out.old.items out.new.items) }
+    ensures { Appends result (refused_text words.now n) out.old.items out.new.items }
 {
     put(out, words)?;
     put_number(out, u64::from(n))?;

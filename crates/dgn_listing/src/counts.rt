@@ -1,11 +1,11 @@
 // How many elements there are of each level and of each type.
 
-ghost use Rattle.std.specs.Prelude.{◌≡◌, ◌+◌, ◌-◌, ◌++◌, ◌<◌, ◌^◌, nat_eq, map, IfOk, OnOk, OnErr};
+ghost use Rattle.std.specs.Prelude.{◌≡◌, ◌+◌, ◌-◌, ◌<◌, ◌^◌, nat_eq, map, IfOk, OnOk};
 ghost use Rattle.std.specs.Option.{unwrap_or};
 ghost use Rattle.std.specs.Map.{lookup};
 ghost use Rattle.indexmap.specs.IndexMap.{insert_entry};
 ghost use Rattle.elem_index.specs.Design.{elements, IsWhole};
-ghost use Rattle.dgn_listing.specs.Lines.{AppendsFrontOf};
+ghost use Rattle.dgn_listing.specs.Lines.{Appends};
 ghost use Rattle.dgn_listing.specs.Counts.{counts, count_line, count_lines};
 
 use crate::listed::listed_at;
@@ -78,10 +78,7 @@ pub(crate) fn put_counts(
     word: &[u8],
     counts: &IndexMap<u8, u32>,
 ) -> Result<(), AllocError>
-    ensures text { OnOk result
-        (out.new.items ≡ out.old.items ++ count_lines word.now counts.now.entries) }
-    ensures front { OnErr result
-        (AppendsFrontOf (count_lines word.now counts.now.entries) out.old.items out.new.items) }
+    ensures { Appends result (count_lines word.now counts.now.entries) out.old.items out.new.items }
 {
     for i in 0..counts.len() {
         let Some((number, times)) = counts.get_index(i) else {
@@ -94,9 +91,7 @@ pub(crate) fn put_counts(
 
 // Appends the line of a count.
 fn put_count(out: &mut Vec<u8>, word: &[u8], number: u8, times: u32) -> Result<(), AllocError>
-    ensures text { OnOk result (out.new.items ≡ out.old.items ++ count_line word.now (number, times)) }
-    ensures front { OnErr result
-        (AppendsFrontOf (count_line word.now (number, times)) out.old.items out.new.items) }
+    ensures { Appends result (count_line word.now (number, times)) out.old.items out.new.items }
 {
     put(out, word)?;
     put_field(out, u64::from(number))?;

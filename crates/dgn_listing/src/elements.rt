@@ -1,9 +1,9 @@
 // What `elements` says: a line for each element, one for each level and each type, and how many elements there
 // are.
 
-ghost use Rattle.std.specs.Prelude.{◌≡◌, ◌++◌, length, OnOk, OnErr};
+ghost use Rattle.std.specs.Prelude.{length};
 ghost use Rattle.elem_index.specs.Design.{elements, IsWhole};
-ghost use Rattle.dgn_listing.specs.Lines.{texts_from, AppendsFrontOf};
+ghost use Rattle.dgn_listing.specs.Lines.{texts_from, Appends};
 ghost use Rattle.dgn_listing.specs.ElementTexts.{sign_text, signs_text, places_text, listed_text, element_line, totals_text, elements_text};
 
 use crate::counts::{put_counts, totals_of};
@@ -21,9 +21,7 @@ use std::alloc::{AllocError, Global};
 /// dash where not. Where there is no memory, `out` has grown by a front of that text.
 pub fn write_elements(alloc: Global, out: &mut Vec<u8>, d: &Design) -> Result<(), AllocError>
     requires { IsWhole d.now }
-    ensures text { OnOk result (out.new.items ≡ out.old.items ++ elements_text (elements d.now)) }
-    ensures front { OnErr result
-        (AppendsFrontOf (elements_text (elements d.now)) out.old.items out.new.items) }
+    ensures { Appends result (elements_text (elements d.now)) out.old.items out.new.items }
 {
     put_elements(out, d)?;
     put_totals(alloc, out, d)?;
@@ -33,12 +31,7 @@ pub fn write_elements(alloc: Global, out: &mut Vec<u8>, d: &Design) -> Result<()
 // Appends the lines of all elements.
 fn put_elements(out: &mut Vec<u8>, d: &Design) -> Result<(), AllocError>
     requires { IsWhole d.now }
-    ensures text { OnOk result
-        (out.new.items ≡ out.old.items
-        ++ texts_from (element_line (elements d.now)) 0 (length (elements d.now))) }
-    ensures front { OnErr result
-        (AppendsFrontOf (texts_from (element_line (elements d.now)) 0 (length (elements d.now)))
-        out.old.items out.new.items) }
+    ensures { Appends result (texts_from (element_line (elements d.now)) 0 (length (elements d.now))) out.old.items out.new.items }
 {
     for n in 0..d.count() {
         put_element(out, d, n)?;
@@ -49,9 +42,7 @@ fn put_elements(out: &mut Vec<u8>, d: &Design) -> Result<(), AllocError>
 // Appends the line of element `n`, where there is one.
 fn put_element(out: &mut Vec<u8>, d: &Design, n: u32) -> Result<(), AllocError>
     requires { IsWhole d.now }
-    ensures text { OnOk result (out.new.items ≡ out.old.items ++ element_line (elements d.now) n) }
-    ensures front { OnErr result
-        (AppendsFrontOf (element_line (elements d.now) n) out.old.items out.new.items) }
+    ensures { Appends result (element_line (elements d.now) n) out.old.items out.new.items }
 {
     match listed_at(d, n) {
         Some(listed) => put_listed(out, &listed),
@@ -61,9 +52,7 @@ fn put_element(out: &mut Vec<u8>, d: &Design, n: u32) -> Result<(), AllocError>
 
 // Appends what is said of an element.
 fn put_listed(out: &mut Vec<u8>, listed: &Listed) -> Result<(), AllocError>
-    ensures text { OnOk result (out.new.items ≡ out.old.items ++ listed_text listed.now) }
-    ensures front { OnErr result
-        (AppendsFrontOf (listed_text listed.now) out.old.items out.new.items) }
+    ensures { Appends result (listed_text listed.now) out.old.items out.new.items }
 {
     put_places(out, listed)?;
     put_signs(out, listed)?;
@@ -72,9 +61,7 @@ fn put_listed(out: &mut Vec<u8>, listed: &Listed) -> Result<(), AllocError>
 
 // Appends the numbers of an element.
 fn put_places(out: &mut Vec<u8>, listed: &Listed) -> Result<(), AllocError>
-    ensures text { OnOk result (out.new.items ≡ out.old.items ++ places_text listed.now) }
-    ensures front { OnErr result
-        (AppendsFrontOf (places_text listed.now) out.old.items out.new.items) }
+    ensures { Appends result (places_text listed.now) out.old.items out.new.items }
 {
     put_fields(
         out,
@@ -90,9 +77,7 @@ fn put_places(out: &mut Vec<u8>, listed: &Listed) -> Result<(), AllocError>
 
 // Appends the signs of an element.
 fn put_signs(out: &mut Vec<u8>, listed: &Listed) -> Result<(), AllocError>
-    ensures text { OnOk result (out.new.items ≡ out.old.items ++ signs_text listed.now) }
-    ensures front { OnErr result
-        (AppendsFrontOf (signs_text listed.now) out.old.items out.new.items) }
+    ensures { Appends result (signs_text listed.now) out.old.items out.new.items }
 {
     put_sign(out, b"c", listed.cbit)?;
     put_sign(out, b"d", listed.deleted)
@@ -100,9 +85,7 @@ fn put_signs(out: &mut Vec<u8>, listed: &Listed) -> Result<(), AllocError>
 
 // Appends a sign, or a dash.
 fn put_sign(out: &mut Vec<u8>, sign: &[u8], set: bool) -> Result<(), AllocError>
-    ensures text { OnOk result (out.new.items ≡ out.old.items ++ sign_text sign.now set) }
-    ensures front { OnErr result
-        (AppendsFrontOf (sign_text sign.now set) out.old.items out.new.items) }
+    ensures { Appends result (sign_text sign.now set) out.old.items out.new.items }
 {
     if set { put(out, sign) } else { put(out, b"-") }
 }
@@ -110,9 +93,7 @@ fn put_sign(out: &mut Vec<u8>, sign: &[u8], set: bool) -> Result<(), AllocError>
 // Appends the lines of the levels and of the types.
 fn put_totals(alloc: Global, out: &mut Vec<u8>, d: &Design) -> Result<(), AllocError>
     requires { IsWhole d.now }
-    ensures text { OnOk result (out.new.items ≡ out.old.items ++ totals_text (elements d.now)) }
-    ensures front { OnErr result
-        (AppendsFrontOf (totals_text (elements d.now)) out.old.items out.new.items) }
+    ensures { Appends result (totals_text (elements d.now)) out.old.items out.new.items }
 {
     let totals = totals_of(alloc, d)?;
     put_counts(out, b"level ", &totals.levels)?;

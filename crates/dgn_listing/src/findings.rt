@@ -1,7 +1,6 @@
 // What `audit` says: a line for each element whose stored range isn't its hull, and how many there are.
 
-ghost use Rattle.std.specs.Prelude.{◌≡◌, ◌++◌, OnOk, OnErr};
-ghost use Rattle.dgn_listing.specs.Lines.{field_text, AppendsFrontOf};
+ghost use Rattle.dgn_listing.specs.Lines.{field_text, Appends};
 ghost use Rattle.dgn_listing.specs.FindingTexts.{corners_text, finding_line, finding_lines, findings_text};
 
 use crate::pieces::{put, put_ending, put_field};
@@ -15,9 +14,7 @@ use std::alloc::{AllocError, Global};
 /// A line is the element's number, the low and the high corner of its stored range, and the low and the high corner of its
 /// hull. Where there is no memory, `out` has grown by a front of that text.
 pub fn write_findings(alloc: Global, out: &mut Vec<u8>, list: &[Finding]) -> Result<(), AllocError>
-    ensures text { OnOk result (out.new.items ≡ out.old.items ++ findings_text list.now) }
-    ensures front { OnErr result
-        (AppendsFrontOf (findings_text list.now) out.old.items out.new.items) }
+    ensures { Appends result (findings_text list.now) out.old.items out.new.items }
 {
     put_finding_lines(out, list)?;
     put_ending(out, b"audit", list.len())
@@ -25,9 +22,7 @@ pub fn write_findings(alloc: Global, out: &mut Vec<u8>, list: &[Finding]) -> Res
 
 // Appends the lines of findings.
 fn put_finding_lines(out: &mut Vec<u8>, list: &[Finding]) -> Result<(), AllocError>
-    ensures text { OnOk result (out.new.items ≡ out.old.items ++ finding_lines list.now) }
-    ensures front { OnErr result
-        (AppendsFrontOf (finding_lines list.now) out.old.items out.new.items) }
+    ensures { Appends result (finding_lines list.now) out.old.items out.new.items }
 {
     for finding in list {
         put_finding(out, finding)?;
@@ -37,9 +32,7 @@ fn put_finding_lines(out: &mut Vec<u8>, list: &[Finding]) -> Result<(), AllocErr
 
 // Appends the line of a finding.
 fn put_finding(out: &mut Vec<u8>, finding: &Finding) -> Result<(), AllocError>
-    ensures text { OnOk result (out.new.items ≡ out.old.items ++ finding_line finding.now) }
-    ensures front { OnErr result
-        (AppendsFrontOf (finding_line finding.now) out.old.items out.new.items) }
+    ensures { Appends result (finding_line finding.now) out.old.items out.new.items }
 {
     put_its_number(out, finding.number)?;
     put_corners(out, finding.axes, &finding.stored)?;
@@ -50,17 +43,14 @@ fn put_finding(out: &mut Vec<u8>, finding: &Finding) -> Result<(), AllocError>
 
 // Appends the number of an element, and a blank.
 fn put_its_number(out: &mut Vec<u8>, n: u32) -> Result<(), AllocError>
-    ensures text { OnOk result (out.new.items ≡ out.old.items ++ field_text n) }
-    ensures front { OnErr result (AppendsFrontOf (field_text n) out.old.items out.new.items) }
+    ensures { Appends result (field_text n) out.old.items out.new.items }
 {
     put_field(out, u64::from(n))
 }
 
 // Appends the low and the high corner of a box.
 fn put_corners(out: &mut Vec<u8>, axes: u8, r: &Box3) -> Result<(), AllocError>
-    ensures text { OnOk result (out.new.items ≡ out.old.items ++ corners_text axes r.now) }
-    ensures front { OnErr result
-        (AppendsFrontOf (corners_text axes r.now) out.old.items out.new.items) }
+    ensures { Appends result (corners_text axes r.now) out.old.items out.new.items }
 {
     put_point(out, axes, &r.lo)?;
     put(out, b" ")?;

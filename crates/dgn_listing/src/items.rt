@@ -1,11 +1,11 @@
 // What `show` says: a line for each item that is shown, and how many there are.
 
-ghost use Rattle.std.specs.Prelude.{◌≡◌, ◌+◌, ◌<◌, ◌++◌, OnOk, OnErr};
+ghost use Rattle.std.specs.Prelude.{◌≡◌, ◌+◌, ◌<◌};
 ghost use Rattle.std.specs.Fmt.{signed_decimal};
 ghost use Rattle.group_head.specs.Names.{text_of_name};
 ghost use Rattle.range_code.specs.Ranges.{on_axis};
 ghost use Rattle.std.specs.Char.{digit_char};
-ghost use Rattle.dgn_listing.specs.Lines.{AppendsFrontOf};
+ghost use Rattle.dgn_listing.specs.Lines.{Appends};
 ghost use Rattle.dgn_listing.specs.ItemTexts.{pair_text, third_text, height_text, point_text, next_point_text, points_text, is_plain, char_text};
 ghost use Rattle.dgn_listing.specs.ItemTexts.{chars_text, path_text, said_text, box_text, cell_text, node_text, body_text, numbers_text, item_text};
 ghost use Rattle.dgn_listing.specs.ItemTexts.{lines_text, items_text};
@@ -23,9 +23,7 @@ use std::alloc::{AllocError, Global};
 /// A line is the item's number, depth, type, level, colour, weight, style and body. Where there is no
 /// memory, `out` has grown by a front of that text.
 pub fn write_items(alloc: Global, out: &mut Vec<u8>, items: &[Item]) -> Result<(), AllocError>
-    ensures text { OnOk result (out.new.items ≡ out.old.items ++ items_text items.now) }
-    ensures front { OnErr result
-        (AppendsFrontOf (items_text items.now) out.old.items out.new.items) }
+    ensures { Appends result (items_text items.now) out.old.items out.new.items }
 {
     put_lines(out, items)?;
     put_ending(out, b"shown", items.len())
@@ -33,9 +31,7 @@ pub fn write_items(alloc: Global, out: &mut Vec<u8>, items: &[Item]) -> Result<(
 
 // Appends the lines of the items.
 fn put_lines(out: &mut Vec<u8>, items: &[Item]) -> Result<(), AllocError>
-    ensures text { OnOk result (out.new.items ≡ out.old.items ++ lines_text items.now) }
-    ensures front { OnErr result
-        (AppendsFrontOf (lines_text items.now) out.old.items out.new.items) }
+    ensures { Appends result (lines_text items.now) out.old.items out.new.items }
 {
     for item in items {
         put_item(out, item)?;
@@ -45,8 +41,7 @@ fn put_lines(out: &mut Vec<u8>, items: &[Item]) -> Result<(), AllocError>
 
 // Appends the line of an item.
 fn put_item(out: &mut Vec<u8>, item: &Item) -> Result<(), AllocError>
-    ensures text { OnOk result (out.new.items ≡ out.old.items ++ item_text item.now) }
-    ensures front { OnErr result (AppendsFrontOf (item_text item.now) out.old.items out.new.items) }
+    ensures { Appends result (item_text item.now) out.old.items out.new.items }
 {
     put_numbers(out, item)?;
     put_body(out, item)?;
@@ -55,9 +50,7 @@ fn put_item(out: &mut Vec<u8>, item: &Item) -> Result<(), AllocError>
 
 // Appends the numbers of an item: its own, its depth, type and level, and its look.
 fn put_numbers(out: &mut Vec<u8>, item: &Item) -> Result<(), AllocError>
-    ensures text { OnOk result (out.new.items ≡ out.old.items ++ numbers_text item.now) }
-    ensures front { OnErr result
-        (AppendsFrontOf (numbers_text item.now) out.old.items out.new.items) }
+    ensures { Appends result (numbers_text item.now) out.old.items out.new.items }
 {
     put_fields(
         out,
@@ -75,11 +68,7 @@ fn put_numbers(out: &mut Vec<u8>, item: &Item) -> Result<(), AllocError>
 
 // Appends what an item is.
 fn put_body(out: &mut Vec<u8>, item: &Item) -> Result<(), AllocError>
-    ensures text { OnOk result
-        (out.new.items ≡ out.old.items ++ body_text item.now.axes item.now.range item.now.body) }
-    ensures front { OnErr result
-        (AppendsFrontOf (body_text item.now.axes item.now.range item.now.body)
-        out.old.items out.new.items) }
+    ensures { Appends result (body_text item.now.axes item.now.range item.now.body) out.old.items out.new.items }
 {
     match &item.body {
         ItemBody::Path(points) => put_path(out, item.axes, points.as_slice()),
@@ -93,9 +82,7 @@ fn put_body(out: &mut Vec<u8>, item: &Item) -> Result<(), AllocError>
 
 // Appends a row of points.
 fn put_path(out: &mut Vec<u8>, axes: u8, points: &[[i32; 3]]) -> Result<(), AllocError>
-    ensures text { OnOk result (out.new.items ≡ out.old.items ++ path_text axes points.now) }
-    ensures front { OnErr result
-        (AppendsFrontOf (path_text axes points.now) out.old.items out.new.items) }
+    ensures { Appends result (path_text axes points.now) out.old.items out.new.items }
 {
     put(out, b"path")?;
     put_points(out, axes, points)
@@ -103,10 +90,7 @@ fn put_path(out: &mut Vec<u8>, axes: u8, points: &[[i32; 3]]) -> Result<(), Allo
 
 // Appends a text: its origin and its characters.
 fn put_text(out: &mut Vec<u8>, axes: u8, origin: &[i32; 3], chars: &[u8]) -> Result<(), AllocError>
-    ensures text { OnOk result
-        (out.new.items ≡ out.old.items ++ said_text axes origin.now chars.now) }
-    ensures front { OnErr result
-        (AppendsFrontOf (said_text axes origin.now chars.now) out.old.items out.new.items) }
+    ensures { Appends result (said_text axes origin.now chars.now) out.old.items out.new.items }
 {
     put(out, b"text ")?;
     put_point(out, axes, origin)?;
@@ -116,9 +100,7 @@ fn put_text(out: &mut Vec<u8>, axes: u8, origin: &[i32; 3], chars: &[u8]) -> Res
 
 // Appends a box: its low and its high corner.
 fn put_box(out: &mut Vec<u8>, axes: u8, range: &Box3) -> Result<(), AllocError>
-    ensures text { OnOk result (out.new.items ≡ out.old.items ++ box_text axes range.now) }
-    ensures front { OnErr result
-        (AppendsFrontOf (box_text axes range.now) out.old.items out.new.items) }
+    ensures { Appends result (box_text axes range.now) out.old.items out.new.items }
 {
     put(out, b"box ")?;
     put_point(out, axes, &range.lo)?;
@@ -133,9 +115,7 @@ fn put_cell(
     name: [u16; 2],
     origin: &[i32; 3],
 ) -> Result<(), AllocError>
-    ensures text { OnOk result (out.new.items ≡ out.old.items ++ cell_text axes name origin.now) }
-    ensures front { OnErr result
-        (AppendsFrontOf (cell_text axes name origin.now) out.old.items out.new.items) }
+    ensures { Appends result (cell_text axes name origin.now) out.old.items out.new.items }
 {
     put(out, b"cell [")?;
     put_name(out, name)?;
@@ -145,17 +125,14 @@ fn put_cell(
 
 // Appends the ten places of a cell's name.
 fn put_name(out: &mut Vec<u8>, name: [u16; 2]) -> Result<(), AllocError>
-    ensures text { OnOk result (out.new.items ≡ out.old.items ++ text_of_name name) }
-    ensures front { OnErr result (AppendsFrontOf (text_of_name name) out.old.items out.new.items) }
+    ensures { Appends result (text_of_name name) out.old.items out.new.items }
 {
     put(out, &name_text(name))
 }
 
 // Appends a text node: its origin.
 fn put_node(out: &mut Vec<u8>, axes: u8, origin: &[i32; 3]) -> Result<(), AllocError>
-    ensures text { OnOk result (out.new.items ≡ out.old.items ++ node_text axes origin.now) }
-    ensures front { OnErr result
-        (AppendsFrontOf (node_text axes origin.now) out.old.items out.new.items) }
+    ensures { Appends result (node_text axes origin.now) out.old.items out.new.items }
 {
     put(out, b"node ")?;
     put_point(out, axes, origin)
@@ -163,9 +140,7 @@ fn put_node(out: &mut Vec<u8>, axes: u8, origin: &[i32; 3]) -> Result<(), AllocE
 
 // Appends points, with a blank before each.
 fn put_points(out: &mut Vec<u8>, axes: u8, points: &[[i32; 3]]) -> Result<(), AllocError>
-    ensures text { OnOk result (out.new.items ≡ out.old.items ++ points_text axes points.now) }
-    ensures front { OnErr result
-        (AppendsFrontOf (points_text axes points.now) out.old.items out.new.items) }
+    ensures { Appends result (points_text axes points.now) out.old.items out.new.items }
 {
     for point in points {
         put_next_point(out, axes, point)?;
@@ -175,9 +150,7 @@ fn put_points(out: &mut Vec<u8>, axes: u8, points: &[[i32; 3]]) -> Result<(), Al
 
 // Appends a blank and a point.
 fn put_next_point(out: &mut Vec<u8>, axes: u8, point: &[i32; 3]) -> Result<(), AllocError>
-    ensures text { OnOk result (out.new.items ≡ out.old.items ++ next_point_text axes point.now) }
-    ensures front { OnErr result
-        (AppendsFrontOf (next_point_text axes point.now) out.old.items out.new.items) }
+    ensures { Appends result (next_point_text axes point.now) out.old.items out.new.items }
 {
     put(out, b" ")?;
     put_point(out, axes, point)
@@ -185,9 +158,7 @@ fn put_next_point(out: &mut Vec<u8>, axes: u8, point: &[i32; 3]) -> Result<(), A
 
 /// Appends a point: `x,y`, and in three dimensions `x,y,z`. Where there is no memory for it, `out` has grown by a front of it.
 pub fn put_point(out: &mut Vec<u8>, axes: u8, point: &[i32; 3]) -> Result<(), AllocError>
-    ensures text { OnOk result (out.new.items ≡ out.old.items ++ point_text axes point.now) }
-    ensures front { OnErr result
-        (AppendsFrontOf (point_text axes point.now) out.old.items out.new.items) }
+    ensures { Appends result (point_text axes point.now) out.old.items out.new.items }
 {
     put_pair(out, point)?;
     put_height(out, axes, point)
@@ -195,9 +166,7 @@ pub fn put_point(out: &mut Vec<u8>, axes: u8, point: &[i32; 3]) -> Result<(), Al
 
 // Appends x,y of a point.
 fn put_pair(out: &mut Vec<u8>, point: &[i32; 3]) -> Result<(), AllocError>
-    ensures text { OnOk result (out.new.items ≡ out.old.items ++ pair_text point.now) }
-    ensures front { OnErr result
-        (AppendsFrontOf (pair_text point.now) out.old.items out.new.items) }
+    ensures { Appends result (pair_text point.now) out.old.items out.new.items }
 {
     put_axis(out, point, 0)?;
     put(out, b",")?;
@@ -206,9 +175,7 @@ fn put_pair(out: &mut Vec<u8>, point: &[i32; 3]) -> Result<(), AllocError>
 
 // Appends ,z of a point, where there are three dimensions.
 fn put_height(out: &mut Vec<u8>, axes: u8, point: &[i32; 3]) -> Result<(), AllocError>
-    ensures text { OnOk result (out.new.items ≡ out.old.items ++ height_text axes point.now) }
-    ensures front { OnErr result
-        (AppendsFrontOf (height_text axes point.now) out.old.items out.new.items) }
+    ensures { Appends result (height_text axes point.now) out.old.items out.new.items }
 {
     if axes == 3 {
         put_third(out, point)
@@ -219,9 +186,7 @@ fn put_height(out: &mut Vec<u8>, axes: u8, point: &[i32; 3]) -> Result<(), Alloc
 
 // Appends ,z of a point.
 fn put_third(out: &mut Vec<u8>, point: &[i32; 3]) -> Result<(), AllocError>
-    ensures text { OnOk result (out.new.items ≡ out.old.items ++ third_text point.now) }
-    ensures front { OnErr result
-        (AppendsFrontOf (third_text point.now) out.old.items out.new.items) }
+    ensures { Appends result (third_text point.now) out.old.items out.new.items }
 {
     put(out, b",")?;
     put_axis(out, point, 2)
@@ -230,10 +195,7 @@ fn put_third(out: &mut Vec<u8>, point: &[i32; 3]) -> Result<(), AllocError>
 // Appends the number of a point on one axis.
 fn put_axis(out: &mut Vec<u8>, point: &[i32; 3], axis: usize) -> Result<(), AllocError>
     requires { axis < 3 }
-    ensures text { OnOk result
-        (out.new.items ≡ out.old.items ++ signed_decimal (on_axis point.now axis)) }
-    ensures front { OnErr result
-        (AppendsFrontOf (signed_decimal (on_axis point.now axis)) out.old.items out.new.items) }
+    ensures { Appends result (signed_decimal (on_axis point.now axis)) out.old.items out.new.items }
 {
     let mut buffer = Buffer::new();
     put(out, buffer.format(point[axis]).as_bytes())
@@ -241,9 +203,7 @@ fn put_axis(out: &mut Vec<u8>, point: &[i32; 3], axis: usize) -> Result<(), Allo
 
 // Appends characters, each as itself or escaped.
 fn put_chars(out: &mut Vec<u8>, chars: &[u8]) -> Result<(), AllocError>
-    ensures text { OnOk result (out.new.items ≡ out.old.items ++ chars_text chars.now) }
-    ensures front { OnErr result
-        (AppendsFrontOf (chars_text chars.now) out.old.items out.new.items) }
+    ensures { Appends result (chars_text chars.now) out.old.items out.new.items }
 {
     for char in chars {
         put_char(out, *char)?;
@@ -253,8 +213,7 @@ fn put_chars(out: &mut Vec<u8>, chars: &[u8]) -> Result<(), AllocError>
 
 // Appends a character, as itself or as a backslash and two hexadecimal digits.
 fn put_char(out: &mut Vec<u8>, char: u8) -> Result<(), AllocError>
-    ensures text { OnOk result (out.new.items ≡ out.old.items ++ char_text char) }
-    ensures front { OnErr result (AppendsFrontOf (char_text char) out.old.items out.new.items) }
+    ensures { Appends result (char_text char) out.old.items out.new.items }
 {
     if is_plain(char) {
         put(out, &[char])

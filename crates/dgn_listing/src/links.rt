@@ -1,9 +1,9 @@
 // What `links N` says: a line for each linkage of the element, and how many there are.
 
-ghost use Rattle.std.specs.Prelude.{◌≡◌, ◌+◌, ◌≤◌, ◌<◌, ◌^◌, ◌++◌, length, IfSome, OnOk, OnErr};
+ghost use Rattle.std.specs.Prelude.{◌≡◌, ◌+◌, ◌≤◌, ◌<◌, ◌^◌, length, IfSome};
 ghost use Rattle.dgn_linkage.specs.Linkages.{linkages_of};
 ghost use Rattle.dgn_drawing.specs.Faults.{IsSound};
-ghost use Rattle.dgn_listing.specs.Lines.{AppendsFrontOf};
+ghost use Rattle.dgn_listing.specs.Lines.{Appends};
 ghost use Rattle.dgn_listing.specs.LinkTexts.{form_text, link_text, linkages_text, data_start_in, links_text_in};
 
 use crate::pieces::{put, put_ending, put_fields};
@@ -20,8 +20,7 @@ use std::alloc::{AllocError, Global};
 /// `rest`. Where there is no memory, `out` has grown by a front of that text.
 pub fn write_links(alloc: Global, out: &mut Vec<u8>, b: &[u8]) -> Result<(), AllocError>
     requires { IsSound b.now }
-    ensures text { OnOk result (out.new.items ≡ out.old.items ++ links_text_in b.now) }
-    ensures front { OnErr result (AppendsFrontOf (links_text_in b.now) out.old.items out.new.items) }
+    ensures { Appends result (links_text_in b.now) out.old.items out.new.items }
 {
     match data_start(b) {
         Some(start) => put_links(out, start, b.split_at(start).1),
@@ -46,10 +45,7 @@ fn data_start(b: &[u8]) -> Option<usize>
 // there are.
 fn put_links(out: &mut Vec<u8>, start: usize, attributes: &[u8]) -> Result<(), AllocError>
     requires { start + length attributes.now < 2 ^ 63 }
-    ensures text { OnOk result
-        (out.new.items ≡ out.old.items ++ linkages_text start (linkages_of attributes.now)) }
-    ensures front { OnErr result
-        (AppendsFrontOf (linkages_text start (linkages_of attributes.now)) out.old.items out.new.items) }
+    ensures { Appends result (linkages_text start (linkages_of attributes.now)) out.old.items out.new.items }
 {
     let mut count = 0;
     'links: for link in links(attributes) {
@@ -62,8 +58,7 @@ fn put_links(out: &mut Vec<u8>, start: usize, attributes: &[u8]) -> Result<(), A
 // Appends the line of a linkage.
 fn put_link(out: &mut Vec<u8>, start: usize, link: Link) -> Result<(), AllocError>
     requires { start + link.at < 2 ^ 63 }
-    ensures text { OnOk result (out.new.items ≡ out.old.items ++ link_text start link) }
-    ensures front { OnErr result (AppendsFrontOf (link_text start link) out.old.items out.new.items) }
+    ensures { Appends result (link_text start link) out.old.items out.new.items }
 {
     put_fields(out, &[(start + link.at) as u64, link.len as u64])?;
     put_form(out, link.form)?;
@@ -72,8 +67,7 @@ fn put_link(out: &mut Vec<u8>, start: usize, link: Link) -> Result<(), AllocErro
 
 // Appends the word for what a linkage is.
 fn put_form(out: &mut Vec<u8>, form: Form) -> Result<(), AllocError>
-    ensures text { OnOk result (out.new.items ≡ out.old.items ++ form_text form) }
-    ensures front { OnErr result (AppendsFrontOf (form_text form) out.old.items out.new.items) }
+    ensures { Appends result (form_text form) out.old.items out.new.items }
 {
     match form {
         Form::Dmrs => put(out, b"dmrs"),

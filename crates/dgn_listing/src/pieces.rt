@@ -1,16 +1,15 @@
 //! The pieces of a line: numbers in plain decimals, with and without a blank behind them, and the last line of a listing.
 //! Where there is no memory for a piece, `out` has grown by a front of it.
 
-ghost use Rattle.std.specs.Prelude.{◌≡◌, ◌++◌, decimal, OnOk, OnErr};
-ghost use Rattle.dgn_listing.specs.Lines.{field_text, fields_text, ending_text, AppendsFrontOf};
+ghost use Rattle.std.specs.Prelude.{decimal};
+ghost use Rattle.dgn_listing.specs.Lines.{field_text, fields_text, ending_text, Appends};
 
 use itoa::Buffer;
 use std::alloc::AllocError;
 
 /// Appends a number in plain decimals.
 pub fn put_number(out: &mut Vec<u8>, n: u64) -> Result<(), AllocError>
-    ensures text { OnOk result (out.new.items ≡ out.old.items ++ decimal n) }
-    ensures front { OnErr result (AppendsFrontOf (decimal n) out.old.items out.new.items) }
+    ensures { Appends result (decimal n) out.old.items out.new.items }
 {
     let mut buffer = Buffer::new();
     out.extend_from_slice(buffer.format(n).as_bytes())
@@ -18,16 +17,14 @@ pub fn put_number(out: &mut Vec<u8>, n: u64) -> Result<(), AllocError>
 
 /// Appends a piece as it stands.
 pub fn put(out: &mut Vec<u8>, piece: &[u8]) -> Result<(), AllocError>
-    ensures text { OnOk result (out.new.items ≡ out.old.items ++ piece.now) }
-    ensures front { OnErr result (AppendsFrontOf piece.now out.old.items out.new.items) }
+    ensures { Appends result piece.now out.old.items out.new.items }
 {
     out.extend_from_slice(piece)
 }
 
 /// Appends a number and a blank.
 pub fn put_field(out: &mut Vec<u8>, n: u64) -> Result<(), AllocError>
-    ensures text { OnOk result (out.new.items ≡ out.old.items ++ field_text n) }
-    ensures front { OnErr result (AppendsFrontOf (field_text n) out.old.items out.new.items) }
+    ensures { Appends result (field_text n) out.old.items out.new.items }
 {
     put_number(out, n)?;
     put(out, b" ")
@@ -35,9 +32,7 @@ pub fn put_field(out: &mut Vec<u8>, n: u64) -> Result<(), AllocError>
 
 // Appends numbers, each with a blank behind it.
 pub(crate) fn put_fields(out: &mut Vec<u8>, numbers: &[u64]) -> Result<(), AllocError>
-    ensures text { OnOk result (out.new.items ≡ out.old.items ++ fields_text numbers.now) }
-    ensures front { OnErr result
-        (AppendsFrontOf (fields_text numbers.now) out.old.items out.new.items) }
+    ensures { Appends result (fields_text numbers.now) out.old.items out.new.items }
 {
     for n in numbers {
         put_field(out, *n)?;
@@ -47,9 +42,7 @@ pub(crate) fn put_fields(out: &mut Vec<u8>, numbers: &[u64]) -> Result<(), Alloc
 
 /// Appends the last line of a listing: a word, and the number of lines before it.
 pub fn put_ending(out: &mut Vec<u8>, word: &[u8], count: usize) -> Result<(), AllocError>
-    ensures text { OnOk result (out.new.items ≡ out.old.items ++ ending_text word.now count) }
-    ensures front { OnErr result
-        (AppendsFrontOf (ending_text word.now count) out.old.items out.new.items) }
+    ensures { Appends result (ending_text word.now count) out.old.items out.new.items }
 {
     put(out, word)?;
     put(out, b" ")?;

@@ -1,8 +1,8 @@
 // What `refs` says: a line for each element that may attach a reference file, and how many there are.
 
-ghost use Rattle.std.specs.Prelude.{◌≡◌, ◌++◌, length, OnOk, OnErr};
+ghost use Rattle.std.specs.Prelude.{◌≡◌, length};
 ghost use Rattle.elem_index.specs.Design.{elements, IsWhole};
-ghost use Rattle.dgn_listing.specs.Lines.{texts_from, AppendsFrontOf};
+ghost use Rattle.dgn_listing.specs.Lines.{texts_from, Appends};
 ghost use Rattle.dgn_listing.specs.RefTexts.{is_ref, place_text, ref_text, ref_line, ref_count, refs_text};
 
 use crate::listed::{Listed, listed_at};
@@ -18,9 +18,7 @@ use std::alloc::{AllocError, Global};
 /// the element's own bit. Where there is no memory, `out` has grown by a front of that text.
 pub fn write_refs(alloc: Global, out: &mut Vec<u8>, d: &Design) -> Result<(), AllocError>
     requires { IsWhole d.now }
-    ensures text { OnOk result (out.new.items ≡ out.old.items ++ refs_text (elements d.now)) }
-    ensures front { OnErr result
-        (AppendsFrontOf (refs_text (elements d.now)) out.old.items out.new.items) }
+    ensures { Appends result (refs_text (elements d.now)) out.old.items out.new.items }
 {
     put_refs(out, d)?;
     put_ending(out, b"refs", ref_count(d))
@@ -53,12 +51,7 @@ fn ref_count(d: &Design) -> usize
 // Appends the lines of all such elements.
 fn put_refs(out: &mut Vec<u8>, d: &Design) -> Result<(), AllocError>
     requires { IsWhole d.now }
-    ensures text { OnOk result
-        (out.new.items ≡ out.old.items
-        ++ texts_from (ref_line (elements d.now)) 0 (length (elements d.now))) }
-    ensures front { OnErr result
-        (AppendsFrontOf (texts_from (ref_line (elements d.now)) 0 (length (elements d.now)))
-        out.old.items out.new.items) }
+    ensures { Appends result (texts_from (ref_line (elements d.now)) 0 (length (elements d.now))) out.old.items out.new.items }
 {
     for n in 0..d.count() {
         put_ref_line(out, d, n)?;
@@ -69,9 +62,7 @@ fn put_refs(out: &mut Vec<u8>, d: &Design) -> Result<(), AllocError>
 // Appends the line of element `n`, where it is such a one.
 fn put_ref_line(out: &mut Vec<u8>, d: &Design, n: u32) -> Result<(), AllocError>
     requires { IsWhole d.now }
-    ensures text { OnOk result (out.new.items ≡ out.old.items ++ ref_line (elements d.now) n) }
-    ensures front { OnErr result
-        (AppendsFrontOf (ref_line (elements d.now) n) out.old.items out.new.items) }
+    ensures { Appends result (ref_line (elements d.now) n) out.old.items out.new.items }
 {
     match listed_at(d, n) {
         Some(listed) if is_ref(listed.kind, listed.level) => put_ref(out, &listed),
@@ -81,8 +72,7 @@ fn put_ref_line(out: &mut Vec<u8>, d: &Design, n: u32) -> Result<(), AllocError>
 
 // Appends what is said of such an element.
 fn put_ref(out: &mut Vec<u8>, listed: &Listed) -> Result<(), AllocError>
-    ensures text { OnOk result (out.new.items ≡ out.old.items ++ ref_text listed.now) }
-    ensures front { OnErr result (AppendsFrontOf (ref_text listed.now) out.old.items out.new.items) }
+    ensures { Appends result (ref_text listed.now) out.old.items out.new.items }
 {
     put_place(out, listed)?;
     put_number(out, listed.size as u64)?;
@@ -92,9 +82,7 @@ fn put_ref(out: &mut Vec<u8>, listed: &Listed) -> Result<(), AllocError>
 
 // Appends the number of an element, and the byte at which it begins.
 fn put_place(out: &mut Vec<u8>, listed: &Listed) -> Result<(), AllocError>
-    ensures text { OnOk result (out.new.items ≡ out.old.items ++ place_text listed.now) }
-    ensures front { OnErr result
-        (AppendsFrontOf (place_text listed.now) out.old.items out.new.items) }
+    ensures { Appends result (place_text listed.now) out.old.items out.new.items }
 {
     put_fields(out, &[u64::from(listed.number), listed.offset as u64])
 }

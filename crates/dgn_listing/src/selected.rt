@@ -1,7 +1,6 @@
 // What `select` says: the number of each tree that the fence chooses, and how many there are.
 
-ghost use Rattle.std.specs.Prelude.{◌≡◌, ◌++◌, OnOk, OnErr};
-ghost use Rattle.dgn_listing.specs.Lines.{AppendsFrontOf};
+ghost use Rattle.dgn_listing.specs.Lines.{Appends};
 ghost use Rattle.dgn_listing.specs.SelectedTexts.{number_line, number_lines, selected_text};
 
 use crate::pieces::{put, put_ending, put_number};
@@ -12,9 +11,7 @@ use std::alloc::{AllocError, Global};
 ///
 /// Where there is no memory, `out` has grown by a front of that text.
 pub fn write_selected(alloc: Global, out: &mut Vec<u8>, numbers: &[u32]) -> Result<(), AllocError>
-    ensures text { OnOk result (out.new.items ≡ out.old.items ++ selected_text numbers.now) }
-    ensures front { OnErr result
-        (AppendsFrontOf (selected_text numbers.now) out.old.items out.new.items) }
+    ensures { Appends result (selected_text numbers.now) out.old.items out.new.items }
 {
     put_number_lines(out, numbers)?;
     put_ending(out, b"selected", numbers.len())
@@ -22,9 +19,7 @@ pub fn write_selected(alloc: Global, out: &mut Vec<u8>, numbers: &[u32]) -> Resu
 
 // Appends numbers, each on a line.
 fn put_number_lines(out: &mut Vec<u8>, numbers: &[u32]) -> Result<(), AllocError>
-    ensures text { OnOk result (out.new.items ≡ out.old.items ++ number_lines numbers.now) }
-    ensures front { OnErr result
-        (AppendsFrontOf (number_lines numbers.now) out.old.items out.new.items) }
+    ensures { Appends result (number_lines numbers.now) out.old.items out.new.items }
 {
     for n in numbers {
         put_number_line(out, *n)?;
@@ -34,8 +29,7 @@ fn put_number_lines(out: &mut Vec<u8>, numbers: &[u32]) -> Result<(), AllocError
 
 // Appends a line with a number.
 fn put_number_line(out: &mut Vec<u8>, n: u32) -> Result<(), AllocError>
-    ensures text { OnOk result (out.new.items ≡ out.old.items ++ number_line n) }
-    ensures front { OnErr result (AppendsFrontOf (number_line n) out.old.items out.new.items) }
+    ensures { Appends result (number_line n) out.old.items out.new.items }
 {
     put_number(out, u64::from(n))?;
     put(out, b"\n")

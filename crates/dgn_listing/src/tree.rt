@@ -1,9 +1,9 @@
 // What `tree N` says: a line for each element from N to the last one below it, and how many there are.
 
-ghost use Rattle.std.specs.Prelude.{◌≡◌, ◌-◌, ◌<◌, ◌≤◌, ◌++◌, length, map, OnOk, OnErr};
+ghost use Rattle.std.specs.Prelude.{◌≡◌, ◌-◌, ◌<◌, ◌≤◌, length, map};
 ghost use Rattle.dgn_drawing.specs.Rows.{row_of};
 ghost use Rattle.elem_index.specs.Design.{elements, IsWhole};
-ghost use Rattle.dgn_listing.specs.Lines.{texts_from, AppendsFrontOf};
+ghost use Rattle.dgn_listing.specs.Lines.{texts_from, Appends};
 ghost use Rattle.dgn_listing.specs.TreeTexts.{knot_text, state_text, orphan_text, numbers_text, line_text, element_text, tree_text};
 
 use crate::pieces::{put, put_ending, put_fields};
@@ -29,9 +29,7 @@ pub fn write_tree(
     requires whole { IsWhole d.now }
     requires nesting { t.now.rows ≡ map row_of (elements d.now) }
     requires known { n < length (elements d.now) }
-    ensures text { OnOk result (out.new.items ≡ out.old.items ++ tree_text (elements d.now) n) }
-    ensures front { OnErr result
-        (AppendsFrontOf (tree_text (elements d.now) n) out.old.items out.new.items) }
+    ensures { Appends result (tree_text (elements d.now) n) out.old.items out.new.items }
 {
     let Some((first, end)) = t.span(n) else {
         unreachable!()
@@ -51,12 +49,7 @@ fn put_elements(
     requires whole { IsWhole d.now }
     requires nesting { t.now.rows ≡ map row_of (elements d.now) }
     requires ordered { first ≤ end }
-    ensures text { OnOk result
-        (out.new.items ≡ out.old.items
-        ++ texts_from (element_text (elements d.now)) first (end - first)) }
-    ensures front { OnErr result
-        (AppendsFrontOf (texts_from (element_text (elements d.now)) first (end - first))
-        out.old.items out.new.items) }
+    ensures { Appends result (texts_from (element_text (elements d.now)) first (end - first)) out.old.items out.new.items }
 {
     for n in first..end {
         put_element(out, d, t, n)?;
@@ -68,9 +61,7 @@ fn put_elements(
 fn put_element(out: &mut Vec<u8>, d: &Design, t: &Nest, n: u32) -> Result<(), AllocError>
     requires whole { IsWhole d.now }
     requires nesting { t.now.rows ≡ map row_of (elements d.now) }
-    ensures text { OnOk result (out.new.items ≡ out.old.items ++ element_text (elements d.now) n) }
-    ensures front { OnErr result
-        (AppendsFrontOf (element_text (elements d.now) n) out.old.items out.new.items) }
+    ensures { Appends result (element_text (elements d.now) n) out.old.items out.new.items }
 {
     match tree_line(d, t, n) {
         Some(line) => put_line(out, &line),
@@ -80,8 +71,7 @@ fn put_element(out: &mut Vec<u8>, d: &Design, t: &Nest, n: u32) -> Result<(), Al
 
 // Appends a line.
 fn put_line(out: &mut Vec<u8>, line: &TreeLine) -> Result<(), AllocError>
-    ensures text { OnOk result (out.new.items ≡ out.old.items ++ line_text line.now) }
-    ensures front { OnErr result (AppendsFrontOf (line_text line.now) out.old.items out.new.items) }
+    ensures { Appends result (line_text line.now) out.old.items out.new.items }
 {
     put_numbers(out, line)?;
     put_knot(out, line.knot)?;
@@ -92,9 +82,7 @@ fn put_line(out: &mut Vec<u8>, line: &TreeLine) -> Result<(), AllocError>
 
 // Appends the numbers of a line.
 fn put_numbers(out: &mut Vec<u8>, line: &TreeLine) -> Result<(), AllocError>
-    ensures text { OnOk result (out.new.items ≡ out.old.items ++ numbers_text line.now) }
-    ensures front { OnErr result
-        (AppendsFrontOf (numbers_text line.now) out.old.items out.new.items) }
+    ensures { Appends result (numbers_text line.now) out.old.items out.new.items }
 {
     put_fields(
         out,
@@ -109,8 +97,7 @@ fn put_numbers(out: &mut Vec<u8>, line: &TreeLine) -> Result<(), AllocError>
 
 // Appends the word for what an element is in its tree.
 fn put_knot(out: &mut Vec<u8>, knot: Knot) -> Result<(), AllocError>
-    ensures text { OnOk result (out.new.items ≡ out.old.items ++ knot_text knot) }
-    ensures front { OnErr result (AppendsFrontOf (knot_text knot) out.old.items out.new.items) }
+    ensures { Appends result (knot_text knot) out.old.items out.new.items }
 {
     match knot {
         Knot::Leaf => put(out, b"leaf"),
@@ -122,8 +109,7 @@ fn put_knot(out: &mut Vec<u8>, knot: Knot) -> Result<(), AllocError>
 
 // Appends a blank, and whether the element itself is marked deleted.
 pub(crate) fn put_state(out: &mut Vec<u8>, deleted: bool) -> Result<(), AllocError>
-    ensures text { OnOk result (out.new.items ≡ out.old.items ++ state_text deleted) }
-    ensures front { OnErr result (AppendsFrontOf (state_text deleted) out.old.items out.new.items) }
+    ensures { Appends result (state_text deleted) out.old.items out.new.items }
 {
     if deleted {
         put(out, b" deleted")
@@ -134,8 +120,7 @@ pub(crate) fn put_state(out: &mut Vec<u8>, deleted: bool) -> Result<(), AllocErr
 
 // Appends a blank and the word for an orphan, where the element is one.
 fn put_orphan(out: &mut Vec<u8>, orphan: bool) -> Result<(), AllocError>
-    ensures text { OnOk result (out.new.items ≡ out.old.items ++ orphan_text orphan) }
-    ensures front { OnErr result (AppendsFrontOf (orphan_text orphan) out.old.items out.new.items) }
+    ensures { Appends result (orphan_text orphan) out.old.items out.new.items }
 {
     if orphan { put(out, b" orphan") } else { Ok(()) }
 }

@@ -14,7 +14,7 @@ use Rattle.dgn_desk.proofs.Telling.{spoken-append}
 use Rattle.dgn_session.specs.State.{State}
 use Rattle.dgn_import.specs.Seconds.{SecondValue}
 use Rattle.dgn_drawing.specs.declared.command.Command.{Command}
-use Rattle.dgn_answers.specs.Given.{Given, given, given_all, seconds_behind, step_text, step_refused, after_step, after_all, texts_of, refused_count}
+use Rattle.dgn_answers.specs.Given.{Given, given, given_all, seconds_behind, after_all, texts_of, refused_count, step_answer}
 use Rattle.dgn_answers.proofs.Stepping.{next_step}
 use Rattle.dgn_tool.specs.Leaving.{SaysFront, SaysAs}
 
@@ -54,26 +54,26 @@ ran_none all s old = record {
 -- of the commands that are left one is the next, and its line is what it says
 pub record IsNext (all more : List Given) (c : Given) (refused : ℕ) (line : List ℕ) (from s : State) (old now : Seen) : Type 0 where
   pub ran : Ran all (c ∷ more) refused from s old now
-  pub line_is : line ≡ step_text s c
+  pub line_is : line ≡ (step_answer s c).text
 
 pub is_next : (all : List Given) (cs : List Command) (i : ℕ) (c : Command) (vs left : List SecondValue) (refused : ℕ) (from s : State) (old now : Seen)
     → i < length cs → c ≡ get_or cs i c → left ≡ seconds_behind c vs → Ran all (given_all (drop i cs) vs) refused from s old now
-    → (line out before : List ℕ) → line ≡ out → out ≡ before ++ step_text s (given c vs) → before ≡ []
+    → (line out before : List ℕ) → line ≡ out → out ≡ before ++ (step_answer s (given c vs)).text → before ≡ []
     → IsNext all (given_all (drop (i + 1) cs) left) (given c vs) refused line from s old now
 is_next all cs i c vs left refused from s old now more is behind ran line out before same put none = record {
   ran = subst (λ (rest : List Given). Ran all rest refused from s old now) (next_step cs i c vs left more is behind) ran;
-  line_is = same ∙ put ∙ ap (λ (b : List ℕ). b ++ step_text s (given c vs)) none;
+  line_is = same ∙ put ∙ ap (λ (b : List ℕ). b ++ (step_answer s (given c vs)).text) none;
 }
 
 -- one more command
 pub ran_more : (all left : List Given) (c : Given) (refused : ℕ) (was : Bool) (line : List ℕ) (from s new : State) (old now then : Seen)
     → IsNext all left c refused line from s old now
-    → new ≡ after_step s c → Writes {T = Unit {0}} (Ok tt) (SaysAll (Ok tt) line) now then → was ≡ step_refused s c
+    → new ≡ (step_answer s c).state → Writes {T = Unit {0}} (Ok tt) (SaysAll (Ok tt) line) now then → was ≡ (step_answer s c).refused
     → Ran all left (refused + from_bool was) from new old then
 ran_more all left c refused was line from s new old now then next new_is says was_is =
     let ran = next.ran in
     let line_is = next.line_is in
-    let text : List ℕ = step_text s c in
+    let text : List ℕ = (step_answer s c).text in
     record {
       done = ran.done ++ text;
       texts = ran.texts
@@ -83,8 +83,8 @@ ran_more all left c refused was line from s new old now then next new_is says wa
           (λ before more. more ∙ ap (λ (l : List ℕ). option_map (spoken l) now.content) line_is ∙ ap (option_map (spoken text)) before
           ∙ spoken-append ran.done text old.content);
       count = ran.count
-          ∙ ap (λ (t : State). refused + (from_bool (step_refused s c) + refused_count left t)) (sym new_is)
-          ∙ sum_moved refused (from_bool (step_refused s c)) (refused_count left new)
+          ∙ ap (λ (t : State). refused + (from_bool (step_answer s c).refused + refused_count left t)) (sym new_is)
+          ∙ sum_moved refused (from_bool (step_answer s c).refused) (refused_count left new)
           ∙ ap (λ (b : Bool). (refused + from_bool b) + refused_count left new) (sym was_is);
       state = ran.state ∙ ap (after_all left) (sym new_is);
     }
@@ -127,7 +127,7 @@ ran_part all left c refused stop line from s old now then next says =
     let line_is = next.line_is in
     let both : Writes {T = Unit {0}} (Err stop) (λ a b. SaysFront (texts_of all from) a b) old then =
     then_so tt (Err stop) ran.said says (λ before part.
-    let more : List ℕ = texts_of left (after_step s c) in (
+    let more : List ℕ = texts_of left (step_answer s c).state in (
       ran.done ++ take part.0 line,
       (
         drop part.0 line ++ more,

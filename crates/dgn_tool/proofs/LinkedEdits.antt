@@ -32,11 +32,11 @@ use Rattle.dgn_audit.proofs.FitKeepsRows.{fitted_opens, fits_change}
 use Rattle.dgn_session.specs.Fits.{fit_applied}
 use Rattle.dgn_drawing.specs.declared.command.Command.{Command}
 use Rattle.dgn_drawing.specs.declared.command.Command.TheVariants as command
-use Rattle.dgn_answers.specs.Commands.{fence_refused, after_command}
+use Rattle.dgn_answers.specs.Texts.{fence_refused}
 use Rattle.dgn_answers.specs.Imports.{Importing, Appends, Declines, importing_of, import_left}
-use Rattle.dgn_answers.specs.Given.{Given, Plain, Import, after_step, after_all}
 use Rattle.dgn_answers.specs.Remaining.{Made, Alone, Fenced, Fitted, Imported, fields_made, with_made, with_all_made, without_newest, with_import}
-use Rattle.dgn_answers.specs.Remaining.{with_command, with_step, with_steps}
+use Rattle.dgn_answers.specs.Commands.{answer_of}
+use Rattle.dgn_answers.specs.Given.{Given, Plain, Import, after_all, step_answer, with_steps}
 use Rattle.dgn_tool.specs.Laws.{IsOutside, IsEditIn}
 use Rattle.dgn_tool.proofs.OpenSeconds.{IsStep, import_behind, appended}
 use Rattle.dgn_tool.proofs.StackedEdits.{IsStacked, step_stacks}
@@ -176,7 +176,7 @@ module _ (dim rest : ℕ) (t : List ℕ) (base : List Element) where
 
 -- a command leaves such edits
 command_links : (t : List ℕ) (base : List Element) (s : State) (left : List Made) (c : Command) → IsEditIn c → IsStacked base s left
-    → AreLinked s.dim s.rest t base left → AreLinked s.dim s.rest t base (with_command s c left)
+    → AreLinked s.dim s.rest t base left → AreLinked s.dim s.rest t base ((answer_of s c).left left)
 command_links t base s left (command.Import name by) fits stacked linked = linked
 command_links t base s left (command.Edit e) fits stacked linked =
     edit_links s.dim s.rest t base s.top left e (applied e s) fits refl (stack_top base s left stacked) linked
@@ -206,7 +206,7 @@ import_leaves t base s left v by (Appends b count) is fits stacked linked =
 import_leaves t base s left v by (Declines line) is fits stacked linked = linked
 
 step_links : (t : List ℕ) (base : List Element) (s : State) (left : List Made) (g : Given) → IsStep g → IsStacked base s left
-    → AreLinked s.dim s.rest t base left → AreLinked s.dim s.rest t base (with_step s g left)
+    → AreLinked s.dim s.rest t base left → AreLinked s.dim s.rest t base ((step_answer s g).left left)
 step_links t base s left (Plain c) fits stacked linked = command_links t base s left c fits stacked linked
 step_links t base s left (Import v by) fits stacked linked = import_leaves t base s left v by (importing_of s v by) refl fits stacked linked
 
@@ -225,7 +225,7 @@ module _ {X : Type 0} (part : State → X) (stack : (top : List Element) (earlie
   dropped_keeps [] s = refl
   dropped_keeps (es ∷ earlier) s = stack es earlier s
 
-  command_keeps : (s : State) (c : Command) → part (after_command s c) ≡ part s
+  command_keeps : (s : State) (c : Command) → part (answer_of s c).state ≡ part s
   command_keeps s (command.Import name by) = refl
   command_keeps s (command.Edit e) = pushed_keeps (applied e s) s
   command_keeps s (command.Fenced mode e) = pushed_if_keeps (fence_applied mode e s) s
@@ -247,19 +247,19 @@ module _ {X : Type 0} (part : State → X) (stack : (top : List Element) (earlie
   import_keeps (Appends b count) s = stack (s.top ++ elements_of s.dim b) (s.top ∷ s.earlier) s
   import_keeps (Declines line) s = refl
 
-  step_keeps : (s : State) (g : Given) → part (after_step s g) ≡ part s
+  step_keeps : (s : State) (g : Given) → part (step_answer s g).state ≡ part s
   step_keeps s (Plain c) = command_keeps s c
   step_keeps s (Import v by) = import_keeps (importing_of s v by) s
 
   steps_keep : (gs : List Given) (s : State) → part (after_all gs s) ≡ part s
   steps_keep [] s = refl
-  steps_keep (g ∷ gs) s = steps_keep gs (after_step s g) ∙ step_keeps s g
+  steps_keep (g ∷ gs) s = steps_keep gs (step_answer s g).state ∙ step_keeps s g
 
 -- the dimension, and the length of the tail
-step_dim : (s : State) (g : Given) → (after_step s g).dim ≡ s.dim
+step_dim : (s : State) (g : Given) → (step_answer s g).state.dim ≡ s.dim
 step_dim s g = step_keeps (λ (x : State). x.dim) (λ _ _ _. refl) (λ _ _. refl) (λ _ _. refl) s g
 
-step_rest : (s : State) (g : Given) → (after_step s g).rest ≡ s.rest
+step_rest : (s : State) (g : Given) → (step_answer s g).state.rest ≡ s.rest
 step_rest s g = step_keeps (λ (x : State). x.rest) (λ _ _ _. refl) (λ _ _. refl) (λ _ _. refl) s g
 
 pub steps_dim : (gs : List Given) (s : State) → (after_all gs s).dim ≡ s.dim
@@ -270,8 +270,8 @@ pub steps_link : (t : List ℕ) (base : List Element) (gs : List Given) (s : Sta
     → AreLinked s.dim s.rest t base left → AreLinked s.dim s.rest t base (with_steps gs s left)
 steps_link t base [] s left fits stacked linked = linked
 steps_link t base (g ∷ gs) s left fits stacked linked =
-    let next : State = after_step s g in
-    let more : List Made = with_step s g left in
+    let next : State = (step_answer s g).state in
+    let more : List Made = (step_answer s g).left left in
     let one = step_links t base s left g (All-head IsStep g gs fits) stacked linked in
     let here = subst (λ (n : ℕ). AreLinked n next.rest t base more) (sym (step_dim s g))
     (subst (λ (n : ℕ). AreLinked s.dim n t base more) (sym (step_rest s g)) one) in

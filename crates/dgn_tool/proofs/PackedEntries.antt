@@ -18,13 +18,13 @@ use Rattle.dgn_session.specs.State.{State, SessionValue, state_of, earlier_of}
 use Rattle.dgn_session.specs.Kept.{AreKept}
 use Rattle.dgn_session.specs.Laws.{IsSound}
 use Rattle.dgn_session.proofs.Steps.{bodies_first}
-use Rattle.dgn_answers.specs.Given.{Given, after_all, refused_count}
+use Rattle.dgn_answers.specs.Remaining.{Made}
+use Rattle.dgn_answers.specs.Given.{Given, after_all, refused_count, with_steps}
 use Rattle.dgn_tool.specs.Ended.{ended, filed_then_said}
 use Rattle.dgn_tool.specs.Ended.{status_with}
 use Rattle.dgn_listing.specs.NumberedLines.{numbered}
 use Rattle.dgn_tool.specs.declared.status.Status.{Status}
 use Rattle.dgn_tool.specs.declared.status.Status.TheVariants as statuses
-use Rattle.dgn_answers.specs.Remaining.{Made, with_steps}
 use Rattle.dgn_tool.specs.Packing.{packed_made, packed_after, filed_patch, packed_from}
 use Rattle.dgn_answers.specs.Logs.{entry_made, IsLogOf, AllLogAs}
 use Rattle.dgn_tool.proofs.StackedEdits.{lists_made, IsStacked, steps_stack}

@@ -11,11 +11,11 @@ use Rattle.dgn_session.specs.Fits.{fit_applied}
 use Rattle.dgn_session.specs.State.{State, applied, pushed, pushed_if, selection, dropped, is_none, with_fence}
 use Rattle.dgn_drawing.specs.declared.command.Command.{Command}
 use Rattle.dgn_drawing.specs.declared.command.Command.TheVariants as command
-use Rattle.dgn_answers.specs.Commands.{fence_refused, after_command}
+use Rattle.dgn_answers.specs.Texts.{fence_refused}
 use Rattle.dgn_answers.specs.Imports.{Importing, Appends, Declines, importing_of, import_left}
-use Rattle.dgn_answers.specs.Given.{Given, Plain, Import, after_step, after_all}
-use Rattle.dgn_answers.specs.Remaining.{Made, Making, Alone, Fenced, Fitted, with_made, with_all_made, without_newest, with_import, with_command, with_step}
-use Rattle.dgn_answers.specs.Remaining.{with_steps}
+use Rattle.dgn_answers.specs.Remaining.{Made, Making, Alone, Fenced, Fitted, with_made, with_all_made, without_newest, with_import}
+use Rattle.dgn_answers.specs.Commands.{answer_of}
+use Rattle.dgn_answers.specs.Given.{Given, Plain, Import, after_all, step_answer, with_steps}
 
 -- what the edits have made
 abbrev pub lists_made : List Made → List (List Element)
@@ -43,7 +43,7 @@ undo_step base s (es ∷ earlier) (m ∷ left) stacked is = let x = stacked in c
 
 -- a command leaves such a stack
 command_stacks : (base : List Element) (s : State) (left : List Made) (c : Command) → IsStacked base s left
-    → IsStacked base (after_command s c) (with_command s c left)
+    → IsStacked base (answer_of s c).state ((answer_of s c).left left)
 command_stacks base s left (command.Import name by) stacked = stacked
 command_stacks base s left (command.Edit e) stacked = done_step base s left (Alone e) (applied e s) stacked
 command_stacks base s left (command.Fenced mode e) stacked = fence_step base s left e (apply_all s.dim s.top s.rest e) (selection mode s) stacked
@@ -69,7 +69,7 @@ import_step base s left (Declines line) stacked = stacked
 
 -- so does a step
 pub step_stacks : (base : List Element) (s : State) (left : List Made) (g : Given) → IsStacked base s left
-    → IsStacked base (after_step s g) (with_step s g left)
+    → IsStacked base (step_answer s g).state ((step_answer s g).left left)
 step_stacks base s left (Plain c) stacked = command_stacks base s left c stacked
 step_stacks base s left (Import v by) stacked = import_step base s left (importing_of s v by) stacked
 
@@ -77,4 +77,4 @@ step_stacks base s left (Import v by) stacked = import_step base s left (importi
 pub steps_stack : (base : List Element) (gs : List Given) (s : State) (left : List Made) → IsStacked base s left
     → IsStacked base (after_all gs s) (with_steps gs s left)
 steps_stack base [] s left stacked = stacked
-steps_stack base (g ∷ gs) s left stacked = steps_stack base gs (after_step s g) (with_step s g left) (step_stacks base s left g stacked)
+steps_stack base (g ∷ gs) s left stacked = steps_stack base gs (step_answer s g).state ((step_answer s g).left left) (step_stacks base s left g stacked)

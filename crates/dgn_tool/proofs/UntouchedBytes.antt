@@ -8,10 +8,10 @@ use Rattle.dgn_drawing.specs.Element.{Element}
 use Rattle.dgn_drawing.specs.Spelling.{spelling}
 use Rattle.dgn_drawing.specs.Opening.{Opens}
 use Rattle.dgn_session.specs.State.{State}
+use Rattle.dgn_answers.specs.Remaining.{Made}
 use Rattle.dgn_answers.specs.Commands.{begun}
-use Rattle.dgn_answers.specs.Given.{Given, after_all}
+use Rattle.dgn_answers.specs.Given.{Given, after_all, with_steps}
 use Rattle.dgn_tool.specs.Filling.{filling}
-use Rattle.dgn_answers.specs.Remaining.{Made, with_steps}
 use Rattle.dgn_tool.specs.Laws.{steps_of, behind_after, IsOutside, IsEditedFile, UntouchedBytesStay}
 use Rattle.dgn_tool.proofs.FilledTails.{filled_opens, none_fills}
 use Rattle.dgn_tool.proofs.StackedEdits.{IsStacked, steps_stack}

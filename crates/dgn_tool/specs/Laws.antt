@@ -13,11 +13,11 @@ use Rattle.edit_ops.specs.Fenced.{IsFenceEdit}
 use Rattle.dgn_drawing.specs.declared.command.Command.{Command}
 use Rattle.dgn_drawing.specs.declared.command.Command.TheVariants as command
 use Rattle.elem_index.specs.Opened.{Opened}
+use Rattle.dgn_answers.specs.Remaining.{Made, fields_made}
 use Rattle.dgn_answers.specs.Commands.{begun}
-use Rattle.dgn_answers.specs.Given.{Given, given_all, after_all}
+use Rattle.dgn_answers.specs.Given.{Given, given_all, after_all, remaining}
 use Rattle.dgn_tool.specs.Filling.{filling}
 use Rattle.dgn_tool.specs.FileAfter.{file_after}
-use Rattle.dgn_answers.specs.Remaining.{Made, remaining, fields_made}
 
 -- the place is in no field that it writes
 abbrev pub IsOutside : ℕ → ℕ → Made → Type 0

@@ -7,13 +7,13 @@ use Rattle.patch_file.specs.Spelling.{Packed, patch_spelling}
 use Rattle.patch_file.specs.Standing.{taken_of}
 use Rattle.elem_index.specs.Opened.{Opened}
 use Rattle.dgn_session.specs.State.{State, SessionValue}
+use Rattle.dgn_answers.specs.Remaining.{Made}
 use Rattle.dgn_answers.specs.Commands.{begun}
-use Rattle.dgn_answers.specs.Given.{Given, refused_count}
+use Rattle.dgn_answers.specs.Given.{Given, refused_count, remaining}
 use Rattle.dgn_answers.specs.Logs.{entry_made}
 use Rattle.dgn_tool.specs.Ended.{Outcome, ended, filed_then_said}
 use Rattle.dgn_tool.specs.Ended.{status_with}
 use Rattle.dgn_listing.specs.NumberedLines.{numbered}
-use Rattle.dgn_answers.specs.Remaining.{Made, remaining}
 use Rattle.dgn_tool.specs.declared.status.Status.TheVariants as statuses
 use Rattle.patch_file.specs.declared.limits.TheConstants.{MOST_PATCH}
 

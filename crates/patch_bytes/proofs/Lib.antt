@@ -1,4 +1,5 @@
 pub mod Fronts
+pub mod Loops
 pub mod PutsLaid
 pub mod PatchEquality
 pub mod RisingPuts

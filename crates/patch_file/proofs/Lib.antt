@@ -1,7 +1,7 @@
 pub mod SpellingsRead
 pub mod ReadAnswers
 pub mod ReadSteps
-pub mod Fronts
+pub mod WrittenPieces
 pub mod EachItem
 pub mod BytesLeft
 pub mod Lengths

@@ -1,37 +1,32 @@
 // Writing a patch file. Each writer appends to `out` exactly its text; where there is no memory, `out` has grown by a
 // front of that.
 
-ghost use Rattle.std.specs.Prelude.{◌≡◌, ◌<◌, ◌≤◌, ◌^◌, ◌++◌, length, map, OnOk, OnErr};
+ghost use Rattle.std.specs.Prelude.{◌<◌, ◌≤◌, ◌^◌, length, map};
 ghost use Rattle.std.specs.List.{All, flat_map};
 ghost use Rattle.patch_file.specs.FieldView.{exchange_of};
 ghost use Rattle.patch_file.specs.Spelling.{number, field_spelling, head_spelling, entry_spelling, patch_spelling};
 ghost use Rattle.patch_file.specs.PatchView.{packed_of, all_packed};
-ghost use Rattle.patch_bytes.specs.Fronts.{AppendsFrontOf};
+ghost use Rattle.patch_bytes.specs.Fronts.{Appends};
 
 use crate::pieces::MARK;
 use crate::{Field, MOST_PATCH, PatchEntry, patch_len};
 use std::alloc::{AllocError, Global};
 
 fn put_bytes(out: &mut Vec<u8>, bytes: &[u8]) -> Result<(), AllocError>
-    ensures text { OnOk result (out.new.items ≡ out.old.items ++ bytes.now) }
-    ensures front { OnErr result (AppendsFrontOf bytes.now out.old.items out.new.items) }
+    ensures { Appends result bytes.now out.old.items out.new.items }
 {
     out.extend_from_slice(bytes)
 }
 
 #[tactic(auto, unfolding(crate::specs::Spelling::number))]
 fn put_number(out: &mut Vec<u8>, n: u32) -> Result<(), AllocError>
-    ensures text { OnOk result (out.new.items ≡ out.old.items ++ number n) }
-    ensures front { OnErr result (AppendsFrontOf (number n) out.old.items out.new.items) }
+    ensures { Appends result (number n) out.old.items out.new.items }
 {
     put_bytes(out, &n.to_le_bytes())
 }
 
 fn put_field(out: &mut Vec<u8>, field: &Field) -> Result<(), AllocError>
-    ensures text { OnOk result
-        (out.new.items ≡ out.old.items ++ field_spelling (exchange_of field.now)) }
-    ensures front { OnErr result
-        (AppendsFrontOf (field_spelling (exchange_of field.now)) out.old.items out.new.items) }
+    ensures { Appends result (field_spelling (exchange_of field.now)) out.old.items out.new.items }
 {
     let len = usize::from(field.len);
     put_number(out, field.at)?;
@@ -41,11 +36,7 @@ fn put_field(out: &mut Vec<u8>, field: &Field) -> Result<(), AllocError>
 }
 
 fn put_fields(out: &mut Vec<u8>, fields: &[Field]) -> Result<(), AllocError>
-    ensures text { OnOk result
-        (out.new.items ≡ out.old.items ++ flat_map field_spelling (map exchange_of fields.now)) }
-    ensures front { OnErr result
-        (AppendsFrontOf (flat_map field_spelling (map exchange_of fields.now))
-        out.old.items out.new.items) }
+    ensures { Appends result (flat_map field_spelling (map exchange_of fields.now)) out.old.items out.new.items }
 {
     for field in fields {
         put_field(out, field)?;
@@ -54,9 +45,7 @@ fn put_fields(out: &mut Vec<u8>, fields: &[Field]) -> Result<(), AllocError>
 }
 
 fn put_head(out: &mut Vec<u8>, len: u32, fields: u32, append: u32) -> Result<(), AllocError>
-    ensures text { OnOk result (out.new.items ≡ out.old.items ++ head_spelling len fields append) }
-    ensures front { OnErr result
-        (AppendsFrontOf (head_spelling len fields append) out.old.items out.new.items) }
+    ensures { Appends result (head_spelling len fields append) out.old.items out.new.items }
 {
     put_number(out, len)?;
     put_number(out, fields)?;
@@ -65,10 +54,7 @@ fn put_head(out: &mut Vec<u8>, len: u32, fields: u32, append: u32) -> Result<(),
 
 fn put_entry(out: &mut Vec<u8>, e: &PatchEntry) -> Result<(), AllocError>
     requires { length e.now.append < 2 ^ 32 }
-    ensures text { OnOk result
-        (out.new.items ≡ out.old.items ++ entry_spelling (packed_of e.now)) }
-    ensures front { OnErr result
-        (AppendsFrontOf (entry_spelling (packed_of e.now)) out.old.items out.new.items) }
+    ensures { Appends result (entry_spelling (packed_of e.now)) out.old.items out.new.items }
 {
     let len = e.len;
     put_head(out, len, e.fields.len() as u32, e.append.len() as u32)?;
@@ -78,11 +64,7 @@ fn put_entry(out: &mut Vec<u8>, e: &PatchEntry) -> Result<(), AllocError>
 
 fn put_entries(out: &mut Vec<u8>, entries: &[PatchEntry]) -> Result<(), AllocError>
     requires { All (λ e. length e.append < 2 ^ 32) entries.now }
-    ensures text { OnOk result
-        (out.new.items ≡ out.old.items ++ flat_map entry_spelling (all_packed entries.now)) }
-    ensures front { OnErr result
-        (AppendsFrontOf (flat_map entry_spelling (all_packed entries.now))
-        out.old.items out.new.items) }
+    ensures { Appends result (flat_map entry_spelling (all_packed entries.now)) out.old.items out.new.items }
 {
     for entry in entries {
         put_entry(out, entry)?;
@@ -99,10 +81,7 @@ pub fn write_patch(
     entries: &[PatchEntry],
 ) -> Result<(), AllocError>
     requires { length (patch_spelling (all_packed entries.now)) ≤ MOST_PATCH }
-    ensures text { OnOk result
-        (out.new.items ≡ out.old.items ++ patch_spelling (all_packed entries.now)) }
-    ensures front { OnErr result
-        (AppendsFrontOf (patch_spelling (all_packed entries.now)) out.old.items out.new.items) }
+    ensures { Appends result (patch_spelling (all_packed entries.now)) out.old.items out.new.items }
 {
     let _ = alloc;
     out.reserve_exact(patch_len(entries) as usize)?;

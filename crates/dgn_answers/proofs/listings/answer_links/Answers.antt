@@ -1,19 +1,22 @@
-use Rattle.std.proofs.Common.{◌++◌, List, ℕ, ap, ◌∙◌, subst}
-use Rattle.dgn_listing.specs.Lines.{AppendsFrontOf}
+use Rattle.std.proofs.Common.{rules, ◌≡◌}
+use Rattle.elem_index.specs.Design.{elements}
 use Rattle.elem_index.proofs.Places.{sound_here}
-use Rattle.dgn_answers.proofs.Links.{links_answered, errs}
+use Rattle.dgn_listing.specs.LinkTexts.{links_text_in}
+use Rattle.dgn_answers.specs.Texts.{links_said}
+use Rattle.dgn_answers.proofs.Links.{links_answered}
 use Rattle.dgn_answers.proofs.listings.answer_links.Goals as goal
 
 pub write_links-requires : goal.write_links-requires
-write_links-requires c = sound_here c.args.design.now c.requires c.args.n c.in-Some.bytes.now c.in-Some.ensures.bytes
+write_links-requires c = sound_here c.design.result.now c.design.ensures.whole c.args.n c.in-Some.bytes.now c.in-Some.ensures.bytes
 
-pub returns-in_err-write_links-in-Some-clause-front : goal.returns-in_err-write_links-in-Some-clause-front
-returns-in_err-write_links-in-Some-clause-front c =
-    errs c.from_residual.result
-    (subst (λ (t : List ℕ). AppendsFrontOf t c.args.out.now.items c.write_links.new.out.items)
-    (links_answered c.args.design.now c.requires c.args.n c.in-Some.bytes.now c.in-Some.ensures.bytes) c.in_err-write_links-in-Some.ensures.front)
+pub returns-in_err-write_links-in-Some : goal.returns-in_err-write_links-in-Some
+returns-in_err-write_links-in-Some c =
+    let said : links_text_in c.in-Some.bytes.now ≡ links_said (elements c.design.result.now) c.args.n =
+    links_answered c.design.result.now c.design.ensures.whole c.args.n c.in-Some.bytes.now c.in-Some.ensures.bytes in
+    search rules
 
-pub returns-in_ok-write_links-in-Some-clause-text : goal.returns-in_ok-write_links-in-Some-clause-text
-returns-in_ok-write_links-in-Some-clause-text c =
-    c.in_ok-write_links-in-Some.ensures.text
-    ∙ ap (λ (t : List ℕ). c.args.out.now.items ++ t) (links_answered c.args.design.now c.requires c.args.n c.in-Some.bytes.now c.in-Some.ensures.bytes)
+pub returns-in_ok-write_links-in-Some : goal.returns-in_ok-write_links-in-Some
+returns-in_ok-write_links-in-Some c =
+    let said : links_text_in c.in-Some.bytes.now ≡ links_said (elements c.design.result.now) c.args.n =
+    links_answered c.design.result.now c.design.ensures.whole c.args.n c.in-Some.bytes.now c.in-Some.ensures.bytes in
+    search rules

@@ -25,7 +25,7 @@ commands-preserved c =
     let done = subst (λ (left : List Given). Tallied all left c.commands.refused c.commands.trees.items (state_of c.args.session.now)
     (state_of c.commands.session)) next c.commands.invariant.done in
     let logged = subst (λ (left : List Given). LogsSo all left c.args.session.now c.commands.session) next c.commands.invariant.logged in
-    let did = c.in_ok-answered.ensures in
+    let did = c.in_ok-answered.ensures.answered in
     let tallied = tallied_more all more step c.commands.refused c.in_ok-answered.answered.refused c.commands.trees.items c.in_ok-answered.answered.trees
     (state_of c.args.session.now) (state_of c.commands.session) (state_of c.take_step.new.s) done did.state did.refused did.trees in
     record {
@@ -34,7 +34,7 @@ commands-preserved c =
           (subst (λ (ns : List ℕ). Tallied all more (c.commands.refused + from_bool c.in_ok-answered.answered.refused) ns (state_of c.args.session.now)
           (state_of c.take_step.new.s)) (sym c.in_ok-push.ensures.items) tallied);
       logged = logs_more all more step c.args.session.now c.commands.session c.take_step.new.s logged did.logged did.state;
-      tail = c.take_step.ensures.tail ∙ c.commands.invariant.tail;
+      tail = c.take_step.ensures.answered.tail ∙ c.commands.invariant.tail;
       sound = c.take_step.ensures.sound;
       most = subst (λ (n : ℕ). c.commands.refused + n ≤ c.commands.command-index + 1) (sym c.from-refused.ensures)
           (refused_few c.commands.refused c.commands.command-index c.in_ok-answered.answered.refused c.commands.invariant.most);

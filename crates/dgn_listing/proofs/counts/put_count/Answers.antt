@@ -1,32 +1,19 @@
-use Rattle.std.proofs.Common.{◌≡◌, ◌++◌, ℕ, ap, ◌∙◌, subst}
+use Rattle.std.proofs.Common.{◌++◌}
 use Rattle.std.specs.Prelude.{decimal}
-use Rattle.dgn_listing.specs.Lines.{line_feed, field_text, AppendsFrontOf}
-use Rattle.dgn_listing.proofs.Fronts.{first, later, last, said}
+use Rattle.patch_bytes.proofs.Fronts.{next, stopped, as_text}
+use Rattle.dgn_listing.specs.Lines.{line_feed}
 use Rattle.dgn_listing.proofs.counts.put_count.Goals as goal
 
-pub returns-in_err-put_field-clause-front : goal.returns-in_err-put_field-clause-front
-returns-in_err-put_field-clause-front c =
-    let field : AppendsFrontOf (field_text c.args.number) c.put.new.out.items c.put_field.new.out.items =
-    subst (λ (k : ℕ). AppendsFrontOf (field_text k) c.put.new.out.items c.put_field.new.out.items) c.from.ensures c.in_err-put_field.ensures.front in
-    said _ _ _ _ (later c.args.word.now (field_text c.args.number ++ (decimal c.args.times ++ line_feed)) _ _ _ c.in_ok-put.ensures.text
-    (first (field_text c.args.number) (decimal c.args.times ++ line_feed) _ _ field))
+pub returns-in_err-put_field : goal.returns-in_err-put_field
+returns-in_err-put_field c =
+    as_text (next c.in_ok-put.ensures (stopped (decimal c.args.times ++ line_feed) c.in_err-put_field.ensures
+    c.from_residual-in_err-put_field.ensures.0)) (cc)
 
-pub returns-in_err-put_number-clause-front : goal.returns-in_err-put_number-clause-front
-returns-in_err-put_number-clause-front c =
-    let field : c.put_field.new.out.items ≡ c.put.new.out.items ++ field_text c.args.number =
-    c.in_ok-put_field.ensures.text ∙ ap (λ (k : ℕ). c.put.new.out.items ++ field_text k) c.from.ensures in
-    let number : AppendsFrontOf (decimal c.args.times) c.put_field.new.out.items c.put_number.new.out.items =
-    subst (λ (k : ℕ). AppendsFrontOf (decimal k) c.put_field.new.out.items c.put_number.new.out.items)
-    c.from-2.ensures c.in_err-put_number.ensures.front in
-    said _ _ _ _ (later c.args.word.now (field_text c.args.number ++ (decimal c.args.times ++ line_feed)) _ _ _ c.in_ok-put.ensures.text
-    (later (field_text c.args.number) (decimal c.args.times ++ line_feed) _ _ _ field (first (decimal c.args.times) line_feed _ _ number)))
+pub returns-in_err-put_number : goal.returns-in_err-put_number
+returns-in_err-put_number c =
+    as_text (next c.in_ok-put.ensures (next c.in_ok-put_field.ensures (stopped line_feed c.in_err-put_number.ensures
+    c.from_residual-in_err-put_number.ensures.0))) (cc)
 
-pub returns-clause-front : goal.returns-clause-front
-returns-clause-front c =
-    let field : c.put_field.new.out.items ≡ c.put.new.out.items ++ field_text c.args.number =
-    c.in_ok-put_field.ensures.text ∙ ap (λ (k : ℕ). c.put.new.out.items ++ field_text k) c.from.ensures in
-    let number : c.put_number.new.out.items ≡ c.put_field.new.out.items ++ decimal c.args.times =
-    c.in_ok-put_number.ensures.text ∙ ap (λ (k : ℕ). c.put_field.new.out.items ++ decimal k) c.from-2.ensures in
-    last _ c.args.word.now (field_text c.args.number ++ (decimal c.args.times ++ line_feed)) _ _ _ c.in_ok-put.ensures.text
-    (last _ (field_text c.args.number) (decimal c.args.times ++ line_feed) _ _ _ field
-    (last _ (decimal c.args.times) line_feed _ _ _ number c.put-2.ensures.front))
+pub returns : goal.returns
+returns c =
+    as_text (next c.in_ok-put.ensures (next c.in_ok-put_field.ensures (next c.in_ok-put_number.ensures c.put-2.ensures))) (cc)

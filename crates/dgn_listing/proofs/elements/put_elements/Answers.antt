@@ -1,14 +1,18 @@
 use Rattle.std.proofs.Common.{length, arith}
 use Rattle.elem_index.specs.Design.{elements}
 use Rattle.dgn_listing.specs.ElementTexts.{element_line}
-use Rattle.dgn_listing.proofs.NumberTexts.{all_before, one_after}
-use Rattle.dgn_listing.proofs.Fronts.{said}
+use Rattle.dgn_listing.proofs.NumberTexts.{none_counted, among_counted, one_counted, all_counted}
 use Rattle.dgn_listing.proofs.elements.put_elements.Goals as goal
 
-pub returns-in_err-put_element-clause-front : goal.returns-in_err-put_element-clause-front
-returns-in_err-put_element-clause-front c =
-    said _ _ _ _ (all_before (element_line (elements c.args.d.now)) (length (elements c.args.d.now)) c.loop-n.n _ _ _ (omega arith)
-    c.loop-n.invariant c.in_err-put_element.ensures.front)
+pub loop-n-init : goal.loop-n-init
+loop-n-init c = none_counted (element_line (elements c.args.d.now)) 0 c.args.out.now.items
+
+pub returns-in_err-put_element : goal.returns-in_err-put_element
+returns-in_err-put_element c =
+    among_counted (length (elements c.args.d.now)) c.loop-n.invariant (omega arith) (omega arith) c.in_err-put_element.ensures c.from_residual.ensures.0
 
 pub loop-n-preserved : goal.loop-n-preserved
-loop-n-preserved c = one_after (element_line (elements c.args.d.now)) c.loop-n.n _ _ _ c.loop-n.invariant c.in_ok-put_element.ensures.text
+loop-n-preserved c = one_counted c.loop-n.invariant (omega arith) c.in_ok-put_element.ensures
+
+pub returns : goal.returns
+returns c = all_counted (length (elements c.args.d.now)) c.loop-n.invariant (omega arith)

@@ -1,12 +1,8 @@
-use Rattle.std.proofs.Common.{codes}
-use Rattle.dgn_listing.proofs.Fronts.{first, later, last, said}
+use Rattle.patch_bytes.proofs.Fronts.{next, stopped}
 use Rattle.dgn_listing.proofs.findings.put_corners.Goals as goal
 
-pub returns-in_err-put_point-clause-front : goal.returns-in_err-put_point-clause-front
-returns-in_err-put_point-clause-front c = said _ _ _ _ (first _ _ _ _ c.in_err-put_point.ensures.front)
+pub returns-in_err-put : goal.returns-in_err-put
+returns-in_err-put c = next c.in_ok-put_point.ensures (stopped _ c.in_err-put.ensures c.from_residual-in_err-put.ensures.0)
 
-pub returns-in_err-put-clause-front : goal.returns-in_err-put-clause-front
-returns-in_err-put-clause-front c = said _ _ _ _ (later _ _ _ _ _ c.in_ok-put_point.ensures.text (first (codes " ") _ _ _ c.in_err-put.ensures.front))
-
-pub returns-clause-front : goal.returns-clause-front
-returns-clause-front c = last _ _ _ _ _ _ c.in_ok-put_point.ensures.text (last _ (codes " ") _ _ _ _ c.in_ok-put.ensures.text (c.put_point-2.ensures.front))
+pub returns : goal.returns
+returns c = next c.in_ok-put_point.ensures (next c.in_ok-put.ensures c.put_point-2.ensures)

@@ -1,8 +1,5 @@
-use Rattle.dgn_listing.proofs.Fronts.{first, last, said}
+use Rattle.patch_bytes.proofs.Fronts.{next}
 use Rattle.dgn_listing.proofs.findings.write_findings.Goals as goal
 
-pub returns-in_err-put_finding_lines-clause-front : goal.returns-in_err-put_finding_lines-clause-front
-returns-in_err-put_finding_lines-clause-front c = said _ _ _ _ (first _ _ _ _ c.in_err-put_finding_lines.ensures.front)
-
-pub returns-clause-front : goal.returns-clause-front
-returns-clause-front c = last _ _ _ _ _ _ c.in_ok-put_finding_lines.ensures.text (c.put_ending.ensures.front)
+pub returns : goal.returns
+returns c = next c.in_ok-put_finding_lines.ensures c.put_ending.ensures

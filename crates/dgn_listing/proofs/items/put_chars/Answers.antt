@@ -1,15 +1,12 @@
-use Rattle.dgn_listing.specs.ItemTexts.{char_text}
-use Rattle.dgn_listing.proofs.FindingLines.{more_at, all_at}
-use Rattle.dgn_listing.proofs.Fronts.{among, said}
+use Rattle.std.proofs.Common.{refl}
+use Rattle.patch_bytes.proofs.Loops.{among, one_more, all_written}
 use Rattle.dgn_listing.proofs.items.put_chars.Goals as goal
 
-pub returns-in_err-put_char-clause-front : goal.returns-in_err-put_char-clause-front
-returns-in_err-put_char-clause-front c =
-    said _ _ _ _ (among char_text c.args.chars.now c.loop-char.char-index 0 _ _ _ c.loop-char-test.true c.loop-char.invariant c.in_err-put_char.ensures.front)
+pub returns-in_err-put_char : goal.returns-in_err-put_char
+returns-in_err-put_char c = among 0 c.loop-char.invariant c.loop-char-test.true refl c.in_err-put_char.ensures c.from_residual.ensures.0
 
 pub loop-char-preserved : goal.loop-char-preserved
-loop-char-preserved c = more_at char_text c.args.chars.now c.loop-char.char-index 0 _ _ _ c.loop-char-test.true c.loop-char.invariant
-    c.in_ok-put_char.ensures.text
+loop-char-preserved c = one_more 0 c.loop-char.invariant c.loop-char-test.true refl c.in_ok-put_char.ensures
 
-pub returns-clause-text : goal.returns-clause-text
-returns-clause-text c = all_at char_text c.args.chars.now c.loop-char.char-index _ _ c.loop-char-test.false c.loop-char.invariant
+pub returns : goal.returns
+returns c = all_written c.loop-char.invariant c.loop-char-test.false

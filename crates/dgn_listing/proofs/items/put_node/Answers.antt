@@ -1,9 +1,8 @@
-use Rattle.std.proofs.Common.{codes}
-use Rattle.dgn_listing.proofs.Fronts.{first, last, said}
+use Rattle.patch_bytes.proofs.Fronts.{next, stopped}
 use Rattle.dgn_listing.proofs.items.put_node.Goals as goal
 
-pub returns-in_err-put-clause-front : goal.returns-in_err-put-clause-front
-returns-in_err-put-clause-front c = said _ _ _ _ (first (codes "node ") _ _ _ c.in_err-put.ensures.front)
+pub returns-in_err-put : goal.returns-in_err-put
+returns-in_err-put c = stopped _ c.in_err-put.ensures c.from_residual.ensures.0
 
-pub returns-clause-front : goal.returns-clause-front
-returns-clause-front c = last _ (codes "node ") _ _ _ _ c.in_ok-put.ensures.text (c.put_point.ensures.front)
+pub returns : goal.returns
+returns c = next c.in_ok-put.ensures c.put_point.ensures

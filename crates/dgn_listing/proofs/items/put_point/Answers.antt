@@ -1,8 +1,5 @@
-use Rattle.dgn_listing.proofs.Fronts.{first, last, said}
+use Rattle.patch_bytes.proofs.Fronts.{next}
 use Rattle.dgn_listing.proofs.items.put_point.Goals as goal
 
-pub returns-in_err-put_pair-clause-front : goal.returns-in_err-put_pair-clause-front
-returns-in_err-put_pair-clause-front c = said _ _ _ _ (first _ _ _ _ c.in_err-put_pair.ensures.front)
-
-pub returns-clause-front : goal.returns-clause-front
-returns-clause-front c = last _ _ _ _ _ _ c.in_ok-put_pair.ensures.text (c.put_height.ensures.front)
+pub returns : goal.returns
+returns c = next c.in_ok-put_pair.ensures c.put_height.ensures

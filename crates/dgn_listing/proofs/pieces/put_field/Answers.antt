@@ -1,5 +1,5 @@
-use Rattle.dgn_listing.proofs.Fronts.{last}
+use Rattle.patch_bytes.proofs.Fronts.{next}
 use Rattle.dgn_listing.proofs.pieces.put_field.Goals as goal
 
-pub returns-clause-front : goal.returns-clause-front
-returns-clause-front c = last c.put.result _ _ _ _ _ c.in_ok-put_number.ensures.text c.put.ensures.front
+pub returns : goal.returns
+returns c = next c.in_ok-put_number.ensures c.put.ensures

@@ -1,15 +1,13 @@
-use Rattle.dgn_listing.proofs.Fronts.{first, later, last, said}
+use Rattle.patch_bytes.proofs.Fronts.{next, stopped}
 use Rattle.dgn_listing.proofs.refs.put_ref.Goals as goal
 
-pub returns-in_err-put_number-clause-front : goal.returns-in_err-put_number-clause-front
-returns-in_err-put_number-clause-front c = said _ _ _ _ (later _ _ _ _ _ c.in_ok-put_place.ensures.text (first _ _ _ _ c.in_err-put_number.ensures.front))
+pub returns-in_err-put_number : goal.returns-in_err-put_number
+returns-in_err-put_number c = next c.in_ok-put_place.ensures (stopped _ c.in_err-put_number.ensures c.from_residual-in_err-put_number.ensures.0)
 
-pub returns-in_err-put_state-clause-front : goal.returns-in_err-put_state-clause-front
-returns-in_err-put_state-clause-front c =
-    said _ _ _ _ (later _ _ _ _ _ c.in_ok-put_place.ensures.text
-    (later _ _ _ _ _ c.in_ok-put_number.ensures.text (first _ _ _ _ c.in_err-put_state.ensures.front)))
+pub returns-in_err-put_state : goal.returns-in_err-put_state
+returns-in_err-put_state c =
+    next c.in_ok-put_place.ensures (next c.in_ok-put_number.ensures
+    (stopped _ c.in_err-put_state.ensures c.from_residual-in_err-put_state.ensures.0))
 
-pub returns-clause-front : goal.returns-clause-front
-returns-clause-front c =
-    last _ _ _ _ _ _ c.in_ok-put_place.ensures.text
-    (last _ _ _ _ _ _ c.in_ok-put_number.ensures.text (last _ _ _ _ _ _ c.in_ok-put_state.ensures.text c.put.ensures.front))
+pub returns : goal.returns
+returns c = next c.in_ok-put_place.ensures (next c.in_ok-put_number.ensures (next c.in_ok-put_state.ensures c.put.ensures))

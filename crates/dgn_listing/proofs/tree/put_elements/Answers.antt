@@ -1,20 +1,18 @@
-use Rattle.std.proofs.Common.{◌<◌, ◌+◌, ◌-◌, ◌++◌, List, ℕ, ◌∙◌, ap, sym, append_assoc, arith}
+use Rattle.std.proofs.Common.{◌-◌, arith}
 use Rattle.elem_index.specs.Design.{elements}
-use Rattle.dgn_listing.specs.Lines.{texts_from}
 use Rattle.dgn_listing.specs.TreeTexts.{element_text}
-use Rattle.dgn_listing.proofs.NumberTexts.{texts-more, counted}
-use Rattle.dgn_listing.proofs.Fronts.{said}
+use Rattle.dgn_listing.proofs.NumberTexts.{none_counted, among_counted, one_counted, all_counted}
 use Rattle.dgn_listing.proofs.tree.put_elements.Goals as goal
 
-pub returns-in_err-put_element-clause-front : goal.returns-in_err-put_element-clause-front
-returns-in_err-put_element-clause-front c =
-    let within : c.loop-n.n < c.args.first + (c.args.end - c.args.first) = omega (arith, c.loop-n-test.true) in
-    said _ _ _ _ (counted (element_text (elements c.args.d.now)) c.args.first (c.args.end - c.args.first)
-    c.loop-n.n _ _ _ c.loop-n.auto.n within c.loop-n.invariant c.in_err-put_element.ensures.front)
+pub loop-n-init : goal.loop-n-init
+loop-n-init c = none_counted (element_text (elements c.args.d.now)) c.args.first c.args.out.now.items
+
+pub returns-in_err-put_element : goal.returns-in_err-put_element
+returns-in_err-put_element c =
+    among_counted (c.args.end - c.args.first) c.loop-n.invariant c.loop-n.auto.n (omega arith) c.in_err-put_element.ensures c.from_residual.ensures.0
 
 pub loop-n-preserved : goal.loop-n-preserved
-loop-n-preserved c =
-    c.in_ok-put_element.ensures.text ∙ ap (λ (t : List ℕ). t ++ element_text (elements c.args.d.now) c.loop-n.n) c.loop-n.invariant
-    ∙ append_assoc c.args.out.now.items (texts_from (element_text (elements c.args.d.now)) c.args.first (c.loop-n.n - c.args.first))
-    (element_text (elements c.args.d.now) c.loop-n.n)
-    ∙ ap (λ (t : List ℕ). c.args.out.now.items ++ t) (sym (texts-more (element_text (elements c.args.d.now)) c.args.first c.loop-n.n c.loop-n.auto.n))
+loop-n-preserved c = one_counted c.loop-n.invariant c.loop-n.auto.n c.in_ok-put_element.ensures
+
+pub returns : goal.returns
+returns c = all_counted (c.args.end - c.args.first) c.loop-n.invariant (omega arith)

@@ -1,24 +1,19 @@
-use Rattle.dgn_listing.proofs.Fronts.{first, later, last, said}
+use Rattle.patch_bytes.proofs.Fronts.{next, stopped}
 use Rattle.dgn_listing.proofs.tree.put_line.Goals as goal
 
-pub returns-in_err-put_numbers-clause-front : goal.returns-in_err-put_numbers-clause-front
-returns-in_err-put_numbers-clause-front c = said _ _ _ _ (first _ _ _ _ c.in_err-put_numbers.ensures.front)
+pub returns-in_err-put_knot : goal.returns-in_err-put_knot
+returns-in_err-put_knot c = next c.in_ok-put_numbers.ensures (stopped _ c.in_err-put_knot.ensures c.from_residual-in_err-put_knot.ensures.0)
 
-pub returns-in_err-put_knot-clause-front : goal.returns-in_err-put_knot-clause-front
-returns-in_err-put_knot-clause-front c = said _ _ _ _ (later _ _ _ _ _ c.in_ok-put_numbers.ensures.text (first _ _ _ _ c.in_err-put_knot.ensures.front))
+pub returns-in_err-put_state : goal.returns-in_err-put_state
+returns-in_err-put_state c =
+    next c.in_ok-put_numbers.ensures (next c.in_ok-put_knot.ensures
+    (stopped _ c.in_err-put_state.ensures c.from_residual-in_err-put_state.ensures.0))
 
-pub returns-in_err-put_state-clause-front : goal.returns-in_err-put_state-clause-front
-returns-in_err-put_state-clause-front c =
-    said _ _ _ _ (later _ _ _ _ _ c.in_ok-put_numbers.ensures.text
-    (later _ _ _ _ _ c.in_ok-put_knot.ensures.text (first _ _ _ _ c.in_err-put_state.ensures.front)))
+pub returns-in_err-put_orphan : goal.returns-in_err-put_orphan
+returns-in_err-put_orphan c =
+    next c.in_ok-put_numbers.ensures (next c.in_ok-put_knot.ensures (next c.in_ok-put_state.ensures
+    (stopped _ c.in_err-put_orphan.ensures c.from_residual-in_err-put_orphan.ensures.0)))
 
-pub returns-in_err-put_orphan-clause-front : goal.returns-in_err-put_orphan-clause-front
-returns-in_err-put_orphan-clause-front c =
-    said _ _ _ _ (later _ _ _ _ _ c.in_ok-put_numbers.ensures.text
-    (later _ _ _ _ _ c.in_ok-put_knot.ensures.text (later _ _ _ _ _ c.in_ok-put_state.ensures.text (first _ _ _ _ c.in_err-put_orphan.ensures.front))))
-
-pub returns-clause-front : goal.returns-clause-front
-returns-clause-front c =
-    last _ _ _ _ _ _ c.in_ok-put_numbers.ensures.text
-    (last _ _ _ _ _ _ c.in_ok-put_knot.ensures.text
-    (last _ _ _ _ _ _ c.in_ok-put_state.ensures.text (last _ _ _ _ _ _ c.in_ok-put_orphan.ensures.text (c.put.ensures.front))))
+pub returns : goal.returns
+returns c =
+    next c.in_ok-put_numbers.ensures (next c.in_ok-put_knot.ensures (next c.in_ok-put_state.ensures (next c.in_ok-put_orphan.ensures c.put.ensures)))

@@ -20,7 +20,7 @@ commands-init g c = record {
 
 pub commands-preserved : goal.commands-preserved
 commands-preserved g c =
-    let did = c.in-Ok.ensures in
+    let did = c.in-Ok.ensures.answered in
     let next =
     is_next _ c.args.commands.now c.commands.command-index c.command-item.result (waiting c.commands.seconds.items) (waiting c.take_step.new.seconds.items)
     _ _ _ _ _ c.commands-test.true c.command-item.is c.take_step.ensures.left c.commands.invariant.ran
@@ -32,7 +32,7 @@ commands-preserved g c =
           (sym c.from-refused.ensures)
           (ran_more _ _ _ c.commands.refused c.in-Ok.answered.refused _ _ _ (state_of c.take_step.new.s) _ _ (seen g.D.Desk c.say_all.new.desk)
           next did.state c.in_ok-say_all.ensures did.refused);
-      tail = c.take_step.ensures.tail ∙ c.commands.invariant.tail;
+      tail = c.take_step.ensures.answered.tail ∙ c.commands.invariant.tail;
       sound = c.take_step.ensures.sound;
       most = subst (λ (n : ℕ). c.commands.refused + n ≤ c.commands.command-index + 1) (sym c.from-refused.ensures)
           (refused_few c.commands.refused c.commands.command-index c.in-Ok.answered.refused c.commands.invariant.most);
@@ -65,7 +65,7 @@ returns-in_err-say_all-clause-said g c =
     let next =
     is_next _ c.args.commands.now c.commands.command-index c.command-item.result (waiting c.commands.seconds.items) (waiting c.take_step.new.seconds.items)
     _ _ _ _ _ c.commands-test.true c.command-item.is c.take_step.ensures.left c.commands.invariant.ran
-    c.deref.result.now c.take_step.new.out.items c.clear.new.self.items c.deref.ensures.value c.in-Ok.ensures.text c.clear.ensures.items in
+    c.deref.result.now c.take_step.new.out.items c.clear.new.self.items c.deref.ensures.value c.in-Ok.ensures.answered.text c.clear.ensures.items in
     rw (p.1, p.2) (ran_part _ _ _ c.commands.refused c.in_err-say_all.field-0.0 _ _ _ _ _ (seen g.D.Desk c.say_all.new.desk) next c.in_err-say_all.ensures)
 
 pub overflow_add-refused : goal.overflow_add-refused

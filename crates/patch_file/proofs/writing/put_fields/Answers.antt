@@ -1,14 +1,17 @@
 use Rattle.patch_file.specs.FieldView.{exchange_of}
 use Rattle.patch_file.specs.Spelling.{field_spelling}
-use Rattle.patch_file.proofs.Fronts.{among, one_more, said}
+use Rattle.patch_bytes.proofs.Fronts.{as_text}
+use Rattle.patch_bytes.proofs.Loops.{among, one_more, all_written}
+use Rattle.patch_file.proofs.WrittenPieces.{viewed}
 use Rattle.patch_file.proofs.writing.put_fields.Goals as goal
 
-pub returns-in_err-put_field-clause-front : goal.returns-in_err-put_field-clause-front
-returns-in_err-put_field-clause-front c =
-    said _ _ _ _ (among exchange_of field_spelling c.args.fields.now c.loop-field.field-index c.field-item.result _ _ _ c.loop-field-test.true
-    c.field-item.is c.loop-field.invariant c.in_err-put_field.ensures.front)
+pub returns-in_err-put_field : goal.returns-in_err-put_field
+returns-in_err-put_field c =
+    as_text (among _ c.loop-field.invariant c.loop-field-test.true c.field-item.is c.in_err-put_field.ensures c.from_residual.ensures.0)
+    (viewed field_spelling exchange_of c.args.fields.now)
 
 pub loop-field-preserved : goal.loop-field-preserved
-loop-field-preserved c =
-    one_more exchange_of field_spelling c.args.fields.now c.loop-field.field-index c.field-item.result _ _ _ c.loop-field-test.true c.field-item.is
-    c.loop-field.invariant c.in_ok-put_field.ensures.text
+loop-field-preserved c = one_more _ c.loop-field.invariant c.loop-field-test.true c.field-item.is c.in_ok-put_field.ensures
+
+pub returns : goal.returns
+returns c = as_text (all_written c.loop-field.invariant c.loop-field-test.false) (viewed field_spelling exchange_of c.args.fields.now)
