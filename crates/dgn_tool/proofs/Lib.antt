@@ -2,7 +2,6 @@ pub mod OpenSeconds
 pub mod GeneratedDrawings
 pub mod FilledTails
 pub mod TextsThenFiles
-pub mod RunInputs
 pub mod LinkedEdits
 pub mod PackedEntries
 pub mod CommandsInTurn
@@ -17,10 +16,13 @@ pub mod HeldBack
 pub mod WholeRuns
 pub mod FilesThenTexts
 pub mod BlocksFilled
-pub mod InputOutcomes
+pub mod FilesRead
 pub mod SecondNames
 pub mod NameTexts
 pub mod RunParts
+pub mod ReadingsInTurn
+pub mod EarlyEnds
+pub mod InputsRead
 pub mod PatchOutcomes
 pub mod EntriesPutOn
 pub mod SecondFiles

@@ -1,13 +1,17 @@
 -- What a whole run ensures, by the end of the form that was asked for, or by what was said of words of no form.
 use Rattle.std.proofs.Common.{◌≡◌, ℕ, List, Option, Some, None, Ok, Err, refl, sym, subst, arith}
+use Rattle.std.specs.Prelude.{IfSome}
+use Rattle.dgn_desk.specs.Content.{Files, Content}
+use Rattle.dgn_tool.specs.Ended.{Outcome}
 use Rattle.dgn_desk.specs.declared.stop.Stop.{Stop}
 use Rattle.dgn_desk.specs.declared.stop.Stop.TheVariants as stops
 use Rattle.dgn_desk.specs.Desk.{SaysAll}
 use Rattle.dgn_desk.specs.Seen.{Seen, Writes}
-use Rattle.dgn_tool.specs.Ends.{Ends, status_said, status_of}
+use Rattle.dgn_tool.specs.Ends.{EndsThere, ComesTo, status_said, status_of}
+use Rattle.dgn_tool.specs.Leaving.{Leaves, Stops}
+use Rattle.dgn_tool.specs.Readings.{Reading, ended_by, ending_of, AreInBytes}
 use Rattle.dgn_tool.specs.Request.{Request}
-use Rattle.dgn_tool.specs.RunInBytes.{FilesInBytes}
-use Rattle.dgn_tool.specs.Outcome.{usage_line, outcome_of, IsStopped, IsFaultless, HasFiles, Reads}
+use Rattle.dgn_tool.specs.Outcome.{usage_line, reading_of, IsStopped, IsFaultless, Reads}
 use Rattle.dgn_tool.specs.Runs.{Runs}
 use Rattle.dgn_tool.specs.declared.ending.Ending.{Ending}
 use Rattle.dgn_tool.specs.declared.ending.Ending.TheVariants as endings
@@ -53,57 +57,76 @@ not_read_fault ending is = subst IsFaultless is (faultless ending)
 not_write_fault : (ending : Ending) → status_said ending ≡ statuses.WriteFault → ⊥
 not_write_fault ending is = subst IsFaultless is (faultless ending)
 
+-- what is told at an ending: the outcome, and that the files which were read are bytes
+said_told : (reading : Files → Reading Outcome) (ending : Ending) (old new : Option Content)
+    → IfSome old (λ c. EndsThere (ending_of (reading c.files)) ending c new)
+    → IfSome old (λ c. Leaves (ended_by (reading c.files).answer) (status_said ending) c new)
+    × IfSome old (λ c. AreInBytes c.files (reading c.files).sources)
+said_told reading ending None new told = (tt, tt)
+said_told reading ending (Some c) new told =
+    let is : ended_by (reading c.files).answer ≡ told.outcome = (let e = told.answer_is in cc) in
+    (subst (λ (o : Outcome). Leaves o (status_said ending) c new) (sym is) told.leaves, told.bytes)
+
+-- and where it was stopped
+stopped_told : (reading : Files → Reading Outcome) (old new : Option Content)
+    → IfSome old (λ c. (o : Outcome) → ended_by (reading c.files).answer ≡ o → Stops o c new)
+    → IfSome old (λ c. Stops (ended_by (reading c.files).answer) c new)
+stopped_told reading None new told = tt
+stopped_told reading (Some c) new told = told (ended_by (reading c.files).answer) refl
+
 -- a run that came to this end
 ends_as : (request : Request) (old new : Seen) (end : End) → (end ≡ ends.ReadFault → Reads (Some request))
-    → Ends (HasFiles (Some request)) (FilesInBytes (Some request)) (outcome_of (Some request)) old new end → Runs (Some request) old new (status_of end)
-ends_as request old new (ends.Said ending) reads ended = record {
-  outcome = λ _. ended.left.comes.told;
-  prefix = λ stopped. absurd (not_stopped ending stopped);
-  counted = λ _. (ended.left.comes.other, ended.left.comes.cause);
-  usage = λ is. absurd (not_usage ending is);
-  improper = λ none. absurd (let x = none in cc);
-  read_fault = λ is. absurd (not_read_fault ending is);
-  write_fault = λ is. absurd (not_write_fault ending is);
-  complete = λ _ _. faultless ending;
-  complete_willing = λ _ _. faultless ending;
-  bytes = λ _. ended.left.known;
-  never_fewer = omega (arith, ended.left.comes.cause);
-  stays_willing = ended.left.comes.stays;
-  stays = edits_as_asked (Some request) (status_said ending) old.content new.content (λ _. ended.left.comes.told) (λ _. ended.left.known);
-}
+    → ComesTo (λ files. ending_of (reading_of (Some request) files)) (Err end) old new → Runs (Some request) old new (status_of end)
+ends_as request old new (ends.Said ending) reads ended =
+    let left = said_told (reading_of (Some request)) ending old.content new.content ended.told in
+    record {
+      outcome = λ _. left.0;
+      prefix = λ stopped. absurd (not_stopped ending stopped);
+      counted = λ _. (ended.other, ended.cause);
+      usage = λ is. absurd (not_usage ending is);
+      improper = λ none. absurd (let x = none in cc);
+      read_fault = λ is. absurd (not_read_fault ending is);
+      write_fault = λ is. absurd (not_write_fault ending is);
+      complete = λ _ _. faultless ending;
+      complete_willing = λ _ _. faultless ending;
+      bytes = λ _. left.1;
+      never_fewer = omega (arith, ended.cause);
+      stays_willing = ended.stays;
+      stays = edits_as_asked (Some request) (status_said ending) old.content new.content (λ _. left.0) (λ _. left.1);
+    }
 ends_as request old new ends.ReadFault reads ended = record {
   outcome = λ ending. absurd ending;
   prefix = λ stopped. absurd stopped;
   counted = λ ending. absurd ending;
   usage = λ is. absurd (let x = is in cc);
   improper = λ none. absurd (let x = none in cc);
-  read_fault = λ _. (reads refl, ended.left.rose, ended.left.only);
+  read_fault = λ _. (reads refl, ended.rose, ended.only);
   write_fault = λ is. absurd (let x = is in cc);
-  complete = λ unread _. absurd (unread ended.left.rose);
-  complete_willing = λ willing there. absurd (ended.left.lacks willing there);
+  complete = λ unread _. absurd (unread ended.rose);
+  complete_willing = λ willing there. absurd (ended.lacks willing there);
   bytes = λ ending. absurd ending;
-  never_fewer = omega (arith, ended.left.quiet);
-  stays_willing = ended.left.stays;
+  never_fewer = omega (arith, ended.quiet);
+  stays_willing = ended.stays;
   stays = λ input script output asked written. absurd written;
 }
 ends_as request old new (ends.Stopped stops.Failed) reads ended = record {
   outcome = λ ending. absurd ending;
-  prefix = λ _. ended.left.told;
+  prefix = λ _. (stopped_told (reading_of (Some request)) old.content new.content ended.told);
   counted = λ ending. absurd ending;
   usage = λ is. absurd (let x = is in cc);
   improper = λ none. absurd (let x = none in cc);
   read_fault = λ is. absurd (let x = is in cc);
-  write_fault = λ _. ended.left.cause.1;
-  complete = λ _ unwritten. absurd (unwritten ended.left.cause.1);
-  complete_willing = λ willing _. absurd (ended.left.able willing);
+  write_fault = λ _. ended.cause.1;
+  complete = λ _ unwritten. absurd (unwritten ended.cause.1);
+  complete_willing = λ willing _. absurd (ended.able willing);
   bytes = λ ending. absurd ending;
-  never_fewer = ended.left.cause.0;
-  stays_willing = ended.left.stays;
+  never_fewer = ended.cause.0;
+  stays_willing = ended.stays;
   stays = λ input script output asked written. absurd written;
 }
 ends_as request old new (ends.Stopped stops.Memory) reads ended = record {
   outcome = λ ending. absurd ending;
-  prefix = λ _. ended.left.told;
+  prefix = λ _. (stopped_told (reading_of (Some request)) old.content new.content ended.told);
   counted = λ ending. absurd ending;
   usage = λ is. absurd (let x = is in cc);
   improper = λ none. absurd (let x = none in cc);
@@ -112,14 +135,14 @@ ends_as request old new (ends.Stopped stops.Memory) reads ended = record {
   complete = λ _ _. tt;
   complete_willing = λ _ _. tt;
   bytes = λ ending. absurd ending;
-  never_fewer = omega (arith, ended.left.cause);
-  stays_willing = ended.left.stays;
+  never_fewer = omega (arith, ended.cause);
+  stays_willing = ended.stays;
   stays = λ input script output asked written. absurd written;
 }
 
 pub ran : (request : Request) (asked : Option Request) (old new : Seen) (end : End) (status : Status) → Some request ≡ asked → status ≡ status_of end
     → (end ≡ ends.ReadFault → Reads (Some request))
-    → Ends (HasFiles (Some request)) (FilesInBytes (Some request)) (outcome_of (Some request)) old new end → Runs asked old new status
+    → ComesTo (λ files. ending_of (reading_of (Some request) files)) (Err end) old new → Runs asked old new status
 ran request asked old new end status is tells reads ended =
     subst (λ (r : Option Request). Runs r old new status) is (subst (Runs (Some request) old new) (sym tells) (ends_as request old new end reads ended))
 
