@@ -14,7 +14,7 @@ use Rattle.dgn_tool.specs.Request.{Request}
 use Rattle.dgn_tool.specs.Status.{number_of}
 use Rattle.dgn_tool.specs.declared.status.Status.{Status}
 use Rattle.dgn_tool.specs.declared.status.Status.TheVariants as statuses
-use Rattle.dgn_tool.proofs.ToldContents.{said_behind, stopped_early}
+use Rattle.dgn_tool.proofs.ToldContents.{where_told, said_behind, stopped_early}
 use Rattle.dgn_tool.specs.Outcome.{outcome_of}
 use Rattle.dgn_tool.specs.EditedRuns.{EditsAsAsked}
 use Rattle.dgn_tool.specs.Runs.{Runs, IsSettled, flushed_status}
@@ -59,7 +59,9 @@ came_to request old now statuses.SomeRefused run = all_stop (outcome_of request)
 came_to request old now statuses.Usage run = all_stop (outcome_of request) statuses.Usage old.content now.content (run.outcome tt)
 came_to request old now statuses.BadScript run = all_stop (outcome_of request) statuses.BadScript old.content now.content (run.outcome tt)
 came_to request old now statuses.BadDesign run = all_stop (outcome_of request) statuses.BadDesign old.content now.content (run.outcome tt)
-came_to request old now statuses.ReadFault run = stopped_early (outcome_of request) old.content now.content (run.read_fault refl).2
+came_to request old now statuses.ReadFault run =
+    where_told (λ c. (o : Outcome) → Stops o c now.content) (λ c. Stops (outcome_of request c.files) c now.content) old.content
+    (stopped_early old.content now.content (run.read_fault refl).2) (λ c stops. stops (outcome_of request c.files))
 came_to request old now statuses.WriteFault run = run.prefix tt
 came_to request old now statuses.Memory run = run.prefix tt
 came_to request old now statuses.TooLong run = all_stop (outcome_of request) statuses.TooLong old.content now.content (run.outcome tt)
