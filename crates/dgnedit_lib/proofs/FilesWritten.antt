@@ -1,8 +1,8 @@
 -- Each outcome writes the file that the last of four words names, where it ends as done or with some refused, and else none.
-use Rattle.std.proofs.Common.{◌≡◌, ℕ, ◌-◌, nat_lt, nat_le, Bool, true, false, ◌&&◌, not, if◌then◌else◌, List, [], ◌∷◌, length, map, codes}
+use Rattle.std.proofs.Common.{◌≡◌, ℕ, nat_lt, nat_le, Bool, true, false, ◌&&◌, not, if◌then◌else◌, List, [], ◌∷◌, length, codes}
 use Rattle.std.proofs.Common.{Option, Some, None, option_map, Result, Ok, Err, refl, sym, ap, ◌∙◌, subst}
 use Rattle.std.specs.Str.{bytes_eq}
-use Rattle.dgn_desk.specs.Content.{Files, bytes_of}
+use Rattle.dgn_desk.specs.Content.{Files}
 use Rattle.dgn_desk.specs.FileLaws.{get-with_file-same}
 use Rattle.elem_index.specs.Opened.{Opened}
 use Rattle.dgn_drawing.specs.Spelling.{spelling}
