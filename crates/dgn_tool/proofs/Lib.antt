@@ -6,7 +6,6 @@ pub mod LinkedEdits
 pub mod PackedEntries
 pub mod CommandsInTurn
 pub mod StackedEdits
-pub mod UsageSaid
 pub mod GeneratedSizes
 pub mod UntouchedBytes
 pub mod NamedValues

@@ -11,11 +11,11 @@ use Rattle.dgn_desk.proofs.InTurn.{done_so, stopped_so}
 use Rattle.dgn_tool.specs.Ended.{Outcome}
 use Rattle.dgn_tool.specs.Leaving.{Stops}
 use Rattle.dgn_tool.specs.Ends.{status_said, Tells, end_of, IsRead, EndsThere, ComesTo}
-use Rattle.dgn_tool.specs.Readings.{Source, Reading, at_once, behind_sources, ◌>>=◌, ending_of, MayComeTo, AreThere, AreInBytes}
+use Rattle.dgn_tool.specs.Readings.{Source, Reading, at_once, behind_sources, ◌>>=◌, ending_of, MayComeTo, IsThere, IsInBytes, AreThere, AreInBytes}
 use Rattle.dgn_tool.specs.declared.ending.Ending.{Ending}
 use Rattle.dgn_tool.specs.declared.end.End.{End}
 use Rattle.dgn_tool.specs.declared.end.End.TheVariants as ends
-use Rattle.dgn_tool.proofs.ToldContents.{where_told, stopped_early, nothing_done, read_twice, leaves_read, stops_read}
+use Rattle.dgn_tool.proofs.ToldContents.{where_told, where_all, stopped_early, nothing_done, read_twice, leaves_read, stops_read}
 
 -- Lists, one behind the other.
 
@@ -91,11 +91,6 @@ reads_twice {old = old} {mid = mid} {new = new} first second = record {
   stays = λ willing. second.stays (first.stays willing);
 }
 
--- what holds of all contents holds where one is told
-where_all : (P : Content → Type 0) (old : Option Content) → ((c : Content) → P c) → IfSome old P
-where_all P None so = tt
-where_all P (Some c) so = so c
-
 -- a value for which nothing is read
 pub gives : {T : Type 0} (value : T) (old : Seen) → IsRead (λ _. at_once (Ok value)) value old old
 gives {T} value old =
@@ -126,13 +121,6 @@ comes_at_once T o (Err stop) old new comes =
 
 -- Behind what was read.
 
--- the whole reads these files, which are bytes, and then as the rest
-pub record Goes {T : Type 0} (files : Files) (whole rest : Reading T) : Type 0 where
-  pub before : List Source
-  pub sources : whole.sources ≡ before ++ rest.sources
-  pub answer : whole.answer ≡ rest.answer
-  pub bytes : AreInBytes files before
-
 -- what is told behind what was read, by what was told before it
 through : (P Q R : Content → Type 0) (old mid : Option Content) → OnlyLeftDiffers old mid → IfSome old P → IfSome mid Q
     → ((c : Content) (left : List _) → P c → Q (record c { left = left }) → R c) → IfSome old R
@@ -147,6 +135,60 @@ onto : (P S Q : Files → Type 0) (old mid : Option Content) → OnlyLeftDiffers
 onto P S Q None mid only known also so = rw only.1 tt
 onto P S Q (Some c) mid only known also so = rw only.1 (so c.files known also)
 
+-- the whole reads what this part of it reads, and ends the run where it does
+record Covers {T U : Type 0} (files : Files) (whole : Reading T) (part : Reading U) : Type 0 where
+  there : AreThere files whole.sources → AreThere files part.sources
+  may : (o : Outcome) → MayComeTo whole.answer o → MayComeTo part.answer o
+  ended : (o : Outcome) → part.answer ≡ Err o → AreInBytes files part.sources → (whole.answer ≡ Err o) × AreInBytes files whole.sources
+
+-- so where the part ended the run behind what was read, the whole did
+covers : {T U : Type 0} (whole : Files → Reading T) (part : Files → Reading U) (end : End) (old mid new : Seen) → OnlyReads old mid
+    → IfSome old.content (λ c. Covers c.files (whole c.files) (part c.files)) → ComesTo part (Err end) mid new → ComesTo whole (Err end) old new
+covers whole part (ends.Said ending) old mid new reads covered comes = record {
+  cause = comes.cause ∙ reads.quiet;
+  other = comes.other ∙ reads.calm;
+  told = through _ _ (λ c. EndsThere (whole c.files) ending c new.content) old.content mid.content reads.told covered comes.told
+      (λ c left by so.
+      let is = by.ended so.outcome so.answer_is so.bytes in
+      record {
+        outcome = so.outcome;
+        answer_is = is.0;
+        leaves = leaves_read so.outcome (status_said ending) left c new.content so.leaves;
+        bytes = is.1;
+      });
+  stays = λ willing. comes.stays (reads.stays willing);
+  able = λ _. tt;
+}
+covers whole part ends.ReadFault old mid new reads covered comes = record {
+  rose = subst (λ n. Rose n new.read_faults) reads.calm comes.rose;
+  quiet = comes.quiet ∙ reads.quiet;
+  stays = λ willing. comes.stays (reads.stays willing);
+  only = read_twice old.content mid.content new.content reads.told comes.only;
+  lacks = λ willing there. comes.lacks (reads.stays willing)
+      (onto (λ files. Covers files (whole files) (part files)) (λ files. AreThere files (whole files).sources) (λ files. AreThere files (part files).sources)
+      old.content mid.content reads.told covered there (λ files by all. by.there all));
+}
+covers whole part (ends.Stopped stop) old mid new reads covered comes =
+    let stopped : Result Ending Stop = Err stop in
+    record {
+      cause = subst (λ n. Counts n new.write_faults stopped) reads.quiet comes.cause;
+      other = comes.other ∙ reads.calm;
+      told = through _ _ (λ c. (o : Outcome) → MayComeTo (whole c.files).answer o → Stops o c new.content) old.content mid.content reads.told covered
+          comes.told (λ c left by so o may. stops_read o left c new.content (so o (by.may o may)));
+      stays = λ willing. comes.stays (reads.stays willing);
+      able = λ willing. comes.able (reads.stays willing);
+    }
+
+-- the whole reads these files, which are bytes, and then as the rest
+pub record Goes {T : Type 0} (files : Files) (whole rest : Reading T) : Type 0 where
+  pub before : List Source
+  pub sources : whole.sources ≡ before ++ rest.sources
+  pub answer : whole.answer ≡ rest.answer
+  pub bytes : AreInBytes files before
+
+goes_bytes : {T : Type 0} (files : Files) (whole rest : Reading T) (g : Goes files whole rest) → AreInBytes files rest.sources → AreInBytes files whole.sources
+goes_bytes files whole rest g all = subst (AreInBytes files) (sym g.sources) (all_both (IsInBytes files) g.before rest.sources g.bytes all)
+
 module _ {T : Type 0} (whole rest : Files → Reading T) where
   -- what the rest comes to, the whole comes to
   pub continues : (r : Result T End) (old mid new : Seen) → OnlyReads old mid → IfSome old.content (λ c. Goes c.files (whole c.files) (rest c.files))
@@ -154,41 +196,17 @@ module _ {T : Type 0} (whole rest : Files → Reading T) where
   continues (Ok value) old mid new reads goes comes = record {
     reads = reads_twice reads comes.reads;
     gives = through _ _ (λ c. ((whole c.files).answer ≡ Ok value) × AreInBytes c.files (whole c.files).sources) old.content mid.content reads.told goes
-        comes.gives (λ c left g so. (g.answer ∙ so.0, subst (AreInBytes c.files) (sym g.sources) (all_both _ g.before (rest c.files).sources g.bytes so.1)));
+        comes.gives (λ c left g so. (g.answer ∙ so.0, goes_bytes c.files (whole c.files) (rest c.files) g so.1));
   }
-  continues (Err (ends.Said ending)) old mid new reads goes comes = record {
-    cause = comes.cause ∙ reads.quiet;
-    other = comes.other ∙ reads.calm;
-    told = through _ _ (λ c. EndsThere (whole c.files) ending c new.content) old.content mid.content reads.told goes comes.told
-        (λ c left g so. record {
-          outcome = so.outcome;
-          answer_is = g.answer ∙ so.answer_is;
-          leaves = leaves_read so.outcome (status_said ending) left c new.content so.leaves;
-          bytes = subst (AreInBytes c.files) (sym g.sources) (all_both _ g.before (rest c.files).sources g.bytes so.bytes);
-        });
-    stays = λ willing. comes.stays (reads.stays willing);
-    able = λ _. tt;
-  }
-  continues (Err ends.ReadFault) old mid new reads goes comes = record {
-    rose = subst (λ n. Rose n new.read_faults) reads.calm comes.rose;
-    quiet = comes.quiet ∙ reads.quiet;
-    stays = λ willing. comes.stays (reads.stays willing);
-    only = read_twice old.content mid.content new.content reads.told comes.only;
-    lacks = λ willing there. comes.lacks (reads.stays willing)
-        (onto (λ files. Goes files (whole files) (rest files)) (λ files. AreThere files (whole files).sources)
-        (λ files. AreThere files (rest files).sources) old.content mid.content reads.told goes there
-        (λ files g all. (all_parts _ g.before (rest files).sources (subst (AreThere files) g.sources all)).1));
-  }
-  continues (Err (ends.Stopped stop)) old mid new reads goes comes =
-      let stopped : Result Ending Stop = Err stop in
-      record {
-        cause = subst (λ n. Counts n new.write_faults stopped) reads.quiet comes.cause;
-        other = comes.other ∙ reads.calm;
-        told = through _ _ (λ c. (o : Outcome) → MayComeTo (whole c.files).answer o → Stops o c new.content) old.content mid.content reads.told goes comes.told
-            (λ c left g so o may. stops_read o left c new.content (so o (subst (λ (a : Result T Outcome). MayComeTo a o) g.answer may)));
-        stays = λ willing. comes.stays (reads.stays willing);
-        able = λ willing. comes.able (reads.stays willing);
-      }
+  continues (Err end) old mid new reads goes comes =
+      covers whole rest end old mid new reads
+      (where_told _ (λ c. Covers c.files (whole c.files) (rest c.files)) old.content goes
+      (λ c g. record {
+        there = λ all. (all_parts (IsThere c.files) g.before (rest c.files).sources (subst (AreThere c.files) g.sources all)).1;
+        may = λ o may. subst (λ (a : Result T Outcome). MayComeTo a o) g.answer may;
+        ended = λ o is all. (g.answer ∙ is, goes_bytes c.files (whole c.files) (rest c.files) g all);
+      }))
+      comes
 
   -- the same reading by another name
   pub same_reading : (r : Result T End) (old new : Seen) → ((files : Files) → whole files ≡ rest files) → ComesTo rest r old new → ComesTo whole r old new
@@ -218,30 +236,17 @@ comes_so {T} reading o r end old new same is comes =
 module _ {A B : Type 0} (first : Files → Reading A) (next : Files → A → Reading B) where
   -- the first part ended the run
   pub ends_first : (end : End) (old new : Seen) → ComesTo first (Err end) old new → ComesTo (λ files. first files >>= next files) (Err end) old new
-  ends_first (ends.Said ending) old new comes =
-      done_so ending ending comes (λ told. where_told (λ c. EndsThere (first c.files) ending c new.content)
-      (λ c. EndsThere (first c.files >>= next c.files) ending c new.content) old.content told
-      (λ c so.
-      let same = on_end (next c.files) (first c.files) so.outcome so.answer_is in
-      record {
-        outcome = so.outcome;
-        answer_is = ap (λ (x : Reading B). x.answer) same;
-        leaves = so.leaves;
-        bytes = subst (λ (x : Reading B). AreInBytes c.files x.sources) (sym same) so.bytes;
+  ends_first end old new comes =
+      covers (λ files. first files >>= next files) first end old old new (nothing_read old)
+      (where_all (λ c. Covers c.files (first c.files >>= next c.files) (first c.files)) old.content
+      (λ c. record {
+        there = first_all (next c.files) (IsThere c.files) (first c.files).sources (first c.files).answer;
+        may = first_may (next c.files) (first c.files).sources (first c.files).answer;
+        ended = λ o is all.
+            let same = on_end (next c.files) (first c.files) o is in
+            (ap (λ (x : Reading B). x.answer) same, subst (λ (x : Reading B). AreInBytes c.files x.sources) (sym same) all);
       }))
-  ends_first ends.ReadFault old new comes = record {
-    rose = comes.rose;
-    quiet = comes.quiet;
-    stays = comes.stays;
-    only = comes.only;
-    lacks = λ willing there. comes.lacks willing (where_told (λ c. AreThere c.files (first c.files >>= next c.files).sources)
-        (λ c. AreThere c.files (first c.files).sources) old.content there
-        (λ c all. first_all (next c.files) _ (first c.files).sources (first c.files).answer all));
-  }
-  ends_first (ends.Stopped stop) old new comes =
-      stopped_so stop comes (λ told. where_told (λ c. (o : Outcome) → MayComeTo (first c.files).answer o → Stops o c new.content)
-      (λ c. (o : Outcome) → MayComeTo (first c.files >>= next c.files).answer o → Stops o c new.content) old.content told
-      (λ c so o may. so o (first_may (next c.files) (first c.files).sources (first c.files).answer o may)))
+      comes
 
   -- or it was read, and the next did this
   pub then_comes : (x : A) (r : Result B End) (old mid new : Seen) → IsRead first x old mid → ComesTo (λ files. next files x) r mid new

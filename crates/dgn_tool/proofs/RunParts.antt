@@ -20,12 +20,12 @@ named_so o q r old new same comes = subst (λ (x : Outcome). Writes r (Tells x r
 -- a line that ends the run was said
 pub line_ends : (ending : Ending) (line : List ℕ) (old new : Seen) → Writes {T = Unit {0}} (Ok tt) (SaysAll (Ok tt) line) old new
     → Writes {T = Ending} (Ok ending) (Tells (ended (status_said ending) line) (Ok ending)) old new
-line_ends ending line old new said = done_so tt ending said (line_said ending line old.content new.content)
+line_ends ending line old new said = done_so tt ending said (line_said (status_said ending) line old.content new.content)
 
 -- or that was stopped
 pub line_stops : (ending : Ending) (line : List ℕ) (stop : Stop) (old new : Seen) → Writes {T = Unit {0}} (Err stop) (SaysAll (Err stop) line) old new
     → Writes {T = Ending} (Err stop) (Tells (ended (status_said ending) line) (Err stop)) old new
-line_stops ending line stop old new said = stopped_so stop said (line_stopped ending line stop old.content new.content)
+line_stops ending line stop old new said = stopped_so stop said (line_stopped (status_said ending) line stop old.content new.content)
 
 -- a part that reads nothing wanted memory before it did anything
 pub wants : (o : Outcome) (old : Seen) → Writes {T = Ending} (Err stops.Memory) (Tells o (Err stops.Memory)) old old

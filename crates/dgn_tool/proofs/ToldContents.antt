@@ -1,14 +1,12 @@
 -- What is told over a part of a run: by its ending, by a stop, and that reading before it changes nothing there.
-use Rattle.std.proofs.Common.{◌≡◌, List, [], ◌++◌, append_assoc, ℕ, take, drop, inl, inr, true, false, Bool, Option, Some, None, Ok, Err, refl, sym, ap, ◌∙◌}
+use Rattle.std.proofs.Common.{◌≡◌, List, [], ◌++◌, append_assoc, ℕ, take, drop, inl, inr, true, false, Bool, Option, Some, None, Err, refl, sym, ap, ◌∙◌}
 use Rattle.std.specs.Prelude.{option_map, IfSome}
 use Rattle.std.proofs.lemmas.List.{append-nil, take-append-drop}
 use Rattle.dgn_desk.specs.Desk.{SaysAll}
 use Rattle.dgn_desk.specs.declared.stop.Stop.{Stop}
 use Rattle.dgn_desk.specs.Content.{Content, Files, all_said, spoken, with_left, OnlyLeftDiffers}
 use Rattle.dgn_tool.specs.Ended.{Outcome, ended}
-use Rattle.dgn_tool.specs.Ends.{Tells, status_said}
 use Rattle.dgn_tool.specs.Leaving.{Leaves, Stops, IsFrontOf, HoldsFront, InOrder, IsBegun, settled_after}
-use Rattle.dgn_tool.specs.declared.ending.Ending.{Ending}
 use Rattle.dgn_tool.specs.declared.status.Status.{Status}
 
 -- so many first bytes are a front
@@ -20,9 +18,10 @@ pub where_told : (P Q : Content → Type 0) (old : Option Content) → IfSome ol
 where_told P Q None known so = tt
 where_told P Q (Some c) known so = so c known
 
-pub all_told : (old : Option Content) → IfSome old (λ _. Unit {0})
-all_told None = tt
-all_told (Some c) = tt
+-- and what holds of each
+pub where_all : (P : Content → Type 0) (old : Option Content) → ((c : Content) → P c) → IfSome old P
+where_all P None so = tt
+where_all P (Some c) so = so c
 
 -- of the file that is to be written nothing was written
 unbegun : (file : Option (List ℕ × List ℕ)) (files : Files) → HoldsFront file files files
@@ -69,10 +68,10 @@ pub said_behind : (text : List ℕ) (c : Content) → all_said (spoken text c) �
 said_behind text c = sym (append_assoc c.settled c.since text)
 
 -- a line that ends a run was said
-pub line_said : (ending : Ending) (line : List ℕ) (old now : Option Content) → now ≡ option_map (spoken line) old
-    → Tells (ended (status_said ending) line) (Ok ending) old now
-line_said ending line None now e = tt
-line_said ending line (Some c) now e =
+pub line_said : (status : Status) (line : List ℕ) (old now : Option Content) → now ≡ option_map (spoken line) old
+    → IfSome old (λ c. Leaves (ended status line) status c now)
+line_said status line None now e = tt
+line_said status line (Some c) now e =
     record {
       status_is = refl;
       content = spoken line c;
@@ -83,24 +82,20 @@ line_said ending line (Some c) now e =
     }
 
 -- or a front of it was
-pub front_said : (status : Status) (line front : List ℕ) (old now : Option Content) → IsFrontOf line front → now ≡ option_map (spoken front) old
+pub line_stopped : (status : Status) (line : List ℕ) (stop : Stop) (old now : Option Content) → SaysAll (Err stop) line old now
     → IfSome old (λ c. Stops (ended status line) c now)
-front_said status line front None now is e = tt
-front_said status line front (Some c) now is e =
+line_stopped status line stop None now said = tt
+line_stopped status line stop (Some c) now said =
     record {
-      content = spoken front c;
-      told_is = e;
-      front = front;
-      is_front = is;
-      said_is = said_behind front c;
+      content = spoken (take said.0 line) c;
+      told_is = said.2;
+      front = take said.0 line;
+      is_front = is_taken line said.0;
+      said_is = said_behind (take said.0 line) c;
       files_are = refl;
       in_order = inr refl;
       begun_is = refl;
     }
-
-pub line_stopped : (ending : Ending) (line : List ℕ) (stop : Stop) (old now : Option Content) → SaysAll (Err stop) line old now
-    → Tells (ended (status_said ending) line) (Err stop) old now
-line_stopped ending line stop old now said = front_said (status_said ending) line (take said.0 line) old now (is_taken line said.0) said.2
 
 -- what was said before a file doesn't hang on what is left to read
 settled_read : (o : Outcome) (file : Option (List ℕ × List ℕ)) (left : List ℕ) (c : Content)

@@ -8,43 +8,27 @@ use Rattle.dgn_tool.specs.Ended.{Outcome}
 use Rattle.dgn_tool.specs.Inputs.{Inputs, inputs_in}
 use Rattle.dgn_tool.specs.Leaving.{files_after, Leaves}
 use Rattle.dgn_tool.specs.Outcome.{edited, outcome_of, EndsAs, IsEnding, FilesInBytes}
-use Rattle.dgn_tool.specs.Readings.{Reading, at_once, behind_sources, ◌>>=◌, ended_by, AreInBytes}
+use Rattle.dgn_tool.specs.Readings.{Reading, at_once, ◌>>=◌, ended_by, AreInBytes}
 use Rattle.dgn_tool.specs.Request.{Request, Edit}
 use Rattle.dgn_tool.specs.EditedRuns.{HasWritten, EditsFile, EditsAsAsked}
 use Rattle.dgn_tool.specs.declared.status.Status.{Status}
 use Rattle.dgn_tool.specs.declared.status.Status.TheVariants as statuses
 use Rattle.dgn_tool.proofs.EarlyEnds.{IsEarly, inputs_early, went_on}
 use Rattle.dgn_tool.proofs.InputsRead.{Went, went}
-use Rattle.dgn_tool.proofs.ReadingsInTurn.{first_all}
+use Rattle.dgn_tool.proofs.ReadingsInTurn.{first_all, on_value}
 use Rattle.dgn_tool.proofs.ScriptEdits.{untouched_by_scripts}
 
 -- such a status is that of an ending
 pub is_ending : (status : Status) → HasWritten status → IsEnding status
 is_ending statuses.Done written = tt
 is_ending statuses.SomeRefused written = tt
-is_ending statuses.Usage written = absurd written
-is_ending statuses.BadScript written = absurd written
-is_ending statuses.BadDesign written = absurd written
-is_ending statuses.ReadFault written = absurd written
-is_ending statuses.WriteFault written = absurd written
-is_ending statuses.Memory written = absurd written
-is_ending statuses.TooLong written = absurd written
-is_ending statuses.BadPatch written = absurd written
-is_ending statuses.PatchRefused written = absurd written
+is_ending _ written = absurd written
 
 -- no outcome with which reading ends a run has such a status
 not_early : (status : Status) → IsEarly status → HasWritten status → ⊥
 not_early statuses.Done early written = early
 not_early statuses.SomeRefused early written = early
-not_early statuses.Usage early written = written
-not_early statuses.BadScript early written = written
-not_early statuses.BadDesign early written = written
-not_early statuses.ReadFault early written = written
-not_early statuses.WriteFault early written = written
-not_early statuses.Memory early written = written
-not_early statuses.TooLong early written = written
-not_early statuses.BadPatch early written = written
-not_early statuses.PatchRefused early written = written
+not_early _ early written = written
 
 -- what a run read that has such a status, and what it came to then
 pub record WentOn (input script : List ℕ) (files : Files) (f : Inputs → Outcome) : Type 0 where
@@ -62,7 +46,7 @@ goes_on input script files f are written =
     record {
       inputs = found.0;
       went = went input script files found.0 found.1 (first_all behind _ read.sources read.answer are);
-      same = ap (λ r. ended_by (behind_sources read.sources r behind).answer) found.1;
+      same = ap (λ (x : Reading Outcome). ended_by x.answer) (on_value behind read found.0 found.1);
     }
 
 -- an edit that did so, and left these files
