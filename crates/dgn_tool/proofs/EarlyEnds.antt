@@ -32,13 +32,14 @@ IsEarly statuses.BadPatch = Unit {0}
 IsEarly statuses.Memory = Unit {0}
 IsEarly _ = ⊥
 
--- reading that ends the run ends it with such a status, says a line and writes nothing
+-- an outcome with such a status that says a line and writes nothing
 pub record EndsSo (o : Outcome) : Type 0 where
   pub status : Status
   pub line : List ℕ
   pub is : o ≡ ended status line
   pub early : IsEarly status
 
+-- where reading ends the run, it ends it so
 abbrev pub EndsEarly : {T : Type 0} → Result T Outcome → Type 0
 EndsEarly (Ok x) = Unit {0}
 EndsEarly (Err o) = EndsSo o
@@ -91,7 +92,8 @@ seconds_early files before (name ∷ names) =
 
 pub inputs_early : (files : Files) (input script : List ℕ) → EndsEarly (inputs_in files input script).answer
 inputs_early files input script =
-    let behind_seconds : Opened → List Command → List SecondValue → Reading Inputs = λ d cs vs. at_once (Ok (record { drawing = d; steps = given_all cs vs })) in
+    let behind_seconds : Opened → List Command → List SecondValue → Reading Inputs =
+    λ d cs vs. at_once (Ok (record { drawing = d; steps = given_all cs vs })) in
     let behind_script : Opened → List Command → Reading Inputs = λ d cs. seconds_in files cs >>= behind_seconds d cs in
     on_early (drawing_in files input).sources (drawing_in files input).answer (λ d. commands_in files script >>= behind_script d)
     (drawing_early files input)

@@ -1,5 +1,6 @@
 -- What is known of the files by what reading them gave.
-use Rattle.std.proofs.Common.{◌≡◌, ◌≤◌, ◌++◌, ◌∷◌, List, [], ℕ, length, map, nat_lt, Bool, true, false, if◌then◌else◌, Result, Ok, Err, refl, sym, ap, ◌∙◌, subst, arith}
+use Rattle.std.proofs.Common.{◌≡◌, ◌≤◌, ◌++◌, ◌∷◌, List, [], ℕ, length, map, nat_lt, Bool, true, false, if◌then◌else◌, Result, Ok, Err}
+use Rattle.std.proofs.Common.{refl, sym, ap, ◌∙◌, subst, arith}
 use Rattle.std.proofs.Common.{append_assoc}
 use Rattle.std.specs.Prelude.{All, codes}
 use Rattle.std.proofs.lemmas.Bool.Decides.{nat_tests}
@@ -142,7 +143,8 @@ went_so input script files d cs vs i opened reads come bytes is =
 pub went : (input script : List ℕ) (files : Files) (i : Inputs) → (inputs_in files input script).answer ≡ Ok i
     → AreInBytes files (inputs_in files input script).sources → Went input script files i
 went input script files i is are =
-    let behind_seconds : Opened → List Command → List SecondValue → Reading Inputs = λ d cs vs. at_once (Ok (record { drawing = d; steps = given_all cs vs })) in
+    let behind_seconds : Opened → List Command → List SecondValue → Reading Inputs =
+    λ d cs vs. at_once (Ok (record { drawing = d; steps = given_all cs vs })) in
     let behind_script : Opened → List Command → Reading Inputs = λ d cs. seconds_in files cs >>= behind_seconds d cs in
     let drawing : Reading Opened = drawing_in files input in
     let script_read : Reading (List Command) = commands_in files script in

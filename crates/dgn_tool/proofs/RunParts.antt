@@ -29,7 +29,8 @@ line_stops ending line stop old new said = stopped_so stop said (line_stopped (s
 
 -- a part that reads nothing wanted memory before it did anything
 pub wants : (o : Outcome) (old : Seen) → Writes {T = Ending} (Err stops.Memory) (Tells o (Err stops.Memory)) old old
-wants o old = wanted old (where_told _ (λ c. Stops o c old.content) old.content (stopped_early old.content old.content (nothing_done old.content)) (λ c stops. stops o))
+wants o old =
+    wanted old (where_told _ (λ c. Stops o c old.content) old.content (stopped_early old.content old.content (nothing_done old.content)) (λ c stops. stops o))
 
 -- it reads nothing
 pub reads_nothing : (r : Result Ending Stop) (end : End) → end ≡ end_of r → end ≡ ends.ReadFault → ⊥

@@ -61,9 +61,10 @@ IsThere files source = IsSome (maps.get files source.name)
 abbrev pub IsInBytes : Files → Source → Type 0
 IsInBytes files source = length (bytes_of files source.name) ≤ source.limit → IsBytes (bytes_of files source.name)
 
--- and so it is with each of them
+-- each file is there
 abbrev pub AreThere : Files → List Source → Type 0
 AreThere files sources = AllByRecursion (IsThere files) sources
 
+-- each is in bytes
 abbrev pub AreInBytes : Files → List Source → Type 0
 AreInBytes files sources = AllByRecursion (IsInBytes files) sources

@@ -42,15 +42,7 @@ either name false x y is_x is_y = is_y
 unwritten : (status : Status) → IsEarly status → has_written status ≡ false
 unwritten statuses.Done early = absurd early
 unwritten statuses.SomeRefused early = absurd early
-unwritten statuses.Usage early = refl
-unwritten statuses.BadScript early = refl
-unwritten statuses.BadDesign early = refl
-unwritten statuses.ReadFault early = refl
-unwritten statuses.WriteFault early = refl
-unwritten statuses.Memory early = refl
-unwritten statuses.TooLong early = refl
-unwritten statuses.BadPatch early = refl
-unwritten statuses.PatchRefused early = refl
+unwritten _ early = refl
 
 -- whatever is read first
 read_writes : {A : Type 0} (name : Option (List ℕ)) (before : List Source) (r : Result A Outcome) (next : A → Reading Outcome) → EndsEarly r

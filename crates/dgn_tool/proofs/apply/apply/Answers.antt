@@ -13,10 +13,11 @@ use Rattle.dgn_tool.proofs.PatchOutcomes.{patched_as}
 use Rattle.dgn_tool.proofs.ReadingsInTurn.{run_ends_first, run_then_ends, comes_so}
 use Rattle.dgn_tool.proofs.apply.apply.Goals as goal
 
--- what the run comes to by the entries, and what is read behind IN
+-- what the run comes to by the entries
 abbrev behind_entries : List ℕ → Opened → Files → List Packed → Reading Outcome
 behind_entries output d files es = at_once (Ok (patched d es output))
 
+-- what is read behind IN
 abbrev behind_input : List ℕ → List ℕ → Files → Opened → Reading Outcome
 behind_input patch output files d = entries_in files patch >>= behind_entries output d files
 

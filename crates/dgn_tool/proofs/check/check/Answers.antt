@@ -16,10 +16,11 @@ use Rattle.dgn_tool.proofs.FilesRead.{counts}
 use Rattle.dgn_tool.proofs.ReadingsInTurn.{same_reading, reads_on, run_ends_first, run_then_ends, comes_so}
 use Rattle.dgn_tool.proofs.check.check.Goals as goal
 
--- what the run comes to on the drawing, and by the bytes of IN
+-- what the run comes to on the drawing
 abbrev behind_drawing : Opened → Reading Outcome
 behind_drawing d = at_once (Ok (checked d))
 
+-- and by the bytes of IN
 abbrev behind_bytes : Files → List ℕ → Reading Outcome
 behind_bytes files bytes = at_once (drawing_opened (opening bytes)) >>= behind_drawing
 

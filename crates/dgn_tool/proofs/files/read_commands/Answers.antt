@@ -16,10 +16,11 @@ use Rattle.dgn_tool.proofs.FilesRead.{items_within}
 use Rattle.dgn_tool.proofs.ReadingsInTurn.{ends_first, then_comes, gives_so, comes_so, wants_more}
 use Rattle.dgn_tool.proofs.files.read_commands.Goals as goal
 
--- the text of SCRIPT, and what is read behind it
+-- the text of SCRIPT
 abbrev text_in : List ℕ → Files → Reading (List ℕ)
 text_in script files = file_in files script MOST_SCRIPT (codes "too long script\n")
 
+-- and what is read behind it
 abbrev behind : Files → List ℕ → Reading (List Command)
 behind files text = at_once (commands_read (commands_of text))
 

@@ -19,10 +19,11 @@ use Rattle.dgn_tool.proofs.PatchOutcomes.{few_read, bad_ends}
 use Rattle.dgn_tool.proofs.ReadingsInTurn.{ends_first, then_comes, gives_so, comes_so, wants_more}
 use Rattle.dgn_tool.proofs.files.read_entries.Goals as goal
 
--- the bytes of PATCH, and what is read behind them
+-- the bytes of PATCH
 abbrev patch_in : List ℕ → Files → Reading (List ℕ)
 patch_in patch files = file_in files patch MOST_PATCH (codes "too long patch\n")
 
+-- and what is read behind them
 abbrev behind : Files → List ℕ → Reading (List Packed)
 behind files bytes = at_once (entries_read (length bytes) (patch_of bytes))
 

@@ -13,13 +13,15 @@ use Rattle.dgn_tool.specs.Readings.{Reading, at_once, ◌>>=◌}
 use Rattle.dgn_tool.proofs.ReadingsInTurn.{ends_first, then_comes, gives}
 use Rattle.dgn_tool.proofs.inputs.read_inputs.Goals as goal
 
--- what is read behind the second files, behind SCRIPT, and behind IN
+-- what is read behind the second files
 abbrev behind_seconds : Opened → List Command → Files → List SecondValue → Reading Inputs
 behind_seconds d cs files vs = at_once (Ok (record { drawing = d; steps = given_all cs vs }))
 
+-- behind SCRIPT
 abbrev behind_script : Opened → Files → List Command → Reading Inputs
 behind_script d files cs = seconds_in files cs >>= behind_seconds d cs files
 
+-- and behind IN
 abbrev behind_input : List ℕ → Files → Opened → Reading Inputs
 behind_input script files d = commands_in files script >>= behind_script d files
 

@@ -29,4 +29,5 @@ returns-in-Ok g c =
     c.pack_commands.result) c.deref.ensures.value c.pack_commands.ensures))
 
 pub returns-in-Err : goal.returns-in-Err
-returns-in-Err g c = run_ends_first (λ files. inputs_in files c.args.input.now c.args.script.now) (behind c.args.patch.now) c.in-Err.end _ _ c.in-Err.ensures.read
+returns-in-Err g c =
+    run_ends_first (λ files. inputs_in files c.args.input.now c.args.script.now) (behind c.args.patch.now) c.in-Err.end _ _ c.in-Err.ensures.read

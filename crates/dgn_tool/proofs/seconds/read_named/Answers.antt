@@ -9,10 +9,11 @@ use Rattle.dgn_tool.specs.Readings.{Reading, at_once, file_in}
 use Rattle.dgn_tool.proofs.ReadingsInTurn.{ends_first, then_comes, gives_so, wants_more}
 use Rattle.dgn_tool.proofs.seconds.read_named.Goals as goal
 
--- the bytes of the file, and what is read behind them
+-- the bytes of the file
 abbrev bytes_in : List ℕ → Files → Reading (List ℕ)
 bytes_in name files = file_in files name MOST_DESIGN (codes "too long import\n")
 
+-- and what is read behind them
 abbrev behind : Files → List ℕ → Reading SecondValue
 behind files bytes = at_once (Ok (second_of bytes))
 
