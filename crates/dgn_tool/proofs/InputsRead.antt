@@ -42,17 +42,17 @@ parts files before (Ok x) next y is all =
 parts files before (Err o) next y is all = absurd (let e = is in cc)
 
 -- a file is within its limit and bytes, and these are the bytes
-pub record IsRead (files : Files) (name : List ℕ) (limit : ℕ) (bytes : List ℕ) : Type 0 where
+pub record HasBytes (files : Files) (name : List ℕ) (limit : ℕ) (bytes : List ℕ) : Type 0 where
   pub few : length (bytes_of files name) ≤ limit
   pub same : bytes ≡ bytes_of files name
   pub bytes_are : IsBytes (bytes_of files name)
 
 file_parts : (files : Files) (name : List ℕ) (limit : ℕ) (line bytes : List ℕ) → (file_in files name limit line).answer ≡ Ok bytes
-    → AreInBytes files (file_in files name limit line).sources → IsRead files name limit bytes
+    → AreInBytes files (file_in files name limit line).sources → HasBytes files name limit bytes
 file_parts files name limit line bytes is are = by (nat_lt limit (length (bytes_of files name))) refl is
   where
     by : (long : Bool) → nat_lt limit (length (bytes_of files name)) ≡ long
-        → (if long then Err (ended statuses.TooLong line) else Ok (bytes_of files name)) ≡ Ok bytes → IsRead files name limit bytes
+        → (if long then Err (ended statuses.TooLong line) else Ok (bytes_of files name)) ≡ Ok bytes → HasBytes files name limit bytes
     by true test is = absurd (let e = is in cc)
     by false test is =
         let few : length (bytes_of files name) ≤ limit = grind (arith, nat_tests) in
