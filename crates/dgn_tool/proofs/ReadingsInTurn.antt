@@ -110,7 +110,7 @@ wants_more reading old new reads = record {
 }
 
 -- a part that reads nothing came to its outcome
-pub comes_at_once : (T : Type 0) (o : Outcome) (r : Result Ending Stop) (old new : Seen) → Writes r (Tells o r) old new
+comes_at_once : (T : Type 0) (o : Outcome) (r : Result Ending Stop) (old new : Seen) → Writes r (Tells o r) old new
     → ComesTo {T = T} (λ _. at_once (Err o)) (Err (end_of r)) old new
 comes_at_once T o (Ok ending) old new comes =
     done_so ending ending comes (λ tells. where_told _ (λ c. EndsThere {T = T} (at_once (Err o)) ending c new.content) old.content tells
@@ -280,3 +280,11 @@ module _ {A : Type 0} (first : Files → Reading A) (next : Files → A → Read
       same_reading whole_ending (λ files. first files >>= λ y. ending_of (next files y)) (Err end) old new
       (λ files. ends_on (first files).sources (first files).answer (next files))
       (then_comes first (λ files y. ending_of (next files y)) x (Err end) old mid new read comes)
+
+-- a part that reads nothing came to the run's outcome behind what was read
+pub run_comes : {A : Type 0} (first : Files → Reading A) (f : A → Outcome) (x : A) (r : Result Ending Stop) (end : End) (old mid new : Seen)
+    → IsRead first x old mid → end ≡ end_of r → Writes r (Tells (f x) r) mid new
+    → ComesTo (λ files. ending_of (first files >>= λ y. at_once (Ok (f y)))) (Err end) old new
+run_comes first f x r end old mid new read is comes =
+    run_then_ends first (λ _ y. at_once (Ok (f y))) x end old mid new read
+    (comes_so (λ _. ending_of (at_once (Ok (f x)))) (f x) r end mid new (λ _. refl) is comes)

@@ -1,25 +1,21 @@
-use Rattle.std.proofs.Common.{◌≡◌, ◌<◌, ◌^◌, List, ℕ, length, Ok, Err, ap, sym, subst, ◌∙◌}
+use Rattle.std.proofs.Common.{◌≡◌, ◌<◌, ◌^◌, List, ℕ, length, Ok, ap, sym, subst, ◌∙◌}
 use Rattle.dgn_desk.specs.Content.{Files}
 use Rattle.elem_index.specs.Answers.{opened_of}
 use Rattle.elem_index.specs.Opened.{Opened}
 use Rattle.patch_file.specs.PatchView.{all_packed}
-use Rattle.patch_file.specs.Spelling.{Packed}
 use Rattle.patch_file.specs.declared.patch_entry.PatchEntry.{PatchEntry}
 use Rattle.dgn_tool.specs.Applied.{entries_outcome, patched}
 use Rattle.dgn_tool.specs.Ended.{Outcome}
 use Rattle.dgn_tool.specs.Inputs.{drawing_in, entries_in}
-use Rattle.dgn_tool.specs.Readings.{Reading, at_once, ◌>>=◌, ending_of}
+use Rattle.dgn_tool.specs.Readings.{Reading, at_once, ◌>>=◌}
 use Rattle.dgn_tool.proofs.PatchOutcomes.{patched_as}
-use Rattle.dgn_tool.proofs.ReadingsInTurn.{run_ends_first, run_then_ends, comes_so}
+use Rattle.dgn_tool.proofs.ReadingsInTurn.{run_ends_first, run_then_ends, run_comes}
+use Rattle.dgn_tool.proofs.RunParts.{named_so}
 use Rattle.dgn_tool.proofs.apply.apply.Goals as goal
-
--- what the run comes to by the entries
-abbrev behind_entries : List ℕ → Opened → Files → List Packed → Reading Outcome
-behind_entries output d files es = at_once (Ok (patched d es output))
 
 -- what is read behind IN
 abbrev behind_input : List ℕ → List ℕ → Files → Opened → Reading Outcome
-behind_input patch output files d = entries_in files patch >>= behind_entries output d files
+behind_input patch output files d = entries_in files patch >>= λ es. at_once (Ok (patched d es output))
 
 pub apply_entries-requires-clause-many : goal.apply_entries-requires-clause-many
 apply_entries-requires-clause-many g c =
@@ -36,7 +32,7 @@ returns-in-Err-read_entries g c =
     let d = opened_of c.in-Ok.design in
     let end = c.in-Err-read_entries.end in
     run_then_ends (λ files. drawing_in files c.args.input.now) (behind_input patch output) d end _ _ _ c.in-Ok.ensures.read
-    (run_ends_first (λ files. entries_in files patch) (behind_entries output d) end _ _ c.in-Err-read_entries.ensures.read)
+    (run_ends_first (λ files. entries_in files patch) (λ _ es. at_once (Ok (patched d es output))) end _ _ c.in-Err-read_entries.ensures.read)
 
 pub returns-in-Ok-read_entries : goal.returns-in-Ok-read_entries
 returns-in-Ok-read_entries g c =
@@ -48,11 +44,9 @@ returns-in-Ok-read_entries g c =
     let end = c.of.result in
     let tail_is : c.deref.result.now ≡ design.tail.items = c.deref.ensures.value in
     let entries_are : c.deref-in-Ok-read_entries.result.now ≡ c.in-Ok-read_entries.entries.items = c.deref-in-Ok-read_entries.ensures.value in
-    run_then_ends (λ files. drawing_in files c.args.input.now) (behind_input patch output) d end _ _ _ c.in-Ok.ensures.read
-    (run_then_ends (λ files. entries_in files patch) (behind_entries output d) es end _ _ _ c.in-Ok-read_entries.ensures.read
-    (comes_so (λ files. ending_of (behind_entries output d files es))
-    (entries_outcome design.body.items c.deref.result.now (all_packed c.deref-in-Ok-read_entries.result.now) output) c.apply_entries.result end _ _
-    (λ _. ap (λ (o : Outcome). at_once (Err o)) (patched_as design es output c.in-Ok.ensures.whole
+    let o = patched_as design es output c.in-Ok.ensures.whole
     ∙ ap (λ (t : List ℕ). entries_outcome design.body.items t es output) (sym tail_is)
-    ∙ ap (λ (l : List PatchEntry). entries_outcome design.body.items c.deref.result.now (all_packed l) output) (sym entries_are)))
-    c.of.ensures c.apply_entries.ensures))
+    ∙ ap (λ (l : List PatchEntry). entries_outcome design.body.items c.deref.result.now (all_packed l) output) (sym entries_are) in
+    run_then_ends (λ files. drawing_in files c.args.input.now) (behind_input patch output) d end _ _ _ c.in-Ok.ensures.read
+    (run_comes (λ files. entries_in files patch) (λ ps. patched d ps output) es c.apply_entries.result end _ _ _ c.in-Ok-read_entries.ensures.read c.of.ensures
+    (named_so (patched d es output) _ c.apply_entries.result _ _ o c.apply_entries.ensures))

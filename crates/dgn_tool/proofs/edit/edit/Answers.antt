@@ -1,20 +1,14 @@
-use Rattle.std.proofs.Common.{List, ℕ, Ok, refl, subst}
-use Rattle.dgn_desk.specs.Content.{Files}
+use Rattle.std.proofs.Common.{List, Ok, subst}
 use Rattle.dgn_drawing.specs.declared.command.Command.{Command}
 use Rattle.elem_index.specs.Answers.{opened_of}
 use Rattle.dgn_answers.specs.Given.{given_all}
 use Rattle.dgn_import.specs.Seconds.{waiting}
-use Rattle.dgn_tool.specs.Ended.{Outcome}
 use Rattle.dgn_tool.specs.Ends.{DeskComes}
-use Rattle.dgn_tool.specs.Inputs.{Inputs, inputs_in}
+use Rattle.dgn_tool.specs.Inputs.{inputs_in}
 use Rattle.dgn_tool.specs.Outcome.{edited}
-use Rattle.dgn_tool.specs.Readings.{Reading, at_once, ending_of}
-use Rattle.dgn_tool.proofs.ReadingsInTurn.{run_ends_first, run_then_ends, comes_so}
+use Rattle.dgn_tool.specs.Readings.{at_once}
+use Rattle.dgn_tool.proofs.ReadingsInTurn.{run_ends_first, run_comes}
 use Rattle.dgn_tool.proofs.edit.edit.Goals as goal
-
--- what the run comes to by what was read
-abbrev behind : List ℕ → Files → Inputs → Reading Outcome
-behind name files i = at_once (Ok (edited i.drawing i.steps name))
 
 pub returns-in-Ok : goal.returns-in-Ok
 returns-in-Ok g c =
@@ -22,12 +16,12 @@ returns-in-Ok g c =
     let d = opened_of read.design in
     let vs = waiting read.seconds.items in
     let name = c.args.output.now in
-    let i : Inputs = record { drawing = d; steps = given_all read.commands.items vs } in
-    run_then_ends (λ files. inputs_in files c.args.input.now c.args.script.now) (behind name) i c.of.result _ _ _ c.in-Ok.ensures.read
-    (comes_so (λ files. ending_of (behind name files i)) (edited d i.steps name) c.run_script.result c.of.result _ _ (λ _. refl) c.of.ensures
+    run_comes (λ files. inputs_in files c.args.input.now c.args.script.now) (λ i. edited i.drawing i.steps name)
+    (record { drawing = d; steps = given_all read.commands.items vs }) c.run_script.result c.of.result _ _ _ c.in-Ok.ensures.read c.of.ensures
     (subst (λ (cs : List Command). DeskComes g.D.Desk (edited d (given_all cs vs) name) c.read_inputs.new.desk c.run_script.new.desk
-    c.run_script.result) c.deref.ensures.value c.run_script.ensures))
+    c.run_script.result) c.deref.ensures.value c.run_script.ensures)
 
 pub returns-in-Err : goal.returns-in-Err
 returns-in-Err g c =
-    run_ends_first (λ files. inputs_in files c.args.input.now c.args.script.now) (behind c.args.output.now) c.in-Err.end _ _ c.in-Err.ensures.read
+    run_ends_first (λ files. inputs_in files c.args.input.now c.args.script.now)
+    (λ _ i. at_once (Ok (edited i.drawing i.steps c.args.output.now))) c.in-Err.end _ _ c.in-Err.ensures.read

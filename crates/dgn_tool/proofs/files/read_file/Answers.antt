@@ -1,14 +1,12 @@
-use Rattle.std.proofs.Common.{◌≡◌, List, ℕ, [], ◌∷◌, Ok, Err, refl, sym, subst, arith}
+use Rattle.std.proofs.Common.{◌≡◌, List, ℕ, [], ◌∷◌, Ok, Err, refl, subst, arith}
 use Rattle.dgn_desk.specs.Content.{Files, bytes_of}
 use Rattle.dgn_desk.specs.Seen.{seen, OnlyReads}
 use Rattle.dgn_drawing.specs.WellFormed.{IsBytes}
 use Rattle.dgn_tool.specs.Ended.{ended}
-use Rattle.dgn_tool.specs.Ends.{ComesTo}
 use Rattle.dgn_tool.specs.Readings.{Reading, file_in, at_once, IsThere, AreThere, AreInBytes}
-use Rattle.dgn_tool.specs.declared.end.End.{End}
 use Rattle.dgn_tool.specs.declared.status.Status.TheVariants as statuses
 use Rattle.dgn_tool.proofs.FilesRead.{items_within, file_gives, file_overruns}
-use Rattle.dgn_tool.proofs.ReadingsInTurn.{Goes, continues, comes_at_once, wants_more}
+use Rattle.dgn_tool.proofs.ReadingsInTurn.{Goes, continues, comes_so, wants_more}
 use Rattle.dgn_tool.proofs.ToldContents.{where_told}
 use Rattle.dgn_tool.proofs.files.read_file.Goals as goal
 
@@ -47,8 +45,7 @@ returns-in-Err-TooLong-clause-read g c =
       answer = file_overruns k.files name limit line long;
       bytes = (λ few. absurd (omega (arith, long, few)), tt);
     }))
-    (subst (λ (e : End). ComesTo rest (Err e) (seen g.D.Desk c.read_all.new.desk) (seen g.D.Desk c.end_with.new.desk)) (sym c.of.ensures)
-    (comes_at_once (List ℕ) (ended statuses.TooLong line) c.end_with.result _ _ c.end_with.ensures))
+    (comes_so rest (ended statuses.TooLong line) c.end_with.result c.of.result _ _ (λ _. refl) c.of.ensures c.end_with.ensures)
 
 pub returns-in-Err-Fault-clause-read : goal.returns-in-Err-Fault-clause-read
 returns-in-Err-Fault-clause-read g c =
