@@ -18,9 +18,8 @@ use Rattle.dgn_tool.specs.declared.status.Status.{Status}
 use Rattle.dgn_tool.specs.declared.status.Status.TheVariants as statuses
 use Rattle.dgn_tool.specs.FileAfter.{file_after}
 use Rattle.dgn_tool.specs.EditedRuns.{HasWritten, steps_with}
-use Rattle.dgn_tool.specs.Outcome.{outcome, EndsAs, IsEnding}
+use Rattle.dgn_tool.specs.Outcome.{outcome, EndsAs, IsEnding, FilesInBytes}
 use Rattle.dgn_tool.specs.Packing.{packed_after}
-use Rattle.dgn_tool.specs.RunInBytes.{FilesInBytes}
 use Rattle.dgn_laws.specs.PatchLaws.{DiffersAt, refused_at}
 
 -- what a run of `apply` comes to that writes the file which `edit` would have written, and says how many entries there were

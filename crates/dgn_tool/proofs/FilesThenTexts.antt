@@ -84,19 +84,19 @@ module _ (status : Status) (text name bytes : List ℕ) where
       }
 
   pub filed_first : (r : Result Ending Stop) (old mid now : Option Content) → mid ≡ option_map (filed name bytes) old
-      → Tells (λ _. ended status text) r mid now → Tells (λ _. filed_then_said status text name bytes) r old now
+      → Tells (ended status text) r mid now → Tells (filed_then_said status text name bytes) r old now
   filed_first (Ok ending) old mid now is tells = leaves_filed (status_said ending) old mid now is tells
   filed_first (Err stop) old mid now is tells = stops_filed old mid now is tells
 
 -- The calls that write the file and then say the text, one after the other.
 
 pub file_then_ends : (ending : Ending) (text name bytes : List ℕ) (r : Result Ending Stop) (old mid new : Seen)
-    → Writes {T = Unit {0}} (Ok tt) (FilesAll (Ok tt) name bytes) old mid → Writes r (Tells (λ _. ended (status_said ending) text) r) mid new
-    → Writes r (Tells (λ _. filed_then_said (status_said ending) text name bytes) r) old new
+    → Writes {T = Unit {0}} (Ok tt) (FilesAll (Ok tt) name bytes) old mid → Writes r (Tells (ended (status_said ending) text) r) mid new
+    → Writes r (Tells (filed_then_said (status_said ending) text name bytes) r) old new
 file_then_ends ending text name bytes r old mid new wrote ends =
     then_so tt r wrote ends (filed_first (status_said ending) text name bytes r old.content mid.content new.content)
 
 pub file_stops : (ending : Ending) (text name bytes : List ℕ) (stop : Stop) (old new : Seen)
     → Writes {T = Unit {0}} (Err stop) (FilesAll (Err stop) name bytes) old new
-    → Writes {T = Ending} (Err stop) (Tells (λ _. filed_then_said (status_said ending) text name bytes) (Err stop)) old new
+    → Writes {T = Ending} (Err stop) (Tells (filed_then_said (status_said ending) text name bytes) (Err stop)) old new
 file_stops ending text name bytes stop old new wrote = stopped_so stop wrote (written_part (status_said ending) text name bytes stop old.content new.content)

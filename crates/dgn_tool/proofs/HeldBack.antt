@@ -1,5 +1,6 @@
 -- What a run leaves of the desk below one that holds back what is said, once that is flushed: what it leaves of a desk.
-use Rattle.std.proofs.Common.{◌≡◌, ℕ, ◌≤◌, List, [], ◌∷◌, ◌++◌, Bool, true, false, Option, Some, None, Result, Ok, Err, inl, inr, refl, sym, ap, subst, ◌∙◌, append_assoc, arith}
+use Rattle.std.proofs.Common.{◌≡◌, ℕ, ◌≤◌, List, [], ◌∷◌, ◌++◌, Bool, true, false, Option, Some, None, Result, Ok, Err, inl, inr, refl, sym, ap, subst, ◌∙◌}
+use Rattle.std.proofs.Common.{append_assoc, arith}
 use Rattle.std.specs.Prelude.{IfOk, IfErr, IfSome, ◌⊎◌, if◌then◌else◌}
 use Rattle.std.proofs.lemmas.List.{append-nil, append_cancel_left}
 use Rattle.dgn_desk.specs.declared.stop.Stop.{Stop}
@@ -14,7 +15,7 @@ use Rattle.dgn_tool.specs.Request.{Request}
 use Rattle.dgn_tool.specs.Status.{number_of}
 use Rattle.dgn_tool.specs.declared.status.Status.{Status}
 use Rattle.dgn_tool.specs.declared.status.Status.TheVariants as statuses
-use Rattle.dgn_tool.proofs.ToldContents.{said_behind, stopped_early}
+use Rattle.dgn_tool.proofs.ToldContents.{where_told, said_behind, stopped_early}
 use Rattle.dgn_tool.specs.Outcome.{outcome_of}
 use Rattle.dgn_tool.specs.EditedRuns.{EditsAsAsked}
 use Rattle.dgn_tool.specs.Runs.{Runs, IsSettled, flushed_status}
@@ -54,17 +55,12 @@ all_stop o status (Some c) now leaves = ended_stops (o c.files) status c now lea
 -- however a run ended, it had come to a front of its outcome
 came_to : (request : Option Request) (old now : Seen) (status : Status) → Runs request old now status
     → IfSome old.content (λ c. Stops (outcome_of request c.files) c now.content)
-came_to request old now statuses.Done run = all_stop (outcome_of request) statuses.Done old.content now.content (run.outcome tt)
-came_to request old now statuses.SomeRefused run = all_stop (outcome_of request) statuses.SomeRefused old.content now.content (run.outcome tt)
-came_to request old now statuses.Usage run = all_stop (outcome_of request) statuses.Usage old.content now.content (run.outcome tt)
-came_to request old now statuses.BadScript run = all_stop (outcome_of request) statuses.BadScript old.content now.content (run.outcome tt)
-came_to request old now statuses.BadDesign run = all_stop (outcome_of request) statuses.BadDesign old.content now.content (run.outcome tt)
-came_to request old now statuses.ReadFault run = stopped_early (outcome_of request) old.content now.content (run.read_fault refl).2
+came_to request old now statuses.ReadFault run =
+    where_told (λ c. (o : Outcome) → Stops o c now.content) (λ c. Stops (outcome_of request c.files) c now.content) old.content
+    (stopped_early old.content now.content (run.read_fault refl).2) (λ c stops. stops (outcome_of request c.files))
 came_to request old now statuses.WriteFault run = run.prefix tt
 came_to request old now statuses.Memory run = run.prefix tt
-came_to request old now statuses.TooLong run = all_stop (outcome_of request) statuses.TooLong old.content now.content (run.outcome tt)
-came_to request old now statuses.BadPatch run = all_stop (outcome_of request) statuses.BadPatch old.content now.content (run.outcome tt)
-came_to request old now statuses.PatchRefused run = all_stop (outcome_of request) statuses.PatchRefused old.content now.content (run.outcome tt)
+came_to request old now other run = all_stop (outcome_of request) other old.content now.content (run.outcome tt)
 
 -- What was said without what is held back yet.
 

@@ -2,12 +2,10 @@ pub mod OpenSeconds
 pub mod GeneratedDrawings
 pub mod FilledTails
 pub mod TextsThenFiles
-pub mod RunInputs
 pub mod LinkedEdits
 pub mod PackedEntries
 pub mod CommandsInTurn
 pub mod StackedEdits
-pub mod UsageSaid
 pub mod GeneratedSizes
 pub mod UntouchedBytes
 pub mod NamedValues
@@ -17,10 +15,13 @@ pub mod HeldBack
 pub mod WholeRuns
 pub mod FilesThenTexts
 pub mod BlocksFilled
-pub mod InputOutcomes
+pub mod FilesRead
 pub mod SecondNames
 pub mod NameTexts
 pub mod RunParts
+pub mod ReadingsInTurn
+pub mod EarlyEnds
+pub mod InputsRead
 pub mod PatchOutcomes
 pub mod EntriesPutOn
 pub mod SecondFiles

@@ -177,24 +177,14 @@ module _ (dim rest : ℕ) (t : List ℕ) (base : List Element) where
 -- a command leaves such edits
 command_links : (t : List ℕ) (base : List Element) (s : State) (left : List Made) (c : Command) → IsEditIn c → IsStacked base s left
     → AreLinked s.dim s.rest t base left → AreLinked s.dim s.rest t base ((answer_of s c).left left)
-command_links t base s left (command.Import name by) fits stacked linked = linked
 command_links t base s left (command.Edit e) fits stacked linked =
     edit_links s.dim s.rest t base s.top left e (applied e s) fits refl (stack_top base s left stacked) linked
 command_links t base s left (command.Fenced mode e) fits stacked linked =
     fence_links s.dim s.rest t base s.top left s.mask mode e s.fence fits (stack_top base s left stacked) linked
 command_links t base s left command.Undo fits stacked linked = undo_links s.dim s.rest t base (undo_refused s) left linked
-command_links t base s left (command.Levels mask) fits stacked linked = linked
-command_links t base s left (command.Fence corners) fits stacked linked = linked
-command_links t base s left command.NoFence fits stacked linked = linked
-command_links t base s left command.Show fits stacked linked = linked
-command_links t base s left (command.Tree n) fits stacked linked = linked
-command_links t base s left command.Elements fits stacked linked = linked
-command_links t base s left command.Refs fits stacked linked = linked
-command_links t base s left (command.Links n) fits stacked linked = linked
-command_links t base s left (command.Select mode) fits stacked linked = linked
-command_links t base s left command.Audit fits stacked linked = linked
 command_links t base s left (command.Fit n) fits stacked linked =
     fit_links s.dim s.rest t base s.top left n (apply_fit s.dim s.top n) refl (stack_top base s left stacked) linked
+command_links t base s left _ fits stacked linked = linked
 
 -- a step leaves such edits
 import_leaves : (t : List ℕ) (base : List Element) (s : State) (left : List Made) (v : SecondValue) (by : Option Displacement) (came : Importing)
@@ -226,7 +216,6 @@ module _ {X : Type 0} (part : State → X) (stack : (top : List Element) (earlie
   dropped_keeps (es ∷ earlier) s = stack es earlier s
 
   command_keeps : (s : State) (c : Command) → part (answer_of s c).state ≡ part s
-  command_keeps s (command.Import name by) = refl
   command_keeps s (command.Edit e) = pushed_keeps (applied e s) s
   command_keeps s (command.Fenced mode e) = pushed_if_keeps (fence_applied mode e s) s
   command_keeps s command.Undo = dropped_keeps s.earlier s
@@ -234,14 +223,8 @@ module _ {X : Type 0} (part : State → X) (stack : (top : List Element) (earlie
   command_keeps s (command.Fence corners) =
       cond_both (fence_refused corners) s (with_fence (Some corners) s) (λ (after : State). part after ≡ part s) (λ _. refl) (λ _. fence (Some corners) s)
   command_keeps s command.NoFence = fence None s
-  command_keeps s command.Show = refl
-  command_keeps s (command.Tree n) = refl
-  command_keeps s command.Elements = refl
-  command_keeps s command.Refs = refl
-  command_keeps s (command.Links n) = refl
-  command_keeps s (command.Select mode) = refl
-  command_keeps s command.Audit = refl
   command_keeps s (command.Fit n) = pushed_keeps (fit_applied n s) s
+  command_keeps s _ = refl
 
   import_keeps : (came : Importing) (s : State) → part (import_left came s) ≡ part s
   import_keeps (Appends b count) s = stack (s.top ++ elements_of s.dim b) (s.top ∷ s.earlier) s

@@ -67,20 +67,7 @@ rest_open (v ∷ vs) all = All-tail IsOpen v vs all
 -- a command is such a step, and leaves such files
 one_given : (c : Command) (vs : List SecondValue) → IsEditIn c → All IsOpen vs → IsStep (given c vs) × All IsOpen (seconds_behind c vs)
 one_given (command.Import name by) vs fits all = ((fits, first_open vs all), rest_open vs all)
-one_given (command.Edit e) vs fits all = (fits, all)
-one_given (command.Fenced mode e) vs fits all = (fits, all)
-one_given command.Undo vs fits all = (fits, all)
-one_given (command.Levels mask) vs fits all = (fits, all)
-one_given (command.Fence corners) vs fits all = (fits, all)
-one_given command.NoFence vs fits all = (fits, all)
-one_given command.Show vs fits all = (fits, all)
-one_given (command.Tree n) vs fits all = (fits, all)
-one_given command.Elements vs fits all = (fits, all)
-one_given command.Refs vs fits all = (fits, all)
-one_given (command.Links n) vs fits all = (fits, all)
-one_given (command.Select mode) vs fits all = (fits, all)
-one_given command.Audit vs fits all = (fits, all)
-one_given (command.Fit n) vs fits all = (fits, all)
+one_given _ vs fits all = (fits, all)
 
 all_given : (cs : List Command) (vs : List SecondValue) → All IsEditIn cs → All IsOpen vs → All IsStep (given_all cs vs)
 all_given [] vs fits all = All-nil IsStep

@@ -8,17 +8,4 @@ use Rattle.dgn_tool.specs.SecondFiles.{names_of}
 -- a command that is no import names no file
 pub names_none : (c : Command) → ((name : List ℕ) (by : Option Displacement) → ¬ (c ≡ command.Import name by)) → names_of c ≡ []
 names_none (command.Import name by) none = absurd (none name by refl)
-names_none (command.Edit e) none = refl
-names_none (command.Fenced mode e) none = refl
-names_none command.Undo none = refl
-names_none (command.Levels mask) none = refl
-names_none (command.Fence corners) none = refl
-names_none command.NoFence none = refl
-names_none command.Show none = refl
-names_none (command.Tree n) none = refl
-names_none command.Elements none = refl
-names_none command.Refs none = refl
-names_none (command.Links n) none = refl
-names_none (command.Select mode) none = refl
-names_none command.Audit none = refl
-names_none (command.Fit n) none = refl
+names_none _ none = refl

@@ -44,22 +44,13 @@ undo_step base s (es ∷ earlier) (m ∷ left) stacked is = let x = stacked in c
 -- a command leaves such a stack
 command_stacks : (base : List Element) (s : State) (left : List Made) (c : Command) → IsStacked base s left
     → IsStacked base (answer_of s c).state ((answer_of s c).left left)
-command_stacks base s left (command.Import name by) stacked = stacked
 command_stacks base s left (command.Edit e) stacked = done_step base s left (Alone e) (applied e s) stacked
 command_stacks base s left (command.Fenced mode e) stacked = fence_step base s left e (apply_all s.dim s.top s.rest e) (selection mode s) stacked
 command_stacks base s left command.Undo stacked = undo_step base s s.earlier left stacked refl
-command_stacks base s left (command.Levels mask) stacked = stacked
 command_stacks base s left (command.Fence corners) stacked =
     cond_both (fence_refused corners) s (with_fence (Some corners) s) (λ (after : State). IsStacked base after left) (λ _. stacked) (λ _. stacked)
-command_stacks base s left command.NoFence stacked = stacked
-command_stacks base s left command.Show stacked = stacked
-command_stacks base s left (command.Tree n) stacked = stacked
-command_stacks base s left command.Elements stacked = stacked
-command_stacks base s left command.Refs stacked = stacked
-command_stacks base s left (command.Links n) stacked = stacked
-command_stacks base s left (command.Select mode) stacked = stacked
-command_stacks base s left command.Audit stacked = stacked
 command_stacks base s left (command.Fit n) stacked = done_step base s left (Fitted n) (fit_applied n s) stacked
+command_stacks base s left _ stacked = stacked
 
 -- so does an import
 import_step : (base : List Element) (s : State) (left : List Made) (came : Importing) → IsStacked base s left

@@ -105,7 +105,7 @@ module _ (s : State) (t : List ℕ) (cs : List Given) (output file : List ℕ) (
   -- all commands were said, and the file was written
   pub edited : {old mid new : Seen} (refused : ℕ) (ending : Ending) → refused ≡ refused_count cs s → status_said ending ≡ status_with refused
       → Writes {T = ℕ} (Ok refused) (SaysAs {T = ℕ} (Ok refused) (texts_of cs s)) old mid → Writes {T = Unit {0}} (Ok tt) (FilesAll (Ok tt) output file) mid new
-      → Writes {T = Ending} (Ok ending) (Tells (λ _. edited_from s t cs output) (Ok ending)) old new
+      → Writes {T = Ending} (Ok ending) (Tells (edited_from s t cs output) (Ok ending)) old new
   edited {old = old} {mid = mid} {new = new} refused ending count is said wrote =
       then_so refused (Ok ending) said (done_with tt ending wrote) (λ a b.
       subst (λ (status : Status). IfSome old.content (λ c. Leaves (edited_from s t cs output) status c new.content)) (sym (is ∙ ap status_with count))
@@ -115,7 +115,7 @@ module _ (s : State) (t : List ℕ) (cs : List Given) (output file : List ℕ) (
   -- the writing of the file was stopped
   pub edit_unfiled : {old mid new : Seen} (refused : ℕ) (stop : Stop) → Writes {T = ℕ} (Ok refused) (SaysAs {T = ℕ} (Ok refused) (texts_of cs s)) old mid
       → Writes {T = Unit {0}} (Err stop) (FilesAll (Err stop) output file) mid new
-      → Writes {T = Ending} (Err stop) (Tells (λ _. edited_from s t cs output) (Err stop)) old new
+      → Writes {T = Ending} (Err stop) (Tells (edited_from s t cs output) (Err stop)) old new
   edit_unfiled {old = old} {mid = mid} {new = new} refused stop said wrote =
       let both : Writes {T = Unit {0}} (Err stop) (λ a b. IfSome a (λ c. Stops (edited_from s t cs output) c b)) old new =
       then_so refused (Err stop) said wrote (λ a b.
@@ -126,6 +126,6 @@ module _ (s : State) (t : List ℕ) (cs : List Given) (output file : List ℕ) (
 -- the commands were stopped
 pub edit_unsaid : (s : State) (t : List ℕ) (cs : List Given) (output : List ℕ) {old new : Seen} (stop : Stop)
     → Writes {T = ℕ} (Err stop) (SaysAs {T = ℕ} (Err stop) (texts_of cs s)) old new
-    → Writes {T = Ending} (Err stop) (Tells (λ _. edited_from s t cs output) (Err stop)) old new
+    → Writes {T = Ending} (Err stop) (Tells (edited_from s t cs output) (Err stop)) old new
 edit_unsaid s t cs output {old = old} {new = new} stop said =
     stopped_so stop said (stopped_saying (status_with (refused_count cs s)) (texts_of cs s) output (file_after s t cs) old.content new.content)

@@ -1,14 +1,12 @@
 -- What is told over a part of a run: by its ending, by a stop, and that reading before it changes nothing there.
-use Rattle.std.proofs.Common.{◌≡◌, List, [], ◌++◌, append_assoc, ℕ, take, drop, inl, inr, true, false, Bool, Option, Some, None, Result, Ok, Err, refl, sym, ap, ◌∙◌}
+use Rattle.std.proofs.Common.{◌≡◌, List, [], ◌++◌, append_assoc, ℕ, take, drop, inl, inr, true, false, Bool, Option, Some, None, Err, refl, sym, ap, ◌∙◌}
 use Rattle.std.specs.Prelude.{option_map, IfSome}
 use Rattle.std.proofs.lemmas.List.{append-nil, take-append-drop}
 use Rattle.dgn_desk.specs.Desk.{SaysAll}
 use Rattle.dgn_desk.specs.declared.stop.Stop.{Stop}
 use Rattle.dgn_desk.specs.Content.{Content, Files, all_said, spoken, with_left, OnlyLeftDiffers}
 use Rattle.dgn_tool.specs.Ended.{Outcome, ended}
-use Rattle.dgn_tool.specs.Ends.{Tells, status_said}
 use Rattle.dgn_tool.specs.Leaving.{Leaves, Stops, IsFrontOf, HoldsFront, InOrder, IsBegun, settled_after}
-use Rattle.dgn_tool.specs.declared.ending.Ending.{Ending}
 use Rattle.dgn_tool.specs.declared.status.Status.{Status}
 
 -- so many first bytes are a front
@@ -20,9 +18,10 @@ pub where_told : (P Q : Content → Type 0) (old : Option Content) → IfSome ol
 where_told P Q None known so = tt
 where_told P Q (Some c) known so = so c known
 
-pub all_told : (old : Option Content) → IfSome old (λ _. Unit {0})
-all_told None = tt
-all_told (Some c) = tt
+-- and what holds of each
+pub where_all : (P : Content → Type 0) (old : Option Content) → ((c : Content) → P c) → IfSome old P
+where_all P None so = tt
+where_all P (Some c) so = so c
 
 -- of the file that is to be written nothing was written
 unbegun : (file : Option (List ℕ × List ℕ)) (files : Files) → HoldsFront file files files
@@ -39,19 +38,19 @@ in_either : (says_first : Bool) (text : List ℕ) (file : Option (List ℕ × Li
 in_either true text file files = inr refl
 in_either false text file files = inl refl
 
--- a run that stopped before it said or wrote anything
-pub stopped_early : (o : Files → Outcome) (old now : Option Content) → OnlyLeftDiffers old now → IfSome old (λ c. Stops (o c.files) c now)
-stopped_early o None now only = tt
-stopped_early o (Some c) now only =
+-- a run that stopped before it said or wrote anything, whatever it would have come to
+pub stopped_early : (old now : Option Content) → OnlyLeftDiffers old now → IfSome old (λ c. (o : Outcome) → Stops o c now)
+stopped_early None now only = tt
+stopped_early (Some c) now only = λ o.
     record {
       content = with_left only.0 c;
       told_is = only.1;
       front = [];
-      is_front = ((o c.files).text, refl);
+      is_front = (o.text, refl);
       said_is = sym (append-nil (all_said c));
-      files_are = unbegun (o c.files).file c.files;
-      in_order = in_either (o c.files).says_first (o c.files).text (o c.files).file c.files;
-      begun_is = unsettled (o c.files) (o c.files).file (with_left only.0 c) c refl refl;
+      files_are = unbegun o.file c.files;
+      in_order = in_either o.says_first o.text o.file c.files;
+      begun_is = unsettled o o.file (with_left only.0 c) c refl refl;
     }
 
 -- where nothing was done, only what is left differs
@@ -69,10 +68,10 @@ pub said_behind : (text : List ℕ) (c : Content) → all_said (spoken text c) �
 said_behind text c = sym (append_assoc c.settled c.since text)
 
 -- a line that ends a run was said
-pub line_said : (ending : Ending) (line : List ℕ) (old now : Option Content) → now ≡ option_map (spoken line) old
-    → Tells (λ _. ended (status_said ending) line) (Ok ending) old now
-line_said ending line None now e = tt
-line_said ending line (Some c) now e =
+pub line_said : (status : Status) (line : List ℕ) (old now : Option Content) → now ≡ option_map (spoken line) old
+    → IfSome old (λ c. Leaves (ended status line) status c now)
+line_said status line None now e = tt
+line_said status line (Some c) now e =
     record {
       status_is = refl;
       content = spoken line c;
@@ -83,24 +82,20 @@ line_said ending line (Some c) now e =
     }
 
 -- or a front of it was
-pub front_said : (status : Status) (line front : List ℕ) (old now : Option Content) → IsFrontOf line front → now ≡ option_map (spoken front) old
+pub line_stopped : (status : Status) (line : List ℕ) (stop : Stop) (old now : Option Content) → SaysAll (Err stop) line old now
     → IfSome old (λ c. Stops (ended status line) c now)
-front_said status line front None now is e = tt
-front_said status line front (Some c) now is e =
+line_stopped status line stop None now said = tt
+line_stopped status line stop (Some c) now said =
     record {
-      content = spoken front c;
-      told_is = e;
-      front = front;
-      is_front = is;
-      said_is = said_behind front c;
+      content = spoken (take said.0 line) c;
+      told_is = said.2;
+      front = take said.0 line;
+      is_front = is_taken line said.0;
+      said_is = said_behind (take said.0 line) c;
       files_are = refl;
       in_order = inr refl;
       begun_is = refl;
     }
-
-pub line_stopped : (ending : Ending) (line : List ℕ) (stop : Stop) (old now : Option Content) → SaysAll (Err stop) line old now
-    → Tells (λ _. ended (status_said ending) line) (Err stop) old now
-line_stopped ending line stop old now said = front_said (status_said ending) line (take said.0 line) old now (is_taken line said.0) said.2
 
 -- what was said before a file doesn't hang on what is left to read
 settled_read : (o : Outcome) (file : Option (List ℕ × List ℕ)) (left : List ℕ) (c : Content)
@@ -113,39 +108,27 @@ begun_read : (o : Outcome) (file : Option (List ℕ × List ℕ)) (left : List �
 begun_read o None left c now begun = begun
 begun_read o (Some f) left c now begun = begun
 
--- reading first changes nothing that an ending speaks of, and the outcome may be named by what was read
-ends_through : (o q : Files → Outcome) (status : Status) (old mid now : Option Content) → OnlyLeftDiffers old mid → IfSome old (λ c. o c.files ≡ q c.files)
-    → IfSome mid (λ c. Leaves (q c.files) status c now) → IfSome old (λ c. Leaves (o c.files) status c now)
-ends_through o q status None mid now only same leaves = tt
-ends_through o q status (Some c) mid now only same leaves =
-    let l : Leaves (q c.files) status (with_left only.0 c) now = rw only.1 at leaves in
-    rw same (record {
-      status_is = l.status_is;
-      content = l.content;
-      told_is = l.told_is;
-      said_is = l.said_is;
-      files_are = l.files_are;
-      settled_is = l.settled_is ∙ settled_read (q c.files) (q c.files).file only.0 c;
-    })
+-- reading first changes nothing that an ending speaks of
+pub leaves_read : (o : Outcome) (status : Status) (left : List ℕ) (c : Content) (now : Option Content) → Leaves o status (with_left left c) now
+    → Leaves o status c now
+leaves_read o status left c now l = record {
+  status_is = l.status_is;
+  content = l.content;
+  told_is = l.told_is;
+  said_is = l.said_is;
+  files_are = l.files_are;
+  settled_is = l.settled_is ∙ settled_read o o.file left c;
+}
 
 -- nor that a stop speaks of
-stops_through : (o q : Files → Outcome) (old mid now : Option Content) → OnlyLeftDiffers old mid → IfSome old (λ c. o c.files ≡ q c.files)
-    → IfSome mid (λ c. Stops (q c.files) c now) → IfSome old (λ c. Stops (o c.files) c now)
-stops_through o q None mid now only same stops = tt
-stops_through o q (Some c) mid now only same stops =
-    let s : Stops (q c.files) (with_left only.0 c) now = rw only.1 at stops in
-    rw same (record {
-      content = s.content;
-      told_is = s.told_is;
-      front = s.front;
-      is_front = s.is_front;
-      said_is = s.said_is;
-      files_are = s.files_are;
-      in_order = s.in_order;
-      begun_is = begun_read (q c.files) (q c.files).file only.0 c s.content s.begun_is;
-    })
-
-pub tells_through : (o q : Files → Outcome) (r : Result Ending Stop) (old mid now : Option Content) → OnlyLeftDiffers old mid
-    → IfSome old (λ c. o c.files ≡ q c.files) → Tells q r mid now → Tells o r old now
-tells_through o q (Ok ending) old mid now only same tells = ends_through o q (status_said ending) old mid now only same tells
-tells_through o q (Err stop) old mid now only same tells = stops_through o q old mid now only same tells
+pub stops_read : (o : Outcome) (left : List ℕ) (c : Content) (now : Option Content) → Stops o (with_left left c) now → Stops o c now
+stops_read o left c now s = record {
+  content = s.content;
+  told_is = s.told_is;
+  front = s.front;
+  is_front = s.is_front;
+  said_is = s.said_is;
+  files_are = s.files_are;
+  in_order = s.in_order;
+  begun_is = begun_read o o.file left c s.content s.begun_is;
+}

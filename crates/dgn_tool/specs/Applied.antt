@@ -1,12 +1,11 @@
 -- What a patch file comes to on a drawing: its entries are put on the drawing's elements, one after the other.
-use Rattle.std.specs.Prelude.{ℕ, ◌≡◌, ◌≤◌, ◌+◌, ◌-◌, ◌==◌, ◌&&◌, nat_lt, not, Bool, if◌then◌else◌, List, [], ◌∷◌, length, take, drop, codes, Result, Ok, Err}
+use Rattle.std.specs.Prelude.{ℕ, ◌≡◌, ◌≤◌, ◌+◌, ◌==◌, ◌&&◌, nat_lt, not, Bool, if◌then◌else◌, List, [], ◌∷◌, length, take, drop, codes, Result, Ok, Err}
 use Rattle.std.specs.List.{list_all}
 use Rattle.std.specs.Str.{bytes_eq}
 use Rattle.dgn_drawing.specs.Spelling.{spelling}
 use Rattle.elem_index.specs.Opened.{Opened}
 use Rattle.patch_file.specs.Exchanges.{Exchange}
 use Rattle.patch_file.specs.Spelling.{Packed}
-use Rattle.patch_file.specs.Reading.{patch_of}
 use Rattle.patch_file.specs.Standing.{put_on}
 use Rattle.dgn_tool.specs.Filling.{file_made}
 use Rattle.dgn_listing.specs.NumberedLines.{numbered}
@@ -15,7 +14,6 @@ use Rattle.dgn_tool.specs.declared.put_end.PutEnd.{PutEnd}
 use Rattle.dgn_tool.specs.declared.put_end.PutEnd.TheVariants as ends
 use Rattle.dgn_tool.specs.declared.status.Status.TheVariants as statuses
 use Rattle.dgn_drawing.specs.declared.limits.TheConstants.{MOST_DESIGN}
-use Rattle.patch_file.specs.declared.limits.TheConstants.{MOST_PATCH}
 
 -- whether the field's old bytes stand at its place
 abbrev pub holds_old : List ℕ → Exchange → Bool
@@ -50,20 +48,9 @@ patched_outcome before tail count Overruns output = ended statuses.TooLong (code
 abbrev pub entries_outcome : List ℕ → List ℕ → List Packed → List ℕ → Outcome
 entries_outcome b tail es output = patched_outcome (length b) tail (length es) (put_from (length tail) 1 b es) output
 
--- what a patch file of so many bytes comes to that reads so, up to where so many bytes are left
-abbrev pub reading_outcome : List ℕ → List ℕ → ℕ → Result (List Packed) ℕ → List ℕ → Outcome
-reading_outcome b tail size (Ok es) output = entries_outcome b tail es output
-reading_outcome b tail size (Err left) output = ended statuses.BadPatch (numbered (codes "bad patch at ") (size - left))
-
--- what `apply` comes to on a body with this tail
-abbrev pub body_patched : List ℕ → List ℕ → List ℕ → List ℕ → Outcome
-body_patched b tail patch output =
-    if nat_lt MOST_PATCH (length patch) then ended statuses.TooLong (codes "too long patch\n")
-    else reading_outcome b tail (length patch) (patch_of patch) output
-
 -- and on a drawing
-abbrev pub patched : Opened → List ℕ → List ℕ → Outcome
-patched d patch output = body_patched (spelling d.elements) d.tail patch output
+abbrev pub patched : Opened → List Packed → List ℕ → Outcome
+patched d es output = entries_outcome (spelling d.elements) d.tail es output
 
 -- what each of the entries makes, put on in order, keeps the limit of a design file with a tail of so many bytes
 abbrev pub AllFit : ℕ → List ℕ → List Packed → Type 0

@@ -1,6 +1,5 @@
 -- How a part of a run ends the run, and what it leaves of the desk.
-use Rattle.std.specs.Prelude.{ℕ, ◌≡◌, List, Option, Result, Ok, Err, IfSome, IsSome, IsTrue}
-use Rattle.std.specs.FinMap as maps
+use Rattle.std.specs.Prelude.{◌≡◌, Option, Result, Ok, Err, IfSome, IsTrue}
 use Rattle.dgn_desk.specs.declared.desk.Desk.{Ghosts}
 use Rattle.dgn_desk.specs.declared.stop.Stop.{Stop}
 use Rattle.dgn_desk.specs.declared.stop.Stop.TheVariants as stops
@@ -9,6 +8,7 @@ use Rattle.dgn_desk.specs.Desk.{Rose, StaysWilling}
 use Rattle.dgn_desk.specs.Seen.{Seen, seen, OnlyReads, Writes}
 use Rattle.dgn_tool.specs.Ended.{Outcome}
 use Rattle.dgn_tool.specs.Leaving.{Leaves, Stops}
+use Rattle.dgn_tool.specs.Readings.{Reading, ending_of, MayComeTo, AreThere, AreInBytes}
 use Rattle.dgn_tool.specs.declared.status.Status.{Status}
 use Rattle.dgn_tool.specs.declared.status.Status.TheVariants as statuses
 use Rattle.dgn_tool.specs.declared.ending.Ending.{Ending}
@@ -38,61 +38,59 @@ abbrev pub end_of : Result Ending Stop → End
 end_of (Ok ending) = ends.Said ending
 end_of (Err stop) = ends.Stopped stop
 
--- what is told then, by the outcome that the files have: all of it where it came to its ending, else a front of it
-abbrev pub Tells : (Files → Outcome) → Result Ending Stop → Option Content → Option Content → Type 0
-Tells o (Ok ending) old new = IfSome old (λ c. Leaves (o c.files) (status_said ending) c new)
-Tells o (Err stop) old new = IfSome old (λ c. Stops (o c.files) c new)
+-- Parts that read nothing.
 
--- a part that reads nothing came to this
-abbrev pub DeskComes : {D : Type 0} → Ghosts D → (Files → Outcome) → D → D → Result Ending Stop → Type 0
+-- what is told then: all of this outcome where the part came to its ending, else a front of it
+abbrev pub Tells : Outcome → Result Ending Stop → Option Content → Option Content → Type 0
+Tells o (Ok ending) old new = IfSome old (λ c. Leaves o (status_said ending) c new)
+Tells o (Err stop) old new = IfSome old (λ c. Stops o c new)
+
+-- a part that reads nothing came to this outcome, or was stopped on the way to it
+abbrev pub DeskComes : {D : Type 0} → Ghosts D → Outcome → D → D → Result Ending Stop → Type 0
 DeskComes g o old new result = Writes result (Tells o result) (seen g old) (seen g new)
 
--- it was said how the run ends, and this is known of the files then, where they are told
-pub record IsSaid (are : Files → Type 0) (o : Files → Outcome) (ending : Ending) (old new : Seen) : Type 0 where
-  pub comes : Writes {T = Ending} (Ok ending) (Tells o (Ok ending)) old new
-  pub known : IfSome old.content (λ c. are c.files)
+-- Parts that read.
+
+-- all was read: only that was done, and where files are told, it gives this value, and all of them are bytes
+pub record IsRead {T : Type 0} (reading : Files → Reading T) (value : T) (old new : Seen) : Type 0 where
+  pub reads : OnlyReads old new
+  pub gives : IfSome old.content (λ c. ((reading c.files).answer ≡ Ok value) × AreInBytes c.files (reading c.files).sources)
+
+-- a run that told this content read so, and ended there with the outcome of that; the files that were read are bytes
+pub record EndsThere {T : Type 0} (reading : Reading T) (ending : Ending) (old : Content) (new : Option Content) : Type 0 where
+  pub outcome : Outcome
+  pub answer_is : reading.answer ≡ Err outcome
+  pub leaves : Leaves outcome (status_said ending) old new
+  pub bytes : AreInBytes old.files reading.sources
 
 -- a fault of reading: only that was done, and a willing desk lacks a file that is read
-pub record IsUnread (has : Files → Type 0) (old new : Seen) : Type 0 where
+pub record IsUnread {T : Type 0} (reading : Files → Reading T) (old new : Seen) : Type 0 where
   pub rose : Rose old.read_faults new.read_faults
   pub quiet : new.write_faults ≡ old.write_faults
   pub stays : StaysWilling old.willing new.willing
   pub only : OnlyLeftDiffers old.content new.content
-  pub lacks : IsTrue old.willing → IfSome old.content (λ c. has c.files) → ⊥
+  pub lacks : IsTrue old.willing → IfSome old.content (λ c. AreThere c.files (reading c.files).sources) → ⊥
 
--- what an end leaves of the desk, by the files that have to be there, by what is known of them once it was said how the
--- run ends, and by the outcome that they have
-abbrev pub Left : (Files → Type 0) → (Files → Type 0) → (Files → Outcome) → Seen → Seen → End → Type 0
-Left has are o old new (ends.Said ending) = IsSaid are o ending old new
-Left has are o old new ends.ReadFault = IsUnread has old new
-Left has are o old new (ends.Stopped stop) = Writes {T = Ending} (Err stop) (Tells o (Err stop)) old new
+-- what a part that reads leaves of the desk: it read all, or it ended the run as its reading says, or was stopped on the way to
+-- each outcome that the run may still have come to
+abbrev pub ComesTo : {T : Type 0} → (Files → Reading T) → Result T End → Seen → Seen → Type 0
+ComesTo reading (Ok value) old new = IsRead reading value old new
+ComesTo reading (Err (ends.Said ending)) old new =
+    Writes {T = Ending} (Ok ending) (λ told now. IfSome told (λ c. EndsThere (reading c.files) ending c now)) old new
+ComesTo reading (Err ends.ReadFault) old new = IsUnread reading old new
+ComesTo reading (Err (ends.Stopped stop)) old new =
+    Writes {T = Ending} (Err stop)
+    (λ told now. IfSome told (λ c. (o : Outcome) → MayComeTo (reading c.files).answer o → Stops o c now)) old new
 
-pub record Ends (has are : Files → Type 0) (o : Files → Outcome) (old new : Seen) (end : End) : Type 0 where
-  pub left : Left has are o old new end
+-- a result, by what is seen of its value
+abbrev pub with_value : {T U : Type 0} → (T → U) → Result T End → Result U End
+with_value view (Ok x) = Ok (view x)
+with_value view (Err end) = Err end
 
--- the same of a desk before and after
-abbrev pub DeskEnds : {D : Type 0} → Ghosts D → (Files → Type 0) → (Files → Type 0) → (Files → Outcome) → D → D → End → Type 0
-DeskEnds g has are o old new end = Ends has are o (seen g old) (seen g new) end
+-- the same of a desk before and after, and of a result with such a value
+abbrev pub DeskReads : {D T U : Type 0} → Ghosts D → (Files → Reading U) → (T → U) → D → D → Result T End → Type 0
+DeskReads g reading view old new result = ComesTo reading (with_value view result) (seen g old) (seen g new)
 
--- a part that reads was done: it only read, and this is known of what it read and of the files, where they are told
-pub record ReadTo {T : Type 0} (knows : Files → T → Type 0) (value : T) (old new : Seen) : Type 0 where
-  pub reads : OnlyReads old new
-  pub known : IfSome old.content (λ c. knows c.files value)
-
-abbrev pub DeskReads : {D T : Type 0} → Ghosts D → (Files → T → Type 0) → D → D → T → Type 0
-DeskReads g knows old new value = ReadTo knows value (seen g old) (seen g new)
-
--- what a part that reads comes to, by what the run goes on with
-abbrev pub Reading : Type 0 → Type 0
-Reading T = (Files → T → Outcome) → Files → Outcome
-
--- a part that reads ended the run, whatever the run would have gone on with
-pub record EndsEarly {T : Type 0} (has are : Files → Type 0) (reading : Reading T) (old new : Seen) (end : End) : Type 0 where
-  pub early : (go_on : Files → T → Outcome) → Ends has are (reading go_on) old new end
-
-abbrev pub DeskEndsEarly : {D T : Type 0} → Ghosts D → (Files → Type 0) → (Files → Type 0) → Reading T → D → D → End → Type 0
-DeskEndsEarly g has are reading old new end = EndsEarly has are reading (seen g old) (seen g new) end
-
--- the named file is there
-abbrev pub Has : List ℕ → Files → Type 0
-Has name files = IsSome (maps.get files name)
+-- and of a part that ends the run in each case
+abbrev pub DeskEnds : {D : Type 0} → Ghosts D → (Files → Reading Outcome) → D → D → End → Type 0
+DeskEnds g reading old new end = ComesTo (λ files. ending_of (reading files)) (Err end) (seen g old) (seen g new)

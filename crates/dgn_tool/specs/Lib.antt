@@ -1,10 +1,8 @@
 pub mod FileAfter
 pub mod Generation
-pub mod RunInBytes
 pub mod Laws
 pub mod Outcome
 pub mod Packing
-pub mod ReadInputs
 pub mod ScriptLaws
 pub mod EditedRuns
 pub mod Runs
@@ -12,10 +10,9 @@ pub mod Applied
 pub mod Ended
 pub mod Ends
 pub mod Filling
-pub mod InBytes
-pub mod InputOutcomes
 pub mod Leaving
 pub mod Readings
+pub mod Inputs
 pub mod Request
 pub mod RequestView
 pub mod SecondFiles

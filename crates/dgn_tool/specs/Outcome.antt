@@ -1,30 +1,22 @@
--- What a run comes to: a status, what is said, and the file that is written, computed from the words of
--- the command line and the files that they name.
-use Rattle.std.specs.Prelude.{ℕ, List, codes, Option, Some, None}
-use Rattle.std.specs.Prelude.{IsSome, IfSome, ⊤}
-use Rattle.std.specs.FinMap as maps
-use Rattle.dgn_desk.specs.Content.{Files, Content, bytes_of}
+-- What a run comes to: a status, what is said, and the file that is written, by what it reads of the files that its words name.
+use Rattle.std.specs.Prelude.{ℕ, List, length, codes, Option, Some, None, Ok, IfSome, ⊤}
+use Rattle.dgn_desk.specs.Content.{Files, Content}
 use Rattle.dgn_session.specs.State.{State}
 use Rattle.elem_index.specs.Opened.{Opened}
-use Rattle.dgn_drawing.specs.declared.command.Command.{Command}
-use Rattle.dgn_tool.specs.Request.{Request, Edit, Check, Gen, Pack, Apply, request_of}
-use Rattle.dgn_tool.specs.Ended.{Outcome, ended, said_then_filed}
-use Rattle.dgn_tool.specs.FileAfter.{file_after}
-use Rattle.dgn_tool.specs.Ended.{status_with}
-use Rattle.dgn_tool.specs.Generation.{generation}
-use Rattle.dgn_tool.specs.Packing.{packed}
-use Rattle.dgn_tool.specs.Applied.{patched}
 use Rattle.dgn_answers.specs.Commands.{begun}
 use Rattle.dgn_answers.specs.Given.{Given, texts_of, refused_count}
+use Rattle.dgn_listing.specs.NumberedLines.{numbered}
+use Rattle.dgn_tool.specs.Applied.{patched}
+use Rattle.dgn_tool.specs.Ended.{Outcome, ended, said_then_filed, status_with}
+use Rattle.dgn_tool.specs.FileAfter.{file_after}
+use Rattle.dgn_tool.specs.Generation.{generation}
+use Rattle.dgn_tool.specs.Inputs.{drawing_in, entries_in, inputs_in}
+use Rattle.dgn_tool.specs.Leaving.{Leaves, Stops}
+use Rattle.dgn_tool.specs.Packing.{packed}
+use Rattle.dgn_tool.specs.Readings.{Reading, at_once, ◌>>=◌, ended_by, AreThere, AreInBytes}
+use Rattle.dgn_tool.specs.Request.{Request, Edit, Check, Gen, Pack, Apply, request_of}
 use Rattle.dgn_tool.specs.declared.status.Status.{Status}
 use Rattle.dgn_tool.specs.declared.status.Status.TheVariants as statuses
-use Rattle.std.specs.Prelude.{ℕ, List, codes, IsSome, ⊤}
-use Rattle.dgn_desk.specs.Content.{Files, bytes_of}
-use Rattle.dgn_answers.specs.Given.{Given, given_all}
-use Rattle.dgn_tool.specs.Ended.{Outcome, ended}
-use Rattle.dgn_tool.specs.InputOutcomes.{scripted, checked, input_outcome, HasBoth, HasAll}
-use Rattle.dgn_tool.specs.Leaving.{Leaves, Stops}
-use Rattle.dgn_tool.specs.SecondFiles.{names_in, files_named, seconded}
 
 -- what the steps come to in a state, with this tail: their texts, and the file of the drawing after them
 abbrev pub edited_from : State → List ℕ → List Given → List ℕ → Outcome
@@ -34,27 +26,43 @@ edited_from s tail gs output = said_then_filed (status_with (refused_count gs s)
 abbrev pub edited : Opened → List Given → List ℕ → Outcome
 edited d gs output = edited_from (begun d) d.tail gs output
 
--- what it comes to with these commands, where it goes on so with their steps
-abbrev pub stepped : List Command → Files → (List Given → Outcome) → Outcome
-stepped cs files go_on = seconded (files_named (names_in cs) files) (λ vs. go_on (given_all cs vs))
-
--- what a run comes to that reads IN, SCRIPT and the second files of its imports, where it goes on so
-abbrev pub run_outcome : List ℕ → List ℕ → Files → (Opened → List Given → Outcome) → Outcome
-run_outcome input script files go_on =
-    input_outcome (bytes_of files input) (λ d. scripted (bytes_of files script) (λ cs. stepped cs files (go_on d)))
+-- what `check` comes to on a drawing
+abbrev pub checked : Opened → Outcome
+checked d = ended statuses.Done (numbered (codes "elements ") (length d.elements))
 
 -- what is said where the words are of no form
 abbrev pub usage_line : List ℕ
 usage_line = codes "usage: dgnedit edit IN SCRIPT OUT, check IN, gen SEED COUNT OUT, pack IN SCRIPT PATCH, apply IN PATCH OUT\n"
 
--- what a run with this request comes to
+-- what a run with this request reads, and what it comes to then
+abbrev pub reading_of : Option Request → Files → Reading Outcome
+reading_of None files = at_once (Ok (ended statuses.Usage usage_line))
+reading_of (Some (Edit input script output)) files = do
+  i ← inputs_in files input script
+  at_once (Ok (edited i.drawing i.steps output))
+reading_of (Some (Check input)) files = do
+  d ← drawing_in files input
+  at_once (Ok (checked d))
+reading_of (Some (Gen seed count output)) files = at_once (Ok (generation seed count output))
+reading_of (Some (Pack input script patch)) files = do
+  i ← inputs_in files input script
+  at_once (Ok (packed i.drawing i.steps patch))
+reading_of (Some (Apply input patch output)) files = do
+  d ← drawing_in files input
+  es ← entries_in files patch
+  at_once (Ok (patched d es output))
+
+-- what it comes to, whether it reads all or ends before that
 abbrev pub outcome_of : Option Request → Files → Outcome
-outcome_of None files = ended statuses.Usage usage_line
-outcome_of (Some (Edit input script output)) files = run_outcome input script files (λ d gs. edited d gs output)
-outcome_of (Some (Check input)) files = input_outcome (bytes_of files input) checked
-outcome_of (Some (Gen seed count output)) files = generation seed count output
-outcome_of (Some (Pack input script patch)) files = run_outcome input script files (λ d gs. packed d gs patch)
-outcome_of (Some (Apply input patch output)) files = input_outcome (bytes_of files input) (λ d. patched d (bytes_of files patch) output)
+outcome_of request files = ended_by (reading_of request files).answer
+
+-- the files that it comes to read are there
+abbrev pub HasFiles : Option Request → Files → Type 0
+HasFiles request files = AreThere files (reading_of request files).sources
+
+-- those that are within their limit are bytes
+abbrev pub FilesInBytes : Option Request → Files → Type 0
+FilesInBytes request files = AreInBytes files (reading_of request files).sources
 
 -- what a run with these words comes to
 abbrev pub outcome : List (List ℕ) → Files → Outcome
@@ -87,15 +95,6 @@ abbrev pub IsFaultless : Status → Type 0
 IsFaultless statuses.ReadFault = ⊥
 IsFaultless statuses.WriteFault = ⊥
 IsFaultless _ = ⊤
-
--- the files that a run with this request comes to read are there
-abbrev pub HasFiles : Option Request → Files → Type 0
-HasFiles None files = ⊤
-HasFiles (Some (Edit input script output)) files = HasAll input script files
-HasFiles (Some (Check input)) files = IsSome (maps.get files input)
-HasFiles (Some (Gen seed count output)) files = ⊤
-HasFiles (Some (Pack input script patch)) files = HasAll input script files
-HasFiles (Some (Apply input patch output)) files = HasBoth input patch files
 
 -- a request that reads a file
 abbrev pub Reads : Option Request → Type 0

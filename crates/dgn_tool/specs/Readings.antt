@@ -1,69 +1,70 @@
--- The parts of a run that read files: what is known once they are read, and what the run comes to by what it goes on with.
-use Rattle.std.specs.Prelude.{ℕ, ◌≡◌, ◌≤◌, nat_lt, true, if◌then◌else◌, List, ◌++◌, length, map, Ok}
-use Rattle.std.specs.List.{list_all}
+-- Reading in a run: which files are read, in order, and what that gives. Where it can't go on, it gives the outcome with which
+-- the run ends there, and nothing behind it is read.
+use Rattle.std.specs.Prelude.{ℕ, ◌≡◌, ◌≤◌, nat_lt, if◌then◌else◌, List, [], ◌∷◌, ◌++◌, length, Result, Ok, Err, IsSome, ⊤}
+use Rattle.std.specs.FinMap as maps
+use Rattle.std.specs.List.{AllByRecursion}
 use Rattle.dgn_desk.specs.Content.{Files, bytes_of}
-use Rattle.dgn_drawing.specs.Opening.{NotDesign, Cut, Short, Attr}
 use Rattle.dgn_drawing.specs.WellFormed.{IsBytes}
-use Rattle.dgn_import.specs.declared.second.Second.{Second}
-use Rattle.dgn_import.specs.Seconds.{SecondValue, second_of, value_of}
-use Rattle.edit_script.specs.Script.{commands_of}
-use Rattle.dgn_drawing.specs.declared.command.Command.{Command}
-use Rattle.elem_index.specs.declared.open_fault.OpenFault.{OpenFault}
-use Rattle.elem_index.specs.Opened.{Opened, opening}
-use Rattle.dgn_tool.specs.Ended.{ended}
-use Rattle.dgn_tool.specs.Ends.{Reading}
-use Rattle.dgn_tool.specs.InBytes.{AreInBytes}
-use Rattle.dgn_tool.specs.InputOutcomes.{fault_line, scripted, input_outcome}
-use Rattle.dgn_tool.specs.SecondFiles.{files_named, is_within, seconded}
+use Rattle.dgn_tool.specs.Ended.{Outcome, ended}
 use Rattle.dgn_tool.specs.declared.status.Status.TheVariants as statuses
-use Rattle.dgn_drawing.specs.declared.limits.TheConstants.{MOST_DESIGN}
-use Rattle.edit_script.specs.declared.limits.TheConstants.{MOST_SCRIPT}
 
--- A whole file of at most so many bytes; one that has more ends the run with a line.
+-- a file that is read: its name, and how many bytes it may have
+pub record Source : Type 0 where
+  pub name : List ℕ
+  pub limit : ℕ
 
-abbrev pub IsWholeFile : List ℕ → ℕ → Files → List ℕ → Type 0
-IsWholeFile name limit files bytes = (length bytes ≤ limit) × (bytes ≡ bytes_of files name) × IsBytes bytes
+-- the files that are read, in order, and what they give: a value, or the outcome with which the run ends there
+pub record Reading (T : Type 0) : Type 0 where
+  pub sources : List Source
+  pub answer : Result T Outcome
 
-abbrev pub whole_file : List ℕ → ℕ → List ℕ → Reading (List ℕ)
-whole_file name limit line =
-    λ go_on files. if nat_lt limit (length (bytes_of files name)) then ended statuses.TooLong line else go_on files (bytes_of files name)
+-- an answer for which no file is read
+abbrev pub at_once : {T : Type 0} → Result T Outcome → Reading T
+at_once answer = record { sources = []; answer = answer }
 
--- IN: within its limit it opens as a drawing.
+-- what is read behind these files, where these gave that answer
+abbrev pub behind_sources : {A B : Type 0} → List Source → Result A Outcome → (A → Reading B) → Reading B
+behind_sources before (Ok x) next = record { sources = before ++ (next x).sources; answer = (next x).answer }
+behind_sources before (Err o) next = record { sources = before; answer = Err o }
 
-abbrev pub OpensAs : List ℕ → Files → Opened → Type 0
-OpensAs name files d = (length (bytes_of files name) ≤ MOST_DESIGN) × (opening (bytes_of files name) ≡ Ok d) × IsBytes (bytes_of files name)
+-- reading on, by what was read first
+infixl 10 ◌>>=◌
+abbrev pub ◌>>=◌ : {A B : Type 0} → Reading A → (A → Reading B) → Reading B
+first >>= next = behind_sources first.sources first.answer next
 
-abbrev pub opening_in : List ℕ → Reading Opened
-opening_in name = λ go_on files. input_outcome (bytes_of files name) (go_on files)
+-- the named file, whole; one that has more bytes than it may ends the run with this line
+abbrev pub file_in : Files → List ℕ → ℕ → List ℕ → Reading (List ℕ)
+file_in files name limit line = record {
+  sources = record { name = name; limit = limit } ∷ [];
+  answer = if nat_lt limit (length (bytes_of files name)) then Err (ended statuses.TooLong line) else Ok (bytes_of files name);
+}
 
--- the line that says a fault; want of memory has none
-abbrev pub FaultSays : OpenFault → List ℕ → Type 0
-FaultSays OpenFault.NotDesign line = line ≡ fault_line NotDesign
-FaultSays (OpenFault.Cut at) line = line ≡ fault_line (Cut at)
-FaultSays (OpenFault.Short at) line = line ≡ fault_line (Short at)
-FaultSays (OpenFault.Attr at) line = line ≡ fault_line (Attr at)
-FaultSays OpenFault.Memory line = ⊥
+-- the outcome of a run that read so, and goes on to one where it reads all
+abbrev pub ended_by : Result Outcome Outcome → Outcome
+ended_by (Ok o) = o
+ended_by (Err o) = o
 
--- SCRIPT: within its limit it reads as commands.
+-- such a reading, as one that ends the run
+abbrev pub ending_of : Reading Outcome → Reading Outcome
+ending_of reading = record { sources = reading.sources; answer = Err (ended_by reading.answer) }
 
-abbrev pub ReadsAs : List ℕ → Files → List Command → Type 0
-ReadsAs name files cs = (length (bytes_of files name) ≤ MOST_SCRIPT) × (commands_of (bytes_of files name) ≡ Ok cs) × IsBytes (bytes_of files name)
+-- the outcomes that a run may come to that read so far: the one with which it ended there, or any
+abbrev pub MayComeTo : {T : Type 0} → Result T Outcome → Outcome → Type 0
+MayComeTo (Ok x) o = ⊤
+MayComeTo (Err end) o = end ≡ o
 
-abbrev pub script_in : List ℕ → Reading (List Command)
-script_in name = λ go_on files. scripted (bytes_of files name) (go_on files)
+-- the file is there
+abbrev pub IsThere : Files → Source → Type 0
+IsThere files source = IsSome (maps.get files source.name)
 
--- The second files of these names: all are within their limit and bytes, and come to these.
+-- it is bytes, where it is within its limit: of a longer one no more is read than shows that it is longer
+abbrev pub IsInBytes : Files → Source → Type 0
+IsInBytes files source = length (bytes_of files source.name) ≤ source.limit → IsBytes (bytes_of files source.name)
 
-abbrev pub ComeTo : List (List ℕ) → Files → List SecondValue → Type 0
-ComeTo names files vs =
-    (list_all is_within (files_named names files) ≡ true) × (vs ≡ map second_of (files_named names files)) × AreInBytes names files
+-- each file is there
+abbrev pub AreThere : Files → List Source → Type 0
+AreThere files sources = AllByRecursion (IsThere files) sources
 
-abbrev pub seconds_in : List (List ℕ) → Reading (List SecondValue)
-seconds_in names = λ go_on files. seconded (files_named names files) (go_on files)
-
--- what was read of the files of these names was added behind what came before
-abbrev pub ComeBehind : List (List ℕ) → List Second → Files → List Second → Type 0
-ComeBehind names before files now =
-    (list_all is_within (files_named names files) ≡ true)
-    × (map value_of now ≡ map value_of before ++ map second_of (files_named names files))
-    × AreInBytes names files
+-- each is in bytes
+abbrev pub AreInBytes : Files → List Source → Type 0
+AreInBytes files sources = AllByRecursion (IsInBytes files) sources

@@ -7,9 +7,8 @@ use Rattle.dgn_desk.specs.Seen.{Seen, seen}
 use Rattle.dgn_desk.specs.declared.stop.Stop.{Stop}
 use Rattle.dgn_desk.specs.declared.stop.Stop.TheVariants as stops
 use Rattle.dgn_tool.specs.Request.{Request}
-use Rattle.dgn_tool.specs.RunInBytes.{FilesInBytes}
 use Rattle.dgn_tool.specs.EditedRuns.{EditsAsAsked}
-use Rattle.dgn_tool.specs.Outcome.{outcome_of, IsEnding, EndsAs, StoppedAs, IsFaultless, HasFiles, Reads}
+use Rattle.dgn_tool.specs.Outcome.{outcome_of, IsEnding, EndsAs, StoppedAs, IsFaultless, HasFiles, FilesInBytes, Reads}
 use Rattle.dgn_tool.specs.Status.{number_of}
 use Rattle.dgn_tool.specs.declared.status.Status.{Status}
 use Rattle.dgn_tool.specs.declared.status.Status.TheVariants as statuses

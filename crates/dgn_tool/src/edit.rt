@@ -1,15 +1,15 @@
 // Editing a design file by a script.
 
+ghost use Rattle.std.specs.Prelude.{Some};
 ghost use Rattle.std.specs.List.{AllByRecursion};
 ghost use Rattle.dgn_import.specs.Seconds.{IsSound};
 ghost use Rattle.elem_index.specs.Design.{IsWhole};
 ghost use Rattle.elem_index.specs.Answers.{opened_of};
 ghost use Rattle.dgn_session.specs.State.{state_of};
 ghost use Rattle.dgn_tool.specs.Ends.{DeskComes, DeskEnds};
-ghost use Rattle.dgn_tool.specs.InBytes.{AllInBytes};
 ghost use Rattle.dgn_answers.specs.Given.{given_all};
-ghost use Rattle.dgn_tool.specs.InputOutcomes.{HasAll};
-ghost use Rattle.dgn_tool.specs.Outcome.{run_outcome, edited, edited_from};
+ghost use Rattle.dgn_tool.specs.Outcome.{edited, edited_from, reading_of};
+ghost use Rattle.dgn_tool.specs.Request.{Edit};
 ghost use Rattle.dgn_import.specs.Seconds.{waiting};
 
 use crate::commands::run_all;
@@ -31,8 +31,7 @@ pub(crate) fn edit<D: Desk>(
     script: &str,
     output: &str,
 ) -> End
-    ensures { DeskEnds D.Desk (HasAll input.now script.now) (AllInBytes input.now script.now)
-        (λ files. run_outcome input.now script.now files (λ d gs. edited d gs output.now)) desk.old desk.new result }
+    ensures { DeskEnds D.Desk (reading_of (Some (Edit input.now script.now output.now))) desk.old desk.new result }
 {
     match read_inputs(alloc, desk, input, script) {
         Ok(
@@ -58,7 +57,7 @@ fn run_script<D: Desk>(
     requires whole { IsWhole design }
     requires sound { AllByRecursion IsSound seconds.old.items }
     ensures { DeskComes D.Desk
-        (λ _. edited (opened_of design) (given_all commands.now (waiting seconds.old.items)) output.now)
+        (edited (opened_of design) (given_all commands.now (waiting seconds.old.items)) output.now)
         desk.old desk.new result }
 {
     let mut session = Session::start(alloc, design)?;
@@ -76,7 +75,7 @@ fn finish<D: Desk>(
 ) -> Result<Ending, Stop>
     requires { AllByRecursion IsSound seconds.old.items }
     ensures { DeskComes D.Desk
-        (λ _. edited_from (state_of session.old) session.old.tail
+        (edited_from (state_of session.old) session.old.tail
         (given_all commands.now (waiting seconds.old.items)) output.now)
         desk.old desk.new result }
 {

@@ -1,17 +1,16 @@
 // Reading and opening the files that a run is given.
 
-ghost use Rattle.std.specs.Prelude.{◌≡◌, ◌+◌, ◌<◌, ◌≤◌, ◌^◌, codes, vec_len, IfOk, IfErr, Result};
-ghost use Rattle.dgn_desk.specs.Content.{Files};
+ghost use Rattle.std.specs.Prelude.{◌+◌, ◌<◌, ◌≤◌, ◌^◌, length, vec_len, IfOk, Result, Err};
+ghost use Rattle.dgn_desk.specs.Seen.{seen};
 ghost use Rattle.elem_index.specs.Answers.{TellsFault, opened_of};
 ghost use Rattle.elem_index.specs.Design.{IsWhole};
 ghost use Rattle.elem_index.specs.Opened.{Opened};
 ghost use Rattle.dgn_drawing.specs.Opening.{Fault};
 ghost use Rattle.dgn_drawing.specs.WellFormed.{IsBytes};
-ghost use Rattle.dgn_tool.specs.Ended.{Outcome};
-ghost use Rattle.dgn_tool.specs.InBytes.{IsLonger, InputInBytes, ScriptInBytes};
-ghost use Rattle.dgn_tool.specs.Ends.{DeskComes, DeskReads, DeskEndsEarly, Has};
-ghost use Rattle.dgn_tool.specs.InputOutcomes.{opened_outcome};
-ghost use Rattle.dgn_tool.specs.Readings.{whole_file, opening_in, script_in, IsWholeFile, OpensAs, ReadsAs, FaultSays};
+ghost use Rattle.patch_file.specs.PatchView.{all_packed};
+ghost use Rattle.dgn_tool.specs.Ends.{ComesTo, DeskReads, end_of};
+ghost use Rattle.dgn_tool.specs.Inputs.{FaultSays, design_in, drawing_opened, drawing_in, commands_in, entries_in};
+ghost use Rattle.dgn_tool.specs.Readings.{at_once, file_in};
 
 use crate::end::End;
 use crate::ending::Ending;
@@ -21,6 +20,7 @@ use dgn_drawing::MOST_DESIGN;
 use dgn_listing::numbered_line;
 use edit_script::{Command, MOST_SCRIPT, ScriptFault, read_script};
 use elem_index::{Design, OpenFault, read_design};
+use patch_file::{MOST_PATCH, PatchEntry, PatchFault, read_patch};
 use std::alloc::{AllocError, Global};
 
 /// Reads the named file whole, of at most so many bytes, or ends the run, with this line where it has more.
@@ -33,10 +33,8 @@ pub(crate) fn read_file<D: Desk>(
 ) -> Result<Vec<u8>, End>
     requires { limit + 1 < 2 ^ 64 }
     ensures within { IfOk result (λ bytes. vec_len bytes ≤ limit) }
-    ensures read { IfOk result (λ bytes. DeskReads D.Desk (IsWholeFile name.now limit) desk.old desk.new bytes.items) }
-    ensures ended { IfErr result
-        (DeskEndsEarly D.Desk (Has name.now) (IsLonger name.now limit) (whole_file name.now limit line.now)
-        desk.old desk.new) }
+    ensures read { DeskReads D.Desk (λ files. file_in files name.now limit line.now) (λ bytes. bytes.items)
+        desk.old desk.new result }
 {
     match read_all(alloc, desk, name, limit) {
         Ok(bytes) => {
@@ -57,10 +55,7 @@ fn are_bytes(bytes: &[u8])
 /// Reads IN whole, or ends the run.
 pub(crate) fn read_input<D: Desk>(alloc: Global, desk: &mut D, input: &str) -> Result<Vec<u8>, End>
     ensures within { IfOk result (λ bytes. vec_len bytes ≤ MOST_DESIGN) }
-    ensures read { IfOk result
-        (λ bytes. DeskReads D.Desk (IsWholeFile input.now MOST_DESIGN) desk.old desk.new bytes.items) }
-    ensures ended { IfErr result (DeskEndsEarly D.Desk (Has input.now) (IsLonger input.now MOST_DESIGN)
-        (whole_file input.now MOST_DESIGN (codes "too long design\n")) desk.old desk.new) }
+    ensures read { DeskReads D.Desk (λ files. design_in files input.now) (λ bytes. bytes.items) desk.old desk.new result }
 {
     read_file(alloc, desk, input, MOST_DESIGN, b"too long design\n")
 }
@@ -68,9 +63,7 @@ pub(crate) fn read_input<D: Desk>(alloc: Global, desk: &mut D, input: &str) -> R
 /// Reads and opens IN, or ends the run.
 pub fn open_design<D: Desk>(alloc: Global, desk: &mut D, input: &str) -> Result<Design, End>
     ensures whole { IfOk result IsWhole }
-    ensures opened { IfOk result (λ d. DeskReads D.Desk (OpensAs input.now) desk.old desk.new (opened_of d)) }
-    ensures ended { IfErr result (DeskEndsEarly D.Desk (Has input.now) (InputInBytes input.now (λ _. ⊥)) (opening_in input.now)
-        desk.old desk.new) }
+    ensures read { DeskReads D.Desk (λ files. drawing_in files input.now) opened_of desk.old desk.new result }
 {
     let bytes = read_input(alloc, desk, input)?;
     match read_design(alloc, bytes) {
@@ -85,9 +78,8 @@ pub(crate) fn end_bad_design<D: Desk>(
     desk: &mut D,
     fault: OpenFault,
 ) -> Result<Ending, Stop>
-    ensures said { IfOk result (λ _. ¬ (fault ≡ OpenFault.Memory)) }
-    ensures comes { (found : Result Opened Fault) (go_on : Files → Opened → Outcome) → TellsFault found fault
-        → DeskComes D.Desk (λ files. opened_outcome found (go_on files)) desk.old desk.new result }
+    ensures { (found : Result Opened Fault) → TellsFault found fault
+        → ComesTo (λ _. at_once (drawing_opened found)) (Err (end_of result)) (seen D.Desk desk.old) (seen D.Desk desk.new) }
 {
     let line = bad_line(alloc, fault)?;
     end_with(desk, &line, Ending::BadDesign)
@@ -116,10 +108,7 @@ pub fn read_commands<D: Desk>(
     desk: &mut D,
     script: &str,
 ) -> Result<Vec<Command>, End>
-    ensures read { IfOk result
-        (λ commands. DeskReads D.Desk (ReadsAs script.now) desk.old desk.new commands.items) }
-    ensures ended { IfErr result (DeskEndsEarly D.Desk (Has script.now) (ScriptInBytes script.now) (script_in script.now)
-        desk.old desk.new) }
+    ensures { DeskReads D.Desk (λ files. commands_in files script.now) (λ commands. commands.items) desk.old desk.new result }
 {
     let text = read_file(alloc, desk, script, MOST_SCRIPT, b"too long script\n")?;
     match read_script(alloc, &text) {
@@ -132,5 +121,29 @@ pub fn read_commands<D: Desk>(
             Ending::BadScript,
         ))),
         Err(ScriptFault::Memory) => Err(End::Stopped(Stop::Memory)),
+    }
+}
+
+/// Reads PATCH, and its entries, or ends the run.
+pub(crate) fn read_entries<D: Desk>(
+    alloc: Global,
+    desk: &mut D,
+    patch: &str,
+) -> Result<Vec<PatchEntry>, End>
+    ensures few { IfOk result (λ entries. length entries.items < 2 ^ 32) }
+    ensures read { DeskReads D.Desk (λ files. entries_in files patch.now) (λ entries. all_packed entries.items)
+        desk.old desk.new result }
+{
+    let bytes = read_file(alloc, desk, patch, MOST_PATCH, b"too long patch\n")?;
+    match read_patch(alloc, &bytes) {
+        Ok(entries) => Ok(entries),
+        Err(PatchFault::At { offset }) => Err(End::of(end_numbered(
+            alloc,
+            desk,
+            b"bad patch at ",
+            offset,
+            Ending::BadPatch,
+        ))),
+        Err(PatchFault::Memory) => Err(End::Stopped(Stop::Memory)),
     }
 }

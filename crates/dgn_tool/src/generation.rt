@@ -41,7 +41,7 @@ pub(crate) fn generate_file<D: Desk>(
 ) -> Result<Ending, Stop>
     requires some { 1 ≤ count }
     requires few { count ≤ 200000 }
-    ensures { DeskComes D.Desk (λ _. generation seed count output.now) desk.old desk.new result }
+    ensures { DeskComes D.Desk (generation seed count output.now) desk.old desk.new result }
 {
     let mut session = begin(alloc, seed, count)?;
     try_drawing(alloc, desk, &mut session, output)
@@ -69,7 +69,7 @@ fn try_drawing<D: Desk>(
     output: &str,
 ) -> Result<Ending, Stop>
     ensures { DeskComes D.Desk
-        (λ _. generated_from (state_of session.old) session.old.tail output.now) desk.old desk.new result }
+        (generated_from (state_of session.old) session.old.tail output.now) desk.old desk.new result }
 {
     let before = session.design().body.len();
     let text = summarize(alloc, session, before)?;

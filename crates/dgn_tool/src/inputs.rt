@@ -1,15 +1,13 @@
 // Reading what a script is run with.
 
-ghost use Rattle.std.specs.Prelude.{IfOk, IfErr};
+ghost use Rattle.std.specs.Prelude.{IfOk};
 ghost use Rattle.std.specs.List.{AllByRecursion};
 ghost use Rattle.elem_index.specs.Design.{IsWhole};
 ghost use Rattle.elem_index.specs.Answers.{opened_of};
 ghost use Rattle.dgn_import.specs.Seconds.{IsSound};
-ghost use Rattle.dgn_tool.specs.Ends.{DeskReads, DeskEndsEarly};
-ghost use Rattle.dgn_tool.specs.InBytes.{AllInBytes};
+ghost use Rattle.dgn_tool.specs.Ends.{DeskReads};
 ghost use Rattle.dgn_answers.specs.Given.{given_all};
-ghost use Rattle.dgn_tool.specs.InputOutcomes.{HasAll};
-ghost use Rattle.dgn_tool.specs.ReadInputs.{AreRead, inputs_in};
+ghost use Rattle.dgn_tool.specs.Inputs.{Inputs as InputsValue, inputs_in};
 ghost use Rattle.dgn_import.specs.Seconds.{waiting};
 
 use crate::{End, open_design, read_commands, read_seconds};
@@ -40,10 +38,9 @@ pub(crate) fn read_inputs<D: Desk>(
 ) -> Result<Inputs, End>
     ensures whole { IfOk result (λ i. IsWhole i.design) }
     ensures sound { IfOk result (λ i. AllByRecursion IsSound i.seconds.items) }
-    ensures read { IfOk result (λ i. DeskReads D.Desk (AreRead input.now script.now) desk.old desk.new
-        (opened_of i.design, given_all i.commands.items (waiting i.seconds.items))) }
-    ensures ended { IfErr result (DeskEndsEarly D.Desk
-        (HasAll input.now script.now) (AllInBytes input.now script.now) (inputs_in input.now script.now) desk.old desk.new) }
+    ensures read { DeskReads D.Desk (λ files. inputs_in files input.now script.now)
+        (λ i. record { drawing = opened_of i.design; steps = given_all i.commands.items (waiting i.seconds.items) })
+        desk.old desk.new result }
 {
     let design = open_design(alloc, desk, input)?;
     let commands = read_commands(alloc, desk, script)?;

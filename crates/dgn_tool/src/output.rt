@@ -62,7 +62,7 @@ pub fn file_and_say<D: Desk>(
     ending: Ending,
 ) -> Result<Ending, Stop>
     ensures { DeskComes D.Desk
-        (λ _. filed_then_said (status_said ending) text.now name.now (body.now ++ (tail.now ++ filling.now)))
+        (filed_then_said (status_said ending) text.now name.now (body.now ++ (tail.now ++ filling.now)))
         desk.old desk.new result }
 {
     write_file(desk, name, body, tail, filling)?;
@@ -82,7 +82,7 @@ pub fn file_filled<D: Desk>(
     requires tail { length tail.now ≤ MOST_DESIGN }
     requires now { length body.now ≤ MOST_DESIGN }
     ensures { DeskComes D.Desk
-        (λ _. filed_then_said Status.Done text.now output.now (file_made before tail.now body.now)) desk.old desk.new result }
+        (filed_then_said Status.Done text.now output.now (file_made before tail.now body.now)) desk.old desk.new result }
 {
     let zeros = [0; BLOCK];
     let zero_count = filling_len(before, tail, body.len());

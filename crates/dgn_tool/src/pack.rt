@@ -1,6 +1,6 @@
 // Packing what the commands of a script do to a drawing.
 
-ghost use Rattle.std.specs.Prelude.{◌≡◌, ◌≤◌, ◌<◌, [], length, reverse, IfOk};
+ghost use Rattle.std.specs.Prelude.{◌≡◌, ◌≤◌, ◌<◌, [], length, reverse, IfOk, Some};
 ghost use Rattle.std.specs.List.{AllByRecursion};
 ghost use Rattle.dgn_import.specs.Seconds.{IsSound as IsSoundSecond};
 ghost use Rattle.elem_index.specs.Design.{IsWhole};
@@ -12,11 +12,10 @@ ghost use Rattle.patch_file.specs.Standing.{all_taken};
 ghost use Rattle.patch_file.specs.PatchView.{packed_of, all_packed};
 ghost use Rattle.dgn_answers.specs.Commands.{begun};
 ghost use Rattle.dgn_tool.specs.Ends.{DeskComes, DeskEnds};
-ghost use Rattle.dgn_tool.specs.InBytes.{AllInBytes};
 ghost use Rattle.dgn_answers.specs.Given.{given_all, refused_count};
 ghost use Rattle.dgn_tool.specs.Packing.{packed, packed_after, filed_patch, TakesLast};
-ghost use Rattle.dgn_tool.specs.InputOutcomes.{HasAll};
-ghost use Rattle.dgn_tool.specs.Outcome.{run_outcome};
+ghost use Rattle.dgn_tool.specs.Outcome.{reading_of};
+ghost use Rattle.dgn_tool.specs.Request.{Pack};
 ghost use Rattle.dgn_import.specs.Seconds.{waiting};
 
 use crate::inputs::{Inputs, read_inputs};
@@ -48,8 +47,7 @@ pub(crate) fn pack<D: Desk>(
     script: &str,
     patch: &str,
 ) -> End
-    ensures { DeskEnds D.Desk (HasAll input.now script.now) (AllInBytes input.now script.now)
-        (λ files. run_outcome input.now script.now files (λ d gs. packed d gs patch.now)) desk.old desk.new result }
+    ensures { DeskEnds D.Desk (reading_of (Some (Pack input.now script.now patch.now))) desk.old desk.new result }
 {
     match read_inputs(alloc, desk, input, script) {
         Ok(
@@ -75,7 +73,7 @@ fn pack_commands<D: Desk>(
     requires whole { IsWhole design }
     requires sound { AllByRecursion IsSoundSecond seconds.old.items }
     ensures { DeskComes D.Desk
-        (λ _. packed (opened_of design) (given_all commands.now (waiting seconds.old.items)) patch.now)
+        (packed (opened_of design) (given_all commands.now (waiting seconds.old.items)) patch.now)
         desk.old desk.new result }
 {
     let did = pack_edits(alloc, design, commands, seconds)?;
@@ -166,7 +164,7 @@ fn file_entries<D: Desk>(
     patch: &str,
 ) -> Result<Ending, Stop>
     requires { length (patch_spelling (all_packed entries.now)) ≤ MOST_PATCH }
-    ensures { DeskComes D.Desk (λ _. filed_patch (all_packed entries.now) refused patch.now) desk.old desk.new result }
+    ensures { DeskComes D.Desk (filed_patch (all_packed entries.now) refused patch.now) desk.old desk.new result }
 {
     let file = spell_entries(alloc, entries)?;
     let text = numbered_line(alloc, b"entries ", entries.len() as u64)?;

@@ -3,10 +3,9 @@ ghost use Rattle.dgn_desk.specs.Content.{OnlyLeftDiffers};
 ghost use Rattle.dgn_desk.specs.Desk.{Rose, StaysWilling};
 ghost use Rattle.dgn_tool.specs.Ends.{DeskEnds};
 ghost use Rattle.dgn_tool.specs.EditedRuns.{EditsAsAsked};
-ghost use Rattle.dgn_tool.specs.RunInBytes.{FilesInBytes};
 ghost use Rattle.dgn_tool.specs.Request.{request_of};
 ghost use Rattle.dgn_tool.specs.RequestView.{seen, IsCounted};
-ghost use Rattle.dgn_tool.specs.Outcome.{outcome, outcome_of, IsEnding, EndsAs, StoppedAs, IsFaultless, HasFiles, Reads};
+ghost use Rattle.dgn_tool.specs.Outcome.{outcome, IsEnding, EndsAs, StoppedAs, IsFaultless, HasFiles, FilesInBytes, Reads, reading_of};
 ghost use Rattle.dgn_tool.specs.Runs.{DeskRuns};
 
 use crate::apply::apply;
@@ -77,9 +76,7 @@ pub(crate) fn run_words<D: Desk>(alloc: Global, words: &[String], desk: &mut D) 
 // Runs the form that is asked for.
 fn run_request<D: Desk>(alloc: Global, desk: &mut D, request: Request) -> End
     requires { IsCounted request }
-    ensures ends { DeskEnds D.Desk (HasFiles (Some (seen request.entry)))
-        (FilesInBytes (Some (seen request.entry))) (outcome_of (Some (seen request.entry)))
-        desk.old desk.new result }
+    ensures ends { DeskEnds D.Desk (reading_of (Some (seen request.entry))) desk.old desk.new result }
     ensures reads { result ≡ End.ReadFault → Reads (Some (seen request.entry)) }
 {
     match request {

@@ -1,13 +1,12 @@
 // Reading the second files of a script's imports.
 
-ghost use Rattle.std.specs.Prelude.{◌≡◌, [], ◌∷◌, IfOk, IfErr, OnOk};
+ghost use Rattle.std.specs.Prelude.{◌≡◌, map, IfOk, OnOk};
 ghost use Rattle.std.specs.List.{AllByRecursion, list_all};
 ghost use Rattle.dgn_import.specs.Seconds.{value_of, IsSound};
 ghost use Rattle.edit_script.specs.Imports.{is_name_byte};
-ghost use Rattle.dgn_tool.specs.Ends.{DeskReads, DeskEndsEarly};
-ghost use Rattle.dgn_tool.specs.InBytes.{AreInBytes, AreCutOff};
-ghost use Rattle.dgn_tool.specs.Readings.{ComeTo, ComeBehind, seconds_in};
-ghost use Rattle.dgn_tool.specs.SecondFiles.{text_named, names_of, names_in, AreThere};
+ghost use Rattle.dgn_tool.specs.Ends.{DeskReads};
+ghost use Rattle.dgn_tool.specs.Inputs.{second_in, seconds_behind, seconds_in};
+ghost use Rattle.dgn_tool.specs.SecondFiles.{text_named, names_of};
 ghost use Rattle.dgn_import.specs.Seconds.{waiting};
 
 use crate::end::End;
@@ -26,11 +25,8 @@ pub fn read_seconds<D: Desk>(
     commands: &[Command],
 ) -> Result<Vec<Second>, End>
     ensures sound { IfOk result (λ seconds. AllByRecursion IsSound seconds.items) }
-    ensures read { IfOk result
-        (λ seconds. DeskReads D.Desk (ComeTo (names_in commands.now)) desk.old desk.new (waiting seconds.items)) }
-    ensures ended { IfErr result (DeskEndsEarly D.Desk
-        (AreThere (names_in commands.now)) (AreInBytes (names_in commands.now)) (seconds_in (names_in commands.now))
-        desk.old desk.new) }
+    ensures read { DeskReads D.Desk (λ files. seconds_in files commands.now) (λ seconds. waiting seconds.items)
+        desk.old desk.new result }
 {
     let mut seconds = Vec::new(alloc);
     'commands: for command in commands {
@@ -49,11 +45,8 @@ fn read_for<D: Desk>(
 ) -> Result<(), End>
     requires { AllByRecursion IsSound seconds.old.items }
     ensures sound { OnOk result (AllByRecursion IsSound seconds.new.items) }
-    ensures read { OnOk result
-        (DeskReads D.Desk (ComeBehind (names_of command.now) seconds.old.items) desk.old desk.new seconds.new.items) }
-    ensures ended { IfErr result (DeskEndsEarly D.Desk
-        (AreThere (names_of command.now)) (AreCutOff (names_of command.now)) (seconds_in (names_of command.now))
-        desk.old desk.new) }
+    ensures read { DeskReads D.Desk (λ files. seconds_behind files (map value_of seconds.old.items) (names_of command.now))
+        (λ _. map value_of seconds.new.items) desk.old desk.new result }
 {
     let Command::Import(name, _) = command else {
         return Ok(());
@@ -68,11 +61,7 @@ fn read_for<D: Desk>(
 // Reads the named second file whole, and opens it, or ends the run.
 fn read_named<D: Desk>(alloc: Global, desk: &mut D, name: &str) -> Result<Second, End>
     ensures sound { IfOk result IsSound }
-    ensures read { IfOk result
-        (λ second. DeskReads D.Desk (ComeTo (name.now ∷ [])) desk.old desk.new (value_of second ∷ [])) }
-    ensures ended { IfErr result
-        (DeskEndsEarly D.Desk (AreThere (name.now ∷ [])) (AreCutOff (name.now ∷ [])) (seconds_in (name.now ∷ []))
-        desk.old desk.new) }
+    ensures read { DeskReads D.Desk (λ files. second_in files name.now) value_of desk.old desk.new result }
 {
     let bytes = read_file(alloc, desk, name, MOST_DESIGN, b"too long import\n")?;
     let second = read_second(alloc, bytes)?;

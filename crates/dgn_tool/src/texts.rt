@@ -11,7 +11,7 @@ use std::alloc::Global;
 
 /// Ends the run with a line.
 pub fn end_with<D: Desk>(desk: &mut D, line: &[u8], ending: Ending) -> Result<Ending, Stop>
-    ensures { DeskComes D.Desk (λ _. ended (status_said ending) line.now) desk.old desk.new result }
+    ensures { DeskComes D.Desk (ended (status_said ending) line.now) desk.old desk.new result }
 {
     say_all(desk, line)?;
     Ok(ending)
@@ -25,7 +25,7 @@ pub fn end_numbered<D: Desk>(
     number: u32,
     ending: Ending,
 ) -> Result<Ending, Stop>
-    ensures { DeskComes D.Desk (λ _. ended (status_said ending) (numbered words.now number)) desk.old desk.new result }
+    ensures { DeskComes D.Desk (ended (status_said ending) (numbered words.now number)) desk.old desk.new result }
 {
     let line = numbered_line(alloc, words, u64::from(number))?;
     end_with(desk, &line, ending)

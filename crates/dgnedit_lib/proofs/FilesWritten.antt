@@ -1,37 +1,28 @@
 -- Each outcome writes the file that the last of four words names, where it ends as done or with some refused, and else none.
-use Rattle.std.proofs.Common.{◌≡◌, ℕ, ◌-◌, nat_lt, nat_le, Bool, true, false, ◌&&◌, not, if◌then◌else◌, List, [], ◌∷◌, length, map, codes}
-use Rattle.std.proofs.Common.{Option, Some, None, option_map, Result, Ok, Err, refl, sym, ap, ◌∙◌}
-use Rattle.std.specs.List.{list_all}
+use Rattle.std.proofs.Common.{◌≡◌, ℕ, nat_lt, nat_le, Bool, true, false, ◌&&◌, not, if◌then◌else◌, List, [], ◌∷◌, length, codes}
+use Rattle.std.proofs.Common.{Option, Some, None, option_map, Result, Ok, Err, refl, sym, ap, ◌∙◌, subst}
 use Rattle.std.specs.Str.{bytes_eq}
-use Rattle.dgn_desk.specs.Content.{Files, bytes_of}
+use Rattle.dgn_desk.specs.Content.{Files}
 use Rattle.dgn_desk.specs.FileLaws.{get-with_file-same}
-use Rattle.elem_index.specs.Opened.{Opened, opening}
-use Rattle.dgn_drawing.specs.Opening.{Fault}
+use Rattle.elem_index.specs.Opened.{Opened}
 use Rattle.dgn_drawing.specs.Spelling.{spelling}
-use Rattle.dgn_drawing.specs.declared.command.Command.{Command}
 use Rattle.edit_script.specs.Numbers.{number_within}
-use Rattle.edit_script.specs.Script.{commands_of}
-use Rattle.edit_script.specs.declared.fault.ScriptFault.{ScriptFault}
-use Rattle.edit_script.specs.declared.fault.ScriptFault.TheVariants as faults
-use Rattle.patch_file.specs.Reading.{patch_of}
 use Rattle.patch_file.specs.Spelling.{Packed, patch_spelling}
-use Rattle.dgn_tool.specs.Applied.{patched, reading_outcome, patched_outcome, put_from, Patched, Made, Differs, Overruns}
+use Rattle.dgn_tool.specs.Applied.{patched, patched_outcome, put_from, Patched, Made, Differs, Overruns}
 use Rattle.dgn_tool.specs.Ended.{Outcome, ended}
-use Rattle.dgn_tool.specs.InputOutcomes.{input_outcome, opened_outcome, scripted, script_outcome, fault_line, checked}
-use Rattle.dgn_tool.specs.SecondFiles.{is_within, files_named, names_in}
 use Rattle.dgn_tool.specs.declared.status.Status.{Status}
-use Rattle.dgn_import.specs.Seconds.{second_of}
 use Rattle.dgn_listing.specs.NumberedLines.{numbered}
-use Rattle.dgn_drawing.specs.declared.limits.TheConstants.{MOST_DESIGN}
-use Rattle.edit_script.specs.declared.limits.TheConstants.{MOST_SCRIPT}
 use Rattle.patch_file.specs.declared.limits.TheConstants.{MOST_PATCH}
+use Rattle.dgn_tool.specs.Inputs.{Inputs, drawing_in, entries_in, inputs_in}
 use Rattle.dgn_tool.specs.Leaving.{files_after}
+use Rattle.dgn_tool.specs.Readings.{Source, Reading, at_once, behind_sources, ◌>>=◌, ended_by}
 use Rattle.dgn_tool.specs.Request.{Request, Edit, Check, Gen, Pack, Apply, request_of, four_words, edit_of, pack_of, gen_of, generation_of, apply_of}
 use Rattle.dgn_tool.specs.declared.status.Status.TheVariants as statuses
-use Rattle.dgn_tool.specs.Outcome.{outcome, outcome_of, run_outcome, stepped, edited, usage_line}
+use Rattle.dgn_tool.specs.Outcome.{outcome, outcome_of, checked, edited, usage_line}
 use Rattle.dgn_tool.specs.Packing.{packed, packed_after, filed_patch}
 use Rattle.dgn_answers.specs.Commands.{begun}
-use Rattle.dgn_answers.specs.Given.{Given, given_all, refused_count}
+use Rattle.dgn_answers.specs.Given.{Given, refused_count}
+use Rattle.dgn_tool.proofs.EarlyEnds.{IsEarly, EndsEarly, drawing_early, inputs_early, entries_early}
 use Rattle.dgnedit_lib.specs.Writing.{last_of_four, has_written, name_written, bytes_at}
 
 -- an outcome that writes the file of this name where it has written one, if there is a name
@@ -47,44 +38,24 @@ either : (name : Option (List ℕ)) (b : Bool) (x y : Outcome) → WritesAt name
 either name true x y is_x is_y = is_x
 either name false x y is_x is_y = is_y
 
--- whatever the opening of IN comes to
-opened_writes : (name : Option (List ℕ)) (r : Result Opened Fault) (go_on : Opened → Outcome)
-    → ((d : Opened) → WritesAt name (go_on d)) → WritesAt name (opened_outcome r go_on)
-opened_writes name (Ok d) go_on goes = goes d
-opened_writes name (Err fault) go_on goes = said name statuses.BadDesign (fault_line fault) refl
+-- no outcome with which reading ends a run has written
+unwritten : (status : Status) → IsEarly status → has_written status ≡ false
+unwritten statuses.Done early = absurd early
+unwritten statuses.SomeRefused early = absurd early
+unwritten _ early = refl
 
-input_writes : (name : Option (List ℕ)) (input : List ℕ) (go_on : Opened → Outcome)
-    → ((d : Opened) → WritesAt name (go_on d)) → WritesAt name (input_outcome input go_on)
-input_writes name input go_on goes =
-    either name (nat_lt MOST_DESIGN (length input)) (ended statuses.TooLong (codes "too long design\n")) (opened_outcome (opening input) go_on)
-    (said name statuses.TooLong _ refl) (opened_writes name (opening input) go_on goes)
+-- whatever is read first
+read_writes : {A : Type 0} (name : Option (List ℕ)) (before : List Source) (r : Result A Outcome) (next : A → Reading Outcome) → EndsEarly r
+    → ((x : A) → WritesAt name (ended_by (next x).answer)) → WritesAt name (ended_by (behind_sources before r next).answer)
+read_writes name before (Ok x) next early goes = goes x
+read_writes name before (Err o) next early goes =
+    subst (WritesAt name) (sym early.is) (said name early.status early.line (unwritten early.status early.early))
 
--- whatever SCRIPT reads to
-script_writes : (name : Option (List ℕ)) (r : Result (List Command) ScriptFault) (go_on : List Command → Outcome)
-    → ((cs : List Command) → WritesAt name (go_on cs)) → WritesAt name (script_outcome r go_on)
-script_writes name (Ok cs) go_on goes = goes cs
-script_writes name (Err (faults.Line number)) go_on goes = said name statuses.BadScript (numbered (codes "bad script line ") number) refl
-script_writes name (Err faults.Memory) go_on goes = said name statuses.Memory [] refl
-
-scripted_writes : (name : Option (List ℕ)) (script : List ℕ) (go_on : List Command → Outcome)
-    → ((cs : List Command) → WritesAt name (go_on cs)) → WritesAt name (scripted script go_on)
-scripted_writes name script go_on goes =
-    either name (nat_lt MOST_SCRIPT (length script)) (ended statuses.TooLong (codes "too long script\n")) (script_outcome (commands_of script) go_on)
-    (said name statuses.TooLong _ refl) (script_writes name (commands_of script) go_on goes)
-
--- whatever the second files are
-stepped_writes : (name : Option (List ℕ)) (cs : List Command) (files : Files) (go_on : List Given → Outcome)
-    → ((gs : List Given) → WritesAt name (go_on gs)) → WritesAt name (stepped cs files go_on)
-stepped_writes name cs files go_on goes =
-    either name (list_all is_within (files_named (names_in cs) files)) (go_on (given_all cs (map second_of (files_named (names_in cs) files))))
-    (ended statuses.TooLong (codes "too long import\n")) (goes _) (said name statuses.TooLong _ refl)
-
--- so it is with all that is read
-run_writes : (name : Option (List ℕ)) (input script : List ℕ) (files : Files) (go_on : Opened → List Given → Outcome)
-    → ((d : Opened) (gs : List Given) → WritesAt name (go_on d gs)) → WritesAt name (run_outcome input script files go_on)
-run_writes name input script files go_on goes =
-    input_writes name (bytes_of files input) (λ d. scripted (bytes_of files script) (λ cs. stepped cs files (go_on d)))
-    (λ d. scripted_writes name (bytes_of files script) (λ cs. stepped cs files (go_on d)) (λ cs. stepped_writes name cs files (go_on d) (goes d)))
+inputs_write : (name : Option (List ℕ)) (input script : List ℕ) (files : Files) (f : Inputs → Outcome) → ((i : Inputs) → WritesAt name (f i))
+    → WritesAt name (ended_by (inputs_in files input script >>= λ i. at_once (Ok (f i))).answer)
+inputs_write name input script files f goes =
+    read_writes name (inputs_in files input script).sources (inputs_in files input script).answer (λ i. at_once (Ok (f i)))
+    (inputs_early files input script) goes
 
 -- a run that came to its end has written
 ends_written : (b : Bool) → has_written (if b then statuses.SomeRefused else statuses.Done) ≡ true
@@ -107,15 +78,9 @@ made_writes before tail count (Made b) output = record { writes = refl }
 made_writes before tail count (Differs k) output = said (Some output) statuses.PatchRefused (numbered (codes "refused entry ") k) refl
 made_writes before tail count Overruns output = said (Some output) statuses.TooLong (codes "too long design\n") refl
 
-reading_writes : (b tail : List ℕ) (size : ℕ) (r : Result (List Packed) ℕ) (output : List ℕ) → WritesAt (Some output) (reading_outcome b tail size r output)
-reading_writes b tail size (Ok es) output = made_writes (length b) tail (length es) (put_from (length tail) 1 b es) output
-reading_writes b tail size (Err left) output = said (Some output) statuses.BadPatch (numbered (codes "bad patch at ") (size - left)) refl
-
-patched_writes : (d : Opened) (patch output : List ℕ) → WritesAt (Some output) (patched d patch output)
-patched_writes d patch output =
-    either (Some output) (nat_lt MOST_PATCH (length patch)) (ended statuses.TooLong (codes "too long patch\n"))
-    (reading_outcome (spelling d.elements) d.tail (length patch) (patch_of patch) output) (said (Some output) statuses.TooLong _ refl)
-    (reading_writes (spelling d.elements) d.tail (length patch) (patch_of patch) output)
+patched_writes : (d : Opened) (es : List Packed) (output : List ℕ) → WritesAt (Some output) (patched d es output)
+patched_writes d es output =
+    made_writes (length (spelling d.elements)) d.tail (length es) (put_from (length d.tail) 1 (spelling d.elements) es) output
 
 -- the name of the file that a request writes
 abbrev Names : Option Request → Option (List ℕ) → Type 0
@@ -133,14 +98,21 @@ at_same x y o same at = record { writes = at.writes ∙ ap (name_written (has_wr
 request_writes : (r : Option Request) (name : Option (List ℕ)) (files : Files) → Names r name → WritesAt name (outcome_of r files)
 request_writes None name files names = said name statuses.Usage usage_line refl
 request_writes (Some (Edit input script output)) name files names =
-    at_same _ _ _ names (run_writes (Some output) input script files (λ d gs. edited d gs output) (λ d gs. edited_writes d gs output))
-request_writes (Some (Check input)) name files names = at_same _ _ _ names (input_writes None (bytes_of files input) checked (λ d. record { writes = refl }))
+    at_same _ _ _ names (inputs_write (Some output) input script files (λ i. edited i.drawing i.steps output) (λ i. edited_writes i.drawing i.steps output))
+request_writes (Some (Check input)) name files names =
+    at_same _ _ _ names
+    (read_writes None (drawing_in files input).sources (drawing_in files input).answer (λ d. at_once (Ok (checked d))) (drawing_early files input)
+    (λ d. record { writes = refl }))
 request_writes (Some (Gen seed count output)) name files names = at_same _ _ _ names (record { writes = refl })
 request_writes (Some (Pack input script patch)) name files names =
-    at_same _ _ _ names (run_writes (Some patch) input script files (λ d gs. packed d gs patch) (λ d gs. packed_writes d gs patch))
+    at_same _ _ _ names (inputs_write (Some patch) input script files (λ i. packed i.drawing i.steps patch) (λ i. packed_writes i.drawing i.steps patch))
 request_writes (Some (Apply input patch output)) name files names =
+    let drawing : Reading Opened = drawing_in files input in
+    let entries : Reading (List Packed) = entries_in files patch in
     at_same _ _ _ names
-    (input_writes (Some output) (bytes_of files input) (λ d. patched d (bytes_of files patch) output) (λ d. patched_writes d (bytes_of files patch) output))
+    (read_writes (Some output) drawing.sources drawing.answer (λ d. entries >>= λ es. at_once (Ok (patched d es output))) (drawing_early files input)
+    (λ d. read_writes (Some output) entries.sources entries.answer (λ es. at_once (Ok (patched d es output))) (entries_early files patch)
+    (λ es. patched_writes d es output)))
 
 -- whichever request it is
 either_names : (name : Option (List ℕ)) (b : Bool) (x y : Option Request) → Names x name → Names y name → Names (if b then x else y) name

@@ -15,17 +15,10 @@ use Rattle.dgnedit_lib.proofs.FilesWritten.{outcome_writes, bytes_written}
 
 -- a status that is neither of these is that of an ending, where no writing failed
 pub ends : (status : Status) → ¬ (number_of status ≡ 5) → ¬ (number_of status ≡ 7) → (status ≡ statuses.WriteFault → Rose 0 0) → IsEnding status
-ends statuses.Done read memory write = tt
-ends statuses.SomeRefused read memory write = tt
-ends statuses.Usage read memory write = tt
-ends statuses.BadScript read memory write = tt
-ends statuses.BadDesign read memory write = tt
 ends statuses.ReadFault read memory write = absurd (read refl)
 ends statuses.WriteFault read memory write = absurd (let low = write refl in omega arith)
 ends statuses.Memory read memory write = absurd (memory refl)
-ends statuses.TooLong read memory write = tt
-ends statuses.BadPatch read memory write = tt
-ends statuses.PatchRefused read memory write = tt
+ends _ read memory write = tt
 
 -- a file is there where its bytes are
 is_some-bytes : (file : Option (List ℕ × List ℕ)) → is_some (option_map (λ f. f.1) file) ≡ is_some file

@@ -35,12 +35,12 @@ returns-in-Err-TooLong g c =
     c.end_with.ensures
 
 pub returns : goal.returns
-returns g c = wants (λ _. entries_outcome c.args.body.items c.args.tail.now (all_packed c.args.entries.now) c.args.output.now) (seen g.D.Desk c.args.desk.now)
+returns g c = wants (entries_outcome c.args.body.items c.args.tail.now (all_packed c.args.entries.now) c.args.output.now) (seen g.D.Desk c.args.desk.now)
 
 pub returns-in_err-text-in-Ok : goal.returns-in_err-text-in-Ok
 returns-in_err-text-in-Ok g c =
     let p = err_from_is_err_and c.from_residual.result c.from_residual.ensures.1 in
-    rw (p.1, p.2) (wants (λ _. entries_outcome c.args.body.items c.args.tail.now (all_packed c.args.entries.now) c.args.output.now)
+    rw (p.1, p.2) (wants (entries_outcome c.args.body.items c.args.tail.now (all_packed c.args.entries.now) c.args.output.now)
     (seen g.D.Desk c.args.desk.now))
 
 pub returns-in-Ok : goal.returns-in-Ok

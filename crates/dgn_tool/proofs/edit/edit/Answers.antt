@@ -1,28 +1,27 @@
-use Rattle.std.proofs.Common.{List, subst}
+use Rattle.std.proofs.Common.{List, Ok, subst}
 use Rattle.dgn_drawing.specs.declared.command.Command.{Command}
 use Rattle.elem_index.specs.Answers.{opened_of}
-use Rattle.dgn_tool.specs.Ends.{DeskComes}
-use Rattle.dgn_tool.specs.InBytes.{AllInBytes}
 use Rattle.dgn_answers.specs.Given.{given_all}
-use Rattle.dgn_tool.specs.InputOutcomes.{HasAll}
-use Rattle.dgn_tool.specs.Outcome.{run_outcome, edited}
 use Rattle.dgn_import.specs.Seconds.{waiting}
-use Rattle.dgn_tool.proofs.RunParts.{then_comes}
+use Rattle.dgn_tool.specs.Ends.{DeskComes}
+use Rattle.dgn_tool.specs.Inputs.{inputs_in}
+use Rattle.dgn_tool.specs.Outcome.{edited}
+use Rattle.dgn_tool.specs.Readings.{at_once}
+use Rattle.dgn_tool.proofs.ReadingsInTurn.{run_ends_first, run_comes}
 use Rattle.dgn_tool.proofs.edit.edit.Goals as goal
 
 pub returns-in-Ok : goal.returns-in-Ok
 returns-in-Ok g c =
-    let inputs = c.in-Ok.field-0 in
-    let d = opened_of inputs.design in
-    let vs = waiting inputs.seconds.items in
-    let o = c.args.output.now in
-    let ran = c.run_script in
-    then_comes c.in-Ok.ensures.read (HasAll c.args.input.now c.args.script.now) (AllInBytes c.args.input.now c.args.script.now)
-    (λ files. run_outcome c.args.input.now c.args.script.now files (λ x gs. edited x gs o)) (edited d (given_all inputs.commands.items vs) o)
-    ran.result c.of.result
-    (λ files known. known.0 (λ x gs. edited x gs o)) (λ files known. known.1) c.of.ensures
-    (subst (λ (cs : List Command). DeskComes g.D.Desk (λ _. edited d (given_all cs vs) o) c.read_inputs.new.desk ran.new.desk ran.result)
-    c.deref.ensures.value ran.ensures)
+    let read = c.in-Ok.field-0 in
+    let d = opened_of read.design in
+    let vs = waiting read.seconds.items in
+    let name = c.args.output.now in
+    run_comes (λ files. inputs_in files c.args.input.now c.args.script.now) (λ i. edited i.drawing i.steps name)
+    (record { drawing = d; steps = given_all read.commands.items vs }) c.run_script.result c.of.result _ _ _ c.in-Ok.ensures.read c.of.ensures
+    (subst (λ (cs : List Command). DeskComes g.D.Desk (edited d (given_all cs vs) name) c.read_inputs.new.desk c.run_script.new.desk
+    c.run_script.result) c.deref.ensures.value c.run_script.ensures)
 
 pub returns-in-Err : goal.returns-in-Err
-returns-in-Err g c = c.in-Err.ensures.ended.early (λ _ read. edited read.0 read.1 c.args.output.now)
+returns-in-Err g c =
+    run_ends_first (λ files. inputs_in files c.args.input.now c.args.script.now)
+    (λ _ i. at_once (Ok (edited i.drawing i.steps c.args.output.now))) c.in-Err.end _ _ c.in-Err.ensures.read

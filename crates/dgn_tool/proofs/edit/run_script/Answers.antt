@@ -12,7 +12,7 @@ use Rattle.dgn_tool.proofs.edit.run_script.Goals as goal
 pub returns-in_err-session : goal.returns-in_err-session
 returns-in_err-session g c =
     let p = err_from_is_err_and c.from_residual.result c.from_residual.ensures.1 in
-    rw (p.1, p.2) (wants (λ _. edited (opened_of c.args.design) (given_all c.args.commands.now (waiting c.args.seconds.now.items)) c.args.output.now)
+    rw (p.1, p.2) (wants (edited (opened_of c.args.design) (given_all c.args.commands.now (waiting c.args.seconds.now.items)) c.args.output.now)
     (seen g.D.Desk c.args.desk.now))
 
 pub returns : goal.returns

@@ -1,64 +1,59 @@
-use Rattle.std.proofs.Common.{◌≡◌, ◌≤◌, List, ℕ, length, Err, refl, ap, sym, subst, ◌∙◌}
+use Rattle.std.proofs.Common.{◌≡◌, ◌≤◌, List, ℕ, length, Result, Ok, Err, ap, sym, subst, ◌∙◌}
 use Rattle.std.specs.Prelude.{codes}
 use Rattle.std.proofs.lemmas.Result.{err_from_is_err_and}
+use Rattle.dgn_desk.specs.Content.{Files}
+use Rattle.dgn_drawing.specs.declared.command.Command.{Command}
 use Rattle.edit_script.specs.Script.{commands_of, Tells}
+use Rattle.edit_script.specs.declared.fault.ScriptFault.{ScriptFault}
 use Rattle.edit_script.specs.declared.fault.ScriptFault.TheVariants as faults
 use Rattle.edit_script.specs.declared.limits.TheConstants.{MOST_SCRIPT}
-use Rattle.dgn_tool.specs.Ends.{Has}
-use Rattle.dgn_tool.specs.InBytes.{IsLonger, ScriptInBytes}
 use Rattle.dgn_tool.specs.Ended.{ended}
 use Rattle.dgn_listing.specs.NumberedLines.{numbered}
-use Rattle.dgn_tool.specs.InputOutcomes.{script_outcome}
-use Rattle.dgn_tool.specs.Readings.{whole_file, script_in, ReadsAs}
+use Rattle.dgn_tool.specs.Inputs.{commands_read, commands_in}
+use Rattle.dgn_tool.specs.Readings.{Reading, at_once, file_in}
 use Rattle.dgn_tool.specs.declared.status.Status.TheVariants as statuses
-use Rattle.dgn_tool.proofs.InputOutcomes.{reads_so, script_file, script_long, script_faulty, items_within}
-use Rattle.dgn_tool.proofs.RunParts.{known_so, same_end, then_comes, wants_behind}
+use Rattle.dgn_tool.proofs.FilesRead.{items_within}
+use Rattle.dgn_tool.proofs.ReadingsInTurn.{ends_first, then_comes, gives_so, comes_so, wants_more}
 use Rattle.dgn_tool.proofs.files.read_commands.Goals as goal
 
-pub returns-in_err-text-clause-ended : goal.returns-in_err-text-clause-ended
-returns-in_err-text-clause-ended g c =
-    let p = err_from_is_err_and c.from_residual.result c.from_residual.ensures.1 in
-    let script = c.args.script.now in
-    rw (p.1, p.2) (record {
-      early = λ go_on. same_end (Has script) (Has script) (ScriptInBytes script) (IsLonger script MOST_SCRIPT) (script_in script go_on)
-          (whole_file script MOST_SCRIPT (codes "too long script\n") (λ files b. script_outcome (commands_of b) (go_on files))) _ _ _
-          (λ files. refl) (λ files there. there) (λ files long. script_long script files long)
-          (c.in_err-text.ensures.ended.early (λ files b. script_outcome (commands_of b) (go_on files)));
-    })
+-- the text of SCRIPT
+abbrev text_in : List ℕ → Files → Reading (List ℕ)
+text_in script files = file_in files script MOST_SCRIPT (codes "too long script\n")
 
-pub returns-in-Ok-clause-read : goal.returns-in-Ok-clause-read
-returns-in-Ok-clause-read g c =
-    known_so c.in_ok-text.ensures.read (ReadsAs c.args.script.now) c.in-Ok.commands.items
-    (λ files is. reads_so c.args.script.now c.in_ok-text.text.items c.in-Ok.commands.items files
-    (ap commands_of (sym c.deref.ensures.value) ∙ c.in-Ok.ensures.commands) is)
+-- and what is read behind it
+abbrev behind : Files → List ℕ → Reading (List Command)
+behind files text = at_once (commands_read (commands_of text))
 
-pub returns-in-Err-Line-clause-ended : goal.returns-in-Err-Line-clause-ended
-returns-in-Err-Line-clause-ended g c =
-    let told : commands_of c.deref.result.now ≡ Err (faults.Line c.in-Err-Line.number) =
-    subst (Tells c.deref.result.now) c.in-Err-Line.field-0-is c.in-Err-Line.ensures.fault in
-    record {
-      early = λ go_on. then_comes c.in_ok-text.ensures.read (Has c.args.script.now) (ScriptInBytes c.args.script.now) (script_in c.args.script.now go_on)
-          (ended statuses.BadScript (numbered (codes "bad script line ") c.in-Err-Line.number)) c.end_numbered.result c.of.result
-          (λ files is. script_file c.args.script.now c.in_ok-text.text.items (Err (faults.Line c.in-Err-Line.number)) files (go_on files)
-          (ap commands_of (sym c.deref.ensures.value) ∙ told) is)
-          (λ files is. script_faulty c.args.script.now c.in_ok-text.text.items (faults.Line c.in-Err-Line.number) files
-          (ap commands_of (sym c.deref.ensures.value) ∙ told) is)
-          c.of.ensures c.end_numbered.ensures;
-    }
-
-pub returns-clause-ended : goal.returns-clause-ended
-returns-clause-ended g c =
-    record {
-      early = λ go_on. wants_behind c.in_ok-text.ensures.read (Has c.args.script.now) (ScriptInBytes c.args.script.now)
-          (script_in c.args.script.now go_on);
-    }
+-- by what the text reads to
+read_so : (files : Files) (text : List ℕ) (found : Result (List Command) ScriptFault) → commands_of text ≡ found
+    → behind files text ≡ at_once (commands_read found)
+read_so files text found is = ap (λ (r : Result (List Command) ScriptFault). at_once (commands_read r)) is
 
 pub read_script-requires : goal.read_script-requires
 read_script-requires g c =
     subst (λ (b : List ℕ). length b ≤ MOST_SCRIPT) (sym c.deref.ensures.value) (items_within c.in_ok-text.text MOST_SCRIPT c.in_ok-text.ensures.within)
 
-pub returns-in-Ok-clause-ended : goal.returns-in-Ok-clause-ended
-returns-in-Ok-clause-ended g c = tt
+pub returns-in_err-text : goal.returns-in_err-text
+returns-in_err-text g c =
+    let p = err_from_is_err_and c.from_residual.result c.from_residual.ensures.1 in
+    rw (p.1, p.2) (ends_first (text_in c.args.script.now) behind c.in_err-text.field-0.0 _ _ c.in_err-text.ensures.read)
 
-pub returns-in-Err-Line-clause-read : goal.returns-in-Err-Line-clause-read
-returns-in-Err-Line-clause-read g c = tt
+pub returns-in-Ok : goal.returns-in-Ok
+returns-in-Ok g c =
+    let text = c.in_ok-text.text.items in
+    let cs = c.in-Ok.commands.items in
+    then_comes (text_in c.args.script.now) behind text (Ok cs) _ _ _ c.in_ok-text.ensures.read
+    (gives_so (λ files. behind files text) cs _ (λ files. read_so files text (Ok cs) (ap commands_of (sym c.deref.ensures.value) ∙ c.in-Ok.ensures.commands)))
+
+pub returns-in-Err-Line : goal.returns-in-Err-Line
+returns-in-Err-Line g c =
+    let text = c.in_ok-text.text.items in
+    let number = c.in-Err-Line.number in
+    let told : commands_of c.deref.result.now ≡ Err (faults.Line number) =
+    subst (Tells c.deref.result.now) c.in-Err-Line.field-0-is c.in-Err-Line.ensures.fault in
+    then_comes (text_in c.args.script.now) behind text (Err c.of.result) _ _ _ c.in_ok-text.ensures.read
+    (comes_so (λ files. behind files text) (ended statuses.BadScript (numbered (codes "bad script line ") number)) c.end_numbered.result c.of.result _ _
+    (λ files. read_so files text (Err (faults.Line number)) (ap commands_of (sym c.deref.ensures.value) ∙ told)) c.of.ensures c.end_numbered.ensures)
+
+pub returns : goal.returns
+returns g c = wants_more (λ files. commands_in files c.args.script.now) _ _ c.in_ok-text.ensures.read.reads

@@ -1,59 +1,67 @@
-use Rattle.std.proofs.Common.{◌≡◌, ◌<◌, length, refl, subst}
-use Rattle.dgn_desk.specs.Content.{bytes_of}
-use Rattle.dgn_desk.specs.Seen.{seen}
+use Rattle.std.proofs.Common.{◌≡◌, List, ℕ, [], ◌∷◌, Ok, Err, refl, subst, arith}
+use Rattle.dgn_desk.specs.Content.{Files, bytes_of}
+use Rattle.dgn_desk.specs.Seen.{seen, OnlyReads}
 use Rattle.dgn_drawing.specs.WellFormed.{IsBytes}
-use Rattle.dgn_tool.specs.Ends.{Has, ReadTo}
 use Rattle.dgn_tool.specs.Ended.{ended}
-use Rattle.dgn_tool.specs.InBytes.{IsLonger}
-use Rattle.dgn_tool.specs.Readings.{whole_file, IsWholeFile}
+use Rattle.dgn_tool.specs.Readings.{Reading, file_in, at_once, IsThere, AreThere, AreInBytes}
 use Rattle.dgn_tool.specs.declared.status.Status.TheVariants as statuses
-use Rattle.dgn_tool.proofs.InputOutcomes.{items_within, file_overruns}
-use Rattle.dgn_tool.proofs.RunParts.{then_comes, wants_behind}
-use Rattle.dgn_tool.proofs.ToldContents.{where_told, all_told}
+use Rattle.dgn_tool.proofs.FilesRead.{items_within, file_gives, file_overruns}
+use Rattle.dgn_tool.proofs.ReadingsInTurn.{Goes, continues, comes_so, wants_more}
+use Rattle.dgn_tool.proofs.ToldContents.{where_told}
 use Rattle.dgn_tool.proofs.files.read_file.Goals as goal
 
 pub returns-in-Ok-clause-read : goal.returns-in-Ok-clause-read
 returns-in-Ok-clause-read g c =
     let read = c.in-Ok.ensures in
+    let name = c.args.name.now in
+    let limit = c.args.limit in
+    let line = c.args.line.now in
     let bytes : IsBytes c.in-Ok.bytes.items = subst IsBytes c.deref.ensures.value c.are_bytes.ensures in
     record {
       reads = record { told = read.told; calm = read.cause; quiet = read.other; stays = read.stays };
-      known = where_told (λ k. c.in-Ok.bytes.items ≡ bytes_of k.files c.args.name.now)
-          (λ k. IsWholeFile c.args.name.now c.args.limit k.files c.in-Ok.bytes.items) _ read.whole
-          (λ k is. (items_within c.in-Ok.bytes c.args.limit read.within, is, bytes));
+      gives = where_told (λ k. c.in-Ok.bytes.items ≡ bytes_of k.files name)
+          (λ k. ((file_in k.files name limit line).answer ≡ Ok c.in-Ok.bytes.items) × AreInBytes k.files (file_in k.files name limit line).sources)
+          _ read.whole
+          (λ k is. (
+            file_gives k.files name limit line c.in-Ok.bytes.items (items_within c.in-Ok.bytes limit read.within) is,
+            (λ few. subst IsBytes is bytes, tt),
+          ));
     }
 
-pub returns-in-Err-TooLong-clause-ended : goal.returns-in-Err-TooLong-clause-ended
-returns-in-Err-TooLong-clause-ended g c =
+pub returns-in-Err-TooLong-clause-read : goal.returns-in-Err-TooLong-clause-read
+returns-in-Err-TooLong-clause-read g c =
     let read = rw c.in-Err-TooLong.field-0-is at c.in-Err-TooLong.ensures in
-    let long : ReadTo (λ files (_ : Unit {0}). c.args.limit < length (bytes_of files c.args.name.now)) tt (seen g.D.Desk c.args.desk.now)
-    (seen g.D.Desk c.read_all.new.desk) = record {
-      reads = record { told = read.told; calm = read.cause; quiet = read.other; stays = read.stays };
-      known = read.long refl;
-    } in
-    record {
-      early = λ go_on. then_comes long (Has c.args.name.now) (IsLonger c.args.name.now c.args.limit)
-          (whole_file c.args.name.now c.args.limit c.args.line.now go_on) (ended statuses.TooLong c.args.line.now) c.end_with.result c.of.result
-          (λ files over. file_overruns c.args.name.now c.args.limit c.args.line.now files go_on over) (λ files over. over) c.of.ensures c.end_with.ensures;
-    }
+    let name = c.args.name.now in
+    let limit = c.args.limit in
+    let line = c.args.line.now in
+    let reads : OnlyReads (seen g.D.Desk c.args.desk.now) (seen g.D.Desk c.read_all.new.desk) =
+    record { told = read.told; calm = read.cause; quiet = read.other; stays = read.stays } in
+    let rest : Files → Reading (List ℕ) = λ _. at_once (Err (ended statuses.TooLong line)) in
+    continues (λ files. file_in files name limit line) rest (Err c.of.result) _ _ _ reads
+    (where_told _ (λ k. Goes k.files (file_in k.files name limit line) (rest k.files)) _ (read.long refl)
+    (λ k long. record {
+      before = record { name = name; limit = limit } ∷ [];
+      sources = refl;
+      answer = file_overruns k.files name limit line long;
+      bytes = (λ few. absurd (omega (arith, long, few)), tt);
+    }))
+    (comes_so rest (ended statuses.TooLong line) c.end_with.result c.of.result _ _ (λ _. refl) c.of.ensures c.end_with.ensures)
 
-pub returns-in-Err-Fault-clause-ended : goal.returns-in-Err-Fault-clause-ended
-returns-in-Err-Fault-clause-ended g c =
+pub returns-in-Err-Fault-clause-read : goal.returns-in-Err-Fault-clause-read
+returns-in-Err-Fault-clause-read g c =
     let read = rw c.in-Err-Fault.field-0-is at c.in-Err-Fault.ensures in
+    let name = c.args.name.now in
     record {
-      early = λ go_on. record {
-        left = record { rose = read.cause.1; quiet = read.other; stays = read.stays; only = read.told; lacks = read.able };
-      };
+      rose = read.cause.1;
+      quiet = read.other;
+      stays = read.stays;
+      only = read.told;
+      lacks = λ willing there. read.able willing (where_told (λ k. AreThere k.files (file_in k.files name c.args.limit c.args.line.now).sources)
+          (λ k. IsThere k.files (record { name = name; limit = c.args.limit })) _ there (λ k all. all.0));
     }
 
-pub returns-in-Err-Memory-clause-ended : goal.returns-in-Err-Memory-clause-ended
-returns-in-Err-Memory-clause-ended g c =
+pub returns-in-Err-Memory-clause-read : goal.returns-in-Err-Memory-clause-read
+returns-in-Err-Memory-clause-read g c =
     let read = rw c.in-Err-Memory.field-0-is at c.in-Err-Memory.ensures in
-    let none : ReadTo (λ _ (_ : Unit {0}). Unit {0}) tt (seen g.D.Desk c.args.desk.now) (seen g.D.Desk c.read_all.new.desk) = record {
-      reads = record { told = read.told; calm = read.cause; quiet = read.other; stays = read.stays };
-      known = all_told _;
-    } in
-    record {
-      early = λ go_on. wants_behind none (Has c.args.name.now) (IsLonger c.args.name.now c.args.limit)
-          (whole_file c.args.name.now c.args.limit c.args.line.now go_on);
-    }
+    wants_more (λ files. file_in files c.args.name.now c.args.limit c.args.line.now) _ _
+    (record { told = read.told; calm = read.cause; quiet = read.other; stays = read.stays })

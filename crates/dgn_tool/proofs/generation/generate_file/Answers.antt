@@ -9,7 +9,7 @@ use Rattle.dgn_tool.proofs.generation.generate_file.Goals as goal
 pub returns-in_err-session : goal.returns-in_err-session
 returns-in_err-session g c =
     let p = err_from_is_err_and c.from_residual.result c.from_residual.ensures.1 in
-    rw (p.1, p.2) (wants (λ _. generation c.args.seed c.args.count c.args.output.now) (seen g.D.Desk c.args.desk.now))
+    rw (p.1, p.2) (wants (generation c.args.seed c.args.count c.args.output.now) (seen g.D.Desk c.args.desk.now))
 
 pub returns : goal.returns
 returns g c =

@@ -12,7 +12,7 @@ use Rattle.dgn_tool.proofs.generation.try_drawing.Goals as goal
 pub returns-in_err-text : goal.returns-in_err-text
 returns-in_err-text g c =
     let p = err_from_is_err_and c.from_residual.result c.from_residual.ensures.1 in
-    rw (p.1, p.2) (wants (λ _. generated_from (state_of c.args.session.now) c.args.session.now.tail c.args.output.now) (seen g.D.Desk c.args.desk.now))
+    rw (p.1, p.2) (wants (generated_from (state_of c.args.session.now) c.args.session.now.tail c.args.output.now) (seen g.D.Desk c.args.desk.now))
 
 pub returns : goal.returns
 returns g c =

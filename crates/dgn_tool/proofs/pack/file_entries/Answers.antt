@@ -11,12 +11,12 @@ use Rattle.dgn_tool.proofs.pack.file_entries.Goals as goal
 pub returns-in_err-file : goal.returns-in_err-file
 returns-in_err-file g c =
     let p = err_from_is_err_and c.from_residual.result c.from_residual.ensures.1 in
-    rw (p.1, p.2) (wants (λ _. filed_patch (all_packed c.args.entries.now) c.args.refused c.args.patch.now) (seen g.D.Desk c.args.desk.now))
+    rw (p.1, p.2) (wants (filed_patch (all_packed c.args.entries.now) c.args.refused c.args.patch.now) (seen g.D.Desk c.args.desk.now))
 
 pub returns-in_err-text : goal.returns-in_err-text
 returns-in_err-text g c =
     let p = err_from_is_err_and c.from_residual-in_err-text.result c.from_residual-in_err-text.ensures.1 in
-    rw (p.1, p.2) (wants (λ _. filed_patch (all_packed c.args.entries.now) c.args.refused c.args.patch.now) (seen g.D.Desk c.args.desk.now))
+    rw (p.1, p.2) (wants (filed_patch (all_packed c.args.entries.now) c.args.refused c.args.patch.now) (seen g.D.Desk c.args.desk.now))
 
 pub returns : goal.returns
 returns g c =

@@ -1,28 +1,27 @@
-use Rattle.std.proofs.Common.{List, subst}
+use Rattle.std.proofs.Common.{List, Ok, subst}
 use Rattle.dgn_drawing.specs.declared.command.Command.{Command}
 use Rattle.elem_index.specs.Answers.{opened_of}
-use Rattle.dgn_tool.specs.Ends.{DeskComes}
-use Rattle.dgn_tool.specs.InBytes.{AllInBytes}
 use Rattle.dgn_answers.specs.Given.{given_all}
-use Rattle.dgn_tool.specs.InputOutcomes.{HasAll}
-use Rattle.dgn_tool.specs.Outcome.{run_outcome}
-use Rattle.dgn_tool.specs.Packing.{packed}
 use Rattle.dgn_import.specs.Seconds.{waiting}
-use Rattle.dgn_tool.proofs.RunParts.{then_comes}
+use Rattle.dgn_tool.specs.Ends.{DeskComes}
+use Rattle.dgn_tool.specs.Inputs.{inputs_in}
+use Rattle.dgn_tool.specs.Packing.{packed}
+use Rattle.dgn_tool.specs.Readings.{at_once}
+use Rattle.dgn_tool.proofs.ReadingsInTurn.{run_ends_first, run_comes}
 use Rattle.dgn_tool.proofs.pack.pack.Goals as goal
 
 pub returns-in-Ok : goal.returns-in-Ok
 returns-in-Ok g c =
-    let inputs = c.in-Ok.field-0 in
-    let d = opened_of inputs.design in
-    let vs = waiting inputs.seconds.items in
-    let o = c.args.patch.now in
-    then_comes c.in-Ok.ensures.read (HasAll c.args.input.now c.args.script.now) (AllInBytes c.args.input.now c.args.script.now)
-    (λ files. run_outcome c.args.input.now c.args.script.now files (λ x gs. packed x gs o)) (packed d (given_all inputs.commands.items vs) o)
-    c.pack_commands.result c.of.result
-    (λ files known. known.0 (λ x gs. packed x gs o)) (λ files known. known.1) c.of.ensures
-    (subst (λ (cs : List Command). DeskComes g.D.Desk (λ _. packed d (given_all cs vs) o)
-    c.read_inputs.new.desk c.pack_commands.new.desk c.pack_commands.result) c.deref.ensures.value c.pack_commands.ensures)
+    let read = c.in-Ok.field-0 in
+    let d = opened_of read.design in
+    let vs = waiting read.seconds.items in
+    let name = c.args.patch.now in
+    run_comes (λ files. inputs_in files c.args.input.now c.args.script.now) (λ i. packed i.drawing i.steps name)
+    (record { drawing = d; steps = given_all read.commands.items vs }) c.pack_commands.result c.of.result _ _ _ c.in-Ok.ensures.read c.of.ensures
+    (subst (λ (cs : List Command). DeskComes g.D.Desk (packed d (given_all cs vs) name) c.read_inputs.new.desk c.pack_commands.new.desk
+    c.pack_commands.result) c.deref.ensures.value c.pack_commands.ensures)
 
 pub returns-in-Err : goal.returns-in-Err
-returns-in-Err g c = c.in-Err.ensures.ended.early (λ _ read. packed read.0 read.1 c.args.patch.now)
+returns-in-Err g c =
+    run_ends_first (λ files. inputs_in files c.args.input.now c.args.script.now)
+    (λ _ i. at_once (Ok (packed i.drawing i.steps c.args.patch.now))) c.in-Err.end _ _ c.in-Err.ensures.read

@@ -17,7 +17,7 @@ use Rattle.dgn_tool.proofs.pack.pack_commands.Goals as goal
 pub returns-in_err-did : goal.returns-in_err-did
 returns-in_err-did g c =
     let p = err_from_is_err_and c.from_residual.result c.from_residual.ensures.1 in
-    rw (p.1, p.2) (wants (λ _. packed (opened_of c.args.design) (given_all c.args.commands.now (waiting c.args.seconds.now.items)) c.args.patch.now)
+    rw (p.1, p.2) (wants (packed (opened_of c.args.design) (given_all c.args.commands.now (waiting c.args.seconds.now.items)) c.args.patch.now)
     (seen g.D.Desk c.args.desk.now))
 
 pub returns-then-patch_len : goal.returns-then-patch_len

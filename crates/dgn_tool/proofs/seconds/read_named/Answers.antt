@@ -1,37 +1,35 @@
-use Rattle.std.proofs.Common.{◌∷◌, []}
+use Rattle.std.proofs.Common.{List, ℕ, Ok, ap, sym}
 use Rattle.std.specs.Prelude.{codes}
 use Rattle.std.proofs.lemmas.Result.{err_from_is_err_and}
+use Rattle.dgn_desk.specs.Content.{Files}
 use Rattle.dgn_drawing.specs.declared.limits.TheConstants.{MOST_DESIGN}
-use Rattle.dgn_import.specs.Seconds.{value_of}
-use Rattle.dgn_tool.specs.Ends.{Has}
-use Rattle.dgn_tool.specs.InBytes.{IsLonger, AreCutOff}
-use Rattle.dgn_tool.specs.Readings.{whole_file, ComeTo, seconds_in}
-use Rattle.dgn_tool.specs.SecondFiles.{AreThere}
-use Rattle.dgn_tool.proofs.RunParts.{known_so, same_end, wants_behind}
-use Rattle.dgn_tool.proofs.SecondFiles.{one_opened, one_ends, one_cut}
+use Rattle.dgn_import.specs.Seconds.{SecondValue, value_of, second_of}
+use Rattle.dgn_tool.specs.Inputs.{second_in}
+use Rattle.dgn_tool.specs.Readings.{Reading, at_once, file_in}
+use Rattle.dgn_tool.proofs.ReadingsInTurn.{ends_first, then_comes, gives_so, wants_more}
 use Rattle.dgn_tool.proofs.seconds.read_named.Goals as goal
 
-pub returns-in_err-bytes-clause-ended : goal.returns-in_err-bytes-clause-ended
-returns-in_err-bytes-clause-ended g c =
-    let p = err_from_is_err_and c.from_residual.result c.from_residual.ensures.1 in
-    let name = c.args.name.now in
-    rw (p.1, p.2) (record {
-      early = λ go_on. same_end (AreThere (name ∷ [])) (Has name) (AreCutOff (name ∷ [])) (IsLonger name MOST_DESIGN) (seconds_in (name ∷ []) go_on)
-          (whole_file name MOST_DESIGN (codes "too long import\n") (λ fs _. seconds_in (name ∷ []) go_on fs)) _ _ _
-          (λ files. one_ends name files go_on) (λ files there. there.0) (λ files long. one_cut name files long)
-          (c.in_err-bytes.ensures.ended.early (λ fs _. seconds_in (name ∷ []) go_on fs));
-    })
+-- the bytes of the file
+abbrev bytes_in : List ℕ → Files → Reading (List ℕ)
+bytes_in name files = file_in files name MOST_DESIGN (codes "too long import\n")
 
-pub returns-in_err-second-clause-ended : goal.returns-in_err-second-clause-ended
-returns-in_err-second-clause-ended g c =
+-- and what is read behind them
+abbrev behind : Files → List ℕ → Reading SecondValue
+behind files bytes = at_once (Ok (second_of bytes))
+
+pub returns-in_err-bytes-clause-read : goal.returns-in_err-bytes-clause-read
+returns-in_err-bytes-clause-read g c =
+    let p = err_from_is_err_and c.from_residual.result c.from_residual.ensures.1 in
+    rw (p.1, p.2) (ends_first (bytes_in c.args.name.now) behind c.in_err-bytes.field-0.0 _ _ c.in_err-bytes.ensures.read)
+
+pub returns-in_err-second-clause-read : goal.returns-in_err-second-clause-read
+returns-in_err-second-clause-read g c =
     let p = err_from_is_err_and c.from_residual-in_err-second.result c.from_residual-in_err-second.ensures.1 in
-    let name = c.args.name.now in
-    rw (p.1, p.2) (record {
-      early =
-          λ go_on. wants_behind c.in_ok-bytes.ensures.read (AreThere (name ∷ [])) (AreCutOff (name ∷ [])) (seconds_in (name ∷ []) go_on);
-    })
+    rw (p.1, p.2) (wants_more (λ files. second_in files c.args.name.now) _ _ c.in_ok-bytes.ensures.read.reads)
 
 pub returns-clause-read : goal.returns-clause-read
 returns-clause-read g c =
-    known_so c.in_ok-bytes.ensures.read (ComeTo (c.args.name.now ∷ [])) (value_of c.in_ok-second.second ∷ [])
-    (λ files is. one_opened c.args.name.now c.in_ok-bytes.bytes.items (value_of c.in_ok-second.second) files c.in_ok-second.ensures.value is)
+    let bytes = c.in_ok-bytes.bytes.items in
+    let v = value_of c.in_ok-second.second in
+    then_comes (bytes_in c.args.name.now) behind bytes (Ok v) _ _ _ c.in_ok-bytes.ensures.read
+    (gives_so (λ files. behind files bytes) v _ (λ _. ap (λ (x : SecondValue). at_once (Ok x)) (sym c.in_ok-second.ensures.value)))

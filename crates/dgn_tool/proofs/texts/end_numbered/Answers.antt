@@ -10,7 +10,7 @@ use Rattle.dgn_tool.proofs.texts.end_numbered.Goals as goal
 pub returns-in_err-line : goal.returns-in_err-line
 returns-in_err-line g c =
     let p = err_from_is_err_and c.from_residual.result c.from_residual.ensures.1 in
-    rw (p.1, p.2) (wants (λ _. ended (status_said c.args.ending) (numbered c.args.words.now c.args.number)) (seen g.D.Desk c.args.desk.now))
+    rw (p.1, p.2) (wants (ended (status_said c.args.ending) (numbered c.args.words.now c.args.number)) (seen g.D.Desk c.args.desk.now))
 
 pub returns : goal.returns
 returns g c =
