@@ -4,13 +4,13 @@ use Rattle.std.proofs.lemmas.List.{reverse-append}
 use Rattle.undo_log.specs.declared.entry.Entry.{Entry}
 use Rattle.undo_log.specs.Entries.{IsUndone}
 use Rattle.dgn_session.specs.State.{State, SessionValue, state_of, undo_refused}
-use Rattle.dgn_answers.specs.Remaining.{Made, without_newest}
-use Rattle.dgn_answers.specs.Given.{Given, step_answer, with_steps}
+use Rattle.dgn_answers.specs.Remaining.{RemainingEdit, without_newest}
+use Rattle.dgn_answers.specs.Steps.{Step, step_answer, with_steps}
 use Rattle.dgn_answers.specs.Logs.{entry_made, IsLogOf, LogsAs, AllLogAs}
 use Rattle.dgn_answers.proofs.UndoRefusals.{not_refused}
 
 -- one less
-first_less : (dim : ℕ) (e : Entry) (es : List Entry) (left : List Made) → e ∷ es ≡ map (entry_made dim) left
+first_less : (dim : ℕ) (e : Entry) (es : List Entry) (left : List RemainingEdit) → e ∷ es ≡ map (entry_made dim) left
     → es ≡ map (entry_made dim) (without_newest false left)
 first_less dim e es [] is = absurd (let x = is in cc)
 first_less dim e es (m ∷ left) is = let x = is in cc
@@ -26,11 +26,12 @@ undo_logs old new some undone dim left log =
     (first_less old.dim e (reverse new.entries) left newest ∙ ap (λ (k : ℕ). map (entry_made k) (without_newest false left)) (sym dim))
 
 -- steps, one after the other: what those that ran have left, and what those that are left will
-pub record LogsSo (all rest : List Given) (from v : SessionValue) : Type 0 where
-  pub so : (left : List Made) → IsLogOf from left → (now : List Made) × IsLogOf v now × (with_steps all (state_of from) left ≡ with_steps rest (state_of v) now)
+pub record LogsSo (all rest : List Step) (from v : SessionValue) : Type 0 where
+  pub so : (left : List RemainingEdit) → IsLogOf from left
+      → (now : List RemainingEdit) × IsLogOf v now × (with_steps all (state_of from) left ≡ with_steps rest (state_of v) now)
 
 -- one more
-pub logs_more : (all rest : List Given) (g : Given) (from v new : SessionValue) → LogsSo all (g ∷ rest) from v → LogsAs (step_answer (state_of v) g).left v new
+pub logs_more : (all rest : List Step) (g : Step) (from v new : SessionValue) → LogsSo all (g ∷ rest) from v → LogsAs (step_answer (state_of v) g).left v new
     → state_of new ≡ (step_answer (state_of v) g).state → LogsSo all rest from new
 logs_more all rest g from v new done logs is = record {
   so = λ left log.
@@ -42,7 +43,7 @@ logs_more all rest g from v new done logs is = record {
 }
 
 -- where no step is left, all have run
-pub logs_all : (all rest : List Given) (from v : SessionValue) → LogsSo all rest from v → rest ≡ [] → AllLogAs all from v
+pub logs_all : (all rest : List Step) (from v : SessionValue) → LogsSo all rest from v → rest ≡ [] → AllLogAs all from v
 logs_all all rest from v done none left log =
     let here = done.so left log in
-    subst (IsLogOf v) (sym (here.2 ∙ ap (λ (gs : List Given). with_steps gs (state_of v) here.0) none)) here.1
+    subst (IsLogOf v) (sym (here.2 ∙ ap (λ (gs : List Step). with_steps gs (state_of v) here.0) none)) here.1

@@ -3,15 +3,15 @@ use Rattle.std.proofs.Common.{◌≡◌, ◌<◌, ◌+◌, List, [], ◌∷◌, 
 use Rattle.std.proofs.lemmas.List.{drop_more}
 use Rattle.dgn_import.specs.Seconds.{SecondValue}
 use Rattle.dgn_drawing.specs.declared.command.Command.{Command}
-use Rattle.dgn_answers.specs.Given.{given, seconds_behind, given_all}
+use Rattle.dgn_answers.specs.Steps.{step_of, seconds_behind, steps_of}
 
 -- the first of those that are left, and the others
 pub next_step : (cs : List Command) (i : ℕ) (c : Command) (vs vs' : List SecondValue) → i < length cs → c ≡ get_or cs i c → vs' ≡ seconds_behind c vs
-    → given_all (drop i cs) vs ≡ given c vs ∷ given_all (drop (i + 1) cs) vs'
+    → steps_of (drop i cs) vs ≡ step_of c vs ∷ steps_of (drop (i + 1) cs) vs'
 next_step cs i c vs vs' more is behind =
-    ap (λ (l : List Command). given_all l vs) (drop_more cs i c more ∙ ap (λ (x : Command). x ∷ drop (i + 1) cs) (sym is))
-    ∙ ap (λ (ws : List SecondValue). given c vs ∷ given_all (drop (i + 1) cs) ws) (sym behind)
+    ap (λ (l : List Command). steps_of l vs) (drop_more cs i c more ∙ ap (λ (x : Command). x ∷ drop (i + 1) cs) (sym is))
+    ∙ ap (λ (ws : List SecondValue). step_of c vs ∷ steps_of (drop (i + 1) cs) ws) (sym behind)
 
 -- none is left
-pub none_left : (cs : List Command) (i : ℕ) (vs : List SecondValue) → drop i cs ≡ [] → given_all (drop i cs) vs ≡ []
-none_left cs i vs none = ap (λ (l : List Command). given_all l vs) none
+pub none_left : (cs : List Command) (i : ℕ) (vs : List SecondValue) → drop i cs ≡ [] → steps_of (drop i cs) vs ≡ []
+none_left cs i vs none = ap (λ (l : List Command). steps_of l vs) none

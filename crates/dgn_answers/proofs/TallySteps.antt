@@ -3,10 +3,10 @@ use Rattle.std.proofs.Common.{◌≡◌, ℕ, ◌+◌, Bool, List, [], ◌∷◌
 use Rattle.std.specs.Int.{from_bool}
 use Rattle.std.proofs.lemmas.List.{append-nil}
 use Rattle.dgn_session.specs.State.{State}
-use Rattle.dgn_answers.specs.Given.{Given, step_answer, after_all, refused_count, trees_of_all}
+use Rattle.dgn_answers.specs.Steps.{Step, step_answer, after_all, refused_count, trees_of_all}
 
 -- the commands before these are done
-pub record Tallied (all left : List Given) (refused : ℕ) (trees : List ℕ) (from s : State) : Type 0 where
+pub record Tallied (all left : List Step) (refused : ℕ) (trees : List ℕ) (from s : State) : Type 0 where
   pub count : refused_count all from ≡ refused + refused_count left s
   pub edited : trees_of_all all from ≡ trees ++ trees_of_all left s
   pub state : after_all all from ≡ after_all left s
@@ -18,7 +18,7 @@ sum_zero : (a : ℕ) → a + 0 ≡ a
 sum_zero a = omega arith
 
 -- one more command
-pub tallied_more : (all left : List Given) (g : Given) (refused : ℕ) (was : Bool) (trees : List ℕ) (count : ℕ) (from s new : State)
+pub tallied_more : (all left : List Step) (g : Step) (refused : ℕ) (was : Bool) (trees : List ℕ) (count : ℕ) (from s new : State)
     → Tallied all (g ∷ left) refused trees from s
     → new ≡ (step_answer s g).state → was ≡ (step_answer s g).refused → count ≡ (step_answer s g).trees
     → Tallied all left (refused + from_bool was) (trees ++ count ∷ []) from new
@@ -35,17 +35,17 @@ tallied_more all left g refused was trees count from s new done new_is was_is co
 }
 
 -- where no command is left, all is done
-pub tallied_count : (all left : List Given) (refused : ℕ) (trees : List ℕ) (from s : State) → Tallied all left refused trees from s → left ≡ []
+pub tallied_count : (all left : List Step) (refused : ℕ) (trees : List ℕ) (from s : State) → Tallied all left refused trees from s → left ≡ []
     → refused ≡ refused_count all from
 tallied_count all left refused trees from s done none =
-    sym (done.count ∙ ap (λ (gs : List Given). refused + refused_count gs s) none ∙ sum_zero refused)
+    sym (done.count ∙ ap (λ (gs : List Step). refused + refused_count gs s) none ∙ sum_zero refused)
 
-pub tallied_trees : (all left : List Given) (refused : ℕ) (trees : List ℕ) (from s : State) → Tallied all left refused trees from s → left ≡ []
+pub tallied_trees : (all left : List Step) (refused : ℕ) (trees : List ℕ) (from s : State) → Tallied all left refused trees from s → left ≡ []
     → trees ≡ trees_of_all all from
 tallied_trees all left refused trees from s done none =
-    sym (done.edited ∙ ap (λ (gs : List Given). trees ++ trees_of_all gs s) none ∙ append-nil trees)
+    sym (done.edited ∙ ap (λ (gs : List Step). trees ++ trees_of_all gs s) none ∙ append-nil trees)
 
-pub tallied_state : (all left : List Given) (refused : ℕ) (trees : List ℕ) (from s : State) → Tallied all left refused trees from s → left ≡ []
+pub tallied_state : (all left : List Step) (refused : ℕ) (trees : List ℕ) (from s : State) → Tallied all left refused trees from s → left ≡ []
     → s ≡ after_all all from
 tallied_state all left refused trees from s done none =
-    sym (done.state ∙ ap (λ (gs : List Given). after_all gs s) none)
+    sym (done.state ∙ ap (λ (gs : List Step). after_all gs s) none)

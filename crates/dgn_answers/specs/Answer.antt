@@ -6,7 +6,7 @@ use Rattle.dgn_session.specs.State as machine
 use Rattle.dgn_session.specs.State.{State, pushed, pushed_if, undone, undo_refused}
 use Rattle.dgn_answers.specs.Texts.{edit_text, undo_text, fence_edit_text, fenced_refused, trees_edited}
 use Rattle.dgn_answers.specs.Imports.{Importing, import_text, import_refused, import_left}
-use Rattle.dgn_answers.specs.Remaining.{Made, Making, with_made, with_all_made, without_newest, with_import}
+use Rattle.dgn_answers.specs.Remaining.{RemainingEdit, EditKind, with_edit, with_fence_edit, without_newest, with_import}
 
 -- what it says, whether it is refused, how many trees it changed or copied, as an edit of all that a fence chooses, the
 -- state behind it, and what it leaves of the edits that are left, which stand the newest first
@@ -15,20 +15,20 @@ pub record Answer : Type 0 where
   pub refused : Bool
   pub trees : ℕ
   pub state : State
-  pub left : List Made → List Made
+  pub left : List RemainingEdit → List RemainingEdit
 
 -- that of a step which does nothing to the elements: this text, in this state
 abbrev pub tells : State → List ℕ → Bool → Answer
 tells s text refused = record { text = text; refused = refused; trees = 0; state = s; left = λ left. left }
 
 -- that of an edit in a state, by what it came to
-abbrev pub edits : State → Applied → Making → Answer
-edits s came making = record {
+abbrev pub edits : State → Applied → EditKind → Answer
+edits s came kind = record {
   text = edit_text came;
   refused = machine.is_refused came;
   trees = 0;
   state = pushed came s;
-  left = with_made came s.top making;
+  left = with_edit came s.top kind;
 }
 
 -- that of an edit of all that a fence chooses, by what it came to and the roots that are chosen
@@ -38,7 +38,7 @@ edits_all s came chosen e = record {
   refused = fenced_refused came;
   trees = trees_edited came chosen;
   state = pushed_if came s;
-  left = with_all_made came chosen s.top e;
+  left = with_fence_edit came chosen s.top e;
 }
 
 -- that of an undo

@@ -18,14 +18,14 @@ use Rattle.dgn_answers.specs.Remaining.{Alone, Fitted}
 use Rattle.dgn_answers.specs.Answer.{Answer, tells, edits, edits_all, takes_back}
 
 -- a run begins with the file's elements alone, all levels shown and no fence
-abbrev pub begun : Opened → State
-begun d = machine.begun d.dim d.elements (length d.tail)
+abbrev pub first_state : Opened → State
+first_state d = machine.begun d.dim d.elements (length d.tail)
 
 -- what `fence` leaves with these corners
 abbrev pub fence_set : List Pt → State → State
 fence_set corners s = if fence_refused corners then s else with_fence (Some corners) s
 
--- whether a command is an import, which is run with its second file, as a step of a run (`Given`): here it is none
+-- whether a command is an import, which is run with its second file, as a step of a run (`Step`): here it is none
 abbrev pub is_import : Command → Bool
 is_import (command.Import name by) = true
 is_import other = false

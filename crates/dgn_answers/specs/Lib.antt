@@ -3,5 +3,5 @@ pub mod Imports
 pub mod Remaining
 pub mod Answer
 pub mod Commands
-pub mod Given
+pub mod Steps
 pub mod Logs

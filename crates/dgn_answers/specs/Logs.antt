@@ -5,24 +5,24 @@ use Rattle.undo_log.specs.declared.entry.Entry.{Entry}
 use Rattle.dgn_listing.specs.Lines.{AppendsFrontOf}
 use Rattle.dgn_session.specs.State.{SessionValue, state_of, entry_with}
 use Rattle.dgn_answers.specs.declared.answered.Answered.{Answered}
-use Rattle.dgn_answers.specs.Remaining.{Made, fields_made}
+use Rattle.dgn_answers.specs.Remaining.{RemainingEdit, fields_made}
 use Rattle.dgn_answers.specs.Answer.{Answer}
-use Rattle.dgn_answers.specs.Given.{Given, with_steps}
+use Rattle.dgn_answers.specs.Steps.{Step, with_steps}
 
 -- the log's entry of an edit that is left: the bytes that stood in the fields that it wrote, and how many there were
-abbrev pub entry_made : ℕ → Made → Entry
-entry_made dim m = entry_with m.on (fields_made dim m.on m.making)
+abbrev pub entry_made : ℕ → RemainingEdit → Entry
+entry_made dim m = entry_with m.on (fields_made dim m.on m.kind)
 
 -- the entries of these edits, which stand the newest first
-abbrev pub IsLogOf : SessionValue → List Made → Type 0
+abbrev pub IsLogOf : SessionValue → List RemainingEdit → Type 0
 IsLogOf v left = reverse v.entries ≡ map (entry_made v.dim) left
 
 -- the log changes as the edits that are left do
-abbrev pub LogsAs : (List Made → List Made) → SessionValue → SessionValue → Type 0
-LogsAs change old new = (left : List Made) → IsLogOf old left → IsLogOf new (change left)
+abbrev pub LogsAs : (List RemainingEdit → List RemainingEdit) → SessionValue → SessionValue → Type 0
+LogsAs change old new = (left : List RemainingEdit) → IsLogOf old left → IsLogOf new (change left)
 
 -- so it is with steps, the first one first
-abbrev pub AllLogAs : List Given → SessionValue → SessionValue → Type 0
+abbrev pub AllLogAs : List Step → SessionValue → SessionValue → Type 0
 AllLogAs gs old new = LogsAs (with_steps gs (state_of old)) old new
 
 -- the step was run and its text appended; where there is no memory, the session is as before, and a front of the text is

@@ -4,7 +4,7 @@ ghost use Rattle.std.specs.Prelude.{◌≡◌, drop};
 ghost use Rattle.std.specs.List.{AllByRecursion};
 ghost use Rattle.dgn_import.specs.Seconds.{value_of, IsSound};
 ghost use Rattle.dgn_session.specs.State.{state_of};
-ghost use Rattle.dgn_answers.specs.Given.{first_second, given, seconds_behind, step_answer};
+ghost use Rattle.dgn_answers.specs.Steps.{first_second, step_of, seconds_behind, step_answer};
 ghost use Rattle.dgn_answers.specs.Logs.{Answers};
 ghost use Rattle.dgn_import.specs.Seconds.{waiting};
 
@@ -26,7 +26,7 @@ pub fn take_step(
     out: &mut Vec<u8>,
 ) -> Result<Answered, AllocError>
     requires { AllByRecursion IsSound seconds.old.items }
-    ensures answered { Answers result (step_answer (state_of s.old) (given c.now (waiting seconds.old.items)))
+    ensures answered { Answers result (step_answer (state_of s.old) (step_of c.now (waiting seconds.old.items)))
         s.old s.new out.old.items out.new.items }
     ensures left { waiting seconds.new.items ≡ seconds_behind c.now (waiting seconds.old.items) }
     ensures sound { AllByRecursion IsSound seconds.new.items }

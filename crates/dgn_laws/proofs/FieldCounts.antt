@@ -11,7 +11,7 @@ use Rattle.dgn_drawing.specs.Spelling.{spell}
 use Rattle.edit_ops.specs.Trees.{Live, live_tree, above_tree}
 use Rattle.edit_ops.specs.Fields.{Field, spot_fields, fields_at, above_fields_at, part_fields, edited_fields}
 use Rattle.edit_ops.specs.Fenced.{edits_at}
-use Rattle.dgn_answers.specs.Remaining.{Making, Alone, Fenced, Fitted, Imported, fields_made}
+use Rattle.dgn_answers.specs.Remaining.{EditKind, Alone, Fenced, Fitted, Imported, fields_made}
 use Rattle.dgn_drawing.specs.Rows.{row_of}
 use Rattle.dgn_drawing.specs.Numbering.{root_of}
 use Rattle.elem_index.specs.Offsets.{offset_of}
@@ -68,7 +68,7 @@ root_few dim es (Some root) =
     all_few (λ (f : Finding). spot_fields (offset_of es f.number) (range_spots dim)) (fitted_in dim es root)
     (λ f. spots_few (offset_of es f.number) (range_spots dim))
 
-pub made_few : (dim : ℕ) (on : List Element) (making : Making) → AllByRecursion HasFew (fields_made dim on making)
+pub made_few : (dim : ℕ) (on : List Element) (kind : EditKind) → AllByRecursion HasFew (fields_made dim on kind)
 made_few dim on (Alone e) = edited_few dim on e
 made_few dim on (Fenced e ns) = all_few (edited_fields dim on) (edits_at e ns) (λ one. edited_few dim on one)
 made_few dim on (Imported new) = tt

@@ -15,10 +15,10 @@ use Rattle.dgn_listing.specs.FindingTexts.{findings_text}
 use Rattle.dgn_session.specs.State as machine
 use Rattle.dgn_session.specs.State.{State, pushed}
 use Rattle.dgn_drawing.specs.declared.command.Command.TheVariants as command
-use Rattle.dgn_answers.specs.Remaining.{Made}
-use Rattle.dgn_answers.specs.Commands.{begun, answer_of}
-use Rattle.dgn_answers.specs.Given.{Given, after_all, with_steps}
-use Rattle.dgn_tool.specs.Laws.{steps_of}
+use Rattle.dgn_answers.specs.Remaining.{RemainingEdit}
+use Rattle.dgn_answers.specs.Commands.{first_state, answer_of}
+use Rattle.dgn_answers.specs.Steps.{Step, after_all, with_steps}
+use Rattle.dgn_tool.specs.Laws.{steps_of_files}
 use Rattle.dgn_laws.specs.FitLaws.{FitsEndFindings}
 use Rattle.dgn_tool.proofs.OpenSeconds.{IsStep, steps_given}
 use Rattle.dgn_tool.proofs.StackedEdits.{IsStacked, steps_stack}
@@ -33,10 +33,10 @@ fit_ends s t n root end (Done made) is opens done at spanned =
     ap findings_text (ends_findings (spelling s.top ++ t) s.dim s.top t n made root end opens is at spanned)
 
 -- what steps make opens
-pub opens_after : (t : List ℕ) (gs : List Given) (s : State) → s.earlier ≡ [] → All IsStep gs → Opens (spelling s.top ++ t) s.dim s.top t
+pub opens_after : (t : List ℕ) (gs : List Step) (s : State) → s.earlier ≡ [] → All IsStep gs → Opens (spelling s.top ++ t) s.dim s.top t
     → Opens (spelling (after_all gs s).top ++ t) (after_all gs s).dim (after_all gs s).top t
 opens_after t gs s none fits opens =
-    let left : List Made = with_steps gs s [] in
+    let left : List RemainingEdit = with_steps gs s [] in
     let end : State = after_all gs s in
     let start : IsStacked s.top s [] = ap (λ (earlier : List (List Element)). s.top ∷ earlier) none in
     let linked = steps_link t s.top gs s [] fits start opens in
@@ -46,7 +46,8 @@ opens_after t gs s none fits opens =
 
 pub fits_end_findings : FitsEndFindings
 fits_end_findings f d cs files opens fits bytes n root end done at spanned =
-    let gs : List Given = steps_of cs files in
-    let s : State = after_all gs (begun d) in
+    let gs : List Step = steps_of_files cs files in
+    let s : State = after_all gs (first_state d) in
     let here = subst (λ (g : List ℕ). Opens g d.dim d.elements d.tail) opens.whole opens in
-    fit_ends s d.tail n root end (apply_fit s.dim s.top n) refl (opens_after d.tail gs (begun d) refl (steps_given cs files fits bytes) here) done at spanned
+    fit_ends s d.tail n root end (apply_fit s.dim s.top n) refl (opens_after d.tail gs (first_state d) refl
+        (steps_given cs files fits bytes) here) done at spanned

@@ -25,10 +25,10 @@ use Rattle.dgn_import.specs.Laws.{NestApart}
 use Rattle.dgn_import.proofs.GatheredTrees.{nest_apart, same_dim, fitting, other_dim}
 use Rattle.dgn_session.specs.State.{State}
 use Rattle.dgn_listing.specs.NumberedLines.{numbered}
-use Rattle.dgn_answers.specs.Commands.{begun}
-use Rattle.dgn_answers.specs.Given.{Given, after_all}
+use Rattle.dgn_answers.specs.Commands.{first_state}
+use Rattle.dgn_answers.specs.Steps.{Step, after_all}
 use Rattle.dgn_answers.specs.Imports.{Importing, Appends, Declines, unless_long, importing, importing_of, import_refused, import_left}
-use Rattle.dgn_tool.specs.Laws.{steps_of}
+use Rattle.dgn_tool.specs.Laws.{steps_of_files}
 use Rattle.dgn_laws.specs.ImportLaws.{trees_taken, CanFollow, TreesFollow, ImportsNestApart, ImportsOfRunsNestApart, RefusedImportsChangeNothing}
 use Rattle.dgn_tool.proofs.OpenSeconds.{not_long, steps_given}
 use Rattle.dgn_laws.proofs.FitFindings.{opens_after}
@@ -137,11 +137,11 @@ some_first f dim (e ∷ es) t opens = omega arith
 
 pub runs_nest_apart : ImportsOfRunsNestApart
 runs_nest_apart f d cs files opens fits bytes =
-    let gs : List Given = steps_of cs files in
-    let s : State = after_all gs (begun d) in
+    let gs : List Step = steps_of_files cs files in
+    let s : State = after_all gs (first_state d) in
     let here = subst (λ (g : List ℕ). Opens g d.dim d.elements d.tail) opens.whole opens in
     imports_nest_apart s (some_first (spelling s.top ++ d.tail) s.dim s.top d.tail
-    (opens_after d.tail gs (begun d) refl (steps_given cs files fits bytes) here))
+    (opens_after d.tail gs (first_state d) refl (steps_given cs files fits bytes) here))
 
 -- one that is refused leaves the state
 left_same : (s : State) (came : Importing) → import_refused came ≡ true → import_left came s ≡ s

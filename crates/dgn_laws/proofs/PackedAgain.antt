@@ -20,13 +20,13 @@ use Rattle.dgn_session.specs.State.{State}
 use Rattle.dgn_session.proofs.Leading.{leads_back}
 use Rattle.dgn_session.proofs.Rising.{rise_long, filled_rise, olds_filled}
 use Rattle.edit_ops.specs.Fields.{Field, Rise, filled}
-use Rattle.dgn_answers.specs.Remaining.{Made, fields_made}
-use Rattle.dgn_answers.specs.Commands.{begun}
-use Rattle.dgn_answers.specs.Given.{Given, after_all, with_steps}
+use Rattle.dgn_answers.specs.Remaining.{RemainingEdit, fields_made}
+use Rattle.dgn_answers.specs.Commands.{first_state}
+use Rattle.dgn_answers.specs.Steps.{Step, after_all, with_steps}
 use Rattle.dgn_tool.specs.Packing.{packed_made, packed_after}
 use Rattle.dgn_answers.specs.Logs.{entry_made}
 use Rattle.dgn_tool.specs.Applied.{AllFit}
-use Rattle.dgn_tool.specs.Laws.{steps_of}
+use Rattle.dgn_tool.specs.Laws.{steps_of_files}
 use Rattle.dgn_laws.specs.PatchLaws.{PacksAgain, AppliedGivesTheSame}
 use Rattle.dgn_laws.proofs.FieldCounts.{HasFew, made_few}
 use Rattle.dgn_tool.proofs.StackedEdits.{IsStacked, steps_stack}
@@ -61,17 +61,17 @@ rules_kept b c m (f ∷ fs) n long there rise sized =
       subst (λ (k : ℕ). AllKeepRules (f.at + k) m (map (exchanged c) (filled b fs))) (sym was) (rules_kept b c m fs (f.at + f.len) long there rise.1 sized.1),
     )
 
-module _ (dim rest : ℕ) (t : List ℕ) (m : Made) (link : IsLink dim rest t m) where
+module _ (dim rest : ℕ) (t : List ℕ) (m : RemainingEdit) (link : IsLink dim rest t m) where
   -- what the edit writes
   abbrev puts : List Put
-  puts = filled (spelling m.made) (fields_made dim m.on m.making)
+  puts = filled (spelling m.made) (fields_made dim m.on m.kind)
 
   -- its entry is that of what it wrote
   same_entry : entry_of (spelling m.on) puts ≡ entry_made dim m
   same_entry =
       let with_patches : List Put → Entry = λ ps. record { patches = ps; len = length (spelling m.on) } in
       ap with_patches
-      (olds_filled (spelling m.on) (spelling m.made) (length (spelling m.on)) (fields_made dim m.on m.making) 0 link.long link.rise)
+      (olds_filled (spelling m.on) (spelling m.made) (length (spelling m.on)) (fields_made dim m.on m.kind) 0 link.long link.rise)
 
   -- so it leads back
   entry_leads : back (spelling m.made) (entry_made dim m) ≡ spelling m.on
@@ -79,14 +79,14 @@ module _ (dim rest : ℕ) (t : List ℕ) (m : Made) (link : IsLink dim rest t m)
       ap (λ (e : Entry). back (spelling m.made) e) (sym same_entry)
       ∙ ap (λ (b : List ℕ). back b (entry_of (spelling m.on) puts)) link.written
       ∙ leads_back (spelling m.on) puts (drop (length (spelling m.on)) (spelling m.made))
-      (filled_rise (spelling m.made) (length (spelling m.on)) (fields_made dim m.on m.making) 0 link.long link.rise)
+      (filled_rise (spelling m.made) (length (spelling m.on)) (fields_made dim m.on m.kind) 0 link.long link.rise)
 
   -- and may be taken
   entry_may : MayTake (spelling m.made) (entry_made dim m)
   entry_may = record {
     long = link.long;
     rising =
-        filled_rise (spelling m.on) (length (spelling m.on)) (fields_made dim m.on m.making) 0 (omega arith) link.rise;
+        filled_rise (spelling m.on) (length (spelling m.on)) (fields_made dim m.on m.kind) 0 (omega arith) link.rise;
   }
 
   -- what is taken has a spelling
@@ -96,8 +96,8 @@ module _ (dim rest : ℕ) (t : List ℕ) (m : Made) (link : IsLink dim rest t m)
       record {
         len = omega arith;
         append = omega (arith, length-drop (length (spelling m.on)) (spelling m.made));
-        rules = rules_kept (spelling m.on) (spelling m.made) (length (spelling m.on)) (fields_made dim m.on m.making) 0 (omega arith) link.long link.rise
-            (made_few dim m.on m.making);
+        rules = rules_kept (spelling m.on) (spelling m.made) (length (spelling m.on)) (fields_made dim m.on m.kind) 0 (omega arith) link.long link.rise
+            (made_few dim m.on m.kind);
       }
 
 -- one more behind others
@@ -111,35 +111,36 @@ entries_more [] e each last = (last, tt)
 entries_more (x ∷ es) e each last = (each.0, entries_more es e each.1 last)
 
 -- the entries and the packed entries of edits, which stand the newest first
-abbrev log_of : ℕ → List Made → List Entry
+abbrev log_of : ℕ → List RemainingEdit → List Entry
 log_of dim left = map (entry_made dim) left
 
-abbrev packed_all : ℕ → List Made → List Packed
+abbrev packed_all : ℕ → List RemainingEdit → List Packed
 packed_all dim left = map (packed_made dim) (reverse left)
 
-packed_newest : (dim : ℕ) (m : Made) (left : List Made) → packed_all dim (m ∷ left) ≡ packed_all dim left ++ packed_made dim m ∷ []
+packed_newest : (dim : ℕ) (m : RemainingEdit) (left : List RemainingEdit) → packed_all dim (m ∷ left) ≡ packed_all dim left ++ packed_made dim m ∷ []
 packed_newest dim m left = ap (map (packed_made dim)) (reverse-append (m ∷ []) left) ∙ map-append (packed_made dim) (reverse left) (m ∷ [])
 
 module _ (dim rest : ℕ) (t : List ℕ) (base : List Element) where
   -- the newest leads back to what those before it made
-  newest_leads : (m : Made) (left : List Made) → AreLinked dim rest t base (m ∷ left) → back (spelling m.made) (entry_made dim m) ≡ spelling (top_of base left)
+  newest_leads : (m : RemainingEdit) (left : List RemainingEdit) → AreLinked dim rest t base (m ∷ left)
+      → back (spelling m.made) (entry_made dim m) ≡ spelling (top_of base left)
   newest_leads m left linked = entry_leads dim rest t m linked.0 ∙ ap spelling linked.1
 
-  may_all : (left : List Made) → AreLinked dim rest t base left → MayTakeAll (spelling (top_of base left)) (log_of dim left)
+  may_all : (left : List RemainingEdit) → AreLinked dim rest t base left → MayTakeAll (spelling (top_of base left)) (log_of dim left)
   may_all [] linked = tt
   may_all (m ∷ left) linked = (
     entry_may dim rest t m linked.0,
     subst (λ (b : List ℕ). MayTakeAll b (map (entry_made dim) left)) (sym (newest_leads m left linked)) (may_all left linked.2),
   )
 
-  taken_all : (left : List Made) → AreLinked dim rest t base left → all_taken (spelling (top_of base left)) (log_of dim left) ≡ packed_all dim left
+  taken_all : (left : List RemainingEdit) → AreLinked dim rest t base left → all_taken (spelling (top_of base left)) (log_of dim left) ≡ packed_all dim left
   taken_all [] linked = refl
   taken_all (m ∷ left) linked =
       ap (λ (b : List ℕ). all_taken b (map (entry_made dim) left) ++ packed_made dim m ∷ []) (newest_leads m left linked)
       ∙ ap (λ (ps : List Packed). ps ++ packed_made dim m ∷ []) (taken_all left linked.2)
       ∙ sym (packed_newest dim m left)
 
-  back_all : (left : List Made) → AreLinked dim rest t base left
+  back_all : (left : List RemainingEdit) → AreLinked dim rest t base left
       → back_by (length (log_of dim left)) (spelling (top_of base left)) (log_of dim left) ≡ spelling base
   back_all [] linked = refl
   back_all (m ∷ left) linked =
@@ -147,7 +148,7 @@ module _ (dim rest : ℕ) (t : List ℕ) (base : List Element) where
       ∙ back_all left linked.2
 
   -- they stand, and give what was made
-  stand_all : (left : List Made) → AreLinked dim rest t base left → AllStand (spelling base) (packed_all dim left)
+  stand_all : (left : List RemainingEdit) → AreLinked dim rest t base left → AllStand (spelling base) (packed_all dim left)
       × (put_all (spelling base) (packed_all dim left) ≡ spelling (top_of base left))
   stand_all left linked =
       let P : List ℕ → List Packed → Type 0 = λ b es. AllStand b es × (put_all b es ≡ spelling (top_of base left)) in
@@ -156,7 +157,7 @@ module _ (dim rest : ℕ) (t : List ℕ) (base : List Element) where
       (all_taken_give_the_same (spelling (top_of base left)) (log_of dim left) (may_all left linked)))
 
   -- what the newest puts on is what was made
-  newest_puts : (m : Made) (left : List Made) → AreLinked dim rest t base (m ∷ left)
+  newest_puts : (m : RemainingEdit) (left : List RemainingEdit) → AreLinked dim rest t base (m ∷ left)
       → put_on (put_all (spelling base) (packed_all dim left)) (packed_made dim m) ≡ spelling m.made
   newest_puts m left linked =
       let under : put_all (spelling base) (packed_all dim left) ≡ back (spelling m.made) (entry_made dim m) =
@@ -164,7 +165,7 @@ module _ (dim rest : ℕ) (t : List ℕ) (base : List Element) where
       ap (λ (b : List ℕ). put_on b (packed_made dim m)) under
       ∙ (taken_gives_the_same (spelling m.made) (entry_made dim m) (entry_may dim rest t m linked.0)).1
 
-  fit_all : (left : List Made) → AreLinked dim rest t base left → length (spelling base) + rest ≤ MOST_DESIGN
+  fit_all : (left : List RemainingEdit) → AreLinked dim rest t base left → length (spelling base) + rest ≤ MOST_DESIGN
       → AllFit rest (spelling base) (packed_all dim left)
   fit_all [] linked few_bytes = tt
   fit_all (m ∷ left) linked few_bytes =
@@ -173,7 +174,8 @@ module _ (dim rest : ℕ) (t : List ℕ) (base : List Element) where
       (fit_more rest (spelling base) (packed_all dim left) (packed_made dim m) (fit_all left linked.2 few_bytes)
       (subst (λ (b : List ℕ). length b + rest ≤ MOST_DESIGN) (sym (newest_puts m left linked)) made))
 
-  entries_all : (left : List Made) → AreLinked dim rest t base left → length (spelling base) + rest ≤ MOST_DESIGN → AllByRecursion IsEntry (packed_all dim left)
+  entries_all : (left : List RemainingEdit) → AreLinked dim rest t base left → length (spelling base) + rest ≤ MOST_DESIGN
+      → AllByRecursion IsEntry (packed_all dim left)
   entries_all [] linked few_bytes = tt
   entries_all (m ∷ left) linked few_bytes =
       let made = linked_fits dim rest t base (m ∷ left) linked few_bytes in
@@ -181,10 +183,10 @@ module _ (dim rest : ℕ) (t : List ℕ) (base : List Element) where
       (entries_more (packed_all dim left) (packed_made dim m) (entries_all left linked.2 few_bytes) (is_entry dim rest t m linked.0 (omega arith)))
 
 -- the same of steps
-packs_again : (t : List ℕ) (cs : List Given) (s : State) → s.earlier ≡ [] → s.rest ≡ length t → All IsStep cs → Opens (spelling s.top ++ t) s.dim s.top t
+packs_again : (t : List ℕ) (cs : List Step) (s : State) → s.earlier ≡ [] → s.rest ≡ length t → All IsStep cs → Opens (spelling s.top ++ t) s.dim s.top t
     → length (spelling s.top) + length t ≤ MOST_DESIGN → PacksAgain s t cs
 packs_again t cs s none tail fits opens few_bytes =
-    let left : List Made = with_steps cs s [] in
+    let left : List RemainingEdit = with_steps cs s [] in
     let start : IsStacked s.top s [] = ap (λ (earlier : List (List Element)). s.top ∷ earlier) none in
     let linked = steps_link t s.top cs s [] fits start opens in
     let top : (after_all cs s).top ≡ top_of s.top left = stack_top s.top (after_all cs s) left (steps_stack s.top cs s [] start) in
@@ -204,6 +206,6 @@ packs_again t cs s none tail fits opens few_bytes =
 pub applied_gives_the_same : AppliedGivesTheSame
 applied_gives_the_same f d cs files opens short fits bytes =
     let whole : f ≡ spelling d.elements ++ d.tail = opens.whole in
-    packs_again d.tail (steps_of cs files) (begun d) refl refl (steps_given cs files fits bytes)
+    packs_again d.tail (steps_of_files cs files) (first_state d) refl refl (steps_given cs files fits bytes)
     (subst (λ (g : List ℕ). Opens g d.dim d.elements d.tail) opens.whole opens)
     (omega (arith, ap (length {A = ℕ}) whole, length-append (spelling d.elements) d.tail))

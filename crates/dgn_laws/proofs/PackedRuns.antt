@@ -14,8 +14,8 @@ use Rattle.patch_file.specs.Spelling.{Packed, patch_spelling}
 use Rattle.patch_file.specs.Reading.{patch_of}
 use Rattle.patch_file.specs.declared.limits.TheConstants.{MOST_PATCH}
 use Rattle.patch_file.proofs.SpellingsRead.{patch_again}
-use Rattle.dgn_answers.specs.Commands.{begun}
-use Rattle.dgn_answers.specs.Given.{Given, refused_count}
+use Rattle.dgn_answers.specs.Commands.{first_state}
+use Rattle.dgn_answers.specs.Steps.{Step, refused_count}
 use Rattle.dgn_tool.specs.Applied.{patched}
 use Rattle.dgn_tool.specs.Ended.{Outcome, ended}
 use Rattle.dgn_tool.specs.Inputs.{Inputs, drawing_in, entries_in}
@@ -57,8 +57,8 @@ filed false es refused patch test written = record { few = grind (arith, nat_tes
 record IsPacked (input script patch : List ℕ) (files mid : Files) : Type 0 where
   inputs : Inputs
   run : Went input script files inputs
-  few : length (patch_spelling (packed_after (steps_with files run.commands) (begun inputs.drawing))) ≤ MOST_PATCH
-  packs : bytes_of mid patch ≡ patch_spelling (packed_after (steps_with files run.commands) (begun inputs.drawing))
+  few : length (patch_spelling (packed_after (steps_with files run.commands) (first_state inputs.drawing))) ≤ MOST_PATCH
+  packs : bytes_of mid patch ≡ patch_spelling (packed_after (steps_with files run.commands) (first_state inputs.drawing))
 
 packs_so : (request : Option Request) (input script patch : List ℕ) (status : Status) (c m : Content) → request ≡ Some (Pack input script patch)
     → HasWritten status → Leaves (outcome_of request c.files) status c (Some m) → FilesInBytes request c.files → IsPacked input script patch c.files m.files
@@ -68,10 +68,10 @@ packs_so request input script patch status c m asked written leaves known =
     subst (λ (o : Outcome). HasWritten o.status) same (subst HasWritten leaves.status_is written) in
     let w = goes_on input script c.files (λ i. packed i.drawing i.steps patch) (subst (λ (r : Option Request). FilesInBytes r c.files) asked known) such in
     let d = w.inputs.drawing in
-    let gs : List Given = steps_with c.files w.went.commands in
-    let es : List Packed = packed_after gs (begun d) in
-    let came = w.same ∙ ap (λ (x : List Given). packed d x patch) w.went.steps in
-    let f = filed (nat_lt MOST_PATCH (length (patch_spelling es))) es (refused_count gs (begun d)) patch refl
+    let gs : List Step = steps_with c.files w.went.commands in
+    let es : List Packed = packed_after gs (first_state d) in
+    let came = w.same ∙ ap (λ (x : List Step). packed d x patch) w.went.steps in
+    let f = filed (nat_lt MOST_PATCH (length (patch_spelling es))) es (refused_count gs (first_state d)) patch refl
     (subst (λ (o : Outcome). HasWritten o.status) came such) in
     let told : m ≡ leaves.content = (let e = leaves.told_is in cc) in
     let left : m.files ≡ with_file patch (patch_spelling es) c.files =
@@ -107,7 +107,7 @@ module _ (input script patch other output : List ℕ) (c m : Content) (p : IsPac
   cs = p.run.commands
 
   abbrev es : List Packed
-  es = packed_after (steps_with c.files cs) (begun d)
+  es = packed_after (steps_with c.files cs) (first_state d)
 
   file : Opens (bytes_of c.files input) d.dim d.elements d.tail
   file = opens-opening (bytes_of c.files input) d p.run.opened.bytes_are p.run.opened.opens

@@ -6,12 +6,12 @@ use Rattle.elem_index.proofs.OpeningAnswers.{opens-opening}
 use Rattle.patch_file.specs.Spelling.{Packed}
 use Rattle.patch_file.specs.Reading.{patch_of}
 use Rattle.patch_file.proofs.SpellingsRead.{patch_again}
-use Rattle.dgn_answers.specs.Commands.{begun}
+use Rattle.dgn_answers.specs.Commands.{first_state}
 use Rattle.dgn_tool.specs.Filling.{file_made}
 use Rattle.dgn_listing.specs.NumberedLines.{numbered}
 use Rattle.dgn_tool.specs.Ended.{Outcome, filed_then_said}
 use Rattle.dgn_tool.specs.Packing.{packed_after}
-use Rattle.dgn_tool.specs.Laws.{steps_of}
+use Rattle.dgn_tool.specs.Laws.{steps_of_files}
 use Rattle.dgn_laws.specs.PatchLaws.{Applies, WritesTheSame}
 use Rattle.dgn_tool.specs.declared.status.Status.TheVariants as statuses
 use Rattle.std.specs.Prelude.{codes}
@@ -21,7 +21,7 @@ use Rattle.dgn_laws.proofs.PackedAgain.{applied_gives_the_same}
 
 pub writes_the_same : WritesTheSame
 writes_the_same words files d cs seconds output a fits bytes =
-    let es : List Packed = packed_after (steps_of cs seconds) (begun d) in
+    let es : List Packed = packed_after (steps_of_files cs seconds) (first_state d) in
     let again = applied_gives_the_same (bytes_of files a.input) d cs seconds (opens-opening (bytes_of files a.input) d a.bytes a.opens) a.few fits bytes in
     let short = subst (λ (f : List ℕ). length f ≤ MOST_PATCH) a.packed a.short in
     let reads : patch_of (bytes_of files a.patch) ≡ Ok es = ap patch_of a.packed ∙ patch_again es (again.entries short) in

@@ -11,9 +11,9 @@ use Rattle.dgn_session.specs.State.{State}
 use Rattle.dgn_drawing.specs.declared.command.Command.{Command}
 use Rattle.dgn_drawing.specs.declared.command.Command.TheVariants as command
 use Rattle.elem_index.specs.Opened.{Opened}
-use Rattle.dgn_answers.specs.Commands.{begun, answer_of}
-use Rattle.dgn_answers.specs.Given.{after_all}
-use Rattle.dgn_tool.specs.Laws.{IsEditIn, steps_of}
+use Rattle.dgn_answers.specs.Commands.{first_state, answer_of}
+use Rattle.dgn_answers.specs.Steps.{after_all}
+use Rattle.dgn_tool.specs.Laws.{IsEditIn, steps_of_files}
 
 -- where a fit is done in a state, `audit` says behind it the findings before it without those of the tree that it fitted
 abbrev pub FitEndsFindings : State → Type 0
@@ -26,4 +26,4 @@ FitEndsFindings s =
 abbrev pub FitsEndFindings : Type 0
 FitsEndFindings =
     (f : List ℕ) (d : Opened) (cs : List Command) (files : List (List ℕ))
-    → Opens f d.dim d.elements d.tail → All IsEditIn cs → All IsBytes files → FitEndsFindings (after_all (steps_of cs files) (begun d))
+    → Opens f d.dim d.elements d.tail → All IsEditIn cs → All IsBytes files → FitEndsFindings (after_all (steps_of_files cs files) (first_state d))

@@ -15,9 +15,9 @@ use Rattle.dgn_drawing.specs.declared.command.Command.{Command}
 use Rattle.elem_index.specs.Opened.{Opened}
 use Rattle.dgn_listing.specs.NumberedLines.{numbered}
 use Rattle.dgn_answers.specs.Imports.{Importing, importing_of, import_refused, import_left, import_text}
-use Rattle.dgn_answers.specs.Commands.{begun}
-use Rattle.dgn_answers.specs.Given.{after_all}
-use Rattle.dgn_tool.specs.Laws.{IsEditIn, steps_of}
+use Rattle.dgn_answers.specs.Commands.{first_state}
+use Rattle.dgn_answers.specs.Steps.{after_all}
+use Rattle.dgn_tool.specs.Laws.{IsEditIn, steps_of_files}
 use Rattle.dgn_drawing.specs.declared.limits.TheConstants.{MOST_DESIGN}
 
 -- the trees that an import takes of a drawing, displaced where it says so
@@ -56,7 +56,7 @@ ImportsNestApart = (s : State) → 0 < length s.top → NestApartIn s
 abbrev pub ImportsOfRunsNestApart : Type 0
 ImportsOfRunsNestApart =
     (f : List ℕ) (d : Opened) (cs : List Command) (files : List (List ℕ))
-    → Opens f d.dim d.elements d.tail → All IsEditIn cs → All IsBytes files → NestApartIn (after_all (steps_of cs files) (begun d))
+    → Opens f d.dim d.elements d.tail → All IsEditIn cs → All IsBytes files → NestApartIn (after_all (steps_of_files cs files) (first_state d))
 
 -- nothing changes, and the second file opens as no drawing whose trees can stand behind the state
 pub record NothingFollows (s : State) (g : List ℕ) (by : Option Displacement) (came : Importing) : Type 0 where

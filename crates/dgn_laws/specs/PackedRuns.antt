@@ -10,7 +10,7 @@ use Rattle.edit_script.specs.Script.{commands_of}
 use Rattle.elem_index.specs.Opened.{Opened, opening}
 use Rattle.patch_file.specs.Spelling.{Packed, patch_spelling}
 use Rattle.dgn_listing.specs.NumberedLines.{numbered}
-use Rattle.dgn_answers.specs.Commands.{begun}
+use Rattle.dgn_answers.specs.Commands.{first_state}
 use Rattle.dgn_tool.specs.Ended.{Outcome, filed_then_said}
 use Rattle.dgn_tool.specs.Leaving.{Leaves}
 use Rattle.dgn_tool.specs.Request.{Pack, Apply, request_of}
@@ -25,8 +25,8 @@ use Rattle.dgn_laws.specs.PatchLaws.{DiffersAt, refused_at}
 -- what a run of `apply` comes to that writes the file which `edit` would have written, and says how many entries there were
 abbrev pub as_edited : Opened → List Command → Files → List ℕ → Outcome
 as_edited d cs files output =
-    filed_then_said statuses.Done (numbered (codes "applied ") (length (packed_after (steps_with files cs) (begun d)))) output
-    (file_after (begun d) d.tail (steps_with files cs))
+    filed_then_said statuses.Done (numbered (codes "applied ") (length (packed_after (steps_with files cs) (first_state d)))) output
+    (file_after (first_state d) d.tail (steps_with files cs))
 
 -- the drawing of these bytes is within the limit and differs from what entry k of these wants, and from no entry's before it
 pub record Differs (bytes : List ℕ) (es : List Packed) (k : ℕ) : Type 0 where
@@ -44,12 +44,12 @@ pub record AppliesPacked (input script patch other output : List ℕ) (files : F
   pub commands : List Command
   pub opens : Opens (bytes_of files input) drawing.dim drawing.elements drawing.tail
   pub reads : commands_of (bytes_of files script) ≡ Ok commands
-  pub packs : bytes_of mid.files patch ≡ patch_spelling (packed_after (steps_with files commands) (begun drawing))
+  pub packs : bytes_of mid.files patch ≡ patch_spelling (packed_after (steps_with files commands) (first_state drawing))
   pub same : bytes_of mid.files other ≡ bytes_of files input → Leaves (as_edited drawing commands files output) status mid now
-  pub differs : (k : ℕ) → Differs (bytes_of mid.files other) (packed_after (steps_with files commands) (begun drawing)) k
+  pub differs : (k : ℕ) → Differs (bytes_of mid.files other) (packed_after (steps_with files commands) (first_state drawing)) k
       → Leaves (refused_at k) status mid now
   pub only : status ≡ statuses.PatchRefused
-      → (k : ℕ) × Differs (bytes_of mid.files other) (packed_after (steps_with files commands) (begun drawing)) k × Leaves (refused_at k) status mid now
+      → (k : ℕ) × Differs (bytes_of mid.files other) (packed_after (steps_with files commands) (first_state drawing)) k × Leaves (refused_at k) status mid now
 
 -- the clauses `outcome` and `bytes` of a run
 pub record RanSo (words : List (List ℕ)) (status : Status) (old now : Option Content) : Type 0 where

@@ -8,8 +8,8 @@ use Rattle.dgn_drawing.specs.WellFormed.{IsBytes}
 use Rattle.dgn_session.specs.State.{State}
 use Rattle.dgn_drawing.specs.declared.command.Command.{Command}
 use Rattle.elem_index.specs.Opened.{Opened}
-use Rattle.dgn_answers.specs.Commands.{begun}
-use Rattle.dgn_answers.specs.Given.{Given, after_all}
+use Rattle.dgn_answers.specs.Commands.{first_state}
+use Rattle.dgn_answers.specs.Steps.{Step, after_all}
 use Rattle.dgn_tool.specs.Applied.{AllFit}
 use Rattle.dgn_tool.specs.Packing.{packed_after}
 use Rattle.dgn_drawing.specs.declared.limits.TheConstants.{MOST_DESIGN}
@@ -24,14 +24,14 @@ use Rattle.dgn_tool.specs.Filling.{file_made}
 use Rattle.dgn_listing.specs.NumberedLines.{numbered}
 use Rattle.dgn_tool.specs.Request.{Apply, request_of}
 use Rattle.dgn_tool.specs.Ended.{Outcome, ended, filed_then_said}
-use Rattle.dgn_answers.specs.Given.{Given}
-use Rattle.dgn_tool.specs.Laws.{IsEditIn, steps_of}
+use Rattle.dgn_answers.specs.Steps.{Step}
+use Rattle.dgn_tool.specs.Laws.{IsEditIn, steps_of_files}
 use Rattle.dgn_tool.specs.Outcome.{edited, outcome}
 use Rattle.dgn_tool.specs.declared.status.Status.TheVariants as statuses
 
 -- the packed entries of the steps stand, one after the other, on the elements of the file, and make of them those after
 -- the steps; what each makes keeps the limit; and where their patch file does, it is read to them again
-pub record PacksAgain (s : State) (t : List ℕ) (gs : List Given) : Type 0 where
+pub record PacksAgain (s : State) (t : List ℕ) (gs : List Step) : Type 0 where
   pub stand : AllStand (spelling s.top) (packed_after gs s)
   pub gives : put_all (spelling s.top) (packed_after gs s) ≡ spelling (after_all gs s).top
   pub fit : AllFit (length t) (spelling s.top) (packed_after gs s)
@@ -41,7 +41,7 @@ abbrev pub AppliedGivesTheSame : Type 0
 AppliedGivesTheSame =
     (f : List ℕ) (d : Opened) (cs : List Command) (files : List (List ℕ))
     → Opens f d.dim d.elements d.tail → length f ≤ MOST_DESIGN → All IsEditIn cs → All IsBytes files
-    → PacksAgain (begun d) d.tail (steps_of cs files)
+    → PacksAgain (first_state d) d.tail (steps_of_files cs files)
 
 -- entry k, counted from 1, is the first that doesn't stand on what those before it made, and these keep the limit
 pub record DiffersAt (tail : ℕ) (b : List ℕ) (es : List Packed) (k : ℕ) : Type 0 where
@@ -92,7 +92,7 @@ AppliesAll =
     (file_made (length (spelling d.elements)) d.tail (put_all (spelling d.elements) es))
 
 -- the words ask to apply what `pack` makes of these steps to the same file, into OUT
-pub record AppliesPacked (words : List (List ℕ)) (files : Files) (d : Opened) (gs : List Given) (output : List ℕ) : Type 0 where
+pub record AppliesPacked (words : List (List ℕ)) (files : Files) (d : Opened) (gs : List Step) (output : List ℕ) : Type 0 where
   pub input : List ℕ
   pub patch : List ℕ
   pub asked : request_of words ≡ Some (Apply input patch output)
@@ -100,17 +100,17 @@ pub record AppliesPacked (words : List (List ℕ)) (files : Files) (d : Opened) 
   pub few : length (bytes_of files input) ≤ MOST_DESIGN
   pub opens : opening (bytes_of files input) ≡ Ok d
   pub short : length (bytes_of files patch) ≤ MOST_PATCH
-  pub packed : bytes_of files patch ≡ patch_spelling (packed_after gs (begun d))
+  pub packed : bytes_of files patch ≡ patch_spelling (packed_after gs (first_state d))
 
 -- it writes the file that `edit` writes with these commands and second files
 abbrev pub WritesTheSame : Type 0
 WritesTheSame =
     (words : List (List ℕ)) (files : Files) (d : Opened) (cs : List Command) (seconds : List (List ℕ)) (output : List ℕ)
-    → AppliesPacked words files d (steps_of cs seconds) output → All IsEditIn cs → All IsBytes seconds
+    → AppliesPacked words files d (steps_of_files cs seconds) output → All IsEditIn cs → All IsBytes seconds
     → outcome words files
     ≡ record {
       status = statuses.Done;
-      text = numbered (codes "applied ") (length (packed_after (steps_of cs seconds) (begun d)));
-      file = (edited d (steps_of cs seconds) output).file;
+      text = numbered (codes "applied ") (length (packed_after (steps_of_files cs seconds) (first_state d)));
+      file = (edited d (steps_of_files cs seconds) output).file;
       says_first = false;
     }

@@ -14,7 +14,7 @@ use Rattle.dgn_desk.proofs.Telling.{spoken-append}
 use Rattle.dgn_session.specs.State.{State}
 use Rattle.dgn_import.specs.Seconds.{SecondValue}
 use Rattle.dgn_drawing.specs.declared.command.Command.{Command}
-use Rattle.dgn_answers.specs.Given.{Given, given, given_all, seconds_behind, after_all, texts_of, refused_count, step_answer}
+use Rattle.dgn_answers.specs.Steps.{Step, step_of, steps_of, seconds_behind, after_all, texts_of, refused_count, step_answer}
 use Rattle.dgn_answers.proofs.Stepping.{next_step}
 use Rattle.dgn_tool.specs.Leaving.{SaysFront, SaysAs}
 
@@ -23,7 +23,7 @@ abbrev pub SaidSo : List ℕ → Seen → Seen → Type 0
 SaidSo text old now = Writes {T = Unit {0}} (Ok tt) (SaysAs {T = Unit {0}} (Ok tt) text) old now
 
 -- the commands before these are done
-pub record Ran (all left : List Given) (refused : ℕ) (from s : State) (old now : Seen) : Type 0 where
+pub record Ran (all left : List Step) (refused : ℕ) (from s : State) (old now : Seen) : Type 0 where
   pub done : List ℕ
   pub texts : texts_of all from ≡ done ++ texts_of left s
   pub said : SaidSo done old now
@@ -42,7 +42,7 @@ sum_zero : (a : ℕ) → a + 0 ≡ a
 sum_zero a = omega arith
 
 -- none is yet
-pub ran_none : (all : List Given) (s : State) (old : Seen) → Ran all all 0 s s old old
+pub ran_none : (all : List Step) (s : State) (old : Seen) → Ran all all 0 s s old old
 ran_none all s old = record {
   done = [];
   texts = refl;
@@ -52,21 +52,21 @@ ran_none all s old = record {
 }
 
 -- of the commands that are left one is the next, and its line is what it says
-pub record IsNext (all more : List Given) (c : Given) (refused : ℕ) (line : List ℕ) (from s : State) (old now : Seen) : Type 0 where
+pub record IsNext (all more : List Step) (c : Step) (refused : ℕ) (line : List ℕ) (from s : State) (old now : Seen) : Type 0 where
   pub ran : Ran all (c ∷ more) refused from s old now
   pub line_is : line ≡ (step_answer s c).text
 
-pub is_next : (all : List Given) (cs : List Command) (i : ℕ) (c : Command) (vs left : List SecondValue) (refused : ℕ) (from s : State) (old now : Seen)
-    → i < length cs → c ≡ get_or cs i c → left ≡ seconds_behind c vs → Ran all (given_all (drop i cs) vs) refused from s old now
-    → (line out before : List ℕ) → line ≡ out → out ≡ before ++ (step_answer s (given c vs)).text → before ≡ []
-    → IsNext all (given_all (drop (i + 1) cs) left) (given c vs) refused line from s old now
+pub is_next : (all : List Step) (cs : List Command) (i : ℕ) (c : Command) (vs left : List SecondValue) (refused : ℕ) (from s : State) (old now : Seen)
+    → i < length cs → c ≡ get_or cs i c → left ≡ seconds_behind c vs → Ran all (steps_of (drop i cs) vs) refused from s old now
+    → (line out before : List ℕ) → line ≡ out → out ≡ before ++ (step_answer s (step_of c vs)).text → before ≡ []
+    → IsNext all (steps_of (drop (i + 1) cs) left) (step_of c vs) refused line from s old now
 is_next all cs i c vs left refused from s old now more is behind ran line out before same put none = record {
-  ran = subst (λ (rest : List Given). Ran all rest refused from s old now) (next_step cs i c vs left more is behind) ran;
-  line_is = same ∙ put ∙ ap (λ (b : List ℕ). b ++ (step_answer s (given c vs)).text) none;
+  ran = subst (λ (rest : List Step). Ran all rest refused from s old now) (next_step cs i c vs left more is behind) ran;
+  line_is = same ∙ put ∙ ap (λ (b : List ℕ). b ++ (step_answer s (step_of c vs)).text) none;
 }
 
 -- one more command
-pub ran_more : (all left : List Given) (c : Given) (refused : ℕ) (was : Bool) (line : List ℕ) (from s new : State) (old now then : Seen)
+pub ran_more : (all left : List Step) (c : Step) (refused : ℕ) (was : Bool) (line : List ℕ) (from s new : State) (old now then : Seen)
     → IsNext all left c refused line from s old now
     → new ≡ (step_answer s c).state → Writes {T = Unit {0}} (Ok tt) (SaysAll (Ok tt) line) now then → was ≡ (step_answer s c).refused
     → Ran all left (refused + from_bool was) from new old then
@@ -90,24 +90,24 @@ ran_more all left c refused was line from s new old now then next new_is says wa
     }
 
 -- where no command is left, all is done
-pub ran_all : (all left : List Given) (refused : ℕ) (from s : State) (old now : Seen) → Ran all left refused from s old now → left ≡ []
+pub ran_all : (all left : List Step) (refused : ℕ) (from s : State) (old now : Seen) → Ran all left refused from s old now → left ≡ []
     → refused ≡ refused_count all from
 ran_all all left refused from s old now ran none =
-    sym (ran.count ∙ ap (λ (cs : List Given). refused + refused_count cs s) none ∙ sum_zero refused)
+    sym (ran.count ∙ ap (λ (cs : List Step). refused + refused_count cs s) none ∙ sum_zero refused)
 
-pub ran_said : (all left : List Given) (refused : ℕ) (from s : State) (old now : Seen) → Ran all left refused from s old now → left ≡ []
+pub ran_said : (all left : List Step) (refused : ℕ) (from s : State) (old now : Seen) → Ran all left refused from s old now → left ≡ []
     → Writes {T = ℕ} (Ok refused) (SaysAs {T = ℕ} (Ok refused) (texts_of all from)) old now
 ran_said all left refused from s old now ran none =
-    let whole : texts_of all from ≡ ran.done = ran.texts ∙ ap (λ (cs : List Given). ran.done ++ texts_of cs s) none ∙ append-nil ran.done in
+    let whole : texts_of all from ≡ ran.done = ran.texts ∙ ap (λ (cs : List Step). ran.done ++ texts_of cs s) none ∙ append-nil ran.done in
     done_so tt refused ran.said (λ said. said ∙ ap (λ (t : List ℕ). option_map (spoken t) old.content) (sym whole))
 
-pub ran_state : (all left : List Given) (refused : ℕ) (from s : State) (old now : Seen) → Ran all left refused from s old now → left ≡ []
+pub ran_state : (all left : List Step) (refused : ℕ) (from s : State) (old now : Seen) → Ran all left refused from s old now → left ≡ []
     → s ≡ after_all all from
 ran_state all left refused from s old now ran none =
-    sym (ran.state ∙ ap (λ (cs : List Given). after_all cs s) none)
+    sym (ran.state ∙ ap (λ (cs : List Step). after_all cs s) none)
 
 -- where there is no memory for the next, a front of the texts was said
-pub ran_front : (all left : List Given) (refused : ℕ) (from s : State) (old now : Seen) → Ran all left refused from s old now
+pub ran_front : (all left : List Step) (refused : ℕ) (from s : State) (old now : Seen) → Ran all left refused from s old now
     → Writes {T = ℕ} (Err stops.Memory) (SaysAs {T = ℕ} (Err stops.Memory) (texts_of all from)) old now
 ran_front all left refused from s old now ran = record {
   cause = ran.said.cause;
@@ -118,7 +118,7 @@ ran_front all left refused from s old now ran = record {
 }
 
 -- and where the desk stops in the midst of its text, a front of that too
-pub ran_part : (all left : List Given) (c : Given) (refused : ℕ) (stop : Stop) (line : List ℕ) (from s : State) (old now then : Seen)
+pub ran_part : (all left : List Step) (c : Step) (refused : ℕ) (stop : Stop) (line : List ℕ) (from s : State) (old now then : Seen)
     → IsNext all left c refused line from s old now
     → Writes {T = Unit {0}} (Err stop) (SaysAll (Err stop) line) now then → Writes {T = ℕ} (Err stop) (SaysAs {T = ℕ} (Err stop) (texts_of all from))
     old then

@@ -11,7 +11,7 @@ use Rattle.edit_script.specs.declared.fault.ScriptFault.TheVariants as faults
 use Rattle.elem_index.specs.Opened.{Opened, opening}
 use Rattle.patch_file.specs.Reading.{patch_of}
 use Rattle.patch_file.specs.Spelling.{Packed}
-use Rattle.dgn_answers.specs.Given.{given_all}
+use Rattle.dgn_answers.specs.Steps.{steps_of}
 use Rattle.dgn_tool.specs.Ended.{Outcome, ended}
 use Rattle.dgn_tool.specs.Inputs.{design_in, drawing_opened, drawing_in, commands_read, commands_in, second_in, seconds_behind, seconds_in, Inputs, inputs_in}
 use Rattle.dgn_tool.specs.Inputs.{entries_read, entries_in}
@@ -93,7 +93,7 @@ seconds_early files before (name ∷ names) =
 pub inputs_early : (files : Files) (input script : List ℕ) → EndsEarly (inputs_in files input script).answer
 inputs_early files input script =
     let behind_seconds : Opened → List Command → List SecondValue → Reading Inputs =
-    λ d cs vs. at_once (Ok (record { drawing = d; steps = given_all cs vs })) in
+    λ d cs vs. at_once (Ok (record { drawing = d; steps = steps_of cs vs })) in
     let behind_script : Opened → List Command → Reading Inputs = λ d cs. seconds_in files cs >>= behind_seconds d cs in
     on_early (drawing_in files input).sources (drawing_in files input).answer (λ d. commands_in files script >>= behind_script d)
     (drawing_early files input)

@@ -5,8 +5,8 @@ use Rattle.std.proofs.lemmas.List.{length-replicate}
 use Rattle.dgn_drawing.specs.Shown.{shown}
 use Rattle.dgn_drawing.specs.Spelling.{spelling}
 use Rattle.dgn_session.specs.State.{State}
-use Rattle.dgn_answers.specs.Commands.{begun}
-use Rattle.dgn_answers.specs.Given.{after_all}
+use Rattle.dgn_answers.specs.Commands.{first_state}
+use Rattle.dgn_answers.specs.Steps.{after_all}
 use Rattle.dgn_tool.specs.Filling.{is_blocks, left_in_block, filling, file_made}
 use Rattle.dgn_tool.specs.Generation.{fixed_steps, sizes_of, summary, generated_from, drawing_of, generation}
 use Rattle.dgn_listing.specs.NumberedLines.{numbered}
@@ -24,7 +24,7 @@ tried s new t output tail body text before drawn back begins spelled told =
     ∙ ap (λ (x : List ℕ). filed_then_said statuses.Done x output (file_made before tail body)) (sym told)
 
 -- a session on the drawing of a seed and a count comes to what is generated
-pub generates : (seed count : ℕ) (s : State) (t output : List ℕ) → s ≡ begun (drawing_of seed count) → t ≡ (drawing_of seed count).tail
+pub generates : (seed count : ℕ) (s : State) (t output : List ℕ) → s ≡ first_state (drawing_of seed count) → t ≡ (drawing_of seed count).tail
     → generation seed count output ≡ generated_from s t output
 generates seed count s t output drawn tail =
     ap (λ (x : State). generated_from x (drawing_of seed count).tail output) (sym drawn) ∙ ap (λ (x : List ℕ). generated_from s x output) (sym tail)

@@ -15,7 +15,7 @@ use Rattle.edit_script.specs.Script.{commands_of}
 use Rattle.edit_script.specs.declared.fault.ScriptFault.{ScriptFault}
 use Rattle.edit_script.specs.declared.fault.ScriptFault.TheVariants as faults
 use Rattle.elem_index.specs.Opened.{Opened, opening}
-use Rattle.dgn_answers.specs.Given.{given_all}
+use Rattle.dgn_answers.specs.Steps.{steps_of}
 use Rattle.dgn_tool.specs.EditedRuns.{steps_with}
 use Rattle.dgn_tool.specs.Ended.{Outcome, ended}
 use Rattle.dgn_tool.specs.Inputs.{design_in, drawing_opened, drawing_in, commands_read, commands_in, second_in, seconds_behind, seconds_in, Inputs, inputs_in}
@@ -128,23 +128,23 @@ pub record Went (input script : List ℕ) (files : Files) (i : Inputs) : Type 0 
 
 went_so : (input script : List ℕ) (files : Files) (d : Opened) (cs : List Command) (vs : List SecondValue) (i : Inputs) → IsOpened files input d
     → ReadsSo files script cs → vs ≡ map second_of (files_named (names_in cs) files) → All IsBytes (files_named (names_in cs) files)
-    → (at_once (Ok (record { drawing = d; steps = given_all cs vs }))).answer ≡ Ok i → Went input script files i
+    → (at_once (Ok (record { drawing = d; steps = steps_of cs vs }))).answer ≡ Ok i → Went input script files i
 went_so input script files d cs vs i opened reads come bytes is =
-    let made : record { drawing = d; steps = given_all cs vs } ≡ i = (let e = is in cc) in
+    let made : record { drawing = d; steps = steps_of cs vs } ≡ i = (let e = is in cc) in
     record {
       commands = cs;
       opened = subst (λ (x : Inputs). IsOpened files input x.drawing) made opened;
       reads = reads.reads;
       script_bytes = reads.bytes_are;
       seconds = bytes;
-      steps = ap (λ (x : Inputs). x.steps) (sym made) ∙ ap (given_all cs) come;
+      steps = ap (λ (x : Inputs). x.steps) (sym made) ∙ ap (steps_of cs) come;
     }
 
 pub went : (input script : List ℕ) (files : Files) (i : Inputs) → (inputs_in files input script).answer ≡ Ok i
     → AreInBytes files (inputs_in files input script).sources → Went input script files i
 went input script files i is are =
     let behind_seconds : Opened → List Command → List SecondValue → Reading Inputs =
-    λ d cs vs. at_once (Ok (record { drawing = d; steps = given_all cs vs })) in
+    λ d cs vs. at_once (Ok (record { drawing = d; steps = steps_of cs vs })) in
     let behind_script : Opened → List Command → Reading Inputs = λ d cs. seconds_in files cs >>= behind_seconds d cs in
     let drawing : Reading Opened = drawing_in files input in
     let script_read : Reading (List Command) = commands_in files script in

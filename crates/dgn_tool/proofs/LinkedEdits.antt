@@ -34,21 +34,21 @@ use Rattle.dgn_drawing.specs.declared.command.Command.{Command}
 use Rattle.dgn_drawing.specs.declared.command.Command.TheVariants as command
 use Rattle.dgn_answers.specs.Texts.{fence_refused}
 use Rattle.dgn_answers.specs.Imports.{Importing, Appends, Declines, importing_of, import_left}
-use Rattle.dgn_answers.specs.Remaining.{Made, Alone, Fenced, Fitted, Imported, fields_made, with_made, with_all_made, without_newest, with_import}
+use Rattle.dgn_answers.specs.Remaining.{RemainingEdit, Alone, Fenced, Fitted, Imported, fields_made, with_edit, with_fence_edit, without_newest, with_import}
 use Rattle.dgn_answers.specs.Commands.{answer_of}
-use Rattle.dgn_answers.specs.Given.{Given, Plain, Import, after_all, step_answer, with_steps}
+use Rattle.dgn_answers.specs.Steps.{Step, Plain, Import, after_all, step_answer, with_steps}
 use Rattle.dgn_tool.specs.Laws.{IsOutside, IsEditIn}
 use Rattle.dgn_tool.proofs.OpenSeconds.{IsStep, import_behind, appended}
 use Rattle.dgn_tool.proofs.StackedEdits.{IsStacked, step_stacks}
 
 -- an edit made elements of others: they open with the tail, have no fewer bytes, the same ones at each place that it
 -- doesn't write, and there what it writes; its fields rise; and they keep the limit of a design file where those did
-pub record IsLink (dim rest : ℕ) (t : List ℕ) (m : Made) : Type 0 where
+pub record IsLink (dim rest : ℕ) (t : List ℕ) (m : RemainingEdit) : Type 0 where
   pub opens : Opens (spelling m.made ++ t) dim m.made t
   pub long : length (spelling m.on) ≤ length (spelling m.made)
   pub same : (p : ℕ) → p < length (spelling m.on) → IsOutside dim p m → get_or (spelling m.made) p 0 ≡ get_or (spelling m.on) p 0
-  pub rise : Rise 0 (fields_made dim m.on m.making) (length (spelling m.on))
-  pub written : spelling m.made ≡ write (spelling m.on) (filled (spelling m.made) (fields_made dim m.on m.making))
+  pub rise : Rise 0 (fields_made dim m.on m.kind) (length (spelling m.on))
+  pub written : spelling m.made ≡ write (spelling m.on) (filled (spelling m.made) (fields_made dim m.on m.kind))
       ++ drop (length (spelling m.on)) (spelling m.made)
   pub fits : length (spelling m.on) + rest ≤ MOST_DESIGN → length (spelling m.made) + rest ≤ MOST_DESIGN
 
@@ -57,33 +57,33 @@ as_long : (written on made : List ℕ) → length made ≡ length on → written
 as_long written on made long = sym (append-nil written) ∙ ap (λ (b : List ℕ). written ++ b) (sym (drop_all (length on) made (omega (arith, long))))
 
 -- what the edits, which stand the newest first, made of the lowest elements
-abbrev pub top_of : List Element → List Made → List Element
+abbrev pub top_of : List Element → List RemainingEdit → List Element
 top_of base [] = base
 top_of base (m ∷ left) = m.made
 
 -- each was made on what those before it made, and the lowest elements open with the tail
-abbrev pub AreLinked : ℕ → ℕ → List ℕ → List Element → List Made → Type 0
+abbrev pub AreLinked : ℕ → ℕ → List ℕ → List Element → List RemainingEdit → Type 0
 AreLinked dim rest t base [] = Opens (spelling base ++ t) dim base t
 AreLinked dim rest t base (m ∷ left) = IsLink dim rest t m × (m.on ≡ top_of base left) × AreLinked dim rest t base left
 
-pub top_opens : (dim rest : ℕ) (t : List ℕ) (base : List Element) (left : List Made) → AreLinked dim rest t base left
+pub top_opens : (dim rest : ℕ) (t : List ℕ) (base : List Element) (left : List RemainingEdit) → AreLinked dim rest t base left
     → Opens (spelling (top_of base left) ++ t) dim (top_of base left) t
 top_opens dim rest t base [] linked = linked
 top_opens dim rest t base (m ∷ left) linked = linked.0.opens
 
 -- a stack's top is what they made
-pub stack_top : (base : List Element) (s : State) (left : List Made) → IsStacked base s left → s.top ≡ top_of base left
+pub stack_top : (base : List Element) (s : State) (left : List RemainingEdit) → IsStacked base s left → s.top ≡ top_of base left
 stack_top base s [] stacked = let x = stacked in cc
 stack_top base s (m ∷ left) stacked = let x = stacked in cc
 
 module _ (dim rest : ℕ) (t : List ℕ) (base : List Element) where
   -- what stands on top opens
-  opens_on : (on : List Element) (left : List Made) → on ≡ top_of base left → AreLinked dim rest t base left → Opens (spelling on ++ t) dim on t
+  opens_on : (on : List Element) (left : List RemainingEdit) → on ≡ top_of base left → AreLinked dim rest t base left → Opens (spelling on ++ t) dim on t
   opens_on on left is linked = subst (λ (es : List Element). Opens (spelling es ++ t) dim es t) (sym is) (top_opens dim rest t base left linked)
 
   -- an edit that is done is one more
-  edit_links : (on : List Element) (left : List Made) (e : Edit) (came : Applied) → IsEdit e → apply dim on rest e ≡ came → on ≡ top_of base left
-      → AreLinked dim rest t base left → AreLinked dim rest t base (with_made came on (Alone e) left)
+  edit_links : (on : List Element) (left : List RemainingEdit) (e : Edit) (came : Applied) → IsEdit e → apply dim on rest e ≡ came → on ≡ top_of base left
+      → AreLinked dim rest t base left → AreLinked dim rest t base (with_edit came on (Alone e) left)
   edit_links on left e (Refused cause) fits is top linked = linked
   edit_links on left e (Done made) fits is top linked =
       let opens = opens_on on left top linked in
@@ -101,9 +101,9 @@ module _ (dim rest : ℕ) (t : List ℕ) (base : List Element) where
       )
 
   -- and so is one of all that a fence chose
-  roots_link : (on : List Element) (left : List Made) (e : FenceEdit) (ns : List ℕ) (came : Applied) → IsFenceEdit e → AreRoots on ns
+  roots_link : (on : List Element) (left : List RemainingEdit) (e : FenceEdit) (ns : List ℕ) (came : Applied) → IsFenceEdit e → AreRoots on ns
       → apply_all dim on rest e ns ≡ came → on ≡ top_of base left → AreLinked dim rest t base left
-      → AreLinked dim rest t base (with_made came on (Fenced e ns) left)
+      → AreLinked dim rest t base (with_edit came on (Fenced e ns) left)
   roots_link on left e ns (Refused cause) fits roots is top linked = linked
   roots_link on left e ns (Done made) fits roots is top linked =
       let opens = opens_on on left top linked in
@@ -120,10 +120,10 @@ module _ (dim rest : ℕ) (t : List ℕ) (base : List Element) where
         linked,
       )
 
-  fence_links : (on : List Element) (left : List Made) (mask : Mask) (mode : Mode) (e : FenceEdit) (fence : Option (List Pt)) → IsFenceEdit e
+  fence_links : (on : List Element) (left : List RemainingEdit) (mask : Mask) (mode : Mode) (e : FenceEdit) (fence : Option (List Pt)) → IsFenceEdit e
       → on ≡ top_of base left → AreLinked dim rest t base left
       → AreLinked dim rest t base
-      (with_all_made (option_map (apply_all dim on rest e) (option_map (λ corners. selected dim mask corners mode on) fence))
+      (with_fence_edit (option_map (apply_all dim on rest e) (option_map (λ corners. selected dim mask corners mode on) fence))
       (option_map (λ corners. selected dim mask corners mode on) fence) on e left)
   fence_links on left mask mode e None fits top linked = linked
   fence_links on left mask mode e (Some corners) fits top linked =
@@ -131,9 +131,9 @@ module _ (dim rest : ℕ) (t : List ℕ) (base : List Element) where
       ((λ n. takes mode corners (tree_shown dim mask on n)), refl) refl top linked
 
   -- an import puts trees behind
-  import_links : (on : List Element) (left : List Made) (b : List ℕ) → AreTrees dim b → length (spelling on) + rest + length b ≤ MOST_DESIGN
+  import_links : (on : List Element) (left : List RemainingEdit) (b : List ℕ) → AreTrees dim b → length (spelling on) + rest + length b ≤ MOST_DESIGN
       → on ≡ top_of base left → AreLinked dim rest t base left
-      → AreLinked dim rest t base (record { on = on; making = Imported (elements_of dim b); made = on ++ elements_of dim b } ∷ left)
+      → AreLinked dim rest t base (record { on = on; kind = Imported (elements_of dim b); made = on ++ elements_of dim b } ∷ left)
   import_links on left b trees few top linked =
       let behind = import_behind dim t on b trees (opens_on on left top linked) in (
         record {
@@ -149,8 +149,8 @@ module _ (dim rest : ℕ) (t : List ℕ) (base : List Element) where
       )
 
   -- and so is a fit
-  fit_links : (on : List Element) (left : List Made) (n : ℕ) (came : Applied) → apply_fit dim on n ≡ came → on ≡ top_of base left
-      → AreLinked dim rest t base left → AreLinked dim rest t base (with_made came on (Fitted n) left)
+  fit_links : (on : List Element) (left : List RemainingEdit) (n : ℕ) (came : Applied) → apply_fit dim on n ≡ came → on ≡ top_of base left
+      → AreLinked dim rest t base left → AreLinked dim rest t base (with_edit came on (Fitted n) left)
   fit_links on left n (Refused cause) is top linked = linked
   fit_links on left n (Done made) is top linked =
       let opens = opens_on on left top linked in
@@ -169,13 +169,13 @@ module _ (dim rest : ℕ) (t : List ℕ) (base : List Element) where
       )
 
   -- an undo takes the newest away
-  undo_links : (refused : Bool) (left : List Made) → AreLinked dim rest t base left → AreLinked dim rest t base (without_newest refused left)
+  undo_links : (refused : Bool) (left : List RemainingEdit) → AreLinked dim rest t base left → AreLinked dim rest t base (without_newest refused left)
   undo_links true left linked = linked
   undo_links false [] linked = linked
   undo_links false (m ∷ left) linked = linked.2
 
 -- a command leaves such edits
-command_links : (t : List ℕ) (base : List Element) (s : State) (left : List Made) (c : Command) → IsEditIn c → IsStacked base s left
+command_links : (t : List ℕ) (base : List Element) (s : State) (left : List RemainingEdit) (c : Command) → IsEditIn c → IsStacked base s left
     → AreLinked s.dim s.rest t base left → AreLinked s.dim s.rest t base ((answer_of s c).left left)
 command_links t base s left (command.Edit e) fits stacked linked =
     edit_links s.dim s.rest t base s.top left e (applied e s) fits refl (stack_top base s left stacked) linked
@@ -187,7 +187,7 @@ command_links t base s left (command.Fit n) fits stacked linked =
 command_links t base s left _ fits stacked linked = linked
 
 -- a step leaves such edits
-import_leaves : (t : List ℕ) (base : List Element) (s : State) (left : List Made) (v : SecondValue) (by : Option Displacement) (came : Importing)
+import_leaves : (t : List ℕ) (base : List Element) (s : State) (left : List RemainingEdit) (v : SecondValue) (by : Option Displacement) (came : Importing)
     → importing_of s v by ≡ came → IsStep (Import v by)
     → IsStacked base s left → AreLinked s.dim s.rest t base left → AreLinked s.dim s.rest t base (with_import came s left)
 import_leaves t base s left v by (Appends b count) is fits stacked linked =
@@ -195,7 +195,7 @@ import_leaves t base s left v by (Appends b count) is fits stacked linked =
     import_links s.dim s.rest t base s.top left b so.0 so.1 (stack_top base s left stacked) linked
 import_leaves t base s left v by (Declines line) is fits stacked linked = linked
 
-step_links : (t : List ℕ) (base : List Element) (s : State) (left : List Made) (g : Given) → IsStep g → IsStacked base s left
+step_links : (t : List ℕ) (base : List Element) (s : State) (left : List RemainingEdit) (g : Step) → IsStep g → IsStacked base s left
     → AreLinked s.dim s.rest t base left → AreLinked s.dim s.rest t base ((step_answer s g).left left)
 step_links t base s left (Plain c) fits stacked linked = command_links t base s left c fits stacked linked
 step_links t base s left (Import v by) fits stacked linked = import_leaves t base s left v by (importing_of s v by) refl fits stacked linked
@@ -230,31 +230,31 @@ module _ {X : Type 0} (part : State → X) (stack : (top : List Element) (earlie
   import_keeps (Appends b count) s = stack (s.top ++ elements_of s.dim b) (s.top ∷ s.earlier) s
   import_keeps (Declines line) s = refl
 
-  step_keeps : (s : State) (g : Given) → part (step_answer s g).state ≡ part s
+  step_keeps : (s : State) (g : Step) → part (step_answer s g).state ≡ part s
   step_keeps s (Plain c) = command_keeps s c
   step_keeps s (Import v by) = import_keeps (importing_of s v by) s
 
-  steps_keep : (gs : List Given) (s : State) → part (after_all gs s) ≡ part s
+  steps_keep : (gs : List Step) (s : State) → part (after_all gs s) ≡ part s
   steps_keep [] s = refl
   steps_keep (g ∷ gs) s = steps_keep gs (step_answer s g).state ∙ step_keeps s g
 
 -- the dimension, and the length of the tail
-step_dim : (s : State) (g : Given) → (step_answer s g).state.dim ≡ s.dim
+step_dim : (s : State) (g : Step) → (step_answer s g).state.dim ≡ s.dim
 step_dim s g = step_keeps (λ (x : State). x.dim) (λ _ _ _. refl) (λ _ _. refl) (λ _ _. refl) s g
 
-step_rest : (s : State) (g : Given) → (step_answer s g).state.rest ≡ s.rest
+step_rest : (s : State) (g : Step) → (step_answer s g).state.rest ≡ s.rest
 step_rest s g = step_keeps (λ (x : State). x.rest) (λ _ _ _. refl) (λ _ _. refl) (λ _ _. refl) s g
 
-pub steps_dim : (gs : List Given) (s : State) → (after_all gs s).dim ≡ s.dim
+pub steps_dim : (gs : List Step) (s : State) → (after_all gs s).dim ≡ s.dim
 steps_dim gs s = steps_keep (λ (x : State). x.dim) (λ _ _ _. refl) (λ _ _. refl) (λ _ _. refl) gs s
 
 -- steps leave such edits
-pub steps_link : (t : List ℕ) (base : List Element) (gs : List Given) (s : State) (left : List Made) → All IsStep gs → IsStacked base s left
+pub steps_link : (t : List ℕ) (base : List Element) (gs : List Step) (s : State) (left : List RemainingEdit) → All IsStep gs → IsStacked base s left
     → AreLinked s.dim s.rest t base left → AreLinked s.dim s.rest t base (with_steps gs s left)
 steps_link t base [] s left fits stacked linked = linked
 steps_link t base (g ∷ gs) s left fits stacked linked =
     let next : State = (step_answer s g).state in
-    let more : List Made = (step_answer s g).left left in
+    let more : List RemainingEdit = (step_answer s g).left left in
     let one = step_links t base s left g (All-head IsStep g gs fits) stacked linked in
     let here = subst (λ (n : ℕ). AreLinked n next.rest t base more) (sym (step_dim s g))
     (subst (λ (n : ℕ). AreLinked s.dim n t base more) (sym (step_rest s g)) one) in
@@ -263,7 +263,7 @@ steps_link t base (g ∷ gs) s left fits stacked linked =
     (subst (λ (n : ℕ). AreLinked n next.rest t base (with_steps gs next more)) (step_dim s g) all)
 
 -- they have no fewer bytes than the lowest
-pub linked_long : (dim rest : ℕ) (t : List ℕ) (base : List Element) (left : List Made) → AreLinked dim rest t base left
+pub linked_long : (dim rest : ℕ) (t : List ℕ) (base : List Element) (left : List RemainingEdit) → AreLinked dim rest t base left
     → length (spelling base) ≤ length (spelling (top_of base left))
 linked_long dim rest t base [] linked = omega arith
 linked_long dim rest t base (m ∷ left) linked =
@@ -273,7 +273,8 @@ linked_long dim rest t base (m ∷ left) linked =
     omega arith
 
 -- and the same byte at each place that none of the edits writes
-pub linked_same : (dim rest : ℕ) (t : List ℕ) (base : List Element) (left : List Made) (p : ℕ) → AreLinked dim rest t base left → p < length (spelling base)
+pub linked_same : (dim rest : ℕ) (t : List ℕ) (base : List Element) (left : List RemainingEdit) (p : ℕ) → AreLinked dim rest t base left
+    → p < length (spelling base)
     → All (IsOutside dim p) left → get_or (spelling (top_of base left)) p 0 ≡ get_or (spelling base) p 0
 linked_same dim rest t base [] p linked below all = refl
 linked_same dim rest t base (m ∷ left) p linked below all =
@@ -284,7 +285,7 @@ linked_same dim rest t base (m ∷ left) p linked below all =
     ∙ linked_same dim rest t base left p linked.2 below (All-tail (IsOutside dim p) m left all)
 
 -- and they keep the limit of a design file where the lowest do
-pub linked_fits : (dim rest : ℕ) (t : List ℕ) (base : List Element) (left : List Made) → AreLinked dim rest t base left
+pub linked_fits : (dim rest : ℕ) (t : List ℕ) (base : List Element) (left : List RemainingEdit) → AreLinked dim rest t base left
     → length (spelling base) + rest ≤ MOST_DESIGN → length (spelling (top_of base left)) + rest ≤ MOST_DESIGN
 linked_fits dim rest t base [] linked few = few
 linked_fits dim rest t base (m ∷ left) linked few =

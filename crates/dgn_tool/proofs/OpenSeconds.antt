@@ -28,8 +28,8 @@ use Rattle.dgn_drawing.specs.declared.command.Command.{Command}
 use Rattle.dgn_drawing.specs.declared.command.Command.TheVariants as command
 use Rattle.edit_ops.specs.Fields.{filled}
 use Rattle.dgn_answers.specs.Imports.{Appends, unless_long, importing, importing_of}
-use Rattle.dgn_answers.specs.Given.{Given, Plain, Import, first_second, given, seconds_behind, given_all}
-use Rattle.dgn_tool.specs.Laws.{IsEditIn, steps_of}
+use Rattle.dgn_answers.specs.Steps.{Step, Plain, Import, first_second, step_of, seconds_behind, steps_of}
+use Rattle.dgn_tool.specs.Laws.{IsEditIn, steps_of_files}
 
 -- a drawing of a second file opens
 abbrev pub IsOpen : SecondValue → Type 0
@@ -37,7 +37,7 @@ IsOpen (Drawing own body tail) = Opens (body ++ tail) own (elements_of own body)
 IsOpen (Faulty fault) = Unit {0}
 
 -- what a step keeps of its values, and of its second file
-abbrev pub IsStep : Given → Type 0
+abbrev pub IsStep : Step → Type 0
 IsStep (Plain c) = IsEditIn c
 IsStep (Import v by) = IfSome by IsShift × IsOpen v
 
@@ -65,17 +65,17 @@ rest_open [] all = all
 rest_open (v ∷ vs) all = All-tail IsOpen v vs all
 
 -- a command is such a step, and leaves such files
-one_given : (c : Command) (vs : List SecondValue) → IsEditIn c → All IsOpen vs → IsStep (given c vs) × All IsOpen (seconds_behind c vs)
+one_given : (c : Command) (vs : List SecondValue) → IsEditIn c → All IsOpen vs → IsStep (step_of c vs) × All IsOpen (seconds_behind c vs)
 one_given (command.Import name by) vs fits all = ((fits, first_open vs all), rest_open vs all)
 one_given _ vs fits all = (fits, all)
 
-all_given : (cs : List Command) (vs : List SecondValue) → All IsEditIn cs → All IsOpen vs → All IsStep (given_all cs vs)
+all_given : (cs : List Command) (vs : List SecondValue) → All IsEditIn cs → All IsOpen vs → All IsStep (steps_of cs vs)
 all_given [] vs fits all = All-nil IsStep
 all_given (c ∷ cs) vs fits all =
     let one = one_given c vs (All-head IsEditIn c cs fits) all in
-    All-cons IsStep (given c vs) (given_all cs (seconds_behind c vs)) one.0 (all_given cs (seconds_behind c vs) (All-tail IsEditIn c cs fits) one.1)
+    All-cons IsStep (step_of c vs) (steps_of cs (seconds_behind c vs)) one.0 (all_given cs (seconds_behind c vs) (All-tail IsEditIn c cs fits) one.1)
 
-pub steps_given : (cs : List Command) (files : List (List ℕ)) → All IsEditIn cs → All IsBytes files → All IsStep (steps_of cs files)
+pub steps_given : (cs : List Command) (files : List (List ℕ)) → All IsEditIn cs → All IsBytes files → All IsStep (steps_of_files cs files)
 steps_given cs files fits bytes = all_given cs (map second_of files) fits (seconds_open files bytes)
 
 -- what is appended is trees that fit the limit

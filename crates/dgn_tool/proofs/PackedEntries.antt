@@ -18,8 +18,8 @@ use Rattle.dgn_session.specs.State.{State, SessionValue, state_of, earlier_of}
 use Rattle.dgn_session.specs.Kept.{AreKept}
 use Rattle.dgn_session.specs.Laws.{IsSound}
 use Rattle.dgn_session.proofs.Steps.{bodies_first}
-use Rattle.dgn_answers.specs.Remaining.{Made}
-use Rattle.dgn_answers.specs.Given.{Given, after_all, refused_count, with_steps}
+use Rattle.dgn_answers.specs.Remaining.{RemainingEdit}
+use Rattle.dgn_answers.specs.Steps.{Step, after_all, refused_count, with_steps}
 use Rattle.dgn_tool.specs.Ended.{ended, filed_then_said}
 use Rattle.dgn_tool.specs.Ended.{status_with}
 use Rattle.dgn_listing.specs.NumberedLines.{numbered}
@@ -38,7 +38,7 @@ tails : {X : Type 0} (x y : X) (xs ys : List X) → x ∷ xs ≡ y ∷ ys → xs
 tails x y xs ys is = let e = is in cc
 
 -- the last one is taken off what the newest edit made, and so on back
-taken_are : (dim : ℕ) (tail b : List ℕ) (base : List Element) (left : List Made) → AreKept dim tail b (map (entry_made dim) left)
+taken_are : (dim : ℕ) (tail b : List ℕ) (base : List Element) (left : List RemainingEdit) → AreKept dim tail b (map (entry_made dim) left)
     → map (elements_of dim) (bodies b (map (entry_made dim) left)) ≡ lists_made left ++ base ∷ []
     → all_taken b (map (entry_made dim) left) ≡ map (packed_made dim) (reverse left)
 taken_are dim tail b base [] kept lists = refl
@@ -54,11 +54,11 @@ taken_are dim tail b base (m ∷ left) kept lists =
     ∙ ap (map (packed_made dim)) (sym (reverse-append (m ∷ []) left))
 
 -- what is taken off a session that ran these commands
-pub packs : (cs : List Given) (from v : SessionValue) → from.entries ≡ [] → AllLogAs cs from v → state_of v ≡ after_all cs (state_of from) → IsSound v
+pub packs : (cs : List Step) (from v : SessionValue) → from.entries ≡ [] → AllLogAs cs from v → state_of v ≡ after_all cs (state_of from) → IsSound v
     → all_taken v.body (reverse v.entries) ≡ packed_after cs (state_of from)
 packs cs from v none logs after sound =
     let base : List Element = (state_of from).top in
-    let left : List Made = with_steps cs (state_of from) [] in
+    let left : List RemainingEdit = with_steps cs (state_of from) [] in
     let log : IsLogOf v left = logs [] (ap (λ (es : List Entry). reverse es) none) in
     let start : IsStacked base (state_of from) [] = ap (λ (es : List Entry). base ∷ earlier_of from.dim from.body (reverse es)) none in
     let stacked : IsStacked base (state_of v) left = subst (λ (s : State). IsStacked base s left) (sym after) (steps_stack base cs (state_of from) [] start) in
@@ -107,7 +107,7 @@ filed_so entries refused patch file text status spelled said is =
     ∙ ap (filed_then_said status text patch) (sym spelled ∙ sym (append-nil file))
 
 -- the outcome of a patch file that isn't too long, and of one that is
-pub packed_short : (cs : List Given) (s : State) (es : List Packed) (refused : ℕ) (patch : List ℕ) → es ≡ packed_after cs s → refused ≡ refused_count cs s
+pub packed_short : (cs : List Step) (s : State) (es : List Packed) (refused : ℕ) (patch : List ℕ) → es ≡ packed_after cs s → refused ≡ refused_count cs s
     → length (patch_spelling es) ≤ MOST_PATCH → filed_patch es refused patch ≡ packed_from s cs patch
 packed_short cs s es refused patch same count short =
     let within : length (patch_spelling (packed_after cs s)) ≤ MOST_PATCH = subst (λ (ps : List Packed). length (patch_spelling ps) ≤ MOST_PATCH) same short in
@@ -115,7 +115,7 @@ packed_short cs s es refused patch same count short =
     ap (λ (ps : List Packed). filed_patch ps refused patch) same ∙ ap (λ (n : ℕ). filed_patch (packed_after cs s) n patch) count
     ∙ sym (ap (λ (b : Bool). cond b (ended statuses.TooLong (codes "too long patch\n")) (filed_patch (packed_after cs s) (refused_count cs s) patch)) test)
 
-pub packed_long : (cs : List Given) (s : State) (es : List Packed) (patch : List ℕ) → es ≡ packed_after cs s → MOST_PATCH < length (patch_spelling es)
+pub packed_long : (cs : List Step) (s : State) (es : List Packed) (patch : List ℕ) → es ≡ packed_after cs s → MOST_PATCH < length (patch_spelling es)
     → ended statuses.TooLong (codes "too long patch\n") ≡ packed_from s cs patch
 packed_long cs s es patch same long =
     let over : MOST_PATCH < length (patch_spelling (packed_after cs s)) = subst (λ (ps : List Packed). MOST_PATCH < length (patch_spelling ps)) same long in

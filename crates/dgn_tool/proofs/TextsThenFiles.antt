@@ -14,7 +14,7 @@ use Rattle.elem_index.specs.declared.design.Design.{Design}
 use Rattle.elem_index.specs.Design.{IsWhole}
 use Rattle.dgn_session.specs.State.{State}
 use Rattle.dgn_import.proofs.SpelledBodies.{spelled_with}
-use Rattle.dgn_answers.specs.Given.{Given, after_all, texts_of, refused_count}
+use Rattle.dgn_answers.specs.Steps.{Step, after_all, texts_of, refused_count}
 use Rattle.dgn_tool.specs.Filling.{file_made}
 use Rattle.dgn_tool.specs.Ended.{said_then_filed}
 use Rattle.dgn_tool.specs.FileAfter.{file_after}
@@ -92,7 +92,7 @@ pub begun_with : (dim : ℕ) (body : List ℕ) (d : Design) (n : ℕ) → IsWhol
 begun_with dim body d n whole axes text counted = counted ∙ d.body.ok.0 ∙ ap (length {A = ℕ}) (spelled_with dim body d whole axes text)
 
 -- the drawing that is written is that of the elements after the commands, with the same tail
-pub made_so : (s new : State) (t tail : List ℕ) (cs : List Given) (before : ℕ) → new ≡ after_all cs s → tail ≡ t → before ≡ length (spelling s.top)
+pub made_so : (s new : State) (t tail : List ℕ) (cs : List Step) (before : ℕ) → new ≡ after_all cs s → tail ≡ t → before ≡ length (spelling s.top)
     → file_made before tail (spelling new.top) ≡ file_after s t cs
 made_so s new t tail cs before drawn back begun =
     ap (λ (n : ℕ). file_made n tail (spelling new.top)) begun
@@ -101,7 +101,7 @@ made_so s new t tail cs before drawn back begun =
 
 -- The commands of an edit and its file.
 
-module _ (s : State) (t : List ℕ) (cs : List Given) (output file : List ℕ) (file_is : file ≡ file_after s t cs) where
+module _ (s : State) (t : List ℕ) (cs : List Step) (output file : List ℕ) (file_is : file ≡ file_after s t cs) where
   -- all commands were said, and the file was written
   pub edited : {old mid new : Seen} (refused : ℕ) (ending : Ending) → refused ≡ refused_count cs s → status_said ending ≡ status_with refused
       → Writes {T = ℕ} (Ok refused) (SaysAs {T = ℕ} (Ok refused) (texts_of cs s)) old mid → Writes {T = Unit {0}} (Ok tt) (FilesAll (Ok tt) output file) mid new
@@ -124,7 +124,7 @@ module _ (s : State) (t : List ℕ) (cs : List Given) (output file : List ℕ) (
       stopped_so stop both (λ stops. stops)
 
 -- the commands were stopped
-pub edit_unsaid : (s : State) (t : List ℕ) (cs : List Given) (output : List ℕ) {old new : Seen} (stop : Stop)
+pub edit_unsaid : (s : State) (t : List ℕ) (cs : List Step) (output : List ℕ) {old new : Seen} (stop : Stop)
     → Writes {T = ℕ} (Err stop) (SaysAs {T = ℕ} (Err stop) (texts_of cs s)) old new
     → Writes {T = Ending} (Err stop) (Tells (edited_from s t cs output) (Err stop)) old new
 edit_unsaid s t cs output {old = old} {new = new} stop said =

@@ -3,7 +3,7 @@ use Rattle.std.proofs.Common.{◌≡◌, List, ℕ, Option, Some, None, Ok, ap, 
 use Rattle.std.specs.Prelude.{IfSome}
 use Rattle.dgn_desk.specs.Content.{Files, Content, bytes_of}
 use Rattle.elem_index.proofs.OpeningAnswers.{opens-opening}
-use Rattle.dgn_answers.specs.Given.{Given}
+use Rattle.dgn_answers.specs.Steps.{Step}
 use Rattle.dgn_tool.specs.Ended.{Outcome}
 use Rattle.dgn_tool.specs.Inputs.{Inputs, inputs_in}
 use Rattle.dgn_tool.specs.Leaving.{files_after, Leaves}
@@ -65,7 +65,7 @@ edits_file input script output files content now told_is w left =
       reads = w.went.reads;
       content = content;
       told_is = told_is;
-      files_are = left ∙ ap (λ (o : Outcome). files_after o.file files) (w.same ∙ ap (λ (gs : List Given). edited d gs output) w.went.steps);
+      files_are = left ∙ ap (λ (o : Outcome). files_after o.file files) (w.same ∙ ap (λ (gs : List Step). edited d gs output) w.went.steps);
       stays = untouched_by_scripts (bytes_of files input) d (bytes_of files script) cs _ file w.went.script_bytes w.went.reads w.went.seconds;
     }
 

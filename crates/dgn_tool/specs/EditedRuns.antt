@@ -5,10 +5,10 @@ use Rattle.dgn_drawing.specs.Opening.{Opens}
 use Rattle.edit_script.specs.Script.{commands_of}
 use Rattle.dgn_drawing.specs.declared.command.Command.{Command}
 use Rattle.elem_index.specs.Opened.{Opened}
-use Rattle.dgn_answers.specs.Commands.{begun}
-use Rattle.dgn_answers.specs.Given.{Given}
+use Rattle.dgn_answers.specs.Commands.{first_state}
+use Rattle.dgn_answers.specs.Steps.{Step}
 use Rattle.dgn_tool.specs.FileAfter.{file_after}
-use Rattle.dgn_tool.specs.Laws.{steps_of, IsEditedFile}
+use Rattle.dgn_tool.specs.Laws.{steps_of_files, IsEditedFile}
 use Rattle.dgn_tool.specs.Request.{Request, Edit}
 use Rattle.dgn_tool.specs.SecondFiles.{names_in, files_named}
 use Rattle.dgn_tool.specs.declared.status.Status.{Status}
@@ -21,8 +21,8 @@ HasWritten statuses.SomeRefused = ⊤
 HasWritten _ = ⊥
 
 -- the steps of these commands, with the second files that they name
-abbrev pub steps_with : Files → List Command → List Given
-steps_with files cs = steps_of cs (files_named (names_in cs) files)
+abbrev pub steps_with : Files → List Command → List Step
+steps_with files cs = steps_of_files cs (files_named (names_in cs) files)
 
 -- what a run leaves that edited IN by SCRIPT into OUT: IN opens as a drawing, and SCRIPT reads to commands; OUT is the file
 -- that their steps make of the drawing, and every other file is as before; and that file opens, and has IN's byte at each
@@ -34,8 +34,8 @@ pub record EditsFile (input script output : List ℕ) (files : Files) (now : Opt
   pub reads : commands_of (bytes_of files script) ≡ Ok commands
   pub content : Content
   pub told_is : now ≡ Some content
-  pub files_are : content.files ≡ with_file output (file_after (begun drawing) drawing.tail (steps_with files commands)) files
-  pub stays : IsEditedFile (bytes_of files input) (begun drawing) drawing.tail (steps_with files commands)
+  pub files_are : content.files ≡ with_file output (file_after (first_state drawing) drawing.tail (steps_with files commands)) files
+  pub stays : IsEditedFile (bytes_of files input) (first_state drawing) drawing.tail (steps_with files commands)
 
 -- a run with this request that has written OUT left that
 abbrev pub EditsAsAsked : Option Request → Status → Option Content → Option Content → Type 0

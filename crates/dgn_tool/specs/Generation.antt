@@ -12,8 +12,8 @@ use Rattle.elem_index.specs.Opened.{Opened}
 use Rattle.edit_script.specs.Script.{commands_of}
 use Rattle.dgn_drawing.specs.declared.command.Command.{Command}
 use Rattle.dgn_drawing.specs.declared.command.Command.TheVariants as command
-use Rattle.dgn_answers.specs.Commands.{begun}
-use Rattle.dgn_answers.specs.Given.{Given, given_all, after_all, refused_count, trees_of_all}
+use Rattle.dgn_answers.specs.Commands.{first_state}
+use Rattle.dgn_answers.specs.Steps.{Step, steps_of, after_all, refused_count, trees_of_all}
 use Rattle.dgn_tool.specs.Filling.{file_made}
 use Rattle.dgn_generator.specs.Generator.{generated_elements}
 use Rattle.dgn_listing.specs.NumberedLines.{numbered}
@@ -54,8 +54,8 @@ fixed_commands =
     ∷ []
 
 -- its steps: no command is an import
-abbrev pub fixed_steps : List Given
-fixed_steps = given_all fixed_commands []
+abbrev pub fixed_steps : List Step
+fixed_steps = steps_of fixed_commands []
 
 abbrev pub FixedScriptReads : Type 0
 FixedScriptReads = commands_of fixed_script ≡ Ok fixed_commands
@@ -92,4 +92,4 @@ abbrev pub drawing_of : ℕ → ℕ → Opened
 drawing_of seed count = record { dim = 2; elements = generated_elements seed count; tail = 255 ∷ 255 ∷ [] }
 
 abbrev pub generation : ℕ → ℕ → List ℕ → Outcome
-generation seed count output = generated_from (begun (drawing_of seed count)) (255 ∷ 255 ∷ []) output
+generation seed count output = generated_from (first_state (drawing_of seed count)) (255 ∷ 255 ∷ []) output

@@ -12,7 +12,7 @@ use Rattle.dgn_import.specs.Seconds.{SecondValue, second_of}
 use Rattle.patch_file.specs.Spelling.{Packed}
 use Rattle.patch_file.specs.Reading.{patch_of}
 use Rattle.dgn_listing.specs.NumberedLines.{numbered}
-use Rattle.dgn_answers.specs.Given.{Given, given_all}
+use Rattle.dgn_answers.specs.Steps.{Step, steps_of}
 use Rattle.dgn_tool.specs.Ended.{Outcome, ended}
 use Rattle.dgn_tool.specs.Readings.{Reading, at_once, ◌>>=◌, file_in}
 use Rattle.dgn_tool.specs.SecondFiles.{names_in}
@@ -83,7 +83,7 @@ seconds_in files cs = seconds_behind files [] (names_in cs)
 -- what a script is run with: the drawing, and the steps of its commands with their second files
 pub record Inputs : Type 0 where
   pub drawing : Opened
-  pub steps : List Given
+  pub steps : List Step
 
 -- IN, SCRIPT and the second files
 abbrev pub inputs_in : Files → List ℕ → List ℕ → Reading Inputs
@@ -91,7 +91,7 @@ inputs_in files input script = do
   d ← drawing_in files input
   cs ← commands_in files script
   vs ← seconds_in files cs
-  at_once (Ok (record { drawing = d; steps = given_all cs vs }))
+  at_once (Ok (record { drawing = d; steps = steps_of cs vs }))
 
 -- entries that are read of a patch file of so many bytes, up to where so many bytes are left; a bad piece ends the run
 abbrev pub entries_read : ℕ → Result (List Packed) ℕ → Result (List Packed) Outcome

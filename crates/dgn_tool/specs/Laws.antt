@@ -13,15 +13,15 @@ use Rattle.edit_ops.specs.Fenced.{IsFenceEdit}
 use Rattle.dgn_drawing.specs.declared.command.Command.{Command}
 use Rattle.dgn_drawing.specs.declared.command.Command.TheVariants as command
 use Rattle.elem_index.specs.Opened.{Opened}
-use Rattle.dgn_answers.specs.Remaining.{Made, fields_made}
-use Rattle.dgn_answers.specs.Commands.{begun}
-use Rattle.dgn_answers.specs.Given.{Given, given_all, after_all, remaining}
+use Rattle.dgn_answers.specs.Remaining.{RemainingEdit, fields_made}
+use Rattle.dgn_answers.specs.Commands.{first_state}
+use Rattle.dgn_answers.specs.Steps.{Step, steps_of, after_all, remaining}
 use Rattle.dgn_tool.specs.Filling.{filling}
 use Rattle.dgn_tool.specs.FileAfter.{file_after}
 
 -- the place is in no field that it writes
-abbrev pub IsOutside : ℕ → ℕ → Made → Type 0
-IsOutside dim p m = All (λ f. ¬ IsIn f p) (fields_made dim m.on m.making)
+abbrev pub IsOutside : ℕ → ℕ → RemainingEdit → Type 0
+IsOutside dim p m = All (λ f. ¬ IsIn f p) (fields_made dim m.on m.kind)
 
 -- what its type keeps of the edit that a command may be
 abbrev pub IsEditIn : Command → Type 0
@@ -31,17 +31,17 @@ IsEditIn (command.Import name by) = IfSome by IsShift
 IsEditIn other = Unit {0}
 
 -- the steps of these commands with these second files
-abbrev pub steps_of : List Command → List (List ℕ) → List Given
-steps_of cs files = given_all cs (map second_of files)
+abbrev pub steps_of_files : List Command → List (List ℕ) → List Step
+steps_of_files cs files = steps_of cs (map second_of files)
 
 -- what stands behind the elements in the file that the steps make: the tail, and what fills its last block
-abbrev pub behind_after : State → List ℕ → List Given → List ℕ
+abbrev pub behind_after : State → List ℕ → List Step → List ℕ
 behind_after s t gs = t ++ filling (length (spelling s.top)) t (length (spelling (after_all gs s).top))
 
 -- the file that the steps make of an opened one opens with the elements after them and the same tail, with what fills
 -- its last block behind; its elements have no fewer bytes; and it has the file's byte at each place in the elements of the
 -- file that no remaining edit writes
-pub record IsEditedFile (f : List ℕ) (s : State) (t : List ℕ) (gs : List Given) : Type 0 where
+pub record IsEditedFile (f : List ℕ) (s : State) (t : List ℕ) (gs : List Step) : Type 0 where
   pub opens : Opens (file_after s t gs) s.dim (after_all gs s).top (behind_after s t gs)
   pub long : length (spelling s.top) ≤ length (spelling (after_all gs s).top)
   pub stays : (p : ℕ) → p < length (spelling s.top) → All (IsOutside s.dim p) (remaining gs s)
@@ -50,4 +50,4 @@ pub record IsEditedFile (f : List ℕ) (s : State) (t : List ℕ) (gs : List Giv
 abbrev pub UntouchedBytesStay : Type 0
 UntouchedBytesStay =
     (f : List ℕ) (d : Opened) (cs : List Command) (files : List (List ℕ))
-    → Opens f d.dim d.elements d.tail → All IsEditIn cs → All IsBytes files → IsEditedFile f (begun d) d.tail (steps_of cs files)
+    → Opens f d.dim d.elements d.tail → All IsEditIn cs → All IsBytes files → IsEditedFile f (first_state d) d.tail (steps_of_files cs files)

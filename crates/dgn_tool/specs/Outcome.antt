@@ -3,8 +3,8 @@ use Rattle.std.specs.Prelude.{ℕ, List, length, codes, Option, Some, None, Ok, 
 use Rattle.dgn_desk.specs.Content.{Files, Content}
 use Rattle.dgn_session.specs.State.{State}
 use Rattle.elem_index.specs.Opened.{Opened}
-use Rattle.dgn_answers.specs.Commands.{begun}
-use Rattle.dgn_answers.specs.Given.{Given, texts_of, refused_count}
+use Rattle.dgn_answers.specs.Commands.{first_state}
+use Rattle.dgn_answers.specs.Steps.{Step, texts_of, refused_count}
 use Rattle.dgn_listing.specs.NumberedLines.{numbered}
 use Rattle.dgn_tool.specs.Applied.{patched}
 use Rattle.dgn_tool.specs.Ended.{Outcome, ended, said_then_filed, status_with}
@@ -19,12 +19,12 @@ use Rattle.dgn_tool.specs.declared.status.Status.{Status}
 use Rattle.dgn_tool.specs.declared.status.Status.TheVariants as statuses
 
 -- what the steps come to in a state, with this tail: their texts, and the file of the drawing after them
-abbrev pub edited_from : State → List ℕ → List Given → List ℕ → Outcome
+abbrev pub edited_from : State → List ℕ → List Step → List ℕ → Outcome
 edited_from s tail gs output = said_then_filed (status_with (refused_count gs s)) (texts_of gs s) output (file_after s tail gs)
 
 -- and on a drawing
-abbrev pub edited : Opened → List Given → List ℕ → Outcome
-edited d gs output = edited_from (begun d) d.tail gs output
+abbrev pub edited : Opened → List Step → List ℕ → Outcome
+edited d gs output = edited_from (first_state d) d.tail gs output
 
 -- what `check` comes to on a drawing
 abbrev pub checked : Opened → Outcome

@@ -5,8 +5,8 @@ use Rattle.dgn_drawing.specs.WellFormed.{IsBytes}
 use Rattle.dgn_drawing.specs.declared.command.Command.{Command}
 use Rattle.edit_script.specs.Script.{commands_of}
 use Rattle.elem_index.specs.Opened.{Opened}
-use Rattle.dgn_answers.specs.Commands.{begun}
-use Rattle.dgn_tool.specs.Laws.{IsEditIn, steps_of, IsEditedFile}
+use Rattle.dgn_answers.specs.Commands.{first_state}
+use Rattle.dgn_tool.specs.Laws.{IsEditIn, steps_of_files, IsEditedFile}
 
 -- the commands that a script of bytes reads to hold it
 abbrev pub ScriptsHoldEdits : Type 0
@@ -17,4 +17,4 @@ abbrev pub UntouchedByScripts : Type 0
 UntouchedByScripts =
     (f : List ℕ) (d : Opened) (text : List ℕ) (cs : List Command) (files : List (List ℕ))
     → Opens f d.dim d.elements d.tail → IsBytes text → commands_of text ≡ Ok cs → All IsBytes files
-    → IsEditedFile f (begun d) d.tail (steps_of cs files)
+    → IsEditedFile f (first_state d) d.tail (steps_of_files cs files)

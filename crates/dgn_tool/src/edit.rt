@@ -7,7 +7,7 @@ ghost use Rattle.elem_index.specs.Design.{IsWhole};
 ghost use Rattle.elem_index.specs.Answers.{opened_of};
 ghost use Rattle.dgn_session.specs.State.{state_of};
 ghost use Rattle.dgn_tool.specs.Ends.{DeskComes, DeskEnds};
-ghost use Rattle.dgn_answers.specs.Given.{given_all};
+ghost use Rattle.dgn_answers.specs.Steps.{steps_of};
 ghost use Rattle.dgn_tool.specs.Outcome.{edited, edited_from, reading_of};
 ghost use Rattle.dgn_tool.specs.Request.{Edit};
 ghost use Rattle.dgn_import.specs.Seconds.{waiting};
@@ -57,7 +57,7 @@ fn run_script<D: Desk>(
     requires whole { IsWhole design }
     requires sound { AllByRecursion IsSound seconds.old.items }
     ensures { DeskComes D.Desk
-        (edited (opened_of design) (given_all commands.now (waiting seconds.old.items)) output.now)
+        (edited (opened_of design) (steps_of commands.now (waiting seconds.old.items)) output.now)
         desk.old desk.new result }
 {
     let mut session = Session::start(alloc, design)?;
@@ -76,7 +76,7 @@ fn finish<D: Desk>(
     requires { AllByRecursion IsSound seconds.old.items }
     ensures { DeskComes D.Desk
         (edited_from (state_of session.old) session.old.tail
-        (given_all commands.now (waiting seconds.old.items)) output.now)
+        (steps_of commands.now (waiting seconds.old.items)) output.now)
         desk.old desk.new result }
 {
     let before = session.design().body.len();

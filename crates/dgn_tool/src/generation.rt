@@ -3,9 +3,9 @@
 ghost use Rattle.std.specs.Prelude.{◌≡◌, ◌≤◌, ◌++◌, length, slice_index, IfOk, OnOk};
 ghost use Rattle.dgn_drawing.specs.Spelling.{spelling};
 ghost use Rattle.dgn_session.specs.State.{state_of};
-ghost use Rattle.dgn_answers.specs.Commands.{begun};
+ghost use Rattle.dgn_answers.specs.Commands.{first_state};
 ghost use Rattle.dgn_tool.specs.Ends.{DeskComes};
-ghost use Rattle.dgn_answers.specs.Given.{after_all};
+ghost use Rattle.dgn_answers.specs.Steps.{after_all};
 ghost use Rattle.dgn_tool.specs.Generation.{fixed_commands, fixed_steps, sizes_of, counts_of, summary, generated_from, drawing_of, generation};
 
 use crate::{Ending, file_filled, filling_len};
@@ -51,7 +51,7 @@ pub(crate) fn generate_file<D: Desk>(
 fn begin(alloc: Global, seed: u32, count: u32) -> Result<Session, AllocError>
     requires some { 1 ≤ count }
     requires few { count ≤ 200000 }
-    ensures state { IfOk result (λ s. state_of s ≡ begun (drawing_of seed count)) }
+    ensures state { IfOk result (λ s. state_of s ≡ first_state (drawing_of seed count)) }
     ensures tail { IfOk result (λ s. s.tail ≡ (drawing_of seed count).tail) }
 {
     let bytes = generate(alloc, seed, count)?;

@@ -10,9 +10,9 @@ ghost use Rattle.dgn_session.specs.State.{state_of};
 ghost use Rattle.patch_file.specs.Spelling.{patch_spelling};
 ghost use Rattle.patch_file.specs.Standing.{all_taken};
 ghost use Rattle.patch_file.specs.PatchView.{packed_of, all_packed};
-ghost use Rattle.dgn_answers.specs.Commands.{begun};
+ghost use Rattle.dgn_answers.specs.Commands.{first_state};
 ghost use Rattle.dgn_tool.specs.Ends.{DeskComes, DeskEnds};
-ghost use Rattle.dgn_answers.specs.Given.{given_all, refused_count};
+ghost use Rattle.dgn_answers.specs.Steps.{steps_of, refused_count};
 ghost use Rattle.dgn_tool.specs.Packing.{packed, packed_after, filed_patch, TakesLast};
 ghost use Rattle.dgn_tool.specs.Outcome.{reading_of};
 ghost use Rattle.dgn_tool.specs.Request.{Pack};
@@ -73,7 +73,7 @@ fn pack_commands<D: Desk>(
     requires whole { IsWhole design }
     requires sound { AllByRecursion IsSoundSecond seconds.old.items }
     ensures { DeskComes D.Desk
-        (packed (opened_of design) (given_all commands.now (waiting seconds.old.items)) patch.now)
+        (packed (opened_of design) (steps_of commands.now (waiting seconds.old.items)) patch.now)
         desk.old desk.new result }
 {
     let did = pack_edits(alloc, design, commands, seconds)?;
@@ -93,9 +93,9 @@ fn pack_edits(
     requires whole { IsWhole design }
     requires sound { AllByRecursion IsSoundSecond seconds.old.items }
     ensures refused { IfOk result (λ p. p.refused
-        ≡ refused_count (given_all commands.now (waiting seconds.old.items)) (begun (opened_of design))) }
+        ≡ refused_count (steps_of commands.now (waiting seconds.old.items)) (first_state (opened_of design))) }
     ensures entries { IfOk result (λ p. all_packed p.entries.items
-        ≡ packed_after (given_all commands.now (waiting seconds.old.items)) (begun (opened_of design))) }
+        ≡ packed_after (steps_of commands.now (waiting seconds.old.items)) (first_state (opened_of design))) }
 {
     let mut session = Session::start(alloc, design)?;
     pack_session(alloc, &mut session, commands, seconds)
@@ -111,9 +111,9 @@ fn pack_session(
     requires begun { session.old.entries ≡ [] }
     requires sound { AllByRecursion IsSoundSecond seconds.old.items }
     ensures refused { IfOk result (λ p. p.refused
-        ≡ refused_count (given_all commands.now (waiting seconds.old.items)) (state_of session.old)) }
+        ≡ refused_count (steps_of commands.now (waiting seconds.old.items)) (state_of session.old)) }
     ensures entries { IfOk result (λ p. all_packed p.entries.items
-        ≡ packed_after (given_all commands.now (waiting seconds.old.items)) (state_of session.old)) }
+        ≡ packed_after (steps_of commands.now (waiting seconds.old.items)) (state_of session.old)) }
 {
     let tally = run_unsaid(alloc, session, commands, seconds)?;
     let entries = take_all(alloc, session)?;

@@ -20,8 +20,8 @@ use Rattle.dgn_tool.specs.Request.{Request, Edit, Check, Gen, Pack, Apply, reque
 use Rattle.dgn_tool.specs.declared.status.Status.TheVariants as statuses
 use Rattle.dgn_tool.specs.Outcome.{outcome, outcome_of, checked, edited, usage_line}
 use Rattle.dgn_tool.specs.Packing.{packed, packed_after, filed_patch}
-use Rattle.dgn_answers.specs.Commands.{begun}
-use Rattle.dgn_answers.specs.Given.{Given, refused_count}
+use Rattle.dgn_answers.specs.Commands.{first_state}
+use Rattle.dgn_answers.specs.Steps.{Step, refused_count}
 use Rattle.dgn_tool.proofs.EarlyEnds.{IsEarly, EndsEarly, drawing_early, inputs_early, entries_early}
 use Rattle.dgnedit_lib.specs.Writing.{last_of_four, has_written, name_written, bytes_at}
 
@@ -62,14 +62,14 @@ ends_written : (b : Bool) → has_written (if b then statuses.SomeRefused else s
 ends_written true = refl
 ends_written false = refl
 
-edited_writes : (d : Opened) (gs : List Given) (output : List ℕ) → WritesAt (Some output) (edited d gs output)
-edited_writes d gs output = record { writes = sym (ap (λ w. name_written w (Some output)) (ends_written (nat_lt 0 (refused_count gs (begun d))))) }
+edited_writes : (d : Opened) (gs : List Step) (output : List ℕ) → WritesAt (Some output) (edited d gs output)
+edited_writes d gs output = record { writes = sym (ap (λ w. name_written w (Some output)) (ends_written (nat_lt 0 (refused_count gs (first_state d))))) }
 
-packed_writes : (d : Opened) (gs : List Given) (patch : List ℕ) → WritesAt (Some patch) (packed d gs patch)
+packed_writes : (d : Opened) (gs : List Step) (patch : List ℕ) → WritesAt (Some patch) (packed d gs patch)
 packed_writes d gs patch =
-    either (Some patch) (nat_lt MOST_PATCH (length (patch_spelling (packed_after gs (begun d))))) (ended statuses.TooLong (codes "too long patch\n"))
-    (filed_patch (packed_after gs (begun d)) (refused_count gs (begun d)) patch) (said (Some patch) statuses.TooLong _ refl)
-    (record { writes = sym (ap (λ w. name_written w (Some patch)) (ends_written (nat_lt 0 (refused_count gs (begun d))))) })
+    either (Some patch) (nat_lt MOST_PATCH (length (patch_spelling (packed_after gs (first_state d))))) (ended statuses.TooLong (codes "too long patch\n"))
+    (filed_patch (packed_after gs (first_state d)) (refused_count gs (first_state d)) patch) (said (Some patch) statuses.TooLong _ refl)
+    (record { writes = sym (ap (λ w. name_written w (Some patch)) (ends_written (nat_lt 0 (refused_count gs (first_state d))))) })
 
 -- whatever a patch file makes
 made_writes : (before : ℕ) (tail : List ℕ) (count : ℕ) (made : Patched) (output : List ℕ)

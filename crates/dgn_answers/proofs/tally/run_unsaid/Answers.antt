@@ -4,7 +4,7 @@ use Rattle.std.proofs.lemmas.List.{drop_all}
 use Rattle.dgn_import.specs.Seconds.{SecondValue}
 use Rattle.dgn_session.specs.State.{state_of}
 use Rattle.dgn_drawing.specs.declared.command.Command.{Command}
-use Rattle.dgn_answers.specs.Given.{Given, given, given_all}
+use Rattle.dgn_answers.specs.Steps.{Step, step_of, steps_of}
 use Rattle.dgn_import.specs.Seconds.{waiting}
 use Rattle.dgn_answers.proofs.Stepping.{next_step, none_left}
 use Rattle.dgn_answers.proofs.Counting.{refused_few}
@@ -16,15 +16,15 @@ pub commands-preserved : goal.commands-preserved
 commands-preserved c =
     let command : Command = c.command-item.result in
     let vs : List SecondValue = waiting c.commands.seconds.items in
-    let all : List Given = given_all c.args.commands.now (waiting c.args.seconds.now.items) in
-    let more : List Given = given_all (drop (c.commands.command-index + 1) c.args.commands.now) (waiting c.take_step.new.seconds.items) in
-    let step : Given = given command vs in
+    let all : List Step = steps_of c.args.commands.now (waiting c.args.seconds.now.items) in
+    let more : List Step = steps_of (drop (c.commands.command-index + 1) c.args.commands.now) (waiting c.take_step.new.seconds.items) in
+    let step : Step = step_of command vs in
     let next =
     next_step c.args.commands.now c.commands.command-index command vs (waiting c.take_step.new.seconds.items) c.commands-test.true c.command-item.is
     c.take_step.ensures.left in
-    let done = subst (λ (left : List Given). Tallied all left c.commands.refused c.commands.trees.items (state_of c.args.session.now)
+    let done = subst (λ (left : List Step). Tallied all left c.commands.refused c.commands.trees.items (state_of c.args.session.now)
     (state_of c.commands.session)) next c.commands.invariant.done in
-    let logged = subst (λ (left : List Given). LogsSo all left c.args.session.now c.commands.session) next c.commands.invariant.logged in
+    let logged = subst (λ (left : List Step). LogsSo all left c.args.session.now c.commands.session) next c.commands.invariant.logged in
     let did = c.in_ok-answered.ensures.answered in
     let tallied = tallied_more all more step c.commands.refused c.in_ok-answered.answered.refused c.commands.trees.items c.in_ok-answered.answered.trees
     (state_of c.args.session.now) (state_of c.commands.session) (state_of c.take_step.new.s) done did.state did.refused did.trees in
@@ -43,28 +43,28 @@ commands-preserved c =
 pub returns-clause-refused : goal.returns-clause-refused
 returns-clause-refused c =
     let vs : List SecondValue = waiting c.commands.seconds.items in
-    tallied_count (given_all c.args.commands.now (waiting c.args.seconds.now.items)) (given_all (drop c.commands.command-index c.args.commands.now) vs)
+    tallied_count (steps_of c.args.commands.now (waiting c.args.seconds.now.items)) (steps_of (drop c.commands.command-index c.args.commands.now) vs)
     c.commands.refused c.commands.trees.items (state_of c.args.session.now) (state_of c.commands.session) c.commands.invariant.done
     (none_left c.args.commands.now c.commands.command-index vs (drop_all c.commands.command-index c.args.commands.now c.commands-test.false))
 
 pub returns-clause-trees : goal.returns-clause-trees
 returns-clause-trees c =
     let vs : List SecondValue = waiting c.commands.seconds.items in
-    tallied_trees (given_all c.args.commands.now (waiting c.args.seconds.now.items)) (given_all (drop c.commands.command-index c.args.commands.now) vs)
+    tallied_trees (steps_of c.args.commands.now (waiting c.args.seconds.now.items)) (steps_of (drop c.commands.command-index c.args.commands.now) vs)
     c.commands.refused c.commands.trees.items (state_of c.args.session.now) (state_of c.commands.session) c.commands.invariant.done
     (none_left c.args.commands.now c.commands.command-index vs (drop_all c.commands.command-index c.args.commands.now c.commands-test.false))
 
 pub returns-clause-state : goal.returns-clause-state
 returns-clause-state c =
     let vs : List SecondValue = waiting c.commands.seconds.items in
-    tallied_state (given_all c.args.commands.now (waiting c.args.seconds.now.items)) (given_all (drop c.commands.command-index c.args.commands.now) vs)
+    tallied_state (steps_of c.args.commands.now (waiting c.args.seconds.now.items)) (steps_of (drop c.commands.command-index c.args.commands.now) vs)
     c.commands.refused c.commands.trees.items (state_of c.args.session.now) (state_of c.commands.session) c.commands.invariant.done
     (none_left c.args.commands.now c.commands.command-index vs (drop_all c.commands.command-index c.args.commands.now c.commands-test.false))
 
 pub returns-clause-logged : goal.returns-clause-logged
 returns-clause-logged c =
     let vs : List SecondValue = waiting c.commands.seconds.items in
-    logs_all (given_all c.args.commands.now (waiting c.args.seconds.now.items)) (given_all (drop c.commands.command-index c.args.commands.now) vs)
+    logs_all (steps_of c.args.commands.now (waiting c.args.seconds.now.items)) (steps_of (drop c.commands.command-index c.args.commands.now) vs)
     c.args.session.now c.commands.session c.commands.invariant.logged
     (none_left c.args.commands.now c.commands.command-index vs (drop_all c.commands.command-index c.args.commands.now c.commands-test.false))
 

@@ -3,7 +3,7 @@ use Rattle.std.proofs.lemmas.List.{drop_all}
 use Rattle.std.proofs.lemmas.Result.{err_from_is_err_and}
 use Rattle.dgn_desk.specs.Seen.{seen}
 use Rattle.dgn_session.specs.State.{state_of}
-use Rattle.dgn_answers.specs.Given.{given_all}
+use Rattle.dgn_answers.specs.Steps.{steps_of}
 use Rattle.dgn_import.specs.Seconds.{waiting}
 use Rattle.dgn_answers.proofs.Stepping.{none_left}
 use Rattle.dgn_tool.proofs.CommandsInTurn.{Ran, is_next, ran_none, ran_more, ran_front, ran_part, ran_all, ran_said, ran_state}
@@ -12,7 +12,7 @@ use Rattle.dgn_tool.proofs.commands.run_all.Goals as goal
 
 pub commands-init : goal.commands-init
 commands-init g c = record {
-  ran = ran_none (given_all c.args.commands.now (waiting c.args.seconds.now.items)) (state_of c.args.session.now) (seen g.D.Desk c.args.desk.now);
+  ran = ran_none (steps_of c.args.commands.now (waiting c.args.seconds.now.items)) (state_of c.args.session.now) (seen g.D.Desk c.args.desk.now);
   tail = refl;
   sound = c.requires;
   most = search rules;
@@ -26,8 +26,8 @@ commands-preserved g c =
     _ _ _ _ _ c.commands-test.true c.command-item.is c.take_step.ensures.left c.commands.invariant.ran
     c.deref.result.now c.take_step.new.out.items c.clear.new.self.items c.deref.ensures.value did.text c.clear.ensures.items in
     record {
-      ran = subst (λ (n : ℕ). Ran (given_all c.args.commands.now (waiting c.args.seconds.now.items))
-          (given_all (drop (c.commands.command-index + 1) c.args.commands.now) (waiting c.take_step.new.seconds.items)) (c.commands.refused + n)
+      ran = subst (λ (n : ℕ). Ran (steps_of c.args.commands.now (waiting c.args.seconds.now.items))
+          (steps_of (drop (c.commands.command-index + 1) c.args.commands.now) (waiting c.take_step.new.seconds.items)) (c.commands.refused + n)
           (state_of c.args.session.now) (state_of c.take_step.new.s) (seen g.D.Desk c.args.desk.now) (seen g.D.Desk c.say_all.new.desk))
           (sym c.from-refused.ensures)
           (ran_more _ _ _ c.commands.refused c.in-Ok.answered.refused _ _ _ (state_of c.take_step.new.s) _ _ (seen g.D.Desk c.say_all.new.desk)

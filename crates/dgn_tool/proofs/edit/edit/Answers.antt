@@ -1,7 +1,7 @@
 use Rattle.std.proofs.Common.{List, Ok, subst}
 use Rattle.dgn_drawing.specs.declared.command.Command.{Command}
 use Rattle.elem_index.specs.Answers.{opened_of}
-use Rattle.dgn_answers.specs.Given.{given_all}
+use Rattle.dgn_answers.specs.Steps.{steps_of}
 use Rattle.dgn_import.specs.Seconds.{waiting}
 use Rattle.dgn_tool.specs.Ends.{DeskComes}
 use Rattle.dgn_tool.specs.Inputs.{inputs_in}
@@ -17,8 +17,8 @@ returns-in-Ok g c =
     let vs = waiting read.seconds.items in
     let name = c.args.output.now in
     run_comes (λ files. inputs_in files c.args.input.now c.args.script.now) (λ i. edited i.drawing i.steps name)
-    (record { drawing = d; steps = given_all read.commands.items vs }) c.run_script.result c.of.result _ _ _ c.in-Ok.ensures.read c.of.ensures
-    (subst (λ (cs : List Command). DeskComes g.D.Desk (edited d (given_all cs vs) name) c.read_inputs.new.desk c.run_script.new.desk
+    (record { drawing = d; steps = steps_of read.commands.items vs }) c.run_script.result c.of.result _ _ _ c.in-Ok.ensures.read c.of.ensures
+    (subst (λ (cs : List Command). DeskComes g.D.Desk (edited d (steps_of cs vs) name) c.read_inputs.new.desk c.run_script.new.desk
     c.run_script.result) c.deref.ensures.value c.run_script.ensures)
 
 pub returns-in-Err : goal.returns-in-Err

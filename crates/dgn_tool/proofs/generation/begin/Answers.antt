@@ -2,7 +2,7 @@ use Rattle.std.proofs.Common.{◌≡◌, ap, subst}
 use Rattle.std.specs.Prelude.{IfOk}
 use Rattle.dgn_session.specs.State.{State, state_of}
 use Rattle.elem_index.specs.Opened.{Opened}
-use Rattle.dgn_answers.specs.Commands.{begun}
+use Rattle.dgn_answers.specs.Commands.{first_state}
 use Rattle.dgn_tool.proofs.GeneratedDrawings.{few_made, begins, tail_begun}
 use Rattle.dgn_tool.proofs.generation.begin.Goals as goal
 
@@ -13,7 +13,7 @@ pub returns-in-Ok-clause-state : goal.returns-in-Ok-clause-state
 returns-in-Ok-clause-state c =
     let same = begins c.args.seed c.args.count c.in_ok-bytes.bytes.items c.in-Ok.design c.requires.few c.in_ok-bytes.ensures c.in-Ok.ensures.whole
     c.in-Ok.ensures.text in
-    subst (λ (x : State). IfOk c.start.result (λ s. state_of s ≡ x)) (ap begun same) c.start.ensures.begun
+    subst (λ (x : State). IfOk c.start.result (λ s. state_of s ≡ x)) (ap first_state same) c.start.ensures.begun
 
 pub returns-in-Ok-clause-tail : goal.returns-in-Ok-clause-tail
 returns-in-Ok-clause-tail c =

@@ -5,7 +5,7 @@ use Rattle.dgn_desk.specs.Seen.{seen}
 use Rattle.dgn_drawing.specs.declared.command.Command.{Command}
 use Rattle.elem_index.specs.Answers.{opened_of}
 use Rattle.elem_index.specs.Opened.{Opened}
-use Rattle.dgn_answers.specs.Given.{given_all}
+use Rattle.dgn_answers.specs.Steps.{steps_of}
 use Rattle.dgn_import.specs.Seconds.{SecondValue, waiting}
 use Rattle.dgn_tool.specs.Ends.{ComesTo, IsRead}
 use Rattle.dgn_tool.specs.Inputs.{Inputs, drawing_in, commands_in, seconds_in}
@@ -15,7 +15,7 @@ use Rattle.dgn_tool.proofs.inputs.read_inputs.Goals as goal
 
 -- what is read behind the second files
 abbrev behind_seconds : Opened → List Command → Files → List SecondValue → Reading Inputs
-behind_seconds d cs files vs = at_once (Ok (record { drawing = d; steps = given_all cs vs }))
+behind_seconds d cs files vs = at_once (Ok (record { drawing = d; steps = steps_of cs vs }))
 
 -- behind SCRIPT
 abbrev behind_script : Opened → Files → List Command → Reading Inputs
@@ -59,7 +59,7 @@ returns-clause-read g c =
     let d = opened_of c.in_ok-design.design in
     let cs = c.in_ok-commands.commands.items in
     let vs = waiting c.in_ok-seconds.seconds.items in
-    let i : Inputs = record { drawing = d; steps = given_all cs vs } in
+    let i : Inputs = record { drawing = d; steps = steps_of cs vs } in
     let read = subst (λ (ks : List Command). IsRead (λ files. seconds_in files ks) vs (seen g.D.Desk c.read_commands.new.desk)
     (seen g.D.Desk c.read_seconds.new.desk)) c.deref.ensures.value c.in_ok-seconds.ensures.read in
     then_comes (λ files. drawing_in files c.args.input.now) (behind_input script) d (Ok i) _ _ _ c.in_ok-design.ensures.read
