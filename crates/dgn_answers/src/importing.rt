@@ -105,7 +105,8 @@ pub(crate) fn answer_gathering(
     out: &mut Vec<u8>,
 ) -> Result<Answered, AllocError>
     requires fits { FitsBehind s.old.dim gathering }
-    ensures { Answers result (imports (state_of s.old) (importing (state_of s.old) (gathering_of gathering))) s.old s.new out.old.items out.new.items }
+    ensures { Answers result (imports (state_of s.old) (importing (state_of s.old) (gathering_of gathering)))
+        s.old s.new out.old.items out.new.items }
 {
     out.reserve(ROOM)?;
     // What a session holds is such as its type keeps, which is known where a value of it is read.
@@ -137,7 +138,8 @@ fn append_gathered(
     requires trees { AreTrees s.old.dim found.now.bytes }
     requires body { s.old.body ≡ spelling (state_of s.old).top }
     requires room { vec_len out.old + 64 ≤ vec_capacity out.old }
-    ensures { Answers result (imports (state_of s.old) (importing (state_of s.old) (Trees found.now.bytes found.now.trees))) s.old s.new out.old.items out.new.items }
+    ensures { Answers result (imports (state_of s.old) (importing (state_of s.old) (Trees found.now.bytes found.now.trees)))
+        s.old s.new out.old.items out.new.items }
 {
     match s.append_trees(found.bytes.as_slice()) {
         Ok(()) => {
