@@ -3,7 +3,7 @@ use Rattle.std.specs.Prelude.{ℕ, Bool, List, Option}
 use Rattle.dgn_drawing.specs.declared.fence_edit.FenceEdit.{FenceEdit}
 use Rattle.edit_ops.specs.Applying.{Applied}
 use Rattle.dgn_session.specs.State as machine
-use Rattle.dgn_session.specs.State.{State, pushed, pushed_if, undone, undo_refused}
+use Rattle.dgn_session.specs.State.{State, push_made, push_if_made, after_undo, undo_refused}
 use Rattle.dgn_answers.specs.Texts.{edit_text, undo_text, fence_edit_text, fenced_refused, trees_edited}
 use Rattle.dgn_answers.specs.Imports.{Importing, import_text, import_refused, import_left}
 use Rattle.dgn_answers.specs.Remaining.{RemainingEdit, EditKind, with_edit, with_fence_edit, without_newest, with_import}
@@ -27,7 +27,7 @@ edits s came kind = record {
   text = edit_text came;
   refused = machine.is_refused came;
   trees = 0;
-  state = pushed came s;
+  state = push_made came s;
   left = with_edit came s.top kind;
 }
 
@@ -37,7 +37,7 @@ edits_all s came chosen e = record {
   text = fence_edit_text came chosen;
   refused = fenced_refused came;
   trees = trees_edited came chosen;
-  state = pushed_if came s;
+  state = push_if_made came s;
   left = with_fence_edit came chosen s.top e;
 }
 
@@ -47,7 +47,7 @@ takes_back s = record {
   text = undo_text (undo_refused s);
   refused = undo_refused s;
   trees = 0;
-  state = undone s;
+  state = after_undo s;
   left = without_newest (undo_refused s);
 }
 

@@ -4,7 +4,7 @@ use Rattle.dgn_drawing.specs.Shown.{shown}
 use Rattle.dgn_session.specs.State as machine
 use Rattle.dgn_audit.specs.Findings.{findings}
 use Rattle.dgn_session.specs.Fits.{fit_applied}
-use Rattle.dgn_session.specs.State.{State, applied, selection, fence_applied, with_mask, with_fence}
+use Rattle.dgn_session.specs.State.{State, edit_applied, selection, fence_applied, with_mask, with_fence}
 use Rattle.dgn_listing.specs.ElementTexts.{elements_text}
 use Rattle.dgn_listing.specs.FindingTexts.{findings_text}
 use Rattle.dgn_listing.specs.ItemTexts.{items_text}
@@ -19,7 +19,7 @@ use Rattle.dgn_answers.specs.Answer.{Answer, tells, edits, edits_all, takes_back
 
 -- a run begins with the file's elements alone, all levels shown and no fence
 abbrev pub first_state : Opened → State
-first_state d = machine.begun d.dim d.elements (length d.tail)
+first_state d = machine.first_state d.dim d.elements (length d.tail)
 
 -- what `fence` leaves with these corners
 abbrev pub fence_set : List Pt → State → State
@@ -33,7 +33,7 @@ is_import other = false
 -- what a session answers to a command in a state
 abbrev pub answer_of : State → Command → Answer
 answer_of s (command.Import name by) = tells s [] false
-answer_of s (command.Edit e) = edits s (applied e s) (Alone e)
+answer_of s (command.Edit e) = edits s (edit_applied e s) (Alone e)
 answer_of s (command.Fenced mode e) = edits_all s (fence_applied mode e s) (selection mode s) e
 answer_of s command.Undo = takes_back s
 answer_of s (command.Levels mask) = tells (with_mask mask s) (codes "ok\n") false

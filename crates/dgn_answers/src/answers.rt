@@ -125,7 +125,7 @@ fn answer_undo(s: &mut Session, out: &mut Vec<u8>) -> Result<Answered, AllocErro
 pub(crate) fn put_known(out: &mut Vec<u8>, bytes: &[u8])
     requires { vec_len out.old + length bytes.now ≤ vec_capacity out.old }
     ensures bytes { out.new.items ≡ out.old.items ++ bytes.now }
-    ensures room { vec_capacity out.old ≤ vec_capacity out.new }
+    ensures keeps_room { vec_capacity out.old ≤ vec_capacity out.new }
 {
     match out.extend_from_slice(bytes) {
         Ok(()) => {}

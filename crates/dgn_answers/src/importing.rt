@@ -4,7 +4,7 @@ ghost use Rattle.std.specs.Prelude.{◌≡◌, ◌+◌, ◌≤◌, ◌++◌, len
 ghost use Rattle.dgn_drawing.specs.Spelling.{spelling};
 ghost use Rattle.dgn_import.specs.Gathering.{AreTrees, Trees};
 ghost use Rattle.dgn_import.specs.Laws.{IsOfATree};
-ghost use Rattle.dgn_import.specs.Seconds.{value_of, IsSound};
+ghost use Rattle.dgn_import.specs.Seconds.{value_of, IsOpened};
 ghost use Rattle.dgn_listing.specs.Lines.{AppendsFrontOf};
 ghost use Rattle.dgn_session.specs.State.{state_of};
 ghost use Rattle.dgn_listing.specs.NumberedLines.{numbered};
@@ -41,7 +41,7 @@ pub fn answer_import(
     by: Option<&Shift>,
     out: &mut Vec<u8>,
 ) -> Result<bool, AllocError>
-    requires sound { IsSound second.now }
+    requires sound { IsOpened second.now }
     ensures text { OnOk result (out.new.items ≡ out.old.items
         ++ import_text (importing_of (state_of s.old) (value_of second.now) (option_map (λ b. b.now) by.entry))) }
     ensures refused { IfOk result (λ refused. refused
@@ -68,7 +68,7 @@ fn gather_second(
     second: &Second,
     by: Option<&Shift>,
 ) -> Result<Gathering, AllocError>
-    requires sound { IsSound second.now }
+    requires sound { IsOpened second.now }
     ensures gathered { IfOk result (λ gathering. importing (state_of s.now) (gathering_of gathering)
         ≡ importing_of (state_of s.now) (value_of second.now) (option_map (λ b. b.now) by.entry)) }
     ensures fits { IfOk result (FitsBehind s.now.dim) }
@@ -89,7 +89,7 @@ pub(crate) fn gather_last(
     second: Second,
     by: Option<&Shift>,
 ) -> Result<Gathering, AllocError>
-    requires sound { IsSound second }
+    requires sound { IsOpened second }
     ensures gathered { IfOk result (λ gathering. importing (state_of s.now) (gathering_of gathering)
         ≡ importing_of (state_of s.now) (value_of second) (option_map (λ b. b.now) by.entry)) }
     ensures fits { IfOk result (FitsBehind s.now.dim) }
@@ -137,7 +137,7 @@ fn append_gathered(
 ) -> Result<Answered, AllocError>
     requires trees { AreTrees s.old.dim found.now.bytes }
     requires body { s.old.body ≡ spelling (state_of s.old).top }
-    requires room { vec_len out.old + 64 ≤ vec_capacity out.old }
+    requires has_room { vec_len out.old + 64 ≤ vec_capacity out.old }
     ensures { Answers result (imports (state_of s.old) (importing (state_of s.old) (Trees found.now.bytes found.now.trees)))
         s.old s.new out.old.items out.new.items }
 {
@@ -169,7 +169,7 @@ fn put_fault(out: &mut Vec<u8>, fault: SecondFault)
 
 // Appends the cause that refuses the displacement of a tree. There is room for it.
 fn put_tree_cause(out: &mut Vec<u8>, cause: Cause)
-    requires room { vec_len out.old + 64 ≤ vec_capacity out.old }
+    requires has_room { vec_len out.old + 64 ≤ vec_capacity out.old }
     requires of_a_tree { IsOfATree cause }
     ensures { out.new.items ≡ out.old.items ++ tree_cause_line cause }
 {
@@ -183,8 +183,8 @@ fn put_tree_cause(out: &mut Vec<u8>, cause: Cause)
 
 // Appends a line of a few words and a number. There is room for it.
 pub(crate) fn put_line(out: &mut Vec<u8>, words: &[u8], number: u32)
-    requires room { vec_len out.old + 64 ≤ vec_capacity out.old }
-    requires few { length words.now ≤ 32 }
+    requires has_room { vec_len out.old + 64 ≤ vec_capacity out.old }
+    requires bounded { length words.now ≤ 32 }
     ensures { out.new.items ≡ out.old.items ++ numbered words.now number }
 {
     let mut buffer = Buffer::new();

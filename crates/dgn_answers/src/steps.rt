@@ -2,11 +2,11 @@
 
 ghost use Rattle.std.specs.Prelude.{◌≡◌, drop};
 ghost use Rattle.std.specs.List.{AllByRecursion};
-ghost use Rattle.dgn_import.specs.Seconds.{value_of, IsSound};
+ghost use Rattle.dgn_import.specs.Seconds.{value_of, IsOpened};
 ghost use Rattle.dgn_session.specs.State.{state_of};
 ghost use Rattle.dgn_answers.specs.Steps.{first_second, step_of, seconds_behind, step_answer};
 ghost use Rattle.dgn_answers.specs.Logs.{Answers};
-ghost use Rattle.dgn_import.specs.Seconds.{waiting};
+ghost use Rattle.dgn_import.specs.Seconds.{seconds_left};
 
 use crate::answered::Answered;
 use crate::answers::respond;
@@ -25,11 +25,11 @@ pub fn take_step(
     seconds: &mut Vec<Second>,
     out: &mut Vec<u8>,
 ) -> Result<Answered, AllocError>
-    requires { AllByRecursion IsSound seconds.old.items }
-    ensures answered { Answers result (step_answer (state_of s.old) (step_of c.now (waiting seconds.old.items)))
+    requires { AllByRecursion IsOpened seconds.old.items }
+    ensures answered { Answers result (step_answer (state_of s.old) (step_of c.now (seconds_left seconds.old.items)))
         s.old s.new out.old.items out.new.items }
-    ensures left { waiting seconds.new.items ≡ seconds_behind c.now (waiting seconds.old.items) }
-    ensures sound { AllByRecursion IsSound seconds.new.items }
+    ensures left { seconds_left seconds.new.items ≡ seconds_behind c.now (seconds_left seconds.old.items) }
+    ensures sound { AllByRecursion IsOpened seconds.new.items }
 {
     match c {
         Command::Import(_, by) => {
@@ -43,11 +43,11 @@ pub fn take_step(
 
 // Takes the next second file; where none is left, one that is no design file.
 fn next_second(seconds: &mut Vec<Second>) -> Second
-    requires { AllByRecursion IsSound seconds.old.items }
-    ensures first { value_of result ≡ first_second (waiting seconds.old.items) }
-    ensures sound { IsSound result }
-    ensures left { waiting seconds.new.items ≡ drop 1 (waiting seconds.old.items) }
-    ensures others { AllByRecursion IsSound seconds.new.items }
+    requires { AllByRecursion IsOpened seconds.old.items }
+    ensures first { value_of result ≡ first_second (seconds_left seconds.old.items) }
+    ensures sound { IsOpened result }
+    ensures left { seconds_left seconds.new.items ≡ drop 1 (seconds_left seconds.old.items) }
+    ensures others { AllByRecursion IsOpened seconds.new.items }
 {
     match seconds.pop() {
         Some(second) => second,

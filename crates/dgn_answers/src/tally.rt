@@ -2,11 +2,11 @@
 
 ghost use Rattle.std.specs.Prelude.{◌≡◌, IfOk, OnOk};
 ghost use Rattle.std.specs.List.{AllByRecursion};
-ghost use Rattle.dgn_import.specs.Seconds.{IsSound};
+ghost use Rattle.dgn_import.specs.Seconds.{IsOpened};
 ghost use Rattle.dgn_session.specs.State.{state_of};
 ghost use Rattle.dgn_answers.specs.Steps.{steps_of, after_all, refused_count, trees_of_all};
 ghost use Rattle.dgn_answers.specs.Logs.{AllLogAs};
-ghost use Rattle.dgn_import.specs.Seconds.{waiting};
+ghost use Rattle.dgn_import.specs.Seconds.{seconds_left};
 
 use crate::steps::take_step;
 use dgn_drawing::Command;
@@ -31,11 +31,11 @@ pub fn run_unsaid(
     commands: &[Command],
     seconds: &mut Vec<Second>,
 ) -> Result<Tally, AllocError>
-    requires { AllByRecursion IsSound seconds.old.items }
-    ensures refused { IfOk result (λ t. t.refused ≡ refused_count (steps_of commands.now (waiting seconds.old.items)) (state_of session.old)) }
-    ensures trees { IfOk result (λ t. t.trees.items ≡ trees_of_all (steps_of commands.now (waiting seconds.old.items)) (state_of session.old)) }
-    ensures state { OnOk result (state_of session.new ≡ after_all (steps_of commands.now (waiting seconds.old.items)) (state_of session.old)) }
-    ensures logged { OnOk result (AllLogAs (steps_of commands.now (waiting seconds.old.items)) session.old session.new) }
+    requires { AllByRecursion IsOpened seconds.old.items }
+    ensures refused { IfOk result (λ t. t.refused ≡ refused_count (steps_of commands.now (seconds_left seconds.old.items)) (state_of session.old)) }
+    ensures trees { IfOk result (λ t. t.trees.items ≡ trees_of_all (steps_of commands.now (seconds_left seconds.old.items)) (state_of session.old)) }
+    ensures state { OnOk result (state_of session.new ≡ after_all (steps_of commands.now (seconds_left seconds.old.items)) (state_of session.old)) }
+    ensures logged { OnOk result (AllLogAs (steps_of commands.now (seconds_left seconds.old.items)) session.old session.new) }
     ensures tail { session.new.tail ≡ session.old.tail }
 {
     let mut out = Vec::new(alloc);

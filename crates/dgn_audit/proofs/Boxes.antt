@@ -55,14 +55,14 @@ IsOnAxes dim None = Unit {0}
 IsOnAxes dim (Some r) = on_axes dim r ≡ r
 
 -- a corner on the axes
-abbrev flat : ℕ → List ℤ → List ℤ
-flat dim corner = in_space (take dim corner)
+abbrev corner_on_axes : ℕ → List ℤ → List ℤ
+corner_on_axes dim corner = in_space (take dim corner)
 
 -- the least and the greatest corner of two that are on the axes are so
 abbrev AreFlat : ℕ → List ℤ → List ℤ → Type 0
 AreFlat dim a b =
-    (flat dim (least_corner (flat dim a) (flat dim b)) ≡ least_corner (flat dim a) (flat dim b))
-    × (flat dim (greatest_corner (flat dim a) (flat dim b)) ≡ greatest_corner (flat dim a) (flat dim b))
+    (corner_on_axes dim (least_corner (corner_on_axes dim a) (corner_on_axes dim b)) ≡ least_corner (corner_on_axes dim a) (corner_on_axes dim b))
+    × (corner_on_axes dim (greatest_corner (corner_on_axes dim a) (corner_on_axes dim b)) ≡ greatest_corner (corner_on_axes dim a) (corner_on_axes dim b))
 
 both_flat : (dim : ℕ) → IsDimension dim → (a b : List ℤ) → AreFlat dim a b
 both_flat dim axes a b = in_both (λ (d : ℕ). AreFlat d a b) (two a b) (refl, refl) axes
@@ -79,10 +79,10 @@ both_flat dim axes a b = in_both (λ (d : ℕ). AreFlat d a b) (two a b) (refl, 
     two (x ∷ y ∷ z) (u ∷ v ∷ w) = (refl, refl)
 
 -- what is put on the axes is there
-flat_twice : (dim : ℕ) → IsDimension dim → (a : List ℤ) → flat dim (flat dim a) ≡ flat dim a
-flat_twice dim axes a = in_both (λ (d : ℕ). flat d (flat d a) ≡ flat d a) (two a) refl axes
+flat_twice : (dim : ℕ) → IsDimension dim → (a : List ℤ) → corner_on_axes dim (corner_on_axes dim a) ≡ corner_on_axes dim a
+flat_twice dim axes a = in_both (λ (d : ℕ). corner_on_axes d (corner_on_axes d a) ≡ corner_on_axes d a) (two a) refl axes
   where
-    two : (a : List ℤ) → flat 2 (flat 2 a) ≡ flat 2 a
+    two : (a : List ℤ) → corner_on_axes 2 (corner_on_axes 2 a) ≡ corner_on_axes 2 a
     two [] = refl
     two (x ∷ []) = refl
     two (x ∷ y ∷ z) = refl

@@ -21,8 +21,8 @@ use Rattle.dgn_drawing.proofs.SpotValues.{holds_points}
 use Rattle.nest_tree.specs.Shapes.{code_knot}
 use Rattle.edit_ops.specs.Causes.{says_locked, is_locked}
 use Rattle.edit_ops.proofs.ReadableElements.{IsShown, is_shown, shown_long}
-use Rattle.dgn_audit.specs.declared.keep.Keep.{Keep}
-use Rattle.dgn_audit.specs.declared.keep.Keep.TheVariants as keeps
+use Rattle.dgn_audit.specs.declared.reported.Reported.{Reported}
+use Rattle.dgn_audit.specs.declared.reported.Reported.TheVariants as keeps
 use Rattle.dgn_audit.specs.Hulls.{on_axes, stored_of, is_vertices, points_hull, range_hull, leaf_hull, hull_in}
 use Rattle.dgn_audit.specs.Findings.{is_fitted, is_kept, finding_as}
 use Rattle.dgn_audit.specs.Reading.{range_read, leaf_read, knot_read, hull_read, is_fitted_knot, is_kept_read, finding_read}
@@ -154,14 +154,14 @@ module _ (dim : ℕ) (axes : IsDimension dim) (e : Element) (good : IsWellFormed
     knot_hulls Loose members = refl
 
     -- what is told of it
-    pub loud_findings : (keep : Keep) (knot : Knot) (n : ℕ) (hull : Box3)
+    pub loud_findings : (keep : Reported) (knot : Knot) (n : ℕ) (hull : Box3)
         → finding_read keep dim (code_knot knot) n e.kind (spell e) hull ≡ finding_as keep dim knot n e (Some hull)
     loud_findings keep knot n hull =
         ap (λ (r : Box3). cond (is_kept_read keep (code_knot knot) e.kind r hull) (record { number = n; axes = dim; stored = r; hull = hull } ∷ []) [])
         loud_stored
         ∙ ap (λ (k : Bool). cond k (record { number = n; axes = dim; stored = stored_of dim e.body; hull = hull } ∷ []) []) (kept keep)
       where
-        kept : (keep : Keep) → is_kept_read keep (code_knot knot) e.kind (stored_of dim e.body) hull ≡ is_kept keep dim knot e hull
+        kept : (keep : Reported) → is_kept_read keep (code_knot knot) e.kind (stored_of dim e.body) hull ≡ is_kept keep dim knot e hull
         kept keeps.Fitted = knots_fitted knot e.kind
         kept keeps.Differing = refl
 

@@ -21,7 +21,7 @@ use Rattle.dgn_drawing.proofs.Places.{in_both}
 use Rattle.nest_tree.proofs.NestingSteps.{flat-forest}
 use Rattle.level_view.proofs.Places.{mark_part}
 use Rattle.edit_ops.specs.Trees.{count_in, tree_at, exchange}
-use Rattle.dgn_audit.specs.declared.keep.Keep.TheVariants as keeps
+use Rattle.dgn_audit.specs.declared.reported.Reported.TheVariants as keeps
 use Rattle.dgn_audit.specs.declared.finding.Finding.{Finding}
 use Rattle.dgn_audit.specs.Hulls.{hull_join, on_axes, box_of, stored_of, is_vertices, points_hull, range_hull, hull_in, tree_hull, hull_of}
 use Rattle.dgn_audit.specs.Findings.{same_corner, same_box, is_fitted, is_kept, finding_of, finding_as, findings_in}

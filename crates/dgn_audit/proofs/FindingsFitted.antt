@@ -15,7 +15,7 @@ use Rattle.nest_tree.proofs.NestingSteps.{flat-forest}
 use Rattle.edit_ops.specs.Trees.{count_in, tree_at}
 use Rattle.edit_ops.proofs.EachLive.{each_both}
 use Rattle.edit_ops.proofs.EditedBytes.{all_so, all_both}
-use Rattle.dgn_audit.specs.declared.keep.Keep.TheVariants as keeps
+use Rattle.dgn_audit.specs.declared.reported.Reported.TheVariants as keeps
 use Rattle.dgn_audit.specs.declared.finding.Finding.{Finding}
 use Rattle.dgn_audit.specs.Hulls.{stored_of, hull_in, tree_hull, hull_of}
 use Rattle.dgn_audit.specs.Findings.{same_box, is_fitted, finding_of, finding_as, findings_in, findings}

@@ -29,7 +29,7 @@ use Rattle.edit_ops.proofs.PutFields.{held_by_none}
 use Rattle.edit_ops.proofs.TextTurns.{whole_turned, whole_span}
 use Rattle.edit_ops.proofs.LivePuts.{field_of}
 use Rattle.edit_ops.specs.declared.causes.cause.Cause.{Cause}
-use Rattle.edit_ops.specs.Applying.{Done, unless}
+use Rattle.edit_ops.specs.Applying.{Done, applied_unless}
 use Rattle.dgn_audit.specs.Hulls.{hull_in, tree_hull, hull_of}
 use Rattle.dgn_audit.specs.Findings.{fitted_in}
 use Rattle.dgn_audit.specs.Fitting.{head_fitted, fitted, fitted_forest, fit_puts, root_fields, fit_fields, tree_cause, fit_root, apply_fit}
@@ -91,7 +91,7 @@ pub record IsDoneAt (dim : ℕ) (es : List Element) (n : ℕ) (made : List Eleme
   pub known : root < length es
   pub is : made ≡ flat (fitted_forest dim es root)
 
-unless_done : (c : Option Cause) (x made : List Element) → unless c x ≡ Done made → made ≡ x
+unless_done : (c : Option Cause) (x made : List Element) → applied_unless c x ≡ Done made → made ≡ x
 unless_done None x made is = let e = is in cc
 unless_done (Some c) x made is = absurd (let e = is in cc)
 

@@ -18,7 +18,7 @@ use Rattle.elem_index.proofs.Places.{axes_of}
 use Rattle.edit_ops.proofs.WiderRanges.{holds_of, spots_loud}
 use Rattle.edit_ops.specs.declared.causes.cause.Cause.{Cause}
 use Rattle.edit_ops.specs.declared.causes.cause.Cause.TheVariants as causes
-use Rattle.edit_ops.specs.Applying.{unless}
+use Rattle.edit_ops.specs.Applying.{applied_unless}
 use Rattle.dgn_audit.specs.Fitting.{against, lock_cause, first_locked, tree_cause, fit_root, fitted_forest, apply_fit}
 use Rattle.dgn_audit.specs.Findings.{fitted_in}
 use Rattle.dgn_audit.specs.Planned.{IsCause, IsFitRefused}
@@ -126,7 +126,7 @@ same_cause a b faults.Memory same is = tt
 pub refused_cause : (dim : ℕ) (es : List Element) (n root : ℕ) (fault : FitFault) → Some root ≡ root_of row_of es n → IsCause (tree_cause dim es root) fault
     → IsFitRefused (apply_fit dim es n) fault
 refused_cause dim es n root (faults.Refused cause) at is =
-    ap (fit_root dim es n) (sym at) ∙ ap (λ (c : Option Cause). unless c (flat (fitted_forest dim es root))) is
+    ap (fit_root dim es n) (sym at) ∙ ap (λ (c : Option Cause). applied_unless c (flat (fitted_forest dim es root))) is
 refused_cause dim es n root faults.Memory at is = tt
 
 -- what holds of each of some read from the last on holds of the last

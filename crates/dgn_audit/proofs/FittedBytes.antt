@@ -29,13 +29,13 @@ use Rattle.edit_ops.proofs.TextTurns.{Turns, turns_none, turns_then, turned_read
 use Rattle.edit_ops.proofs.LivePuts.{field_of, number_fields, spelled_tree, turns_as}
 use Rattle.edit_ops.proofs.EditedBytes.{filled_reads}
 use Rattle.edit_ops.proofs.TreesExchanged.{above_turned}
-use Rattle.dgn_audit.specs.declared.keep.Keep.TheVariants as keeps
+use Rattle.dgn_audit.specs.declared.reported.Reported.TheVariants as keeps
 use Rattle.dgn_audit.specs.declared.finding.Finding.{Finding}
 use Rattle.dgn_audit.specs.Hulls.{hull_join, on_axes, box_of, is_vertices, points_hull, range_hull, hull_in, tree_hull, hull_of}
 use Rattle.dgn_audit.specs.Findings.{is_fitted, finding_of, finding_as, findings_in, fitted_in}
 use Rattle.dgn_audit.specs.Fitting.{head_fitted, fitted, fitted_forest, fit_puts, root_fields, fit_root}
 use Rattle.edit_ops.specs.declared.causes.cause.Cause.{Cause}
-use Rattle.edit_ops.specs.Applying.{unless}
+use Rattle.edit_ops.specs.Applying.{applied_unless}
 use Rattle.dgn_audit.specs.Planned.{IsPlanOfRoot, IsFitPlan}
 use Rattle.dgn_audit.proofs.TreePlaces.{IsRooted, rooted}
 use Rattle.dgn_drawing.proofs.RangesPut.{IsBox, joined_good}
@@ -318,6 +318,6 @@ module _ (dim : ℕ) (axes : IsDimension dim) (es : List Element) (each : AllByR
   root_planned m patches at is =
       record {
         made = flat (fitted_forest dim es n);
-        done = ap (fit_root dim es m) (sym at) ∙ ap (λ (c : Option Cause). unless c (flat (fitted_forest dim es n))) is.free;
+        done = ap (fit_root dim es m) (sym at) ∙ ap (λ (c : Option Cause). applied_unless c (flat (fitted_forest dim es n))) is.free;
         are = is.are ∙ puts_filled ∙ ap (λ (o : Option ℕ). filled (spelling (flat (fitted_forest dim es n))) (root_fields dim es o)) at;
       }

@@ -1,7 +1,7 @@
 pub mod Boxes
 pub mod ReadBack
 pub mod ElementHulls
-pub mod ElementSeats
+pub mod NestedElements
 pub mod HeaderBoxes
 pub mod TreeHulls
 pub mod PointHulls

@@ -22,7 +22,7 @@ use Rattle.elem_index.specs.Design.{elements, IsWhole}
 use Rattle.elem_index.proofs.Places.{axes_of}
 use Rattle.level_view.proofs.ItemsBack.{here_and_behind, length-marks}
 use Rattle.edit_ops.proofs.RootRows.{marks_by_rows}
-use Rattle.dgn_audit.specs.declared.keep.Keep.{Keep}
+use Rattle.dgn_audit.specs.declared.reported.Reported.{Reported}
 use Rattle.dgn_audit.specs.declared.open_box.OpenBox.{OpenBox}
 use Rattle.dgn_audit.specs.Hulls.{tree_hull}
 use Rattle.dgn_audit.specs.OpenBoxes.{box_for, without, with_hull, with_hulls}
@@ -142,7 +142,7 @@ there [] n within = absurd (omega (arith, within))
 there (x ∷ xs) zero within = (x, refl)
 there (x ∷ xs) (suc n) within = there xs n (omega (arith, within))
 
-module _ (keep : Keep) (dim : ℕ) (es : List Element) where
+module _ (keep : Reported) (dim : ℕ) (es : List Element) where
   -- the boxes that are open where so many elements from number n on have been read
   abbrev boxes_at : ℕ → ℕ → List OpenBox
   boxes_at n count = (read_back keep dim es n count).open_boxes
@@ -176,7 +176,7 @@ rows_fit dim axes (e ∷ es) good =
     ((row.sized, rest.0), (row.word, rest.1))
 
 -- at most 3278 boxes are open at once
-pub few_open : (d : Design) → IsWhole d → (keep : Keep) (n count : ℕ) → n + count ≤ length (elements d)
+pub few_open : (d : Design) → IsWhole d → (keep : Reported) (n count : ℕ) → n + count ≤ length (elements d)
     → length (read_back keep d.dim (elements d) n count).open_boxes ≤ 3278
 few_open d whole keep n count within =
     let fit = rows_fit d.dim (axes_of d whole) (elements d) whole.is_open.opens.each in

@@ -4,7 +4,7 @@ use Rattle.range_code.specs.declared.Box3.{Box3}
 use Rattle.dgn_drawing.specs.Element.{Element}
 use Rattle.dgn_drawing.specs.Rows.{row_of}
 use Rattle.dgn_drawing.specs.Numbering.{Mark, mark_of}
-use Rattle.dgn_audit.specs.declared.keep.Keep.{Keep}
+use Rattle.dgn_audit.specs.declared.reported.Reported.{Reported}
 use Rattle.dgn_audit.specs.declared.finding.Finding.{Finding}
 use Rattle.dgn_audit.specs.declared.open_box.OpenBox.{OpenBox}
 use Rattle.dgn_audit.specs.Hulls.{tree_hull}
@@ -23,22 +23,22 @@ pass_of open_boxes noted = record { open_boxes = reverse open_boxes; noted = rev
 
 -- element n, of that mark and with that box of its members, before what was read behind it: what is told of elements
 -- below one that is marked deleted is taken away
-abbrev pub findings_before : Keep → ℕ → ℕ → Mark → Element → Option Box3 → List Finding → List Finding
+abbrev pub findings_before : Reported → ℕ → ℕ → Mark → Element → Option Box3 → List Finding → List Finding
 findings_before keep dim n m e members noted =
     if e.deleted then past m.end noted else finding_as keep dim m.knot n e (tree_hull dim m.knot e members) ++ noted
 
-abbrev pub read_one : Keep → ℕ → ℕ → Mark → Element → Pass → Pass
+abbrev pub read_one : Reported → ℕ → ℕ → Mark → Element → Pass → Pass
 read_one keep dim n m e pass = record {
   open_boxes = with_hulls m.parent (tree_hull dim m.knot e (box_for n pass.open_boxes)) (without n pass.open_boxes);
   noted = findings_before keep dim n m e (box_for n pass.open_boxes) pass.noted;
 }
 
 -- the same of the element that has that number, if there is one
-abbrev pub read_marked : Keep → ℕ → ℕ → Option Mark → Option Element → Pass → Pass
+abbrev pub read_marked : Reported → ℕ → ℕ → Option Mark → Option Element → Pass → Pass
 read_marked keep dim n (Some m) (Some e) pass = read_one keep dim n m e pass
 read_marked keep dim n marked element pass = pass
 
 -- so many elements, of which the first has number n
-abbrev pub read_back : Keep → ℕ → List Element → ℕ → ℕ → Pass
+abbrev pub read_back : Reported → ℕ → List Element → ℕ → ℕ → Pass
 read_back keep dim es n zero = record { open_boxes = []; noted = [] }
 read_back keep dim es n (suc count) = read_marked keep dim n (mark_of row_of es n) (slice_get es n) (read_back keep dim es (n + 1) count)

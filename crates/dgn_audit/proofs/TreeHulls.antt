@@ -13,7 +13,7 @@ use Rattle.dgn_drawing.specs.Numbering.{Mark, end_of, mark_of}
 use Rattle.nest_tree.proofs.GrownNestings.{all_both}
 use Rattle.nest_tree.proofs.NestingSteps.{flat-forest}
 use Rattle.level_view.proofs.ItemsBack.{Stands, head_marked, head_listed, below_stands, behind_stands, all_stand}
-use Rattle.dgn_audit.specs.declared.keep.Keep.{Keep}
+use Rattle.dgn_audit.specs.declared.reported.Reported.{Reported}
 use Rattle.dgn_audit.specs.declared.finding.Finding.{Finding}
 use Rattle.dgn_audit.specs.declared.open_box.OpenBox.{OpenBox}
 use Rattle.dgn_audit.specs.Hulls.{hull_join, tree_hull, hull_of}
@@ -23,7 +23,7 @@ use Rattle.dgn_audit.proofs.ReadBack.{Pass, findings_before, read_one, read_mark
 use Rattle.dgn_audit.proofs.HeaderBoxes.{TopBelow, IsBefore, top_on, before_on, top_hulls, members_box, members_without, hulls_joined, passed}
 
 -- what is told of one element has its number
-alone_each : (P : ℕ → Type 0) (keep : Keep) (dim n : ℕ) (knot : Knot) (e : Element) (hull : Option Box3) → P n
+alone_each : (P : ℕ → Type 0) (keep : Reported) (dim n : ℕ) (knot : Knot) (e : Element) (hull : Option Box3) → P n
     → AllByRecursion (λ (f : Finding). P f.number) (finding_as keep dim knot n e hull)
 alone_each P keep dim n knot e None has = tt
 alone_each P keep dim n knot e (Some hull) has =
@@ -31,7 +31,7 @@ alone_each P keep dim n knot e (Some hull) has =
     (λ _. (has, tt)) (λ _. tt)
 
 -- what holds of all numbers of trees holds of those that are told of
-pub finding_each : (P : ℕ → Type 0) (keep : Keep) (dim n : ℕ) (f : Forest Element) → ((k : ℕ) → n ≤ k → k < n + length (flat f) → P k)
+pub finding_each : (P : ℕ → Type 0) (keep : Reported) (dim n : ℕ) (f : Forest Element) → ((k : ℕ) → n ≤ k → k < n + length (flat f) → P k)
     → AllByRecursion (λ (x : Finding). P x.number) (findings_in keep dim n f)
 finding_each P keep dim n NoTree each = tt
 finding_each P keep dim n (Tree knot e below behind) each =
@@ -56,12 +56,12 @@ raised m k [] less each = tt
 raised m k (x ∷ xs) less each = (omega (arith, less, each.0), raised m k xs less each.1)
 
 -- what was read behind trees that stand from number n on and end before m
-pub record IsBehind (n m : ℕ) (pass : Pass) : Type 0 where
+pub record IsReadBehind (n m : ℕ) (pass : Pass) : Type 0 where
   pub top : TopBelow n pass.open_boxes
   pub high : AllByRecursion (λ (f : Finding). m ≤ f.number) pass.noted
 
 -- what is read of trees, whose header has that number, before it
-abbrev pub joined_to : Keep → ℕ → ℕ → Option ℕ → Forest Element → Pass → Pass
+abbrev pub joined_to : Reported → ℕ → ℕ → Option ℕ → Forest Element → Pass → Pass
 joined_to keep dim n parent f pass = record {
   open_boxes = with_hulls parent (hull_of dim f) pass.open_boxes;
   noted = findings_in keep dim n f ++ pass.noted;
@@ -71,10 +71,10 @@ no_hull : (parent : Option ℕ) (os : List OpenBox) → with_hulls parent None o
 no_hull None os = refl
 no_hull (Some p) os = refl
 
-module _ (keep : Keep) (dim : ℕ) where
+module _ (keep : Reported) (dim : ℕ) where
   -- a head before what is read of what stands below it and behind it
   head_joins : (knot : Knot) (e : Element) (below behind : Forest Element) (n depth : ℕ) (parent : Option ℕ) (pass : Pass) → IsBefore n parent
-      → IsBehind n (n + length (flat (Tree knot e below behind))) pass
+      → IsReadBehind n (n + length (flat (Tree knot e below behind))) pass
       → read_one keep dim n (record { knot = knot; depth = depth; parent = parent; end = end_of n below }) e
       (joined_to keep dim (n + 1) (Some n) below (joined_to keep dim (end_of n below) parent behind pass))
       ≡ joined_to keep dim n parent (Tree knot e below behind) pass
@@ -135,7 +135,7 @@ module _ (keep : Keep) (dim : ℕ) where
   module _ (es : List Element) where
     -- what is read back over the elements of trees
     pub trees_read : (f : Forest Element) (n depth : ℕ) (parent : Option ℕ) → Stands es f n depth parent → IsBefore n parent → (count : ℕ)
-        → IsBehind n (n + length (flat f)) (read_back keep dim es (n + length (flat f)) count)
+        → IsReadBehind n (n + length (flat f)) (read_back keep dim es (n + length (flat f)) count)
         → read_back keep dim es n (length (flat f) + count) ≡ joined_to keep dim n parent f (read_back keep dim es (n + length (flat f)) count)
     trees_read NoTree n depth parent stands before count is =
         let none : 0 + count ≡ count = omega arith in
@@ -149,9 +149,9 @@ module _ (keep : Keep) (dim : ℕ) where
         let steps : length (flat (Tree knot e below behind)) + count ≡ suc (length (flat below) + (length (flat behind) + count)) = omega (arith, long) in
         let after : end_of n below + length (flat behind) ≡ n + length (flat (Tree knot e below behind)) = omega (arith, long) in
         let mid : n + 1 + length (flat below) ≡ end_of n below = omega arith in
-        let rest_behind : IsBehind (end_of n below) (end_of n below + length (flat behind))
+        let rest_behind : IsReadBehind (end_of n below) (end_of n below + length (flat behind))
         (read_back keep dim es (end_of n below + length (flat behind)) count) =
-        subst (λ (k : ℕ). IsBehind (end_of n below) k (read_back keep dim es k count)) (sym after)
+        subst (λ (k : ℕ). IsReadBehind (end_of n below) k (read_back keep dim es k count)) (sym after)
         (record {
           top = top_on n (end_of n below) (read_back keep dim es (n + length (flat (Tree knot e below behind))) count).open_boxes (omega arith)
               is.top;
@@ -162,7 +162,7 @@ module _ (keep : Keep) (dim : ℕ) where
         = trees_read behind (end_of n below) depth parent (behind_stands es knot e below behind n depth parent stands)
         (before_on n (end_of n below) parent (omega arith) before) count rest_behind
         ∙ ap (λ (k : ℕ). joined_to keep dim (end_of n below) parent behind (read_back keep dim es k count)) after in
-        let behind_is : IsBehind (n + 1) (end_of n below)
+        let behind_is : IsReadBehind (n + 1) (end_of n below)
         (joined_to keep dim (end_of n below) parent behind (read_back keep dim es (n + length (flat (Tree knot e below behind))) count)) = record {
           top = top_hulls (n + 1) parent (hull_of dim behind) (read_back keep dim es (n + length (flat (Tree knot e below behind))) count).open_boxes
               (before_on n (n + 1) parent (omega arith) before)
@@ -173,9 +173,10 @@ module _ (keep : Keep) (dim : ℕ) where
               (raised (n + length (flat (Tree knot e below behind))) (end_of n below)
               (read_back keep dim es (n + length (flat (Tree knot e below behind))) count).noted (omega (arith, long)) is.high);
         } in
-        let rest_below : IsBehind (n + 1) (n + 1 + length (flat below)) (read_back keep dim es (n + 1 + length (flat below)) (length (flat behind) + count)) =
-        subst (λ (k : ℕ). IsBehind (n + 1) k (read_back keep dim es k (length (flat behind) + count))) (sym mid)
-        (subst (IsBehind (n + 1) (end_of n below)) (sym at_behind) behind_is) in
+        let rest_below : IsReadBehind (n + 1) (n + 1 + length (flat below))
+        (read_back keep dim es (n + 1 + length (flat below)) (length (flat behind) + count)) =
+        subst (λ (k : ℕ). IsReadBehind (n + 1) k (read_back keep dim es k (length (flat behind) + count))) (sym mid)
+        (subst (IsReadBehind (n + 1) (end_of n below)) (sym at_behind) behind_is) in
         let at_below : read_back keep dim es (n + 1) (length (flat below) + (length (flat behind) + count))
         ≡ joined_to keep dim (n + 1) (Some n) below
         (joined_to keep dim (end_of n below) parent behind (read_back keep dim es (n + length (flat (Tree knot e below behind))) count))

@@ -19,13 +19,13 @@ use Rattle.nest_tree.proofs.GrownNestings.{all_both}
 use Rattle.nest_tree.proofs.NestingSteps.{flat-forest}
 use Rattle.level_view.proofs.ItemsBack.{Stands, head_marked, head_listed, below_stands, behind_stands, all_stand}
 use Rattle.edit_ops.specs.Trees.{count_in, tree_at}
-use Rattle.dgn_audit.specs.declared.keep.Keep.{Keep}
-use Rattle.dgn_audit.specs.declared.keep.Keep.TheVariants as keeps
+use Rattle.dgn_audit.specs.declared.reported.Reported.{Reported}
+use Rattle.dgn_audit.specs.declared.reported.Reported.TheVariants as keeps
 use Rattle.dgn_audit.specs.Hulls.{tree_hull, hull_of}
 use Rattle.dgn_audit.specs.Findings.{is_fitted, finding_of, finding_as, findings_in, findings_of, fitted_in}
 use Rattle.dgn_audit.proofs.ReadBack.{read_back}
 use Rattle.dgn_audit.specs.Planned.{IsSpotted}
-use Rattle.dgn_audit.specs.Seats.{bounds_of}
+use Rattle.dgn_audit.specs.NestedElements.{bounds_of}
 use Rattle.dgn_audit.proofs.ElementHulls.{row_spotted}
 use Rattle.dgn_audit.proofs.HeaderBoxes.{IsBefore, before_on}
 use Rattle.dgn_audit.proofs.TreeHulls.{all_read, part_read}
@@ -241,7 +241,7 @@ module _ (dim : ℕ) (es : List Element) where
     part_bounds : bounds_of es (Some n) ≡ (n, part_mark.end)
     part_bounds = ap (λ (o : Option Mark). unwrap_or (option_map (λ (m : Mark). (n, m.end)) o) (n, n)) part_marked
 
-module _ (keep : Keep) (dim : ℕ) (es : List Element) where
+module _ (keep : Reported) (dim : ℕ) (es : List Element) where
   -- the elements of a part, or of all, from the first one to the end
   pub record HasBounds (part : Option ℕ) (first end : ℕ) : Type 0 where
     pub ordered : first ≤ end

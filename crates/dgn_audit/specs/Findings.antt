@@ -10,8 +10,8 @@ use Rattle.dgn_drawing.specs.Rows.{row_of}
 use Rattle.dgn_drawing.specs.Nesting.{Knot, Leaf, Group, Run, Loose, Forest, NoTree, Tree, forest}
 use Rattle.dgn_drawing.specs.Numbering.{end_of}
 use Rattle.edit_ops.specs.Trees.{tree_at}
-use Rattle.dgn_audit.specs.declared.keep.Keep.{Keep}
-use Rattle.dgn_audit.specs.declared.keep.Keep.TheVariants as keeps
+use Rattle.dgn_audit.specs.declared.reported.Reported.{Reported}
+use Rattle.dgn_audit.specs.declared.reported.Reported.TheVariants as keeps
 use Rattle.dgn_audit.specs.declared.finding.Finding.{Finding}
 use Rattle.dgn_audit.specs.Hulls.{stored_of, is_vertices, tree_hull, hull_of}
 
@@ -30,7 +30,7 @@ is_fitted Run kind = false
 is_fitted Loose kind = false
 
 -- whether a live element with a hull is kept: all that can be fitted, or those whose stored range differs
-abbrev pub is_kept : Keep → ℕ → Knot → Element → Box3 → Bool
+abbrev pub is_kept : Reported → ℕ → Knot → Element → Box3 → Bool
 is_kept keeps.Fitted dim knot e hull = is_fitted knot e.kind
 is_kept keeps.Differing dim knot e hull = not (same_box (stored_of dim e.body) hull)
 
@@ -39,12 +39,12 @@ abbrev pub finding_of : ℕ → ℕ → Element → Box3 → Finding
 finding_of dim n e hull = record { number = n; axes = dim; stored = stored_of dim e.body; hull = hull }
 
 -- what is told of a live element, by its hull
-abbrev pub finding_as : Keep → ℕ → Knot → ℕ → Element → Option Box3 → List Finding
+abbrev pub finding_as : Reported → ℕ → Knot → ℕ → Element → Option Box3 → List Finding
 finding_as keep dim knot n e None = []
 finding_as keep dim knot n e (Some hull) = if is_kept keep dim knot e hull then finding_of dim n e hull ∷ [] else []
 
 -- what is told of the live elements of trees that are numbered from n on
-abbrev pub findings_in : Keep → ℕ → ℕ → Forest Element → List Finding
+abbrev pub findings_in : Reported → ℕ → ℕ → Forest Element → List Finding
 findings_in keep dim n NoTree = []
 findings_in keep dim n (Tree knot e below behind) =
     (if e.deleted then [] else finding_as keep dim knot n e (tree_hull dim knot e (hull_of dim below)) ++ findings_in keep dim (n + 1) below)
@@ -55,7 +55,7 @@ abbrev pub findings : ℕ → List Element → List Finding
 findings dim es = findings_in keeps.Differing dim 0 (forest row_of es)
 
 -- what is told of the live elements of the part of element n, or of all where none is named
-abbrev pub findings_of : Keep → ℕ → List Element → Option ℕ → List Finding
+abbrev pub findings_of : Reported → ℕ → List Element → Option ℕ → List Finding
 findings_of keep dim es None = findings_in keep dim 0 (forest row_of es)
 findings_of keep dim es (Some n) = findings_in keep dim n (tree_at n (forest row_of es))
 

@@ -17,7 +17,7 @@ use Rattle.edit_ops.specs.Trees.{exchange}
 use Rattle.edit_ops.specs.declared.causes.cause.Cause.{Cause}
 use Rattle.edit_ops.specs.declared.causes.cause.Cause.TheVariants as causes
 use Rattle.edit_ops.specs.Causes.{broken, deleted, locked}
-use Rattle.edit_ops.specs.Applying.{Applied, Refused, unless}
+use Rattle.edit_ops.specs.Applying.{Applied, Refused, applied_unless}
 use Rattle.edit_ops.specs.Fields.{Field, spot_fields}
 use Rattle.dgn_audit.specs.declared.finding.Finding.{Finding}
 use Rattle.dgn_audit.specs.Hulls.{tree_hull, hull_of}
@@ -62,7 +62,7 @@ tree_cause dim es root =
 -- what a fit of the tree of a root comes to, if there is one
 abbrev pub fit_root : ℕ → List Element → ℕ → Option ℕ → Applied
 fit_root dim es n None = Refused (causes.Unknown n)
-fit_root dim es n (Some root) = unless (tree_cause dim es root) (flat (fitted_forest dim es root))
+fit_root dim es n (Some root) = applied_unless (tree_cause dim es root) (flat (fitted_forest dim es root))
 
 -- a fit of the tree that holds element n
 abbrev pub apply_fit : ℕ → List Element → ℕ → Applied

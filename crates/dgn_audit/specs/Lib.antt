@@ -1,7 +1,7 @@
 pub mod Hulls
 pub mod Findings
 pub mod Fitting
-pub mod Seats
+pub mod NestedElements
 pub mod Reading
 pub mod OpenBoxes
 pub mod Planned

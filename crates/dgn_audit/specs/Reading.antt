@@ -7,8 +7,8 @@ use Rattle.body_vertex.specs.Points.{points_of}
 use Rattle.dgn_layout.specs.Classes.{class_of, is_silent}
 use Rattle.nest_tree.specs.declared.knot.Knot as code
 use Rattle.nest_tree.specs.declared.knot.Knot.{Knot}
-use Rattle.dgn_audit.specs.declared.keep.Keep.{Keep}
-use Rattle.dgn_audit.specs.declared.keep.Keep.TheVariants as keeps
+use Rattle.dgn_audit.specs.declared.reported.Reported.{Reported}
+use Rattle.dgn_audit.specs.declared.reported.Reported.TheVariants as keeps
 use Rattle.dgn_audit.specs.declared.finding.Finding.{Finding}
 use Rattle.dgn_audit.specs.Hulls.{on_axes, is_vertices, points_hull}
 use Rattle.dgn_audit.specs.Findings.{same_box}
@@ -48,12 +48,12 @@ is_fitted_knot code.Knot.Run kind = false
 is_fitted_knot code.Knot.Loose kind = false
 
 -- whether an element with that stored range and that hull is kept
-abbrev pub is_kept_read : Keep → Knot → ℕ → Box3 → Box3 → Bool
+abbrev pub is_kept_read : Reported → Knot → ℕ → Box3 → Box3 → Bool
 is_kept_read keeps.Fitted knot kind stored hull = is_fitted_knot knot kind
 is_kept_read keeps.Differing knot kind stored hull = not (same_box stored hull)
 
 -- what is told of it
-abbrev pub finding_read : Keep → ℕ → Knot → ℕ → ℕ → List ℕ → Box3 → List Finding
+abbrev pub finding_read : Reported → ℕ → Knot → ℕ → ℕ → List ℕ → Box3 → List Finding
 finding_read keep dim knot n kind b hull =
     if is_kept_read keep knot kind (on_axes dim (range_of b)) hull then record {
       number = n;

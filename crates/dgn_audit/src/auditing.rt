@@ -4,8 +4,8 @@ ghost use Rattle.elem_index.specs.Design.{elements, IsWhole};
 ghost use Rattle.dgn_audit.specs.Findings.{findings};
 
 use crate::finding::Finding;
-use crate::keep::Keep;
 use crate::reading::read_part;
+use crate::reported::Reported;
 use elem_index::Design;
 use nest_tree::types::Nest;
 use std::alloc::{AllocError, Global};
@@ -24,7 +24,7 @@ pub fn audit(alloc: Global, d: &Design, t: &Nest) -> Result<Vec<Finding>, AllocE
     requires nesting { t.now.rows ≡ map row_of (elements d.now) }
     ensures { IfOk result (λ found. found.items ≡ findings d.now.dim (elements d.now)) }
 {
-    let mut found = read_part(alloc, d, t, None, Keep::Differing)?;
+    let mut found = read_part(alloc, d, t, None, Reported::Differing)?;
     found.reverse();
     Ok(found)
 }

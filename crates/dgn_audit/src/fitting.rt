@@ -21,8 +21,8 @@ ghost use Rattle.dgn_audit.specs.Planned.{IsFitPlan, IsFitRefused, IsPlanOfRoot,
 use crate::finding::Finding;
 use crate::fit_cause::FitCause;
 use crate::fit_fault::FitFault;
-use crate::keep::Keep;
 use crate::reading::read_part;
+use crate::reported::Reported;
 use dgn_drawing::{MOST_DESIGN, spots_in};
 use dgn_layout::Spot;
 use dgn_words::put_range_long;
@@ -111,7 +111,7 @@ fn fitted_in(alloc: Global, d: &Design, t: &Nest, n: u32) -> Result<Vec<Finding>
     ensures fitted { IfOk result (λ noted. reverse noted.items ≡ fitted_in d.now.dim (elements d.now) n) }
     ensures spotted { IfOk result (λ noted. AllByRecursion (IsSpotted (elements d.now)) (reverse noted.items)) }
 {
-    read_part(alloc, d, t, Some(n), Keep::Fitted)
+    read_part(alloc, d, t, Some(n), Reported::Fitted)
 }
 
 // What is put into fitted elements, of which the last one stands first, or the least of them that is locked.
@@ -182,7 +182,7 @@ fn push_spots(
     requires kind { kind < 128 }
     requires spotted { IsTrue (has_spots (class_of kind)) }
     requires holds { HoldsPoints dim kind b.now (length b.now) }
-    requires few { place + length b.now ≤ MOST_DESIGN }
+    requires bounded { place + length b.now ≤ MOST_DESIGN }
     ensures { OnOk result (patches.new ≡ patches.old ++ range_puts dim hull place) }
 {
     'spots: for spot in spots_in(dim, kind, b) {
@@ -196,7 +196,7 @@ fn push_spots(
 // The number of a box at a range spot.
 fn range_patch(place: usize, spot: Spot, hull: Box3) -> Patch
     requires offset { IsTrue spot.offset }
-    requires few { place + spot.at ≤ MOST_DESIGN }
+    requires bounded { place + spot.at ≤ MOST_DESIGN }
     ensures { put_of result ≡ range_put hull place spot }
 {
     let mut bytes = [0; 4];

@@ -75,7 +75,7 @@ fn points_hull(dim: u8, kind: u8, b: &[u8]) -> Option<Box3>
 // The stored range on the file's axes, but of a shared cell definition none.
 fn range_hull(dim: u8, kind: u8, b: &[u8]) -> Option<Box3>
     requires dimension { IsDimension dim }
-    requires long { 36 ≤ length b.now }
+    requires long_enough { 36 ≤ length b.now }
     ensures { result ≡ range_read dim kind b.now }
 {
     if kind == SHARED_CELL {
@@ -97,7 +97,7 @@ fn is_vertices(kind: u8) -> bool
 fn leaf_hull(dim: u8, kind: u8, b: &[u8]) -> Option<Box3>
     requires dimension { IsDimension dim }
     requires kind { kind < 128 }
-    requires long { 36 ≤ length b.now }
+    requires long_enough { 36 ≤ length b.now }
     requires holds { IsTrue (is_vertices (class_of kind)) → HoldsPoints dim kind b.now (length b.now) }
     ensures { result ≡ leaf_read dim kind b.now }
 {
@@ -118,7 +118,7 @@ pub(crate) fn hull_of(
 ) -> Option<Box3>
     requires dimension { IsDimension dim }
     requires kind { kind < 128 }
-    requires long { IsFalse (is_silent (class_of kind)) → 36 ≤ length b.now }
+    requires long_enough { IsFalse (is_silent (class_of kind)) → 36 ≤ length b.now }
     requires holds { IsTrue (is_vertices (class_of kind)) → HoldsPoints dim kind b.now (length b.now) }
     ensures { result ≡ hull_read dim knot kind b.now members }
 {

@@ -10,11 +10,11 @@ mod fit_cause;
 mod fit_fault;
 mod fitting;
 mod hulls;
-mod keep;
 pub mod laws;
+mod nested_element;
 mod open_box;
 mod reading;
-mod seat;
+mod reported;
 mod stored;
 
 pub use auditing::audit;

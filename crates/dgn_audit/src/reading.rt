@@ -9,13 +9,13 @@ ghost use Rattle.dgn_audit.specs.Hulls.{hull_join};
 ghost use Rattle.dgn_audit.specs.Reading.{is_kept_read, finding_read};
 ghost use Rattle.dgn_audit.specs.Findings.{findings_of};
 ghost use Rattle.dgn_audit.specs.OpenBoxes.{box_for, without, with_hull, with_hulls, begins_below, past};
-ghost use Rattle.dgn_audit.specs.Seats.{bounds_of};
+ghost use Rattle.dgn_audit.specs.NestedElements.{bounds_of};
 
 use crate::finding::Finding;
 use crate::hulls::{hull_of, is_fitted};
-use crate::keep::Keep;
+use crate::nested_element::{NestedElement, nested_at};
 use crate::open_box::OpenBox;
-use crate::seat::{Seat, seat_of};
+use crate::reported::Reported;
 use crate::stored::{same_box, stored_range};
 use elem_index::Design;
 use nest_tree::Knot;
@@ -103,33 +103,33 @@ fn cut_below(noted: &mut Vec<Finding>, end: u32)
 }
 
 // Whether an element with that hull is kept.
-fn is_kept(keep: Keep, knot: Knot, kind: u8, stored: Box3, hull: Box3) -> bool
+fn is_kept(keep: Reported, knot: Knot, kind: u8, stored: Box3, hull: Box3) -> bool
     requires { kind < 128 }
     ensures { result ≡ is_kept_read keep knot kind stored hull }
 {
     match keep {
-        Keep::Fitted => is_fitted(knot, kind),
-        Keep::Differing => !same_box(stored, hull),
+        Reported::Fitted => is_fitted(knot, kind),
+        Reported::Differing => !same_box(stored, hull),
     }
 }
 
 // Tells of element `n`, where it is kept.
 fn tell(
     dim: u8,
-    keep: Keep,
+    keep: Reported,
     n: u32,
-    seat: Seat<'_>,
+    nested: NestedElement<'_>,
     hull: Box3,
     noted: &mut Vec<Finding>,
 ) -> Result<(), AllocError>
     requires dimension { IsDimension dim }
-    requires kind { seat.view.kind < 128 }
-    requires long { 36 ≤ length seat.view.bytes.now }
+    requires kind { nested.view.kind < 128 }
+    requires long_enough { 36 ≤ length nested.view.bytes.now }
     ensures { OnOk result (reverse noted.new.items
-        ≡ finding_read keep dim seat.entry.knot n seat.entry.view.kind seat.entry.view.bytes.now hull ++ reverse noted.old.items) }
+        ≡ finding_read keep dim nested.entry.knot n nested.entry.view.kind nested.entry.view.bytes.now hull ++ reverse noted.old.items) }
 {
-    let stored = stored_range(dim, seat.view.bytes);
-    if is_kept(keep, seat.knot, seat.view.kind, stored, hull) {
+    let stored = stored_range(dim, nested.view.bytes);
+    if is_kept(keep, nested.knot, nested.view.kind, stored, hull) {
         noted.push(Finding {
             number: n,
             axes: dim,
@@ -165,7 +165,7 @@ pub(crate) fn read_part(
     d: &Design,
     t: &Nest,
     part: Option<u32>,
-    keep: Keep,
+    keep: Reported,
 ) -> Result<Vec<Finding>, AllocError>
     requires whole { IsWhole d.now }
     requires nesting { t.now.rows ≡ map row_of (elements d.now) }
@@ -176,15 +176,21 @@ pub(crate) fn read_part(
     let mut boxes = Vec::with_capacity(alloc, MOST_OPEN)?;
     let mut noted = Vec::new(alloc);
     for n in (first..end).rev() {
-        let seat = seat_of(d, t, n);
+        let nested = nested_at(d, t, n);
         let members = take_box(&mut boxes, n);
-        if seat.view.deleted {
-            cut_below(&mut noted, seat.end);
+        if nested.view.deleted {
+            cut_below(&mut noted, nested.end);
             continue;
         }
-        if let Some(hull) = hull_of(d.dim, seat.knot, seat.view.kind, seat.view.bytes, members) {
-            add_hull(&mut boxes, seat.parent, hull);
-            tell(d.dim, keep, n, seat, hull, &mut noted)?;
+        if let Some(hull) = hull_of(
+            d.dim,
+            nested.knot,
+            nested.view.kind,
+            nested.view.bytes,
+            members,
+        ) {
+            add_hull(&mut boxes, nested.parent, hull);
+            tell(d.dim, keep, n, nested, hull, &mut noted)?;
         }
     }
     Ok(noted)

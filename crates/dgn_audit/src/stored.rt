@@ -11,7 +11,7 @@ use range_code::{Box3, range};
 // The range of the element with the bytes `b`, on the file's axes.
 pub(crate) fn stored_range(dim: u8, b: &[u8]) -> Box3
     requires dimension { IsDimension dim }
-    requires long { 36 ≤ length b.now }
+    requires long_enough { 36 ≤ length b.now }
     ensures { result ≡ on_axes dim (range_of b.now) }
 {
     let mut stored = range(b);

@@ -68,9 +68,9 @@ AddsAll (Ok x) name so_far bytes old new = new ≡ option_map (filed name (so_fa
 AddsAll (Err e) name so_far bytes old new = (count : ℕ) × (count ≤ length bytes) × (new ≡ option_map (filed name (so_far ++ take count bytes)) old)
 
 -- the end of a reading that a stop makes
-abbrev pub end_of : Stop → ReadEnd
-end_of Failed = ends.Fault
-end_of Memory = ends.Memory
+abbrev pub read_end_of : Stop → ReadEnd
+read_end_of Failed = ends.Fault
+read_end_of Memory = ends.Memory
 
 -- the count of faults of reading over the reading of a whole file: it rose where that ended by a fault, and else stands still
 abbrev pub ReadCounts : {T : Type 0} → ℕ → ℕ → Result T ReadEnd → Type 0
@@ -87,8 +87,8 @@ DoesNotFault (Err ends.TooLong) = ⊤
 DoesNotFault (Err ends.Memory) = ⊤
 
 -- what stands behind some first part of these bytes that has at most so many
-abbrev pub IsBehind : ℕ → List ℕ → List ℕ → Type 0
-IsBehind most bytes left = (count : ℕ) × (count ≤ most) × (left ≡ drop count bytes)
+abbrev pub IsRestOf : ℕ → List ℕ → List ℕ → Type 0
+IsRestOf most bytes left = (count : ℕ) × (count ≤ most) × (left ≡ drop count bytes)
 
 -- what is left to read after the reading of a whole file of these bytes, of which so many were allowed: nothing once it was
 -- read; of one that is too long what stands behind one byte more; and where the reading stopped what was left before, or what
@@ -96,9 +96,9 @@ IsBehind most bytes left = (count : ℕ) × (count ≤ most) × (left ≡ drop c
 abbrev pub LeftAfter : {T : Type 0} → Result T ReadEnd → ℕ → List ℕ → List ℕ → List ℕ → Type 0
 LeftAfter (Ok x) limit bytes before now = now ≡ []
 LeftAfter (Err ends.TooLong) limit bytes before now = now ≡ drop (limit + 1) bytes
-LeftAfter (Err ends.Fault) limit bytes before now = (now ≡ before) ⊎ IsBehind (limit + 1) bytes now
-LeftAfter (Err ends.Memory) limit bytes before now = (now ≡ before) ⊎ IsBehind (limit + 1) bytes now
+LeftAfter (Err ends.Fault) limit bytes before now = (now ≡ before) ⊎ IsRestOf (limit + 1) bytes now
+LeftAfter (Err ends.Memory) limit bytes before now = (now ≡ before) ⊎ IsRestOf (limit + 1) bytes now
 
 -- the same, where it is told what is left
-abbrev pub Leaves : {T : Type 0} → Result T ReadEnd → ℕ → (Content → List ℕ) → Option Content → Option Content → Type 0
-Leaves result limit bytes old new = IfSome old (λ b. IfSome new (λ n. LeftAfter result limit (bytes b) b.left n.left))
+abbrev pub LeavesToRead : {T : Type 0} → Result T ReadEnd → ℕ → (Content → List ℕ) → Option Content → Option Content → Type 0
+LeavesToRead result limit bytes old new = IfSome old (λ b. IfSome new (λ n. LeftAfter result limit (bytes b) b.left n.left))

@@ -18,19 +18,19 @@ seen g d = record { read_faults = g.read_faults d; write_faults = g.write_faults
 
 -- what calls leave that came to their end and only read: what is left to read may differ, and no fault was counted
 pub record OnlyReads (old new : Seen) : Type 0 where
-  pub told : OnlyLeftDiffers old.content new.content
+  pub changes : OnlyLeftDiffers old.content new.content
   pub calm : new.read_faults ≡ old.read_faults
   pub quiet : new.write_faults ≡ old.write_faults
-  pub stays : StaysWilling old.willing new.willing
+  pub stays_willing : StaysWilling old.willing new.willing
 
 -- what a call leaves that says or writes: a fault of writing is counted exactly where it failed, what is told changed so,
 -- and a desk that was willing is so still and didn't fail
 pub record Writes {T : Type 0} (result : Result T Stop) (change : Option Content → Option Content → Type 0) (old new : Seen) : Type 0 where
   pub cause : Counts old.write_faults new.write_faults result
   pub other : new.read_faults ≡ old.read_faults
-  pub told : change old.content new.content
-  pub stays : StaysWilling old.willing new.willing
-  pub able : IsTrue old.willing → DoesNotFail result
+  pub changes : change old.content new.content
+  pub stays_willing : StaysWilling old.willing new.willing
+  pub never_fails : IsTrue old.willing → DoesNotFail result
 
 -- the same of a desk before and after
 abbrev pub DeskWrites : {D T : Type 0} → Ghosts D → Result T Stop → (Option Content → Option Content → Type 0) → D → D → Type 0

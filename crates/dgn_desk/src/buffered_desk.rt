@@ -91,10 +91,10 @@ impl<D: Desk + Drop> Desk for BufferedDesk<D> {
     fn begin_write(&mut self, name: &str) -> Result<(), Stop>
         ensures cause { Counts (D.write_faults self.old.desk) (D.write_faults self.new.desk) result }
         ensures other { D.read_faults self.new.desk ≡ D.read_faults self.old.desk }
-        ensures told { Changes result (λ _. filed name.now []) (with_held self.old.held.items (D.content self.old.desk))
+        ensures changes { Changes result (λ _. filed name.now []) (with_held self.old.held.items (D.content self.old.desk))
             (with_held self.new.held.items (D.content self.new.desk)) }
-        ensures stays { StaysWilling (D.willing self.old.desk) (D.willing self.new.desk) }
-        ensures able { IsTrue (D.willing self.old.desk) → DoesNotFail result }
+        ensures stays_willing { StaysWilling (D.willing self.old.desk) (D.willing self.new.desk) }
+        ensures never_fails { IsTrue (D.willing self.old.desk) → DoesNotFail result }
         ensures none { OnOk result (self.new.held.items ≡ []) }
     {
         self.flush()?;

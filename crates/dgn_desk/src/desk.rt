@@ -25,9 +25,9 @@ pub trait Desk {
     fn begin_read(&mut self, name: &str) -> Result<(), Stop>
         ensures cause { Counts (read_faults self.old) (read_faults self.new) result }
         ensures other { write_faults self.new ≡ write_faults self.old }
-        ensures told { Changes result (λ _. opened name.now) (content self.old) (content self.new) }
-        ensures stays { StaysWilling (willing self.old) (willing self.new) }
-        ensures able { IsTrue (willing self.old) → HasFile name.now (content self.old) → DoesNotFail result };
+        ensures changes { Changes result (λ _. opened name.now) (content self.old) (content self.new) }
+        ensures stays_willing { StaysWilling (willing self.old) (willing self.new) }
+        ensures never_fails { IsTrue (willing self.old) → HasFile name.now (content self.old) → DoesNotFail result };
 
     /// Reads some bytes into the front of `buf` and answers how many. None, for a buffer with room,
     /// means the end of the file.
@@ -36,17 +36,17 @@ pub trait Desk {
         ensures other { write_faults self.new ≡ write_faults self.old }
         ensures within { IfOk result (λ count. count ≤ length buf.new) }
         ensures bytes { Reads result (content self.old) buf.new }
-        ensures told { Changes result consumed (content self.old) (content self.new) }
-        ensures stays { StaysWilling (willing self.old) (willing self.new) }
-        ensures able { IsTrue (willing self.old) → DoesNotFail result };
+        ensures changes { Changes result consumed (content self.old) (content self.new) }
+        ensures stays_willing { StaysWilling (willing self.old) (willing self.new) }
+        ensures never_fails { IsTrue (willing self.old) → DoesNotFail result };
 
     /// Makes the named file be there and empty. Writes go to it from now on.
     fn begin_write(&mut self, name: &str) -> Result<(), Stop>
         ensures cause { Counts (write_faults self.old) (write_faults self.new) result }
         ensures other { read_faults self.new ≡ read_faults self.old }
-        ensures told { Changes result (λ _. filed name.now []) (content self.old) (content self.new) }
-        ensures stays { StaysWilling (willing self.old) (willing self.new) }
-        ensures able { IsTrue (willing self.old) → DoesNotFail result };
+        ensures changes { Changes result (λ _. filed name.now []) (content self.old) (content self.new) }
+        ensures stays_willing { StaysWilling (willing self.old) (willing self.new) }
+        ensures never_fails { IsTrue (willing self.old) → DoesNotFail result };
 
     /// Appends a front part of `bytes` to the file that writes go to, and answers its length: at least
     /// one byte, where there are any.
@@ -54,18 +54,18 @@ pub trait Desk {
         ensures cause { Counts (write_faults self.old) (write_faults self.new) result }
         ensures other { read_faults self.new ≡ read_faults self.old }
         ensures taken { IfOk result (TakesSome bytes.now) }
-        ensures told { Changes result (λ count. written (take count bytes.now)) (content self.old) (content self.new) }
-        ensures stays { StaysWilling (willing self.old) (willing self.new) }
-        ensures able { IsTrue (willing self.old) → HasTarget (content self.old) → DoesNotFail result };
+        ensures changes { Changes result (λ count. written (take count bytes.now)) (content self.old) (content self.new) }
+        ensures stays_willing { StaysWilling (willing self.old) (willing self.new) }
+        ensures never_fails { IsTrue (willing self.old) → HasTarget (content self.old) → DoesNotFail result };
 
     /// Says a front part of `bytes`, and answers its length: at least one byte, where there are any.
     fn say(&mut self, bytes: &[u8]) -> Result<usize, Stop>
         ensures cause { Counts (write_faults self.old) (write_faults self.new) result }
         ensures other { read_faults self.new ≡ read_faults self.old }
         ensures taken { IfOk result (TakesSome bytes.now) }
-        ensures told { Changes result (λ count. spoken (take count bytes.now)) (content self.old) (content self.new) }
-        ensures stays { StaysWilling (willing self.old) (willing self.new) }
-        ensures able { IsTrue (willing self.old) → DoesNotFail result };
+        ensures changes { Changes result (λ count. spoken (take count bytes.now)) (content self.old) (content self.new) }
+        ensures stays_willing { StaysWilling (willing self.old) (willing self.new) }
+        ensures never_fails { IsTrue (willing self.old) → DoesNotFail result };
 
     // A willing desk tells what it holds.
     ghost tells: { (d : Self) → IsTrue (willing d) → IsSome (content d) };

@@ -161,7 +161,7 @@ fn taken(bytes: &[u8], given: io::Result<usize>, faults: &mut u64) -> Result<usi
     requires { IfOk given (λ count. count ≤ length bytes.now) }
     ensures cause { Counts faults.old faults.new result }
     ensures taken { IfOk result (TakesSome bytes.now) }
-    ensures told { IfOk given (λ count. 0 < count → result ≡ Ok count) }
+    ensures as_given { IfOk given (λ count. 0 < count → result ≡ Ok count) }
     ensures only { IfOk given (λ count. IfOk result (λ n. n ≡ count)) }
     ensures failed { OnErr given (result ≡ Err Stop.Failed) }
     ensures counted { OnErr given (faults.new ≡ one_more faults.old) }

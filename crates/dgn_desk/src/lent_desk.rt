@@ -111,8 +111,8 @@ impl<'a> Desk for LentDesk<'a> {
 
     fn begin_read(&mut self, name: &str) -> Result<(), Stop>
         ensures cause { Counts self.old.read_faults self.new.read_faults result }
-        ensures told { Changes result (λ _. opened name.now) (Some self.old.content) (Some self.new.content) }
-        ensures able { HasFile name.now (Some self.old.content) → DoesNotFail result }
+        ensures changes { Changes result (λ _. opened name.now) (Some self.old.content) (Some self.new.content) }
+        ensures never_fails { HasFile name.now (Some self.old.content) → DoesNotFail result }
         ensures absent { maps.get self.old.content.files name.now ≡ None → result ≡ Err Stop.Failed }
     {
         match self.written.get(name) {

@@ -141,8 +141,8 @@ impl Desk for MemDesk {
     #[tactic(auto, using(crate::proofs::Numbered::stays_ahead, crate::proofs::Numbered::unlisted))]
     fn begin_read(&mut self, name: &str) -> Result<(), Stop>
         ensures cause { Counts self.old.read_faults self.new.read_faults result }
-        ensures stays { StaysWilling (none_ahead self.old) (none_ahead self.new) }
-        ensures able { IsTrue (none_ahead self.old) → HasFile name.now (Some self.old.content) → DoesNotFail result }
+        ensures stays_willing { StaysWilling (none_ahead self.old) (none_ahead self.new) }
+        ensures never_fails { IsTrue (none_ahead self.old) → HasFile name.now (Some self.old.content) → DoesNotFail result }
         ensures exact { Answers act.BeginRead (is_listed self.old || is_missing name.now self.old.content)
             (λ _. opened name.now) result self.old self.new }
     {
@@ -161,9 +161,9 @@ impl Desk for MemDesk {
         ensures cause { Counts self.old.read_faults self.new.read_faults result }
         ensures within { IfOk result (λ count. count ≤ length buf.new) }
         ensures bytes { IfOk result (λ count. TakesFirst self.old.content.left buf.new count) }
-        ensures stays { StaysWilling (none_ahead self.old) (none_ahead self.new) }
-        ensures able { IsTrue (none_ahead self.old) → DoesNotFail result }
-        ensures few { IfOk result (λ count. count ≤ self.old.piece) }
+        ensures stays_willing { StaysWilling (none_ahead self.old) (none_ahead self.new) }
+        ensures never_fails { IsTrue (none_ahead self.old) → DoesNotFail result }
+        ensures bounded { IfOk result (λ count. count ≤ self.old.piece) }
         ensures exact { Answers act.Read (is_listed self.old) consumed result self.old self.new }
     {
         self.acts.reserve(1)?;
@@ -179,8 +179,8 @@ impl Desk for MemDesk {
     #[tactic(auto, using(crate::proofs::Numbered::stays_ahead, crate::proofs::Numbered::unlisted))]
     fn begin_write(&mut self, name: &str) -> Result<(), Stop>
         ensures cause { Counts self.old.write_faults self.new.write_faults result }
-        ensures stays { StaysWilling (none_ahead self.old) (none_ahead self.new) }
-        ensures able { IsTrue (none_ahead self.old) → DoesNotFail result }
+        ensures stays_willing { StaysWilling (none_ahead self.old) (none_ahead self.new) }
+        ensures never_fails { IsTrue (none_ahead self.old) → DoesNotFail result }
         ensures exact { Answers act.BeginWrite (is_listed self.old) (λ _. filed name.now []) result self.old self.new }
     {
         self.acts.reserve(1)?;
@@ -198,9 +198,9 @@ impl Desk for MemDesk {
     fn write(&mut self, bytes: &[u8]) -> Result<usize, Stop>
         ensures cause { Counts self.old.write_faults self.new.write_faults result }
         ensures taken { IfOk result (TakesSome bytes.now) }
-        ensures stays { StaysWilling (none_ahead self.old) (none_ahead self.new) }
-        ensures able { IsTrue (none_ahead self.old) → HasTarget (Some self.old.content) → DoesNotFail result }
-        ensures few { IfOk result (λ count. count ≤ self.old.piece) }
+        ensures stays_willing { StaysWilling (none_ahead self.old) (none_ahead self.new) }
+        ensures never_fails { IsTrue (none_ahead self.old) → HasTarget (Some self.old.content) → DoesNotFail result }
+        ensures bounded { IfOk result (λ count. count ≤ self.old.piece) }
         ensures exact { Answers act.Write (is_listed self.old || has_no_target self.old.content)
             (λ count. written (take count bytes.now)) result self.old self.new }
     {
@@ -218,9 +218,9 @@ impl Desk for MemDesk {
     fn say(&mut self, bytes: &[u8]) -> Result<usize, Stop>
         ensures cause { Counts self.old.write_faults self.new.write_faults result }
         ensures taken { IfOk result (TakesSome bytes.now) }
-        ensures stays { StaysWilling (none_ahead self.old) (none_ahead self.new) }
-        ensures able { IsTrue (none_ahead self.old) → DoesNotFail result }
-        ensures few { IfOk result (λ count. count ≤ self.old.piece) }
+        ensures stays_willing { StaysWilling (none_ahead self.old) (none_ahead self.new) }
+        ensures never_fails { IsTrue (none_ahead self.old) → DoesNotFail result }
+        ensures bounded { IfOk result (λ count. count ≤ self.old.piece) }
         ensures exact { Answers act.Say (is_listed self.old) (λ count. spoken (take count bytes.now)) result self.old self.new }
     {
         self.acts.reserve(1)?;

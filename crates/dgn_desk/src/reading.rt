@@ -1,7 +1,7 @@
 ghost use Rattle.std.specs.Prelude.{◌≡◌, ◌+◌, ◌<◌, ◌≤◌, ◌^◌, length, vec_len, IfOk, IfSome, IsErrOf, IsTrue};
 ghost use Rattle.dgn_desk.specs.declared.reading.ReadEnd.TheVariants.{Memory};
 ghost use Rattle.dgn_desk.specs.Content.{bytes_of, consumed, OnlyLeftDiffers, HasFile};
-ghost use Rattle.dgn_desk.specs.Desk.{Counts, Changes, Reads, ReadCounts, StaysWilling, DoesNotFail, DoesNotFault, Leaves, end_of};
+ghost use Rattle.dgn_desk.specs.Desk.{Counts, Changes, Reads, ReadCounts, StaysWilling, DoesNotFail, DoesNotFault, LeavesToRead, read_end_of};
 
 use crate::desk::Desk;
 use crate::stop::Stop;
@@ -19,7 +19,7 @@ pub enum ReadEnd {
 }
 
 impl From<Stop> for ReadEnd {
-    ghost from_gives = { λ stop end. end ≡ end_of stop };
+    ghost from_gives = { λ stop end. end ≡ read_end_of stop };
 
     fn from(stop: Stop) -> ReadEnd {
         match stop {
@@ -57,13 +57,13 @@ pub fn read_all<D: Desk>(
     requires { limit + 1 < 2 ^ 64 }
     ensures whole { IfOk result (λ v. IfSome (D.content desk.old) (λ c. v.items ≡ bytes_of c.files name.now)) }
     ensures within { IfOk result (λ v. vec_len v ≤ limit) }
-    ensures long { IsErrOf result ReadEnd.TooLong → IfSome (D.content desk.old) (λ c. limit < length (bytes_of c.files name.now)) }
+    ensures too_long { IsErrOf result ReadEnd.TooLong → IfSome (D.content desk.old) (λ c. limit < length (bytes_of c.files name.now)) }
     ensures cause { ReadCounts (D.read_faults desk.old) (D.read_faults desk.new) result }
     ensures other { D.write_faults desk.new ≡ D.write_faults desk.old }
-    ensures told { OnlyLeftDiffers (D.content desk.old) (D.content desk.new) }
-    ensures left { Leaves result limit (λ c. bytes_of c.files name.now) (D.content desk.old) (D.content desk.new) }
-    ensures stays { StaysWilling (D.willing desk.old) (D.willing desk.new) }
-    ensures able { IsTrue (D.willing desk.old) → HasFile name.now (D.content desk.old) → DoesNotFault result }
+    ensures changes { OnlyLeftDiffers (D.content desk.old) (D.content desk.new) }
+    ensures left { LeavesToRead result limit (λ c. bytes_of c.files name.now) (D.content desk.old) (D.content desk.new) }
+    ensures stays_willing { StaysWilling (D.willing desk.old) (D.willing desk.new) }
+    ensures never_fails { IsTrue (D.willing desk.old) → HasFile name.now (D.content desk.old) → DoesNotFault result }
 {
     desk.begin_read(name)?;
     let mut piece = zeros(alloc, PIECE)?;
@@ -77,17 +77,17 @@ fn gather<D: Desk>(
     limit: usize,
     piece: &mut [u8],
 ) -> Result<Vec<u8>, ReadEnd>
-    requires room { limit + 1 < 2 ^ 64 }
+    requires bounded { limit + 1 < 2 ^ 64 }
     requires piece { 0 < length piece.old }
     ensures whole { IfOk result (λ v. IfSome (D.content desk.old) (λ c. v.items ≡ c.left)) }
     ensures within { IfOk result (λ v. vec_len v ≤ limit) }
-    ensures long { IsErrOf result ReadEnd.TooLong → IfSome (D.content desk.old) (λ c. limit < length c.left) }
+    ensures too_long { IsErrOf result ReadEnd.TooLong → IfSome (D.content desk.old) (λ c. limit < length c.left) }
     ensures cause { ReadCounts (D.read_faults desk.old) (D.read_faults desk.new) result }
     ensures other { D.write_faults desk.new ≡ D.write_faults desk.old }
-    ensures told { OnlyLeftDiffers (D.content desk.old) (D.content desk.new) }
-    ensures left { Leaves result limit (λ c. c.left) (D.content desk.old) (D.content desk.new) }
-    ensures stays { StaysWilling (D.willing desk.old) (D.willing desk.new) }
-    ensures able { IsTrue (D.willing desk.old) → DoesNotFault result }
+    ensures changes { OnlyLeftDiffers (D.content desk.old) (D.content desk.new) }
+    ensures left { LeavesToRead result limit (λ c. c.left) (D.content desk.old) (D.content desk.new) }
+    ensures stays_willing { StaysWilling (D.willing desk.old) (D.willing desk.new) }
+    ensures never_fails { IsTrue (D.willing desk.old) → DoesNotFault result }
 {
     let mut all = Vec::new(alloc);
     'pieces: while all.len() <= limit {
@@ -103,16 +103,16 @@ fn gather<D: Desk>(
 
 // One read of at most `most` bytes into the front of `piece`.
 fn read_front<D: Desk>(desk: &mut D, piece: &mut [u8], most: usize) -> Result<usize, Stop>
-    requires room { 0 < length piece.old }
-    requires some { 0 < most }
+    requires nonempty { 0 < length piece.old }
+    requires positive { 0 < most }
     ensures cause { Counts (D.read_faults desk.old) (D.read_faults desk.new) result }
     ensures other { D.write_faults desk.new ≡ D.write_faults desk.old }
     ensures within { IfOk result (λ count. count ≤ length piece.new) }
     ensures most { IfOk result (λ count. count ≤ most) }
     ensures bytes { Reads result (D.content desk.old) piece.new }
-    ensures told { Changes result consumed (D.content desk.old) (D.content desk.new) }
-    ensures stays { StaysWilling (D.willing desk.old) (D.willing desk.new) }
-    ensures able { IsTrue (D.willing desk.old) → DoesNotFail result }
+    ensures changes { Changes result consumed (D.content desk.old) (D.content desk.new) }
+    ensures stays_willing { StaysWilling (D.willing desk.old) (D.willing desk.new) }
+    ensures never_fails { IsTrue (D.willing desk.old) → DoesNotFail result }
 {
     let room = piece.len().min(most);
     desk.read(&mut piece[..room])

@@ -110,8 +110,8 @@ impl Desk for SureDesk {
     ghost tells = { Prim.search rules };
 
     fn begin_read(&mut self, name: &str) -> Result<(), Stop>
-        ensures told { Changes result (λ _. opened name.now) (Some self.old.content) (Some self.new.content) }
-        ensures able { DoesNotFail result }
+        ensures changes { Changes result (λ _. opened name.now) (Some self.old.content) (Some self.new.content) }
+        ensures never_fails { DoesNotFail result }
         ensures piece { self.new.piece ≡ self.old.piece }
     {
         let bytes = self.files.get(name).unwrap_or(&[]);
@@ -123,9 +123,9 @@ impl Desk for SureDesk {
     fn read(&mut self, buf: &mut [u8]) -> Result<usize, Stop>
         ensures within { IfOk result (λ count. count ≤ length buf.new) }
         ensures bytes { IfOk result (λ count. TakesFirst self.old.content.left buf.new count) }
-        ensures told { Changes result consumed (Some self.old.content) (Some self.new.content) }
-        ensures able { DoesNotFail result }
-        ensures few { IfOk result (λ count. count ≤ self.old.piece) }
+        ensures changes { Changes result consumed (Some self.old.content) (Some self.new.content) }
+        ensures never_fails { DoesNotFail result }
+        ensures bounded { IfOk result (λ count. count ≤ self.old.piece) }
         ensures piece { self.new.piece ≡ self.old.piece }
     {
         let (_, left) = self.reading.as_slice().split_at(self.at);
@@ -137,8 +137,8 @@ impl Desk for SureDesk {
     }
 
     fn begin_write(&mut self, name: &str) -> Result<(), Stop>
-        ensures told { Changes result (λ _. filed name.now []) (Some self.old.content) (Some self.new.content) }
-        ensures able { DoesNotFail result }
+        ensures changes { Changes result (λ _. filed name.now []) (Some self.old.content) (Some self.new.content) }
+        ensures never_fails { DoesNotFail result }
         ensures piece { self.new.piece ≡ self.old.piece }
     {
         let target = String::from_str(self.alloc, name)?;
@@ -150,9 +150,9 @@ impl Desk for SureDesk {
 
     fn write(&mut self, bytes: &[u8]) -> Result<usize, Stop>
         ensures taken { IfOk result (TakesSome bytes.now) }
-        ensures told { Changes result (λ count. written (take count bytes.now)) (Some self.old.content) (Some self.new.content) }
-        ensures able { DoesNotFail result }
-        ensures few { IfOk result (λ count. count ≤ self.old.piece) }
+        ensures changes { Changes result (λ count. written (take count bytes.now)) (Some self.old.content) (Some self.new.content) }
+        ensures never_fails { DoesNotFail result }
+        ensures bounded { IfOk result (λ count. count ≤ self.old.piece) }
         ensures piece { self.new.piece ≡ self.old.piece }
     {
         let count = bytes.len().min(self.piece);
@@ -163,9 +163,9 @@ impl Desk for SureDesk {
 
     fn say(&mut self, bytes: &[u8]) -> Result<usize, Stop>
         ensures taken { IfOk result (TakesSome bytes.now) }
-        ensures told { Changes result (λ count. spoken (take count bytes.now)) (Some self.old.content) (Some self.new.content) }
-        ensures able { DoesNotFail result }
-        ensures few { IfOk result (λ count. count ≤ self.old.piece) }
+        ensures changes { Changes result (λ count. spoken (take count bytes.now)) (Some self.old.content) (Some self.new.content) }
+        ensures never_fails { DoesNotFail result }
+        ensures bounded { IfOk result (λ count. count ≤ self.old.piece) }
         ensures piece { self.new.piece ≡ self.old.piece }
     {
         let count = bytes.len().min(self.piece);

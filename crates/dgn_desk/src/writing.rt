@@ -42,10 +42,10 @@ pub fn write_file<D: Desk>(
 fn write_both<D: Desk>(desk: &mut D, first: &[u8], second: &[u8]) -> Result<(), Stop>
     ensures cause { Counts (D.write_faults desk.old) (D.write_faults desk.new) result }
     ensures other { D.read_faults desk.new ≡ D.read_faults desk.old }
-    ensures told { (name so_far : List ℕ) (c : Option Content) → D.content desk.old ≡ option_map (filed name so_far) c
+    ensures changes { (name so_far : List ℕ) (c : Option Content) → D.content desk.old ≡ option_map (filed name so_far) c
         → AddsAll result name so_far (first.now ++ second.now) c (D.content desk.new) }
-    ensures stays { StaysWilling (D.willing desk.old) (D.willing desk.new) }
-    ensures able { IsTrue (D.willing desk.old) → HasTarget (D.content desk.old) → DoesNotFail result }
+    ensures stays_willing { StaysWilling (D.willing desk.old) (D.willing desk.new) }
+    ensures never_fails { IsTrue (D.willing desk.old) → HasTarget (D.content desk.old) → DoesNotFail result }
 {
     write_more(desk, first)?;
     write_more(desk, second)
@@ -55,10 +55,10 @@ fn write_both<D: Desk>(desk: &mut D, first: &[u8], second: &[u8]) -> Result<(), 
 fn write_more<D: Desk>(desk: &mut D, bytes: &[u8]) -> Result<(), Stop>
     ensures cause { Counts (D.write_faults desk.old) (D.write_faults desk.new) result }
     ensures other { D.read_faults desk.new ≡ D.read_faults desk.old }
-    ensures told { (name so_far : List ℕ) (c : Option Content) → D.content desk.old ≡ option_map (filed name so_far) c
+    ensures changes { (name so_far : List ℕ) (c : Option Content) → D.content desk.old ≡ option_map (filed name so_far) c
         → AddsAll result name so_far bytes.now c (D.content desk.new) }
-    ensures stays { StaysWilling (D.willing desk.old) (D.willing desk.new) }
-    ensures able { IsTrue (D.willing desk.old) → HasTarget (D.content desk.old) → DoesNotFail result }
+    ensures stays_willing { StaysWilling (D.willing desk.old) (D.willing desk.new) }
+    ensures never_fails { IsTrue (D.willing desk.old) → HasTarget (D.content desk.old) → DoesNotFail result }
     ensures target { OnOk result (HasTarget (D.content desk.old) → HasTarget (D.content desk.new)) }
 {
     let mut rest = bytes;

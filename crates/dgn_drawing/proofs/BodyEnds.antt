@@ -8,7 +8,7 @@ use Rattle.dgn_layout.specs.declared.types.Class.{Class}
 use Rattle.dgn_layout.specs.Classes.{class_of, is_silent}
 use Rattle.dgn_drawing.specs.declared.body_fault.BodyFault.{BodyFault}
 use Rattle.dgn_drawing.specs.WellFormed.{IsDimension}
-use Rattle.dgn_drawing.specs.Faults.{is_short, is_shown, element_fault, IsSoundIn, IsSound}
+use Rattle.dgn_drawing.specs.Faults.{is_short, is_shown, element_fault, HasNoFaultIn, HasNoFault}
 use Rattle.elem_head.specs.Head.{kind_of}
 use Rattle.body_text.specs.Texts.{text_end, node_end}
 use Rattle.group_head.specs.Headers.{cell_end}
@@ -62,13 +62,13 @@ unfolding form_of
 counted_form_of kind is = ap (λ (k : Class). counted_form (form_in k kind)) is ∙ counted_in kind
 
 -- an element without a fault ends behind its body
-pub sound_end : (dim : ℕ) (b : List ℕ) → IsSoundIn dim b → end_at dim b ≤ length b
+pub sound_end : (dim : ℕ) (b : List ℕ) → HasNoFaultIn dim b → end_at dim b ≤ length b
 sound_end dim b sound = elim (cases_Bool (is_short dim b)) [
   | inl short ↦ absurd (let e = sound.fault in let f : element_fault dim b ≡ Err BodyFault.Short = rw short refl in cc)
   | inr long ↦ ltb-false (length b) (end_at dim b) long
 ]
 
-pub total_within : (b : List ℕ) → IsSound b → class_of (kind_of b) ≡ Class.Counted → 40 ≤ length b
+pub total_within : (b : List ℕ) → HasNoFault b → class_of (kind_of b) ≡ Class.Counted → 40 ≤ length b
 total_within b (inl sound) is = let e = sound_end 2 b sound in let h = header_end (form_at b) 2 b (inl refl) (counted_form_of (kind_of b) is) in
     let same = end_by_form b {dim = 2} (inl refl) in omega arith
 total_within b (inr sound) is = let e = sound_end 3 b sound in let h = header_end (form_at b) 3 b (inr refl) (counted_form_of (kind_of b) is) in

@@ -8,7 +8,7 @@ use Rattle.dgn_drawing.specs.declared.new_shape.NewShape.{NewShape}
 use Rattle.dgn_drawing.specs.declared.new_shape.NewShape.TheVariants as shapes
 use Rattle.dgn_drawing.specs.Element.{Points}
 use Rattle.dgn_drawing.specs.Spelling.{first_byte, second_byte, point_bytes, display_bytes, parts_bytes, body_bytes, spell}
-use Rattle.dgn_drawing.specs.NewElements.{NewElement, IsNew, size_made, run_made, parts_made, rest_made, display_made, made}
+use Rattle.dgn_drawing.specs.NewElements.{NewElement, IsNew, size_made, run_made, parts_made, rest_made, display_made, element_made}
 use Rattle.dgn_drawing.proofs.MadeElements.{size-made}
 
 -- a row of points, appended
@@ -62,24 +62,26 @@ text_pushed axes shape font just text_length text_height length_seen height_seen
 
 -- three pieces are the spelling
 spell_joined : (new : NewElement) → IsNew new →
-    ((first_byte (made new) ∷ second_byte (made new) ∷ word_bytes ((size_made new.axes new.shape - 4) / 2)) ++ display_bytes (display_made new))
-    ++ (parts_bytes (parts_made new.axes new.shape) ++ rest_made new.shape) ≡ spell (made new)
+    ((first_byte (element_made new) ∷ second_byte (element_made new) ∷ word_bytes ((size_made new.axes new.shape - 4) / 2)) ++ display_bytes (display_made new))
+    ++ (parts_bytes (parts_made new.axes new.shape) ++ rest_made new.shape) ≡ spell (element_made new)
 unfolding spell body_bytes
 spell_joined new good =
     let behind : List ℕ = display_bytes (display_made new) ++ (parts_bytes (parts_made new.axes new.shape) ++ rest_made new.shape) in
     let size = size-made new good in
     let words : (size_made new.axes new.shape - 4) / 2 ≡ length behind / 2 = omega arith in
-    append_assoc (first_byte (made new) ∷ second_byte (made new) ∷ word_bytes ((size_made new.axes new.shape - 4) / 2)) (display_bytes (display_made new))
+    append_assoc (first_byte (element_made new) ∷ second_byte (element_made new) ∷ word_bytes ((size_made new.axes new.shape - 4) / 2))
+    (display_bytes (display_made new))
     (parts_bytes (parts_made new.axes new.shape) ++ rest_made new.shape)
-    ∙ ap (λ (n : ℕ). first_byte (made new) ∷ second_byte (made new) ∷ (word_bytes n ++ behind)) words
+    ∙ ap (λ (n : ℕ). first_byte (element_made new) ∷ second_byte (element_made new) ∷ (word_bytes n ++ behind)) words
 
 -- each appended to those before
 pub spell_pieces : (new : NewElement) → IsNew new → (axes : ℕ) (shape : NewShape) → axes ≡ new.axes → shape ≡ new.shape → (none head display all : List ℕ)
-    → none ≡ [] → head ≡ none ++ (first_byte (made new) ∷ second_byte (made new) ∷ word_bytes ((size_made new.axes new.shape - 4) / 2))
-    → display ≡ head ++ display_bytes (display_made new) → all ≡ display ++ (parts_bytes (parts_made axes shape) ++ rest_made shape) → all ≡ spell (made new)
+    → none ≡ [] → head ≡ none ++ (first_byte (element_made new) ∷ second_byte (element_made new) ∷ word_bytes ((size_made new.axes new.shape - 4) / 2))
+    → display ≡ head ++ display_bytes (display_made new) → all ≡ display ++ (parts_bytes (parts_made axes shape) ++ rest_made shape) → all
+    ≡ spell (element_made new)
 spell_pieces new good axes shape same_axes same_shape none head display all one two three four =
     let parts : List ℕ = parts_bytes (parts_made new.axes new.shape) ++ rest_made new.shape in
-    let first : List ℕ = first_byte (made new) ∷ second_byte (made new) ∷ word_bytes ((size_made new.axes new.shape - 4) / 2) in
+    let first : List ℕ = first_byte (element_made new) ∷ second_byte (element_made new) ∷ word_bytes ((size_made new.axes new.shape - 4) / 2) in
     let front : head ≡ first = two ∙ ap (λ (z : List ℕ). z ++ first) one in
     let shown : display ≡ first ++ display_bytes (display_made new) = three ∙ ap (λ (z : List ℕ). z ++ display_bytes (display_made new)) front in
     four ∙ ap (λ (n : ℕ). display ++ (parts_bytes (parts_made n shape) ++ rest_made shape)) same_axes

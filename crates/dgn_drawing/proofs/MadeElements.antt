@@ -19,7 +19,7 @@ use Rattle.dgn_drawing.specs.Element.{Parts, Points, form_of_parts}
 use Rattle.dgn_drawing.specs.Spelling.{first_byte, second_byte, point_bytes, display_bytes, parts_bytes, body_bytes, spell, size_of}
 use Rattle.dgn_drawing.specs.WellFormed.{IsDimension, IsBytes, IsRun, IsCoordinate, IsPoint, IsDisplay, HasParts, IsWellFormed, text_run}
 use Rattle.dgn_drawing.specs.NewElements.{NewElement, IsPointFor, ArePoints, IsNewText, IsShapeFor, IsNew, kind_made, points_given, lowest_from}
-use Rattle.dgn_drawing.specs.NewElements.{highest_from, lowest, highest, size_made, turn_bytes, run_made, parts_made, rest_made, display_made, made}
+use Rattle.dgn_drawing.specs.NewElements.{highest_from, lowest, highest, size_made, turn_bytes, run_made, parts_made, rest_made, display_made, element_made}
 use Rattle.dgn_drawing.specs.Laws.{MadeElementsAreWellFormed}
 use Rattle.dgn_drawing.proofs.Places.{in_both}
 use Rattle.dgn_drawing.proofs.Fields.{length-point_bytes, length-points_bytes}
@@ -279,7 +279,7 @@ display_good new good =
     }
 
 -- its size is that of the tables
-pub size-made : (new : NewElement) → IsNew new → size_of (made new) ≡ size_made new.axes new.shape
+pub size-made : (new : NewElement) → IsNew new → size_of (element_made new) ≡ size_made new.axes new.shape
 unfolding spell body_bytes
 size-made new good =
     let shape = each_made new.axes good.axes new.shape good.shape in
@@ -290,7 +290,7 @@ size-made new good =
     omega arith
 
 -- and it is well formed in its own dimension
-pub made_well_formed : (new : NewElement) → IsNew new → IsWellFormed new.axes (made new)
+pub made_well_formed : (new : NewElement) → IsNew new → IsWellFormed new.axes (element_made new)
 unfolding spell
 made_well_formed new good =
     let shape = each_made new.axes good.axes new.shape good.shape in
@@ -304,7 +304,7 @@ made_well_formed new good =
       parts = (display_good new good, shape.parts_good, shape.rest_good);
       even = rw size shape.even;
       small = rw size (omega arith);
-      no_mark = first_differs (first_byte (made new)) (second_byte (made new)) (omega arith);
+      no_mark = first_differs (first_byte (element_made new)) (second_byte (element_made new)) (omega arith);
       attributes = λ says. absurd (cc);
     }
 

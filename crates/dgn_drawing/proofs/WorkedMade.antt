@@ -4,7 +4,7 @@ use Rattle.std.specs.Prelude.{ℤ, pos}
 use Rattle.dgn_drawing.specs.declared.new_shape.NewShape.{NewShape}
 use Rattle.dgn_drawing.specs.declared.new_shape.NewShape.TheVariants as shapes
 use Rattle.dgn_drawing.specs.Spelling.{display_bytes, parts_bytes, body_bytes, spell}
-use Rattle.dgn_drawing.specs.NewElements.{NewElement, size_made, made}
+use Rattle.dgn_drawing.specs.NewElements.{NewElement, size_made, element_made}
 
 -- a point of the plane
 abbrev point : ℕ → ℕ → ℕ → List ℤ
@@ -26,7 +26,7 @@ line_bytes =
     0x00 ∷ 0x00 ∷ 0x08 ∷ 0x03 ∷ 0x00 ∷ 0x00 ∷ 0x00 ∷ 0x00 ∷ 0x00 ∷ 0x00 ∷ 0x00 ∷ 0x00 ∷ 0x00 ∷ 0x00 ∷ 0x0A ∷ 0x00 ∷
     0x00 ∷ 0x00 ∷ 0x0A ∷ 0x00 ∷ []
 
-made-line : spell (made line) ≡ line_bytes
+made-line : spell (element_made line) ≡ line_bytes
 unfolding spell body_bytes parts_bytes display_bytes
 made-line = refl
 
@@ -42,7 +42,7 @@ text_bytes =
     0x00 ∷ 0x00 ∷ 0x00 ∷ 0x00 ∷ 0x05 ∷ 0x00 ∷ 0x00 ∷ 0x00 ∷ 0x06 ∷ 0x00 ∷ 0x08 ∷ 0x00 ∷ 0x48 ∷ 0x69 ∷ 0x20 ∷ 0x74 ∷
     0x68 ∷ 0x65 ∷ 0x72 ∷ 0x65 ∷ []
 
-made-text : spell (made text) ≡ text_bytes
+made-text : spell (element_made text) ≡ text_bytes
 unfolding spell body_bytes parts_bytes display_bytes
 made-text = refl
 
@@ -63,7 +63,7 @@ space_chain_bytes =
     0x00 ∷ 0x00 ∷ 0x1C ∷ 0x02 ∷ 0x02 ∷ 0x00 ∷ 0x00 ∷ 0x00 ∷ 0x00 ∷ 0x00 ∷ 0x00 ∷ 0x00 ∷ 0x00 ∷ 0x00 ∷ 0x00 ∷ 0x00 ∷
     0x00 ∷ 0x00 ∷ 0x00 ∷ 0x00 ∷ 0x05 ∷ 0x00 ∷ 0x00 ∷ 0x00 ∷ 0x05 ∷ 0x00 ∷ 0x00 ∷ 0x00 ∷ 0x05 ∷ 0x00 ∷ []
 
-made-space_chain : spell (made space_chain) ≡ space_chain_bytes
+made-space_chain : spell (element_made space_chain) ≡ space_chain_bytes
 unfolding spell body_bytes parts_bytes display_bytes
 made-space_chain = refl
 
@@ -82,7 +82,7 @@ space_text_bytes =
     0xFF ∷ 0xFF ∷ 0x00 ∷ 0x00 ∷ 0x00 ∷ 0x00 ∷ 0x00 ∷ 0x00 ∷ 0x00 ∷ 0x00 ∷ 0x00 ∷ 0x00 ∷ 0x00 ∷ 0x00 ∷ 0x00 ∷ 0x00 ∷
     0x05 ∷ 0x00 ∷ 0x00 ∷ 0x00 ∷ 0x06 ∷ 0x00 ∷ 0x00 ∷ 0x00 ∷ 0x07 ∷ 0x00 ∷ 0x03 ∷ 0x00 ∷ 0x48 ∷ 0x69 ∷ 0x20 ∷ 0x00 ∷ []
 
-made-space_text : spell (made space_text) ≡ space_text_bytes
+made-space_text : spell (element_made space_text) ≡ space_text_bytes
 unfolding spell body_bytes parts_bytes display_bytes
 made-space_text = refl
 

@@ -37,10 +37,10 @@ element_fault dim b =
     else Ok tt
 
 -- the bytes are one whole element without a fault, in that dimension
-pub record IsSoundIn (dim : ℕ) (b : List ℕ) : Type 0 where
+pub record HasNoFaultIn (dim : ℕ) (b : List ℕ) : Type 0 where
   pub size : length b ≡ size_said b
   pub fault : element_fault dim b ≡ Ok tt
 
 -- and in at least one dimension
-abbrev pub IsSound : List ℕ → Type 0
-IsSound b = IsSoundIn 2 b ⊎ IsSoundIn 3 b
+abbrev pub HasNoFault : List ℕ → Type 0
+HasNoFault b = HasNoFaultIn 2 b ⊎ HasNoFaultIn 3 b

@@ -19,7 +19,7 @@ use Rattle.dgn_drawing.specs.Rows.{row_at, row_of, total_of}
 use Rattle.dgn_words.specs.Numbers.{put}
 use Rattle.dgn_drawing.specs.Values.{Displacement, LookChange, IsLook}
 use Rattle.dgn_drawing.specs.Changes.{look_changed, recolour, look_bytes, mark, shift, numbers_in, stays_on_plane, widen, freed}
-use Rattle.dgn_drawing.specs.NewElements.{NewElement, IsNew, size_made, made}
+use Rattle.dgn_drawing.specs.NewElements.{NewElement, IsNew, size_made, element_made}
 use Rattle.dgn_drawing.specs.Faults.{IsWhole, is_short, breaks_attribute_rule}
 use Rattle.dgn_layout.specs.declared.TheConstants.{END_MARK}
 
@@ -197,8 +197,8 @@ FreedIsOneByte = (dim : ℕ) (e : Element) → IsWellFormed dim e → IsFreedPut
 
 -- an element that is made of what its type keeps is well formed, and as large as the tables say
 pub record IsMade (new : NewElement) : Type 0 where
-  pub good : IsWellFormed new.axes (made new)
-  pub size : size_of (made new) ≡ size_made new.axes new.shape
+  pub good : IsWellFormed new.axes (element_made new)
+  pub size : size_of (element_made new) ≡ size_made new.axes new.shape
 
 abbrev pub MadeElementsAreWellFormed : Type 0
 MadeElementsAreWellFormed = (new : NewElement) → IsNew new → IsMade new

@@ -138,8 +138,8 @@ display_made new = record {
 }
 
 -- the element that is appended, in a file of its own dimension
-abbrev pub made : NewElement → Element
-made new = record {
+abbrev pub element_made : NewElement → Element
+element_made new = record {
   level = new.level;
   bit6 = false;
   cbit = false;

@@ -6,7 +6,7 @@ ghost use Rattle.elem_head.specs.Head.{size_of};
 ghost use Rattle.dgn_layout.specs.Classes.{class_of, is_silent};
 ghost use Rattle.dgn_layout.specs.Ends.{body_end as end_of};
 ghost use Rattle.dgn_layout.specs.declared.types.Class.{Class};
-ghost use Rattle.dgn_drawing.specs.Faults.{element_fault, IsSound};
+ghost use Rattle.dgn_drawing.specs.Faults.{element_fault, HasNoFault};
 ghost use Rattle.dgn_drawing.specs.Nesting.{is_counted, is_header};
 ghost use Rattle.dgn_drawing.specs.Rows.{row_at, total_in};
 ghost use Rattle.dgn_drawing.specs.WellFormed.{IsDimension};
@@ -43,7 +43,7 @@ pub fn check_elem(dim: u8, b: &[u8]) -> Result<(), BodyFault>
 
 /// What the nesting looks at in the sound element `b`. The total is 0 where its class isn't counted.
 pub fn row_of(b: &[u8]) -> Row
-    requires { IsSound b.now }
+    requires { HasNoFault b.now }
     ensures { result ≡ row_at b.now }
 {
     let head = head(b);

@@ -8,7 +8,7 @@ ghost use Rattle.group_head.specs.Headers.{name_at, origin_at, cell_end};
 ghost use Rattle.dgn_drawing.specs.declared.types.item_body.ItemBody.{ItemBody};
 ghost use Rattle.dgn_drawing.specs.declared.form.Form.{Form};
 ghost use Rattle.dgn_drawing.specs.Reading.{form_at, end_at, parts_at, element_at};
-ghost use Rattle.dgn_drawing.specs.Faults.{IsSoundIn};
+ghost use Rattle.dgn_drawing.specs.Faults.{HasNoFaultIn};
 ghost use Rattle.dgn_drawing.specs.Items.{in_space, item_body_of, item_of};
 ghost use Rattle.dgn_drawing.specs.WellFormed.{IsDimension};
 
@@ -37,7 +37,7 @@ pub fn item(
     b: &[u8],
 ) -> Result<Option<Item>, AllocError>
     requires dimension { IsDimension dim }
-    requires element { IsSoundIn dim b.now }
+    requires element { HasNoFaultIn dim b.now }
     ensures { IfOk result (λ found. found ≡ item_of dim number depth (element_at dim b.now)) }
 {
     let head = head(b);

@@ -7,7 +7,7 @@ ghost use Rattle.dgn_drawing.specs.Laws.{WideningsAreWider, FreedIsOneByte, Made
 /// One spelling, one record: in one dimension two well formed records with one spelling are equal,
 /// and no spelling is a proper prefix of another.
 pub fn one_spelling_one_record()
-    ensures one { OneSpellingOneRecord }
+    ensures unique { OneSpellingOneRecord }
     ensures no_prefix { NoSpellingBeginsAnother }
 {}
 

@@ -5,7 +5,7 @@ ghost use Rattle.dgn_drawing.specs.WellFormed.{IsDimension};
 ghost use Rattle.dgn_drawing.specs.Spelling.{first_byte, second_byte, point_bytes, display_bytes, parts_bytes, spell, size_of};
 ghost use Rattle.dgn_layout.specs.Ends.{chars_start};
 ghost use Rattle.dgn_drawing.specs.NewElements.{IsShapeFor, kind_made, points_given, lowest, highest, even_up, size_made as size_in, run_made, parts_made};
-ghost use Rattle.dgn_drawing.specs.NewElements.{rest_made, display_made, made};
+ghost use Rattle.dgn_drawing.specs.NewElements.{rest_made, display_made, element_made};
 
 use crate::{New, NewShape};
 use dgn_words::{put_long, put_range_long, put_word};
@@ -15,15 +15,15 @@ use std::alloc::{AllocError, Global};
 
 /// How many bytes an element that is to be appended has: at most 2000.
 pub fn size_made(new: &New) -> usize
-    ensures size { result ≡ size_of (made new.now) }
-    ensures few { result ≤ 2000 }
+    ensures size { result ≡ size_of (element_made new.now) }
+    ensures bounded { result ≤ 2000 }
 {
     shape_size(usize::from(new.axes), &new.shape)
 }
 
 /// The bytes of an element that is to be appended, as the definition `made` spells them. An error says that there was no memory.
 pub fn spelled(alloc: Global, new: &New) -> Result<ByteList, AllocError>
-    ensures { IfOk result (λ bytes. bytes ≡ spell (made new.now)) }
+    ensures { IfOk result (λ bytes. bytes ≡ spell (element_made new.now)) }
 {
     let mut bytes = Vec::new(alloc);
     push_head(&mut bytes, new)?;
@@ -37,8 +37,8 @@ fn shape_size(axes: usize, shape: &NewShape) -> usize
     requires axes { IsDimension axes }
     requires shape { IsShapeFor axes shape.now }
     ensures size { result ≡ size_in axes shape.now }
-    ensures some { 36 ≤ result }
-    ensures few { result ≤ 2000 }
+    ensures at_least { 36 ≤ result }
+    ensures bounded { result ≤ 2000 }
 {
     match shape {
         NewShape::Line(_) => 36 + 8 * axes,
@@ -50,20 +50,20 @@ fn shape_size(axes: usize, shape: &NewShape) -> usize
 // How many bytes a row of n points has.
 fn row_size(axes: usize, n: usize) -> usize
     requires axes { IsDimension axes }
-    requires few { n ≤ 101 }
+    requires bounded { n ≤ 101 }
     ensures size { result ≡ 38 + 4 * axes * n }
-    ensures some { 36 ≤ result }
-    ensures few { result ≤ 2000 }
+    ensures at_least { 36 ≤ result }
+    ensures bounded { result ≤ 2000 }
 {
     if axes == 2 { 38 + 8 * n } else { 38 + 12 * n }
 }
 
 // How many bytes a text of n characters has.
 fn text_size(axes: usize, n: usize) -> usize
-    requires few { n ≤ 255 }
+    requires bounded { n ≤ 255 }
     ensures size { result ≡ even_up (chars_start axes + n) }
-    ensures some { 36 ≤ result }
-    ensures few { result ≤ 2000 }
+    ensures at_least { 36 ≤ result }
+    ensures bounded { result ≤ 2000 }
 {
     let start = if axes == 2 { 60 } else { 76 };
     let size = start + n;
@@ -85,7 +85,7 @@ fn kind_of(shape: &NewShape) -> u8
 // Appends the first four bytes.
 fn push_head(bytes: &mut Vec<u8>, new: &New) -> Result<(), AllocError>
     ensures { OnOk result (bytes.new.items ≡ bytes.old.items
-        ++ (first_byte (made new.now) ∷ second_byte (made new.now)
+        ++ (first_byte (element_made new.now) ∷ second_byte (element_made new.now)
         ∷ word_bytes ((size_in new.now.axes new.now.shape - 4) / 2))) }
 {
     let words = (shape_size(usize::from(new.axes), &new.shape) - 4) / 2;

@@ -106,7 +106,7 @@ pub fn put_number(b: &mut [u8], spot: Spot, number: i32)
 
 /// The range number at byte `at`, moved along an axis, along which it stays on the design plane.
 pub fn moved_number(b: &[u8], at: u32, axis: u8, by: &Shift) -> i32
-    requires long { at + 4 ≤ length b.now }
+    requires long_enough { at + 4 ≤ length b.now }
     requires plane { IsTrue (is_on_plane (range_long_at b.now at +ℤ on_axis by.now.by axis)) }
     ensures { result ≡ range_long_at b.now at +ℤ on_axis by.now.by axis }
 {

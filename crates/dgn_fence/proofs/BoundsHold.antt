@@ -10,7 +10,7 @@ use Rattle.plane_geom.specs.Boxes.{IsInBox, AreInBox}
 use Rattle.dgn_drawing.specs.declared.types.item.Item.{Item}
 use Rattle.dgn_drawing.specs.declared.types.item_body.ItemBody.{ItemBody}
 use Rattle.dgn_fence.specs.declared.bounds.Bounds.{Bounds}
-use Rattle.dgn_fence.specs.Segments.{flat, legs, path_segments, corners_of, body_segments, segments_of}
+use Rattle.dgn_fence.specs.Segments.{plane_point, legs, path_segments, corners_of, body_segments, segments_of}
 use Rattle.dgn_fence.specs.Limits.{at, grown, bounds_of, body_bounds, extent_of}
 
 abbrev pub IsIn : Bounds → Pt → Type 0
@@ -119,7 +119,7 @@ corner_held a c p (inr e) (inr f) =
       above = omega (arith, ints, clamps);
     }
 
-range_held : (range : Box3) → AreIn (grown (at (flat range.lo)) (flat range.hi)) (corners_of range)
+range_held : (range : Box3) → AreIn (grown (at (plane_point range.lo)) (plane_point range.hi)) (corners_of range)
 range_held range = (
   corner_held _ _ _ (inl refl) (inl refl),
   (corner_held _ _ _ (inr refl) (inl refl), (corner_held _ _ _ (inr refl) (inr refl), (corner_held _ _ _ (inl refl) (inr refl), tt))),
@@ -128,7 +128,7 @@ range_held range = (
 -- ---- an item
 
 body_held : (kind : ℕ) (range : Box3) (body : ItemBody) (b : Bounds) → body_bounds range body ≡ Some b → SpanAll b (body_segments kind range body)
-body_held kind range (ItemBody.Path points) b e = path_held b (kind == 6) (map flat points) (bounds_hold (map flat points) b e)
+body_held kind range (ItemBody.Path points) b e = path_held b (kind == 6) (map plane_point points) (bounds_hold (map plane_point points) b e)
 body_held kind range (ItemBody.Text origin chars) b e = rw (← same_some _ _ e) (edges_held _ (corners_of range) (range_held range))
 body_held kind range ItemBody.Boxed b e = rw (← same_some _ _ e) (edges_held _ (corners_of range) (range_held range))
 body_held kind range (ItemBody.Cell name origin) b e = tt
@@ -143,7 +143,7 @@ path_bare closed [] e = refl
 path_bare closed (p ∷ ps) e = absurd cc
 
 body_bare : (kind : ℕ) (range : Box3) (body : ItemBody) → body_bounds range body ≡ None → body_segments kind range body ≡ []
-body_bare kind range (ItemBody.Path points) e = path_bare (kind == 6) (map flat points) e
+body_bare kind range (ItemBody.Path points) e = path_bare (kind == 6) (map plane_point points) e
 body_bare kind range (ItemBody.Text origin chars) e = absurd cc
 body_bare kind range ItemBody.Boxed e = absurd cc
 body_bare kind range (ItemBody.Cell name origin) e = refl

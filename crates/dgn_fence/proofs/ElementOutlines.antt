@@ -10,12 +10,12 @@ use Rattle.dgn_drawing.specs.declared.types.item_body.ItemBody.{ItemBody}
 use Rattle.dgn_drawing.specs.Reading.{element_at}
 use Rattle.dgn_drawing.specs.Items.{in_space, item_of}
 use Rattle.dgn_drawing.proofs.ItemsByClass.{IsRanged, IsHeader, HasItem, path_item, ranged_item, header_item, shared_none, silent_none}
-use Rattle.dgn_fence.specs.Segments.{flat}
+use Rattle.dgn_fence.specs.Segments.{plane_point}
 use Rattle.dgn_fence.specs.Outlines.{path_outline, range_outline, body_outline, outline_of}
 
-in_plane : (points : List (List ℤ)) → map flat (map in_space points) ≡ map flat points
+in_plane : (points : List (List ℤ)) → map plane_point (map in_space points) ≡ map plane_point points
 in_plane [] = refl
-in_plane (p ∷ points) = ap (λ ps. flat p ∷ ps) (in_plane points)
+in_plane (p ∷ points) = ap (λ ps. plane_point p ∷ ps) (in_plane points)
 
 ranged : (range : Box3) (body : ItemBody) → IsRanged body → Some (range_outline range) ≡ body_outline range body
 ranged range (ItemBody.Path points) is = absurd is
@@ -43,7 +43,7 @@ module _ (dim : ℕ) (b : List ℕ) where
 
   module _ (c : Class) (these : c ≡ class_of (kind_of b)) (other : kind_of b ≡ 34 → ⊥) where
     -- a row of points
-    pub path_drawn : c ≡ Class.Vertices → path_outline (map flat (points_of dim (kind_of b) b)) ≡ outline_of (item_of dim 0 0 (element_at dim b))
+    pub path_drawn : c ≡ Class.Vertices → path_outline (map plane_point (points_of dim (kind_of b) b)) ≡ outline_of (item_of dim 0 0 (element_at dim b))
     path_drawn is =
         ap path_outline (sym (in_plane (points_of dim (kind_of b) b)))
         ∙ of_body (ItemBody.Path (map in_space (points_of dim (kind_of b) b))) (path_item dim 0 0 b c these is other)

@@ -16,7 +16,7 @@ use Rattle.dgn_drawing.specs.Items.{shown_item, item_in}
 use Rattle.dgn_drawing.specs.Shown.{its_item}
 use Rattle.dgn_fence.specs.declared.bounds.Bounds.{Bounds}
 use Rattle.dgn_fence.specs.declared.outline.Outline.{Outline}
-use Rattle.dgn_fence.specs.Segments.{flat, path_segments, body_segments, segments_of}
+use Rattle.dgn_fence.specs.Segments.{plane_point, path_segments, body_segments, segments_of}
 use Rattle.dgn_fence.specs.Taken.{any_touches, touches_fence, first_point_of, begins_within, is_inside, overlaps, has_some, takes}
 use Rattle.dgn_fence.specs.Limits.{at, grown, bounds_of, body_bounds, extent_of, is_apart, misses}
 use Rattle.dgn_fence.specs.Outlines.{path_outline, body_outline, outline_of, misses_all, begins_by_bounds, untouched_taken}
@@ -28,12 +28,12 @@ use Rattle.dgn_fence.proofs.FenceMisses.{neither, edge_missed, far_outside, far_
 
 -- one more point
 pub one_more : (xs : List (List ℤ)) (i : ℕ) (x : List ℤ) (b : Bounds) → slice_get xs i ≡ Some x
-    → fold grown b (map flat (drop i xs)) ≡ fold grown (grown b (flat x)) (map flat (drop (i + 1) xs))
+    → fold grown b (map plane_point (drop i xs)) ≡ fold grown (grown b (plane_point x)) (map plane_point (drop (i + 1) xs))
 one_more [] i x b is = absurd cc
-one_more (y ∷ ys) zero x b is = let same : y ≡ x = cc in ap (λ (z : List ℤ). fold grown (grown b (flat z)) (map flat ys)) same
+one_more (y ∷ ys) zero x b is = let same : y ≡ x = cc in ap (λ (z : List ℤ). fold grown (grown b (plane_point z)) (map plane_point ys)) same
 one_more (y ∷ ys) (suc i) x b is =
     let e : suc i + 1 ≡ suc (i + 1) = omega arith in
-    one_more ys i x b is ∙ ap (λ (k : ℕ). fold grown (grown b (flat x)) (map flat (drop k (y ∷ ys)))) (sym e)
+    one_more ys i x b is ∙ ap (λ (k : ℕ). fold grown (grown b (plane_point x)) (map plane_point (drop k (y ∷ ys)))) (sym e)
 
 -- ---- an outline has the first point and the bounds
 
@@ -50,14 +50,15 @@ path_extent (p ∷ ps) = refl
 
 body_extent : (range : Box3) (body : ItemBody) → body_bounds range body ≡ around_of (body_outline range body)
 unfolding around_of
-body_extent range (ItemBody.Path points) = path_extent (map flat points)
+body_extent range (ItemBody.Path points) = path_extent (map plane_point points)
 body_extent range (ItemBody.Text origin chars) = refl
 body_extent range ItemBody.Boxed = refl
 body_extent range (ItemBody.Cell name origin) = refl
 body_extent range (ItemBody.Node origin) = refl
 body_extent range ItemBody.Group = refl
 
-path_first : (closed : Bool) (points : List (List ℤ)) → first_point_of (path_segments closed (map flat points)) ≡ first_in (path_outline (map flat points))
+path_first : (closed : Bool) (points : List (List ℤ)) → first_point_of (path_segments closed (map plane_point points))
+    ≡ first_in (path_outline (map plane_point points))
 unfolding first_in
 path_first closed [] = refl
 path_first closed (p ∷ points) = sym (path_begins closed (p ∷ points))
@@ -77,11 +78,11 @@ path_begun : (ps : List Pt) (o : Outline) → path_outline ps ≡ Some o → IsI
 path_begun [] o is = absurd cc
 path_begun (p ∷ ps) o is = subst (λ (a : Outline). IsIn a.around a.first) (same_some _ _ is) (all_kept (at p) p ps (itself p))
 
-range_begun : (range : Box3) → IsIn (grown (at (flat range.lo)) (flat range.hi)) (flat range.lo)
-range_begun range = kept (at (flat range.lo)) (flat range.hi) (flat range.lo) (itself (flat range.lo))
+range_begun : (range : Box3) → IsIn (grown (at (plane_point range.lo)) (plane_point range.hi)) (plane_point range.lo)
+range_begun range = kept (at (plane_point range.lo)) (plane_point range.hi) (plane_point range.lo) (itself (plane_point range.lo))
 
 body_begun : (range : Box3) (body : ItemBody) (o : Outline) → body_outline range body ≡ Some o → IsIn o.around o.first
-body_begun range (ItemBody.Path points) o is = path_begun (map flat points) o is
+body_begun range (ItemBody.Path points) o is = path_begun (map plane_point points) o is
 body_begun range (ItemBody.Text origin chars) o is = subst (λ (a : Outline). IsIn a.around a.first) (same_some _ _ is) (range_begun range)
 body_begun range ItemBody.Boxed o is = subst (λ (a : Outline). IsIn a.around a.first) (same_some _ _ is) (range_begun range)
 body_begun range (ItemBody.Cell name origin) o is = absurd cc

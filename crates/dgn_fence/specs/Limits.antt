@@ -9,7 +9,7 @@ use Rattle.plane_geom.specs.Boxes.{lies_apart, lies_beside}
 use Rattle.dgn_drawing.specs.declared.types.item.Item.{Item}
 use Rattle.dgn_drawing.specs.declared.types.item_body.ItemBody.{ItemBody}
 use Rattle.dgn_fence.specs.declared.bounds.Bounds.{Bounds}
-use Rattle.dgn_fence.specs.Segments.{flat}
+use Rattle.dgn_fence.specs.Segments.{plane_point}
 
 -- those of one point
 abbrev pub at : Pt → Bounds
@@ -33,9 +33,9 @@ bounds_of (p ∷ points) = Some (fold grown (at p) points)
 
 -- those of the segments of an item, if it has any
 abbrev pub body_bounds : Box3 → ItemBody → Option Bounds
-body_bounds range (ItemBody.Path points) = bounds_of (map flat points)
-body_bounds range (ItemBody.Text origin chars) = Some (grown (at (flat range.lo)) (flat range.hi))
-body_bounds range ItemBody.Boxed = Some (grown (at (flat range.lo)) (flat range.hi))
+body_bounds range (ItemBody.Path points) = bounds_of (map plane_point points)
+body_bounds range (ItemBody.Text origin chars) = Some (grown (at (plane_point range.lo)) (plane_point range.hi))
+body_bounds range ItemBody.Boxed = Some (grown (at (plane_point range.lo)) (plane_point range.hi))
 body_bounds range (ItemBody.Cell name origin) = None
 body_bounds range (ItemBody.Node origin) = None
 body_bounds range ItemBody.Group = None

@@ -9,7 +9,7 @@ use Rattle.dgn_drawing.specs.declared.types.item.Item.{Item}
 use Rattle.dgn_drawing.specs.declared.types.item_body.ItemBody.{ItemBody}
 use Rattle.dgn_fence.specs.declared.bounds.Bounds.{Bounds}
 use Rattle.dgn_fence.specs.declared.outline.Outline.{Outline}
-use Rattle.dgn_fence.specs.Segments.{flat}
+use Rattle.dgn_fence.specs.Segments.{plane_point}
 use Rattle.dgn_fence.specs.Limits.{at, grown, is_apart, misses}
 
 -- that of a path through these points, if there are any
@@ -19,10 +19,10 @@ path_outline (p ∷ points) = Some (record { first = p; around = fold grown (at 
 
 -- that of a range
 abbrev pub range_outline : Box3 → Outline
-range_outline range = record { first = flat range.lo; around = grown (at (flat range.lo)) (flat range.hi) }
+range_outline range = record { first = plane_point range.lo; around = grown (at (plane_point range.lo)) (plane_point range.hi) }
 
 abbrev pub body_outline : Box3 → ItemBody → Option Outline
-body_outline range (ItemBody.Path points) = path_outline (map flat points)
+body_outline range (ItemBody.Path points) = path_outline (map plane_point points)
 body_outline range (ItemBody.Text origin chars) = Some (range_outline range)
 body_outline range ItemBody.Boxed = Some (range_outline range)
 body_outline range (ItemBody.Cell name origin) = None

@@ -9,8 +9,8 @@ use Rattle.dgn_drawing.specs.declared.types.item.Item.{Item}
 use Rattle.dgn_drawing.specs.declared.types.item_body.ItemBody.{ItemBody}
 
 -- x and y of a point of three numbers
-abbrev pub flat : List ℤ → Pt
-flat v = record { x = on_axis v 0; y = on_axis v 1 }
+abbrev pub plane_point : List ℤ → Pt
+plane_point v = record { x = on_axis v 0; y = on_axis v 1 }
 
 -- from a to the first of the points that follow, from each to the next and, where the path closes, from
 -- the last to its first point
@@ -32,7 +32,7 @@ corners_of range =
 -- those of an item of that type and range: of a path its own, and a shape, type 6, is closed; of a text and of what is
 -- shown by its range alone the edges of the range; of a header none
 abbrev pub body_segments : ℕ → Box3 → ItemBody → List (Pt × Pt)
-body_segments kind range (ItemBody.Path points) = path_segments (kind == 6) (map flat points)
+body_segments kind range (ItemBody.Path points) = path_segments (kind == 6) (map plane_point points)
 body_segments kind range (ItemBody.Text origin chars) = edges (corners_of range)
 body_segments kind range ItemBody.Boxed = edges (corners_of range)
 body_segments kind range (ItemBody.Cell name origin) = []

@@ -2,7 +2,7 @@
 
 ghost use Rattle.std.specs.Prelude.{◌≡◌, Some, map};
 ghost use Rattle.plane_geom.specs.Polygons.{edges};
-ghost use Rattle.dgn_fence.specs.Segments.{flat, segments_of, path_segments, corners_of};
+ghost use Rattle.dgn_fence.specs.Segments.{plane_point, segments_of, path_segments, corners_of};
 ghost use Rattle.dgn_fence.specs.Taken.{any_touches, touches_fence};
 ghost use Rattle.dgn_fence.specs.Limits.{extent_of};
 ghost use Rattle.dgn_fence.specs.Outlines.{misses_all};
@@ -78,7 +78,7 @@ fn some_touches(item: &Item, r: Pt, s: Pt) -> bool
 // Whether some segment of a path, closed or open, touches the edge.
 #[tactic(auto, unfolding(crate::specs::Taken::any_touches))]
 fn path_touches(points: &[[i32; 3]], closed: bool, r: Pt, s: Pt) -> bool
-    ensures { result ≡ any_touches (path_segments closed (map flat points.now)) (r, s) }
+    ensures { result ≡ any_touches (path_segments closed (map plane_point points.now)) (r, s) }
 {
     let Some((first, rest)) = points.split_first() else {
         return false;

@@ -2,7 +2,7 @@
 
 ghost use Rattle.std.specs.Prelude.{◌≡◌};
 ghost use Rattle.plane_geom.specs.Touches.{touches};
-ghost use Rattle.dgn_fence.specs.Ends.{end_of, IsEnd};
+ghost use Rattle.dgn_fence.specs.Ends.{edge_end, IsEnd};
 
 use plane_geom::{Pt, side, touch};
 
@@ -17,7 +17,7 @@ impl End {
     // The point `p` by the edge from `r` to `s`.
     #[inline]
     pub(crate) fn of(r: Pt, s: Pt, p: Pt) -> Self
-        ensures { result ≡ end_of r s p }
+        ensures { result ≡ edge_end r s p }
     {
         End {
             point: p,

@@ -1,7 +1,7 @@
 // Where the segments of an item lie and begin.
 
 ghost use Rattle.std.specs.Prelude.{◌≡◌, map, option_map, slice_get};
-ghost use Rattle.dgn_fence.specs.Segments.{flat, segments_of};
+ghost use Rattle.dgn_fence.specs.Segments.{plane_point, segments_of};
 ghost use Rattle.dgn_fence.specs.Taken.{first_point_of, has_some, parts};
 ghost use Rattle.dgn_fence.specs.Limits.{bounds_of, extent_of};
 
@@ -35,7 +35,7 @@ pub(crate) fn first_point(item: &Item) -> Option<Pt>
 
 // The first point of a path, if it has one.
 fn path_start(points: &PointList) -> Option<Pt>
-    ensures { result ≡ option_map flat (slice_get points.now 0) }
+    ensures { result ≡ option_map plane_point (slice_get points.now 0) }
 {
     let first = points.get(0)?;
     Some(flat(first))
@@ -63,7 +63,7 @@ pub(crate) fn has_part(items: &[Item]) -> bool
 // The first two numbers of a point.
 #[inline]
 pub(crate) fn flat(v: [i32; 3]) -> Pt
-    ensures { result ≡ flat v }
+    ensures { result ≡ plane_point v }
 {
     let [x, y, _] = v;
     Pt { x, y }
@@ -71,7 +71,7 @@ pub(crate) fn flat(v: [i32; 3]) -> Pt
 
 // The bounds of points, if there are any.
 fn path_bounds(points: &[[i32; 3]]) -> Option<Bounds>
-    ensures { result ≡ bounds_of (map flat points.now) }
+    ensures { result ≡ bounds_of (map plane_point points.now) }
 {
     let (first, rest) = points.split_first()?;
     let mut bounds = Bounds::at(flat(*first));

@@ -12,8 +12,8 @@ use std::alloc::Global;
 /// Many exactly where there are more than 256.
 pub fn fence(alloc: Global, points: &[Pt]) -> Result<Fence, FenceFault>
     ensures ok { IfOk result (λ f. f ≡ points.now) }
-    ensures few { (result ≡ Err FenceFault.Few) ↔ (length points.now < 3) }
-    ensures many { (result ≡ Err FenceFault.Many) ↔ (256 < length points.now) }
+    ensures too_few { (result ≡ Err FenceFault.Few) ↔ (length points.now < 3) }
+    ensures too_many { (result ≡ Err FenceFault.Many) ↔ (256 < length points.now) }
 {
     if points.len() < 3 {
         return Err(FenceFault::Few);

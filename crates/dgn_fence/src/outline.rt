@@ -3,10 +3,10 @@
 ghost use Rattle.std.specs.Prelude.{◌≡◌, ◌⊎◌, map};
 ghost use Rattle.body_vertex.specs.Points.{points_of, IsPathKind, PointsFit};
 ghost use Rattle.dgn_drawing.specs.WellFormed.{IsDimension};
-ghost use Rattle.dgn_drawing.specs.Faults.{IsSoundIn};
+ghost use Rattle.dgn_drawing.specs.Faults.{HasNoFaultIn};
 ghost use Rattle.dgn_drawing.specs.Reading.{element_at};
 ghost use Rattle.dgn_drawing.specs.Items.{item_of};
-ghost use Rattle.dgn_fence.specs.Segments.{flat};
+ghost use Rattle.dgn_fence.specs.Segments.{plane_point};
 ghost use Rattle.dgn_fence.specs.Outlines.{path_outline, range_outline, outline_of};
 
 use crate::bounds::Bounds;
@@ -28,7 +28,7 @@ pub(crate) struct Outline {
 // The outline of the item of an element, if it has segments.
 pub(crate) fn read_outline(dim: u8, b: &[u8]) -> Option<Outline>
     requires dimension { IsDimension dim }
-    requires element { IsSoundIn dim b.now }
+    requires element { HasNoFaultIn dim b.now }
     ensures { result ≡ outline_of (item_of dim 0 0 (element_at dim b.now)) }
 {
     let kind = head(b).kind;
@@ -47,7 +47,7 @@ fn points_outline(dim: u8, kind: u8, b: &[u8]) -> Option<Outline>
     requires dimension { IsDimension dim }
     requires kind { IsPathKind kind }
     requires fits { PointsFit dim kind b.now }
-    ensures { result ≡ path_outline (map flat (points_of dim kind b.now)) }
+    ensures { result ≡ path_outline (map plane_point (points_of dim kind b.now)) }
 {
     if dim == 2 {
         path_outline::<2>(kind, b)
@@ -61,7 +61,7 @@ fn path_outline<const DIM: usize>(kind: u8, b: &[u8]) -> Option<Outline>
     requires dimension { (DIM ≡ 2) ⊎ (DIM ≡ 3) }
     requires kind { IsPathKind kind }
     requires fits { PointsFit DIM kind b.now }
-    ensures { result ≡ path_outline (map flat (points_of DIM kind b.now)) }
+    ensures { result ≡ path_outline (map plane_point (points_of DIM kind b.now)) }
 {
     let Some(path) = path::<DIM>(kind, b) else {
         unreachable!()
@@ -81,7 +81,7 @@ fn path_outline<const DIM: usize>(kind: u8, b: &[u8]) -> Option<Outline>
 // The first two numbers of a point.
 fn on_plane<const DIM: usize>(point: [i32; DIM]) -> Pt
     requires { (DIM ≡ 2) ⊎ (DIM ≡ 3) }
-    ensures { result ≡ flat point.entry }
+    ensures { result ≡ plane_point point.entry }
 {
     Pt {
         x: point[0],

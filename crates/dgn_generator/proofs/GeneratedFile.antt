@@ -14,7 +14,7 @@ use Rattle.dgn_drawing.specs.Forms.{form_of}
 use Rattle.dgn_drawing.specs.Element.{Element}
 use Rattle.dgn_drawing.specs.Spelling.{first_byte, second_byte, display_bytes, parts_bytes, body_bytes, spell, spelling}
 use Rattle.dgn_drawing.specs.WellFormed.{IsBytes, IsCoordinate, IsWellFormed}
-use Rattle.dgn_drawing.specs.NewElements.{NewElement, IsPointFor, IsShapeFor, IsNew, size_made, made}
+use Rattle.dgn_drawing.specs.NewElements.{NewElement, IsPointFor, IsShapeFor, IsNew, size_made, element_made}
 use Rattle.dgn_drawing.specs.Opening.{dimension, IsTcb}
 use Rattle.dgn_drawing.proofs.MadeElements.{made_good}
 use Rattle.dgn_generator.specs.Generator.{next_state, number_of, point, new_at, member_of, shape_at, cell_header, cell, tree, tree_drawn, trees_within}
@@ -112,7 +112,7 @@ module _ (i x y : ℕ) (right : x < 2 ^ 20) (up : y < 2 ^ 20) where
         parts = good.parts;
         even = good.even;
         small = good.small;
-        no_mark = second_differs (first_byte (member_of new)) (second_byte (made new)) (omega arith);
+        no_mark = second_differs (first_byte (member_of new)) (second_byte (element_made new)) (omega arith);
         attributes = good.attributes;
       }
 
@@ -170,20 +170,20 @@ module _ (left i x y : ℕ) (right : x < 2 ^ 20) (up : y < 2 ^ 20) where
       record { some = omega arith; few = three; good = (header_good i x y right up, (one, (two, tt))); small = omega arith }
 
   -- and one element where one is
-  one_tree : 1 ≤ left → IsTree left (made (new_at i (shape_at i x y)) ∷ [])
+  one_tree : 1 ≤ left → IsTree left (element_made (new_at i (shape_at i x y)) ∷ [])
   unfolding IsSmallShape
   one_tree one =
       let shape : NewShape = shape_at i x y in
       let chosen = chosen_small i x y right up in
       let fine = made_good (new_at i shape) (shape_new i x y right up shape chosen.0) in
-      let long : length (spelling (made (new_at i shape) ∷ [])) ≡ size_made 2 shape =
-      ap (length {A = ℕ}) (append-nil (spell (made (new_at i shape)))) ∙ fine.size in
+      let long : length (spelling (element_made (new_at i shape) ∷ [])) ≡ size_made 2 shape =
+      ap (length {A = ℕ}) (append-nil (spell (element_made (new_at i shape)))) ∙ fine.size in
       let small = chosen.1 in
       record { some = omega arith; few = one; good = (fine.good, tt); small = omega arith }
 
   -- so each tree is one
   chosen_tree : (first large : Bool) → 1 ≤ left → (large ≡ true → 3 ≤ left)
-      → IsTree left (cond (first && large) (cell i x y) (made (new_at i (shape_at i x y)) ∷ []))
+      → IsTree left (cond (first && large) (cell i x y) (element_made (new_at i (shape_at i x y)) ∷ []))
   chosen_tree true true one three = cell_tree (three refl)
   chosen_tree true false one three = one_tree one
   chosen_tree false large one three = one_tree one

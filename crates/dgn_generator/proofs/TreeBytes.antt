@@ -8,7 +8,7 @@ use Rattle.dgn_drawing.specs.declared.new_shape.NewShape.{NewShape}
 use Rattle.dgn_drawing.specs.declared.new_shape.NewShape.TheVariants as shapes
 use Rattle.dgn_drawing.specs.Element.{Display}
 use Rattle.dgn_drawing.specs.Spelling.{bit, point_bytes, display_bytes, parts_bytes, body_bytes, spell}
-use Rattle.dgn_drawing.specs.NewElements.{points_given, lowest, highest, made}
+use Rattle.dgn_drawing.specs.NewElements.{points_given, lowest, highest, element_made}
 use Rattle.dgn_generator.specs.Generator.{point, new_at, cell_header, blank_tcb}
 use Rattle.dgn_generator.specs.Fronts.{front_at}
 
@@ -66,7 +66,7 @@ module _ (i x y width height : ℕ) (shape : NewShape) (low : lowest (points_giv
 
 -- a line
 pub line_spelled : (i x y width height : ℕ) (c : Bool)
-    → spell (record (made (new_at i (shapes.Line (point x y ∷ point (x + width) (y + height) ∷ [])))) { cbit = c })
+    → spell (record (element_made (new_at i (shapes.Line (point x y ∷ point (x + width) (y + height) ∷ [])))) { cbit = c })
     ≡ front_at i x y c 3 52 width height ++ (point_bytes (pos x ∷ pos y ∷ []) ++ point_bytes (pos (x + width) ∷ pos (y + height) ∷ []))
 unfolding spell body_bytes parts_bytes display_bytes display_of
 line_spelled i x y width height c =
@@ -78,7 +78,7 @@ line_spelled i x y width height c =
     10
 
 -- a chain
-pub chain_spelled : (i x y : ℕ) → spell (made (new_at i (shapes.Chain (point x y ∷ point (x + 10) y ∷ point (x + 10) (y + 10) ∷ []))))
+pub chain_spelled : (i x y : ℕ) → spell (element_made (new_at i (shapes.Chain (point x y ∷ point (x + 10) y ∷ point (x + 10) (y + 10) ∷ []))))
     ≡ front_at i x y false 4 62 10 10
     ++ (word_bytes 3 ++ (point_bytes (pos x ∷ pos y ∷ []) ++ (point_bytes (pos (x + 10) ∷ pos y ∷ []) ++ point_bytes (pos (x + 10) ∷ pos (y + 10) ∷ []))))
 unfolding spell body_bytes parts_bytes display_bytes display_of
@@ -93,7 +93,7 @@ chain_spelled i x y =
     15
 
 -- a shape
-pub shape_spelled : (i x y : ℕ) → spell (made (new_at i (shapes.Shape (point x y ∷ point (x + 20) y ∷ point (x + 20) (y + 20) ∷ point x y ∷ []))))
+pub shape_spelled : (i x y : ℕ) → spell (element_made (new_at i (shapes.Shape (point x y ∷ point (x + 20) y ∷ point (x + 20) (y + 20) ∷ point x y ∷ []))))
     ≡ front_at i x y false 6 70 20 20 ++ (word_bytes 4 ++ (point_bytes (pos x ∷ pos y ∷ []) ++ (point_bytes (pos (x + 20) ∷ pos y ∷ [])
     ++ (point_bytes (pos (x + 20) ∷ pos (y + 20) ∷ []) ++ point_bytes (pos x ∷ pos y ∷ [])))))
 unfolding spell body_bytes parts_bytes display_bytes display_of
@@ -111,7 +111,7 @@ shape_spelled i x y =
     19
 
 -- a text
-pub text_spelled : (i x y : ℕ) → spell (made (new_at i (shapes.Text 1 0 (pos 1000) (pos 1000) (point x y) (codes "DGN"))))
+pub text_spelled : (i x y : ℕ) → spell (element_made (new_at i (shapes.Text 1 0 (pos 1000) (pos 1000) (point x y) (codes "DGN"))))
     ≡ front_at i x y false 17 64 0 0
     ++ ((1 ∷ 0 ∷ []) ++ (long_bytes (pos 1000)
     ++ (long_bytes (pos 1000) ++ (long_bytes (pos 0) ++ (point_bytes (pos x ∷ pos y ∷ []) ++ (3 ∷ 0 ∷ 68 ∷ 71 ∷ 78 ∷ 0 ∷ []))))))

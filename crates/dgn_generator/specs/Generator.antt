@@ -6,7 +6,7 @@ use Rattle.dgn_drawing.specs.declared.new_shape.NewShape.{NewShape}
 use Rattle.dgn_drawing.specs.declared.new_shape.NewShape.TheVariants as shapes
 use Rattle.dgn_drawing.specs.Element.{Display, Cell, Silent, Shown, Element}
 use Rattle.dgn_drawing.specs.Spelling.{spelling}
-use Rattle.dgn_drawing.specs.NewElements.{NewElement, made}
+use Rattle.dgn_drawing.specs.NewElements.{NewElement, element_made}
 use Rattle.dgn_drawing.specs.Opening.{Opens}
 use Rattle.dgn_drawing.specs.declared.limits.TheConstants.{MOST_DESIGN}
 
@@ -31,7 +31,7 @@ new_at i shape = record { level = 1 + i % 8; symb = record { color = i % 16; wei
 
 -- the same with bit C, as a member of a cell
 abbrev pub member_of : NewElement → Element
-member_of new = record (made new) { cbit = true }
+member_of new = record (element_made new) { cbit = true }
 
 -- the shapes that take turns
 abbrev pub shape_at : ℕ → ℕ → ℕ → NewShape
@@ -75,7 +75,7 @@ cell i x y =
 
 -- a tree where so many elements are left to make: every sixteenth element begins a cell, if there are three left
 abbrev pub tree : (left i x y : ℕ) → List Element
-tree left i x y = if i % 16 == 0 && nat_le 3 left then cell i x y else made (new_at i (shape_at i x y)) ∷ []
+tree left i x y = if i % 16 == 0 && nat_le 3 left then cell i x y else element_made (new_at i (shape_at i x y)) ∷ []
 
 -- the tree at the two numbers that are drawn in state s
 abbrev pub tree_drawn : (left i s : ℕ) → List Element

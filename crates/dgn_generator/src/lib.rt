@@ -26,8 +26,8 @@ const TCB_SIZE: usize = 1536;
 /// The elements are cells, lines, chains, shapes and texts in turn, each at a point that is drawn, so the drawing hangs
 /// on `seed` and `count` alone. An error says that there was no memory.
 pub fn generate(alloc: Global, seed: u32, count: u32) -> Result<Vec<u8>, AllocError>
-    requires some { 1 ≤ count }
-    requires few { count ≤ 200000 }
+    requires positive { 1 ≤ count }
+    requires bounded { count ≤ 200000 }
     ensures { IfOk result (λ v. v.items ≡ generated seed count) }
 {
     let mut bytes = Vec::with_capacity(alloc, TCB_SIZE + MOST * count as usize + 2)?;

@@ -1,7 +1,7 @@
 ghost use Rattle.std.specs.Prelude.{◌≡◌, ◌+◌, ◌≤◌, ◌++◌, [], ◌∷◌, length, codes, pos, IfOk, OnOk};
 ghost use Rattle.dgn_drawing.specs.declared.new_shape.NewShape.TheVariants as shapes;
 ghost use Rattle.dgn_drawing.specs.Spelling.{spell, spelling};
-ghost use Rattle.dgn_drawing.specs.NewElements.{made};
+ghost use Rattle.dgn_drawing.specs.NewElements.{element_made};
 ghost use Rattle.dgn_generator.specs.Generator.{point, new_at, shape_at, cell_header, cell, tree};
 
 use crate::fields::front;
@@ -14,8 +14,8 @@ pub fn push_tree(bytes: &mut Vec<u8>, left: u32, at: Place) -> Result<u32, Alloc
     requires { 1 ≤ left }
     ensures bytes { OnOk result (bytes.new.items ≡ bytes.old.items ++ spelling (tree left at.before at.x at.y)) }
     ensures size { IfOk result (λ size. size ≡ length (tree left at.before at.x at.y)) }
-    ensures some { IfOk result (λ size. 1 ≤ size) }
-    ensures few { IfOk result (λ size. size ≤ left) }
+    ensures positive { IfOk result (λ size. 1 ≤ size) }
+    ensures bounded { IfOk result (λ size. size ≤ left) }
 {
     if at.before % 16 == 0 && left >= 3 {
         push_cell(bytes, at)?;
@@ -47,7 +47,7 @@ fn push_cell_header(bytes: &mut Vec<u8>, at: Place) -> Result<(), AllocError>
 // Appends a tree of one element.
 fn push_one(bytes: &mut Vec<u8>, at: Place) -> Result<(), AllocError>
     ensures { OnOk result (bytes.new.items ≡ bytes.old.items
-        ++ spell (made (new_at at.before (shape_at at.before at.x at.y)))) }
+        ++ spell (element_made (new_at at.before (shape_at at.before at.x at.y)))) }
 {
     match at.before % 4 {
         0 => push_line(bytes, at, false, 100, 50),
@@ -67,7 +67,7 @@ fn push_line(
 ) -> Result<(), AllocError>
     requires width { width ≤ 100 }
     requires height { height ≤ 100 }
-    ensures { OnOk result (bytes.new.items ≡ bytes.old.items ++ spell (record (made (new_at at.before
+    ensures { OnOk result (bytes.new.items ≡ bytes.old.items ++ spell (record (element_made (new_at at.before
         (shapes.Line (point at.x at.y ∷ point (at.x + width) (at.y + height) ∷ [])))) { cbit = bit_c })) }
 {
     bytes.extend_from_slice(&front(at, bit_c, 3, 52, width, height))?;
@@ -77,7 +77,7 @@ fn push_line(
 
 // Appends a chain of three points.
 fn push_chain(bytes: &mut Vec<u8>, at: Place) -> Result<(), AllocError>
-    ensures { OnOk result (bytes.new.items ≡ bytes.old.items ++ spell (made (new_at at.before
+    ensures { OnOk result (bytes.new.items ≡ bytes.old.items ++ spell (element_made (new_at at.before
         (shapes.Chain (point at.x at.y ∷ point (at.x + 10) at.y ∷ point (at.x + 10) (at.y + 10) ∷ []))))) }
 {
     bytes.extend_from_slice(&front(at, false, 4, 62, 10, 10))?;
@@ -87,7 +87,7 @@ fn push_chain(bytes: &mut Vec<u8>, at: Place) -> Result<(), AllocError>
 
 // Appends a shape of three sides.
 fn push_shape(bytes: &mut Vec<u8>, at: Place) -> Result<(), AllocError>
-    ensures { OnOk result (bytes.new.items ≡ bytes.old.items ++ spell (made (new_at at.before
+    ensures { OnOk result (bytes.new.items ≡ bytes.old.items ++ spell (element_made (new_at at.before
         (shapes.Shape (point at.x at.y ∷ point (at.x + 20) at.y ∷ point (at.x + 20) (at.y + 20) ∷ point at.x at.y ∷ []))))) }
 {
     bytes.extend_from_slice(&front(at, false, 6, 70, 20, 20))?;
@@ -97,7 +97,7 @@ fn push_shape(bytes: &mut Vec<u8>, at: Place) -> Result<(), AllocError>
 
 // Appends a text of three characters.
 fn push_text(bytes: &mut Vec<u8>, at: Place) -> Result<(), AllocError>
-    ensures { OnOk result (bytes.new.items ≡ bytes.old.items ++ spell (made (new_at at.before
+    ensures { OnOk result (bytes.new.items ≡ bytes.old.items ++ spell (element_made (new_at at.before
         (shapes.Text 1 0 (pos 1000) (pos 1000) (point at.x at.y) (codes "DGN"))))) }
 {
     bytes.extend_from_slice(&front(at, false, 17, 64, 0, 0))?;

@@ -11,13 +11,13 @@ use Rattle.dgn_drawing.specs.Opening.{Opens}
 use Rattle.dgn_drawing.proofs.FirstElements.{dimension_is}
 use Rattle.edit_ops.specs.declared.causes.cause.Cause.{Cause}
 use Rattle.dgn_import.specs.declared.gathered.Gathered.{Gathered}
-use Rattle.dgn_import.specs.Gathering.{Trees, Dimension, fits, unless, gathered_in, taken, import_trees, cause_of_roots, AreTrees}
+use Rattle.dgn_import.specs.Gathering.{Trees, Dimension, fits, gathering_unless, gathered_in, taken, import_trees, cause_of_roots, AreTrees}
 use Rattle.dgn_import.specs.Laws.{NestApart, GatheredTreesNestApart}
 use Rattle.dgn_import.proofs.TakenTrees.{taken_each}
 use Rattle.dgn_import.proofs.GatheredBytes.{trees_good, trees_free, trees_apart}
 
 -- trees are gathered where nothing refuses them
-given : (cause : Option Cause) (trees : Forest Element) (count : ℕ) (b : List ℕ) (k : ℕ) → unless cause trees count ≡ Trees b k → (cause ≡ None)
+given : (cause : Option Cause) (trees : Forest Element) (count : ℕ) (b : List ℕ) (k : ℕ) → gathering_unless cause trees count ≡ Trees b k → (cause ≡ None)
     × (b ≡ spelling (flat trees)) × (k ≡ count)
 given None trees count b k is = (refl, cc, cc)
 given (Some c) trees count b k is = absurd (let x = is in cc)
@@ -29,7 +29,7 @@ same_dim dim own (Some by) is = eqb-true own dim (and_parts (own == dim) (by.axe
 
 -- what is gathered where they fit, and where they don't
 pub fitting : (dim own : ℕ) (es : List Element) (by : Option Displacement) → fits dim own by ≡ true
-    → gathered_in dim own es by ≡ unless (cause_of_roots own es by (taken es)) (import_trees own es by (taken es)) (length (taken es))
+    → gathered_in dim own es by ≡ gathering_unless (cause_of_roots own es by (taken es)) (import_trees own es by (taken es)) (length (taken es))
 fitting dim own es by is = cond-true (fits dim own by) _ _ is
 
 pub other_dim : (dim own : ℕ) (es : List Element) (by : Option Displacement) → fits dim own by ≡ false → gathered_in dim own es by ≡ Dimension
@@ -58,7 +58,7 @@ gathered_are : (dim own : ℕ) (es : List Element) (by : Option Displacement) (b
     → gathered_in dim own es by ≡ Trees b count
 gathered_are dim own es by b count fit none text counted =
     fitting dim own es by fit
-    ∙ ap (λ (c : Option Cause). unless c (import_trees own es by (taken es)) (length (taken es))) none
+    ∙ ap (λ (c : Option Cause). gathering_unless c (import_trees own es by (taken es)) (length (taken es))) none
     ∙ ap (λ (x : List ℕ). Trees x (length (taken es))) (sym text)
     ∙ ap (Trees b) (sym counted)
 

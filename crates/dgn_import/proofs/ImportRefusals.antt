@@ -6,7 +6,7 @@ use Rattle.dgn_drawing.specs.Element.{Element}
 use Rattle.dgn_drawing.specs.Nesting.{Forest}
 use Rattle.edit_ops.specs.declared.causes.cause.Cause.{Cause}
 use Rattle.edit_ops.proofs.CopyRefusals.{either_refuses, copy_refused}
-use Rattle.dgn_import.specs.Gathering.{Dimension, Refused, fits, unless, taken, import_trees, import_cause, cause_of_roots}
+use Rattle.dgn_import.specs.Gathering.{Dimension, Refused, fits, gathering_unless, taken, import_trees, import_cause, cause_of_roots}
 use Rattle.dgn_import.specs.Laws.{IsOfATree, TreesAloneRefuse}
 use Rattle.dgn_import.proofs.GatheredTrees.{fitting, other_dim}
 
@@ -19,7 +19,7 @@ roots_kind dim es by [] c is = absurd (let x = is in cc)
 roots_kind dim es by (n ∷ ns) c is =
     either_refuses (IsOfATree c) (import_cause dim es by n) (cause_of_roots dim es by ns) c (tree_kind dim es by n c) (roots_kind dim es by ns c) is
 
-refused_with : (cause : Option Cause) (trees : Forest Element) (count : ℕ) (c : Cause) → unless cause trees count ≡ Refused c → cause ≡ Some c
+refused_with : (cause : Option Cause) (trees : Forest Element) (count : ℕ) (c : Cause) → gathering_unless cause trees count ≡ Refused c → cause ≡ Some c
 refused_with None trees count c is = absurd (let x = is in cc)
 refused_with (Some cause) trees count c is = let x = is in cc
 

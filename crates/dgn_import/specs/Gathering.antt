@@ -71,14 +71,14 @@ fits dim own None = own == dim
 fits dim own (Some by) = own == dim && by.axes == dim
 
 -- trees as their bytes and how many they are, unless a cause refuses them
-abbrev pub unless : Option Cause → Forest Element → ℕ → Gathering
-unless None trees count = Trees (spelling (flat trees)) count
-unless (Some cause) trees count = Refused cause
+abbrev pub gathering_unless : Option Cause → Forest Element → ℕ → Gathering
+gathering_unless None trees count = Trees (spelling (flat trees)) count
+gathering_unless (Some cause) trees count = Refused cause
 
 -- what is gathered from the elements of a drawing of dimension `own`
 abbrev pub gathered_in : ℕ → ℕ → List Element → Option Displacement → Gathering
 gathered_in dim own es by =
-    if fits dim own by then unless (cause_of_roots own es by (taken es)) (import_trees own es by (taken es)) (length (taken es))
+    if fits dim own by then gathering_unless (cause_of_roots own es by (taken es)) (import_trees own es by (taken es)) (length (taken es))
     else Dimension
 
 -- what is gathered from a second drawing

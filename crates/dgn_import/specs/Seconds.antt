@@ -40,13 +40,13 @@ value_of (seconds.Good d t) = Drawing d.dim d.body.items d.tail.items
 value_of (seconds.Bad fault) = Faulty fault
 
 -- what the second files come to that are left, the next of which stands last
-abbrev pub waiting : List Second → List SecondValue
-waiting seconds = map value_of (reverse seconds)
+abbrev pub seconds_left : List Second → List SecondValue
+seconds_left seconds = map value_of (reverse seconds)
 
 -- its design is whole, and the nesting is that of its elements
-abbrev pub IsSound : Second → Type 0
-IsSound (seconds.Good d t) = IsWhole d × (t.rows ≡ map row_of (elements d))
-IsSound (seconds.Bad fault) = Unit {0}
+abbrev pub IsOpened : Second → Type 0
+IsOpened (seconds.Good d t) = IsWhole d × (t.rows ≡ map row_of (elements d))
+IsOpened (seconds.Bad fault) = Unit {0}
 
 -- body and tail are together the file
 abbrev pub IsTextOf : List ℕ → SecondValue → Type 0

@@ -4,7 +4,7 @@ ghost use Rattle.dgn_drawing.specs.Nesting.{flat};
 ghost use Rattle.dgn_drawing.specs.Spelling.{spelling};
 ghost use Rattle.elem_index.specs.Design.{elements, IsWhole};
 ghost use Rattle.dgn_drawing.specs.Values.{IsShift};
-ghost use Rattle.dgn_import.specs.Seconds.{value_of, IsSound};
+ghost use Rattle.dgn_import.specs.Seconds.{value_of, IsOpened};
 ghost use Rattle.dgn_import.specs.Gathering.{AreTrees, Trees, fits, gathered, gathered_in, taken, import_tree, import_trees, import_cause, cause_of_roots};
 ghost use Rattle.dgn_import.specs.Answers.{TellsFault, TellsCause};
 
@@ -37,7 +37,7 @@ pub fn gather(
     second: &Second,
     by: Option<&Shift>,
 ) -> Result<Gathered, ImportFault>
-    requires sound { IsSound second.now }
+    requires sound { IsOpened second.now }
     ensures gathered { IfOk result
         (λ g. gathered dim (value_of second.now) (option_map (λ b. b.now) by.entry) ≡ Trees g.bytes g.trees) }
     ensures refused { IfErr result

@@ -1,5 +1,5 @@
 ghost use Rattle.std.specs.Prelude.{◌≡◌, ◌≤◌, vec_len, IfOk};
-ghost use Rattle.dgn_import.specs.Seconds.{second_of, value_of, IsSound, IsTextOf, HasToldFault};
+ghost use Rattle.dgn_import.specs.Seconds.{second_of, value_of, IsOpened, IsTextOf, HasToldFault};
 
 use crate::second_fault::SecondFault;
 use dgn_drawing::MOST_DESIGN;
@@ -27,7 +27,7 @@ pub enum Second {
 pub fn read_second(alloc: Global, bytes: Vec<u8>) -> Result<Second, AllocError>
     requires { vec_len bytes ≤ MOST_DESIGN }
     ensures value { IfOk result (λ s. value_of s ≡ second_of bytes.items) }
-    ensures sound { IfOk result IsSound }
+    ensures sound { IfOk result IsOpened }
     ensures text { IfOk result (λ s. IsTextOf bytes.items (value_of s)) }
     ensures fault { IfOk result (λ s. HasToldFault bytes.items (value_of s)) }
 {

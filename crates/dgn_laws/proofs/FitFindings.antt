@@ -13,7 +13,7 @@ use Rattle.dgn_audit.specs.Laws.{is_outside}
 use Rattle.dgn_audit.proofs.FindingsEnd.{ends_findings}
 use Rattle.dgn_listing.specs.FindingTexts.{findings_text}
 use Rattle.dgn_session.specs.State as machine
-use Rattle.dgn_session.specs.State.{State, pushed}
+use Rattle.dgn_session.specs.State.{State, push_made}
 use Rattle.dgn_drawing.specs.declared.command.Command.TheVariants as command
 use Rattle.dgn_answers.specs.Remaining.{RemainingEdit}
 use Rattle.dgn_answers.specs.Commands.{first_state, answer_of}
@@ -27,7 +27,7 @@ use Rattle.dgn_tool.proofs.LinkedEdits.{top_of, top_opens, stack_top, steps_link
 -- a fit that is done ends the findings of its tree
 fit_ends : (s : State) (t : List ℕ) (n root end : ℕ) (came : Applied) → apply_fit s.dim s.top n ≡ came → Opens (spelling s.top ++ t) s.dim s.top t
     → machine.is_refused came ≡ false → root_of row_of s.top n ≡ Some root → span_of row_of s.top root ≡ Some (root, end)
-    → (answer_of (pushed came s) command.Audit).text ≡ findings_text (filter (is_outside root end) (findings s.dim s.top))
+    → (answer_of (push_made came s) command.Audit).text ≡ findings_text (filter (is_outside root end) (findings s.dim s.top))
 fit_ends s t n root end (Refused cause) is opens done at spanned = absurd (let x = done in cc)
 fit_ends s t n root end (Done made) is opens done at spanned =
     ap findings_text (ends_findings (spelling s.top ++ t) s.dim s.top t n made root end opens is at spanned)
@@ -50,4 +50,4 @@ fits_end_findings f d cs files opens fits bytes n root end done at spanned =
     let s : State = after_all gs (first_state d) in
     let here = subst (λ (g : List ℕ). Opens g d.dim d.elements d.tail) opens.whole opens in
     fit_ends s d.tail n root end (apply_fit s.dim s.top n) refl (opens_after d.tail gs (first_state d) refl
-        (steps_given cs files fits bytes) here) done at spanned
+    (steps_given cs files fits bytes) here) done at spanned

@@ -20,7 +20,7 @@ use Rattle.elem_index.proofs.OpeningAnswers.{opens-opening, opening-opens}
 use Rattle.edit_ops.specs.Causes.{too_long}
 use Rattle.edit_ops.specs.declared.causes.cause.Cause.{Cause}
 use Rattle.dgn_import.specs.Seconds.{as_second, second_of}
-use Rattle.dgn_import.specs.Gathering.{Gathering, Trees, Bad, Dimension, Refused, fits, unless, gathered, gathered_in, taken, cause_of_roots}
+use Rattle.dgn_import.specs.Gathering.{Gathering, Trees, Bad, Dimension, Refused, fits, gathering_unless, gathered, gathered_in, taken, cause_of_roots}
 use Rattle.dgn_import.specs.Laws.{NestApart}
 use Rattle.dgn_import.proofs.GatheredTrees.{nest_apart, same_dim, fitting, other_dim}
 use Rattle.dgn_session.specs.State.{State}
@@ -44,7 +44,7 @@ fit_axes dim own None same axes = grind (arith, nat_tests)
 fit_axes dim own (Some shift) same axes = grind (arith, nat_tests)
 
 -- where trees are gathered, nothing refuses one
-none_refuses : (cause : Option Cause) (trees : Forest Element) (count : ℕ) (b : List ℕ) (k : ℕ) → unless cause trees count ≡ Trees b k → cause ≡ None
+none_refuses : (cause : Option Cause) (trees : Forest Element) (count : ℕ) (b : List ℕ) (k : ℕ) → gathering_unless cause trees count ≡ Trees b k → cause ≡ None
 none_refuses None trees count b k is = refl
 none_refuses (Some c) trees count b k is = absurd (let x = is in cc)
 
@@ -161,7 +161,7 @@ accepts s g by o bytes opens can =
     let trees : gathered s.dim (second_of g) by ≡ Trees b count =
     gathered_as s.dim g by o bytes opens
     ∙ fitting s.dim o.dim o.elements by (fit_axes s.dim o.dim by can.dimension can.axes)
-    ∙ ap (λ (cause : Option Cause). unless cause (trees_taken o by) count) can.no_cause in
+    ∙ ap (λ (cause : Option Cause). gathering_unless cause (trees_taken o by) count) can.no_cause in
     ap (λ (found : Gathering). import_refused (importing s found)) trees
     ∙ ap (λ (cause : Option Cause). import_refused (unless_long cause b count)) (short_enough (length (spelling s.top) + s.rest + length b) can.fits)
 

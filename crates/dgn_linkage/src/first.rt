@@ -18,7 +18,7 @@ const USER_BIT: u8 = 4;
 pub fn first_link(at: usize, rest: &[u8]) -> Link
     requires { 0 < length rest.now }
     ensures link { result ≡ first_link_of at rest.now }
-    ensures some { 0 < result.len }
+    ensures nonempty { 0 < result.len }
     ensures within { result.len ≤ length rest.now }
 {
     let left = rest.len();

@@ -17,7 +17,7 @@ use Rattle.dgn_drawing.specs.Spelling.{spell}
 use Rattle.dgn_drawing.specs.WellFormed.{IsDimension, IsWellFormed, says_attributes}
 use Rattle.dgn_drawing.specs.Forms.{form_in, form_of}
 use Rattle.dgn_drawing.specs.Reading.{form_at, end_at, index_of}
-use Rattle.dgn_drawing.specs.Faults.{IsSoundIn, IsSound, is_shown, is_short, breaks_attribute_rule, element_fault}
+use Rattle.dgn_drawing.specs.Faults.{HasNoFaultIn, HasNoFault, is_shown, is_short, breaks_attribute_rule, element_fault}
 use Rattle.dgn_drawing.specs.Laws.{BodySits}
 use Rattle.dgn_drawing.proofs.BodyEnds.{sound_end}
 use Rattle.dgn_drawing.proofs.BytesSpelled.{shown_after}
@@ -55,7 +55,7 @@ or_true : (t : Bool) → (t || true) ≡ true
 or_true true = refl
 or_true false = refl
 
-loud_in : (dim : ℕ) (b : List ℕ) → IsDimension dim → IsSoundIn dim b → is_shown (form_at b) ≡ true → IsLoud b
+loud_in : (dim : ℕ) (b : List ℕ) → IsDimension dim → HasNoFaultIn dim b → is_shown (form_at b) ≡ true → IsLoud b
 loud_in dim b axes sound shown =
     let end = sound_end dim b sound in
     let after = shown_after dim b axes shown in
@@ -73,7 +73,7 @@ loud_in dim b axes sound shown =
       ];
     }
 
-pub loud : (b : List ℕ) → IsSound b → is_silent (class_of (kind_of b)) ≡ false → IsLoud b
+pub loud : (b : List ℕ) → HasNoFault b → is_silent (class_of (kind_of b)) ≡ false → IsLoud b
 loud b (inl sound) heard = loud_in 2 b (inl refl) sound (shown_at b ∙ ap not heard)
 loud b (inr sound) heard = loud_in 3 b (inr refl) sound (shown_at b ∙ ap not heard)
 

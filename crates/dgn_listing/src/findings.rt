@@ -3,8 +3,8 @@
 ghost use Rattle.dgn_listing.specs.Lines.{field_text, Appends};
 ghost use Rattle.dgn_listing.specs.FindingTexts.{corners_text, finding_line, finding_lines, findings_text};
 
-use crate::pieces::{put, put_ending, put_field};
 use crate::items::put_point;
+use crate::pieces::{put, put_ending, put_field};
 use dgn_audit::Finding;
 use range_code::Box3;
 use std::alloc::{AllocError, Global};

@@ -2,7 +2,7 @@
 
 ghost use Rattle.std.specs.Prelude.{◌≡◌, ◌+◌, ◌≤◌, ◌<◌, ◌^◌, length, IfSome};
 ghost use Rattle.dgn_linkage.specs.Linkages.{linkages_of};
-ghost use Rattle.dgn_drawing.specs.Faults.{IsSound};
+ghost use Rattle.dgn_drawing.specs.Faults.{HasNoFault};
 ghost use Rattle.dgn_listing.specs.Lines.{Appends};
 ghost use Rattle.dgn_listing.specs.LinkTexts.{form_text, link_text, linkages_text, data_start_in, links_text_in};
 
@@ -19,7 +19,7 @@ use std::alloc::{AllocError, Global};
 /// A line is the linkage's place, counted from the element's first byte, its length, and `dmrs`, `user` or
 /// `rest`. Where there is no memory, `out` has grown by a front of that text.
 pub fn write_links(alloc: Global, out: &mut Vec<u8>, b: &[u8]) -> Result<(), AllocError>
-    requires { IsSound b.now }
+    requires { HasNoFault b.now }
     ensures { Appends result (links_text_in b.now) out.old.items out.new.items }
 {
     match data_start(b) {
@@ -30,7 +30,7 @@ pub fn write_links(alloc: Global, out: &mut Vec<u8>, b: &[u8]) -> Result<(), All
 
 // The byte at which the attribute data of a sound element begin, if there are any.
 fn data_start(b: &[u8]) -> Option<usize>
-    requires { IsSound b.now }
+    requires { HasNoFault b.now }
     ensures start { result ≡ data_start_in b.now }
     ensures within { IfSome result (λ at. at ≤ length b.now) }
 {

@@ -1,7 +1,7 @@
 -- Three signs and their word, each found from the other.
 use Rattle.std.proofs.Common.{◌≡◌, ◌↔◌, ℕ, ◌+◌, ◌*◌, ◌/◌, ◌%◌, ◌<◌, List, [], ◌∷◌, length, slice_index, Option, Some, None, IsSome, All, refl, ap, arith}
 use Rattle.std.proofs.lemmas.List.Elements.{All-from_recursion, recursion_from_All}
-use Rattle.dgn_radix50.specs.Signs.{IsSign, sign_of, code_of, signs_of, word_of, joined}
+use Rattle.dgn_radix50.specs.Signs.{IsSign, sign_of, code_of, signs_of, word_of, word_of_codes}
 use Rattle.dgn_radix50.proofs.SignTable.{code_of-sign_of, sign_of-code_of, IsSign-Some, IsSign-None}
 
 -- the signs of a word below 64000 have that word
@@ -39,7 +39,7 @@ word_of-IsSome (r ∷ s ∷ t ∷ []) three = go (code_of r) (code_of s) (code_o
     each : All IsSign (r ∷ s ∷ t ∷ []) → IsSign r × (IsSign s × (IsSign t × Unit {0}))
     each h = recursion_from_All IsSign (r ∷ s ∷ t ∷ []) h
 
-    go : (x y z : Option ℕ) → code_of r ≡ x → code_of s ≡ y → code_of t ≡ z → IsSome (joined x y z) ↔ All IsSign (r ∷ s ∷ t ∷ [])
+    go : (x y z : Option ℕ) → code_of r ≡ x → code_of s ≡ y → code_of t ≡ z → IsSome (word_of_codes x y z) ↔ All IsSign (r ∷ s ∷ t ∷ [])
     go (Some a) (Some b) (Some c) x y z =
         (λ _. All-from_recursion IsSign (r ∷ s ∷ t ∷ []) (IsSign-Some r a x, (IsSign-Some s b y, (IsSign-Some t c z, tt))), λ _. refl)
     go None _ _ x y z = (λ e. cc, λ h. absurd (IsSign-None r x (each h).0))

@@ -24,10 +24,10 @@ abbrev pub signs_of : ℕ → List ℕ
 signs_of w = sign_of (w / 1600) ∷ sign_of (w / 40 % 40) ∷ sign_of (w % 40) ∷ []
 
 -- the word of three codes
-abbrev pub joined : Option ℕ → Option ℕ → Option ℕ → Option ℕ
-joined (Some a) (Some b) (Some c) = Some (1600 * a + 40 * b + c)
-joined _ _ _ = None
+abbrev pub word_of_codes : Option ℕ → Option ℕ → Option ℕ → Option ℕ
+word_of_codes (Some a) (Some b) (Some c) = Some (1600 * a + 40 * b + c)
+word_of_codes _ _ _ = None
 
 -- the word of three bytes; none where one of them is no sign
 abbrev pub word_of : List ℕ → Option ℕ
-word_of s = joined (code_of (slice_index s 0)) (code_of (slice_index s 1)) (code_of (slice_index s 2))
+word_of s = word_of_codes (code_of (slice_index s 0)) (code_of (slice_index s 1)) (code_of (slice_index s 2))

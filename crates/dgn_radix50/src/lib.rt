@@ -26,7 +26,7 @@ pub fn unpack(w: u16) -> Option<[u8; 3]>
 /// The word of the three signs `c`. It is None where one of the bytes is no sign of the table, as a
 /// lower-case letter, and only there.
 pub fn pack(c: [u8; 3]) -> Option<u16>
-    ensures some { IsSome result ↔ All IsSign c }
+    ensures signs { IsSome result ↔ All IsSign c }
     ensures word { result ≡ word_of c }
     ensures back { IfSome result (λ w. (w < 64000) × (signs_of w ≡ c)) }
 {

@@ -16,9 +16,9 @@ use Rattle.edit_ops.proofs.AppendedElements.{appended_opens, short_left}
 use Rattle.dgn_import.specs.Gathering.{AreTrees}
 use Rattle.dgn_session.specs.State.{SessionValue, state_of, value_with}
 use Rattle.dgn_session.specs.Imported.{imported, import_entry}
-use Rattle.dgn_session.specs.Laws.{IsSound}
+use Rattle.dgn_session.specs.Laws.{IsSessionValue}
 use Rattle.dgn_session.specs.Kept.{OpensAt}
-use Rattle.dgn_session.specs.SessionParts.{IsSoundPlan, plan_of, carried}
+use Rattle.dgn_session.specs.SessionParts.{IsSoundPlan, plan_of, value_after}
 use Rattle.dgn_session.proofs.EditedBody.{Become}
 use Rattle.dgn_session.proofs.PlannedBody.{IsPlanned, plan_sound, entry_is}
 use Rattle.dgn_session.proofs.PlanCarriedOut.{has_made}
@@ -30,7 +30,7 @@ pub record IsImported (b : List ℕ) (old new : SessionValue) : Type 0 where
   pub done : state_of new ≡ imported (elements_of old.dim b) (state_of old)
   pub value : new ≡ value_with (old.body ++ b) (old.entries ++ import_entry (state_of old).top ∷ []) old
 
-module _ (old : SessionValue) (sound : IsSound old) (b : List ℕ) (trees : AreTrees old.dim b)
+module _ (old : SessionValue) (sound : IsSessionValue old) (b : List ℕ) (trees : AreTrees old.dim b)
     (short : too_long (length old.body + length old.tail + length b) ≡ None) where
   opens : OpensAt old.dim old.tail old.body
   opens = opens_kept old.dim old.tail old.body (reverse old.entries) sound
@@ -89,13 +89,13 @@ module _ (old : SessionValue) (sound : IsSound old) (b : List ℕ) (trees : AreT
   elements_are = ap (elements_of old.dim) trees.text ∙ elements-spelling old.dim trees.axes trees.elements trees.each
 
   -- and where it is, the session has them
-  pub trees_made : (ps : List Put) → ps ≡ [] → (new : SessionValue) → new ≡ carried ps b old → IsImported b old new
+  pub trees_made : (ps : List Put) → ps ≡ [] → (new : SessionValue) → new ≡ value_after ps b old → IsImported b old new
   trees_made ps none new is =
       let has = has_made old [] made (plan_of ps b) (planned ps none) (Done made) refl new is in
       record {
         done = has.done ∙ ap (λ (new : List Element). imported new (state_of old)) (sym elements_are);
         value =
-            is ∙ ap (λ (qs : List Put). carried qs b old) none
+            is ∙ ap (λ (qs : List Put). value_after qs b old) none
             ∙ ap (λ (e : Entry). value_with (old.body ++ b) (old.entries ++ e ∷ []) old)
             (entry_is old.dim old.tail old.body [] made (plan_of [] b) (planned [] refl));
       }

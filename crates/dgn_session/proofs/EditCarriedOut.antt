@@ -14,11 +14,11 @@ use Rattle.edit_ops.specs.Fields.{edited_fields}
 use Rattle.edit_ops.specs.Planned.{IsPlan}
 use Rattle.edit_ops.specs.Laws.{ChangesItsFields}
 use Rattle.edit_ops.proofs.EditLaws.{changes_fields}
-use Rattle.dgn_session.specs.State.{SessionValue, state_of, applied}
-use Rattle.dgn_session.specs.Laws.{IsSound}
+use Rattle.dgn_session.specs.State.{SessionValue, state_of, edit_applied}
+use Rattle.dgn_session.specs.Laws.{IsSessionValue}
 use Rattle.dgn_session.specs.Kept.{OpensAt}
 use Rattle.dgn_session.specs.SessionParts.{value_of}
-use Rattle.dgn_session.specs.SessionParts.{IsSoundPlan, plan_of, carried}
+use Rattle.dgn_session.specs.SessionParts.{IsSoundPlan, plan_of, value_after}
 use Rattle.dgn_session.proofs.EditedBody.{edit_becomes}
 use Rattle.dgn_session.proofs.PlannedBody.{IsPlanned, plan_sound}
 use Rattle.dgn_session.proofs.PlanCarriedOut.{HasMade, has_made}
@@ -34,15 +34,15 @@ plan_seen d l mask fence old view e p append is plan =
 
 -- a session before and after an edit that is done
 pub record IsEdited (e : Edit) (old new : SessionValue) : Type 0 where
-  pub has : HasMade (applied e (state_of old)) (edited_fields old.dim (state_of old).top e) old new
+  pub has : HasMade (edit_applied e (state_of old)) (edited_fields old.dim (state_of old).top e) old new
   pub changed : ChangesItsFields old.dim (state_of old).top e (state_of new).top
 
-module _ (old : SessionValue) (sound : IsSound old) (e : Edit) (p : Plan) (fits : IsEdit e)
+module _ (old : SessionValue) (sound : IsSessionValue old) (e : Edit) (p : Plan) (fits : IsEdit e)
     (plan : IsPlan old.dim (state_of old).top (length old.tail + 0) e p) where
   opens : OpensAt old.dim old.tail old.body
   opens = opens_kept old.dim old.tail old.body (reverse old.entries) sound
 
-  is_done : applied e (state_of old) ≡ Done plan.made
+  is_done : edit_applied e (state_of old) ≡ Done plan.made
   is_done =
       let all : length old.tail + 0 ≡ length old.tail = omega arith in
       subst (λ (n : ℕ). apply old.dim (state_of old).top n e ≡ Done plan.made) all plan.done
@@ -63,9 +63,9 @@ module _ (old : SessionValue) (sound : IsSound old) (e : Edit) (p : Plan) (fits 
   edit_sound = plan_sound old.dim old.tail old.body (edited_fields old.dim (state_of old).top e) plan.made p planned
 
   -- and where it is, the session is edited
-  pub edit_made : (new : SessionValue) → new ≡ carried p.patches p.append old → IsEdited e old new
+  pub edit_made : (new : SessionValue) → new ≡ value_after p.patches p.append old → IsEdited e old new
   edit_made new is =
-      let has = has_made old (edited_fields old.dim (state_of old).top e) plan.made p planned (applied e (state_of old)) is_done new is in
+      let has = has_made old (edited_fields old.dim (state_of old).top e) plan.made p planned (edit_applied e (state_of old)) is_done new is in
       record {
         has = has;
         changed = changes_fields (old.body ++ old.tail) old.dim (state_of old).top old.tail (length old.tail) e (state_of new).top fits opens.opens

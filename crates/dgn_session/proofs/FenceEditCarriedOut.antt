@@ -19,11 +19,11 @@ use Rattle.edit_ops.specs.Fenced.{apply_all, fenced_fields, AreRoots, IsFenceEdi
 use Rattle.edit_ops.specs.Planned.{IsFencePlan}
 use Rattle.edit_ops.specs.FenceLaws.{ChangesFencedFields}
 use Rattle.edit_ops.proofs.FenceLaws.{fenced_changes}
-use Rattle.dgn_session.specs.State.{SessionValue, state_of, selection, pushed_if, fence_entry, value_with}
-use Rattle.dgn_session.specs.Laws.{IsSound}
+use Rattle.dgn_session.specs.State.{SessionValue, state_of, selection, push_if_made, fence_entry, value_with}
+use Rattle.dgn_session.specs.Laws.{IsSessionValue}
 use Rattle.dgn_session.specs.Kept.{OpensAt}
 use Rattle.dgn_session.specs.SessionParts.{value_of}
-use Rattle.dgn_session.specs.SessionParts.{IsSoundPlan, plan_of, carried}
+use Rattle.dgn_session.specs.SessionParts.{IsSoundPlan, plan_of, value_after}
 use Rattle.dgn_session.proofs.EditedBody.{fence_becomes}
 use Rattle.dgn_session.proofs.PlannedBody.{IsPlanned, plan_sound}
 use Rattle.dgn_session.proofs.PlanCarriedOut.{has_made}
@@ -47,13 +47,13 @@ roots_seen d l mask fence old view mode corners ns are =
 
 -- a session before and after an edit of what is chosen, where it is done
 pub record IsFenceEdited (e : FenceEdit) (old new : SessionValue) (chosen : Option (List ℕ)) : Type 0 where
-  pub done : state_of new ≡ pushed_if (option_map (apply_all old.dim (state_of old).top (length old.tail) e) chosen) (state_of old)
+  pub done : state_of new ≡ push_if_made (option_map (apply_all old.dim (state_of old).top (length old.tail) e) chosen) (state_of old)
   pub accepted : option_map (apply_all old.dim (state_of old).top (length old.tail) e) chosen ≡ Some (Done (state_of new).top)
   pub value : Some new ≡ option_map (λ (ns : List ℕ). value_with (spelling (state_of new).top)
       (old.entries ++ fence_entry old.dim (state_of old).top e ns ∷ []) old) chosen
   pub changed : IfSome chosen (λ (ns : List ℕ). ChangesFencedFields old.dim (state_of old).top e ns (state_of new).top)
 
-module _ (old : SessionValue) (sound : IsSound old) (corners : List Pt) (mode : Mode) (is : old.fence ≡ Some corners) (ns : List ℕ)
+module _ (old : SessionValue) (sound : IsSessionValue old) (corners : List Pt) (mode : Mode) (is : old.fence ≡ Some corners) (ns : List ℕ)
     (are : ns ≡ selected old.dim old.mask corners mode (state_of old).top) (e : FenceEdit) (p : Plan) (fits : IsFenceEdit e)
     (plan : IsFencePlan old.dim (state_of old).top (length old.tail) e ns p) where
   opens : OpensAt old.dim old.tail old.body
@@ -81,7 +81,7 @@ module _ (old : SessionValue) (sound : IsSound old) (corners : List Pt) (mode : 
   chosen = ap (option_map (λ (f : List Pt). selected old.dim old.mask f mode (state_of old).top)) is ∙ ap Some (sym are)
 
   -- and where it is, the session is edited
-  pub fence_made : (new : SessionValue) → new ≡ carried p.patches p.append old → IsFenceEdited e old new (selection mode (state_of old))
+  pub fence_made : (new : SessionValue) → new ≡ value_after p.patches p.append old → IsFenceEdited e old new (selection mode (state_of old))
   fence_made new carried =
       let has =
       has_made old (fenced_fields old.dim (state_of old).top e ns) plan.made p planned

@@ -15,10 +15,10 @@ use Rattle.dgn_audit.specs.Fitting.{apply_fit, fit_fields}
 use Rattle.dgn_audit.specs.Planned.{IsFitPlan}
 use Rattle.dgn_audit.proofs.FitKeepsRows.{fitted_opens, fits_change}
 use Rattle.dgn_audit.proofs.FindingsEnd.{ends_findings}
-use Rattle.dgn_session.specs.State.{SessionValue, state_of, pushed, undone, undo_refused}
-use Rattle.dgn_session.specs.Laws.{IsSound}
+use Rattle.dgn_session.specs.State.{SessionValue, state_of, push_made, after_undo, undo_refused}
+use Rattle.dgn_session.specs.Laws.{IsSessionValue}
 use Rattle.dgn_session.specs.Kept.{OpensAt}
-use Rattle.dgn_session.specs.SessionParts.{IsSoundPlan, plan_of, carried}
+use Rattle.dgn_session.specs.SessionParts.{IsSoundPlan, plan_of, value_after}
 use Rattle.dgn_session.specs.Fits.{fit_applied, IsFit, FitsAreUndone, OpenedStayFitted}
 use Rattle.dgn_session.proofs.EditedBody.{Become}
 use Rattle.dgn_session.proofs.PlannedBody.{IsPlanned, plan_sound}
@@ -50,7 +50,7 @@ pub record IsFitted (n : ℕ) (old new : SessionValue) : Type 0 where
   pub has : HasMade (fit_applied n (state_of old)) (fit_fields old.dim (state_of old).top n) old new
   pub fitted : IsFit old.dim (state_of old).top n (state_of new).top
 
-module _ (old : SessionValue) (sound : IsSound old) (n : ℕ) (patches : List Put) (plan : IsFitPlan old.dim (state_of old).top n patches) where
+module _ (old : SessionValue) (sound : IsSessionValue old) (n : ℕ) (patches : List Put) (plan : IsFitPlan old.dim (state_of old).top n patches) where
   opens : OpensAt old.dim old.tail old.body
   opens = opens_kept old.dim old.tail old.body (reverse old.entries) sound
 
@@ -81,14 +81,14 @@ module _ (old : SessionValue) (sound : IsSound old) (n : ℕ) (patches : List Pu
   }
 
   -- and where it is carried out, the session is fitted
-  pub fit_made : (new : SessionValue) → new ≡ carried patches [] old → IsFitted n old new
+  pub fit_made : (new : SessionValue) → new ≡ value_after patches [] old → IsFitted n old new
   fit_made new is =
       let has =
       has_made old (fit_fields old.dim (state_of old).top n) plan.made (plan_of patches []) planned (fit_applied n (state_of old)) plan.done new is in
       record { has = has; fitted = ends (state_of new).top has.accepted }
 
 pub fits_are_undone : FitsAreUndone
-fits_are_undone s n made done = (ap (λ (a : Applied). undone (pushed a s)) done, ap (λ (a : Applied). undo_refused (pushed a s)) done)
+fits_are_undone s n made done = (ap (λ (a : Applied). after_undo (push_made a s)) done, ap (λ (a : Applied). undo_refused (push_made a s)) done)
 
 pub opened_stay_fitted : OpenedStayFitted
 opened_stay_fitted s n = pushed_stays s (fit_applied n s)

@@ -19,7 +19,7 @@ use Rattle.dgn_drawing.specs.Opening.{BeginsWithTcb, elements_of}
 use Rattle.dgn_drawing.proofs.Fronts.{body_spelled}
 use Rattle.elem_index.specs.declared.design.Design.{Design}
 use Rattle.elem_index.specs.Offsets.{offset_of, offsets_of}
-use Rattle.elem_index.specs.Design.{kept_of, kinds_of, elements, IsWhole, IsBehind, SameText}
+use Rattle.elem_index.specs.Design.{kept_of, kinds_of, elements, IsWhole, HasShrunk, SameText}
 use Rattle.elem_index.proofs.WrittenDesigns.{behind_after}
 use Rattle.elem_index.proofs.Places.{length-offsets, get_or-offsets}
 use Rattle.nest_tree.specs.Nested.{Nested}
@@ -156,7 +156,7 @@ module _ (d : Design) (t : Nested) (l : LogState) (kept : IsKept d t l) (len : �
         elements_before : elements e ≡ elements_of d.dim (back d.body.items last.last)
         elements_before = ap (λ (n : ℕ). elements_of n e.body.items) axes ∙ ap (elements_of d.dim) (body ∙ body_before)
 
-        pub can_shrink : IsBehind count e
+        pub can_shrink : HasShrunk count e
         can_shrink =
             let text = body ∙ body_before in
             behind_after d e kept.whole

@@ -10,7 +10,7 @@ use Rattle.dgn_drawing.specs.Rows.{row_of}
 use Rattle.dgn_drawing.specs.Nesting.{BeginsFree, itself}
 use Rattle.nest_tree.specs.Shapes.{IsRow}
 use Rattle.nest_tree.proofs.NestableRows.{each_row}
-use Rattle.dgn_session.specs.CarryingOut.{Spells, IsSpelling, IsBlock, IsBehind, Grows}
+use Rattle.dgn_session.specs.CarryingOut.{Spells, IsSpelling, IsBlock, ExtendsRows, Grows}
 use Rattle.dgn_session.proofs.SpelledRows.{four}
 
 -- the elements that are left, and the rows of those that the nesting has followed
@@ -23,7 +23,7 @@ pub record Follows (dim : ℕ) (es : List Element) (rest : List ℕ) (old new : 
 pub record HasFollowed (b rest : List ℕ) (old new : List Row) (count : ℕ) : Type 0 where
   pub spelled : IsSpelling rest
   pub follows : (dim : ℕ) (es : List Element) → Spells dim es b → Follows dim es rest old new
-  pub behind : IsBehind old new
+  pub behind : ExtendsRows old new
   pub many : length new ≡ length old + count
   pub few : count + length rest ≤ length b
 

@@ -12,7 +12,7 @@ use Rattle.dgn_drawing.specs.Element.{Element}
 use Rattle.dgn_drawing.specs.Rows.{row_of}
 use Rattle.dgn_drawing.specs.Nesting.{BeginsFree, itself}
 use Rattle.elem_index.specs.declared.design.Design.{Design}
-use Rattle.elem_index.specs.Design.{kept_of, kinds_of, spare_of, elements, IsOpen, IsWhole, IsFront, SameText}
+use Rattle.elem_index.specs.Design.{kept_of, kinds_of, spare_of, elements, IsOpen, IsWhole, HasGrown, SameText}
 use Rattle.elem_index.proofs.WrittenDesigns.{front_after}
 use Rattle.nest_tree.specs.Nested.{Nested}
 use Rattle.dgn_session.specs.Kept.{rows_of, OpensAt, IsUnder, Leads, AreKept, IsKept}
@@ -88,7 +88,7 @@ module _ (d : Design) (t : Nested) (l : LogState) (kept : IsKept d t l) (ps : Li
         sym (take-map row_of (length (elements d)) (elements e)) ∙ ap (take (length (elements d))) rows_new
         ∙ take_at (map row_of (elements d)) rows (length (elements d)) (length-map (elements d) row_of)
 
-    pub can_grow : IsFront e
+    pub can_grow : HasGrown e
     can_grow = front_after d e kept.whole (open_of e opens_new) offsets kinds first_rows (omega (arith, many, spare, room.offsets))
 
     -- and one that has the new offsets too

@@ -12,9 +12,9 @@ use Rattle.elem_index.specs.declared.design.Design.{Design}
 use Rattle.edit_ops.specs.declared.types.plan.Plan.{Plan}
 use Rattle.edit_ops.specs.Applying.{Applied, Done}
 use Rattle.edit_ops.specs.Fields.{Field}
-use Rattle.dgn_session.specs.State.{SessionValue, state_of, pushed, undone, entry_with, value_with}
+use Rattle.dgn_session.specs.State.{SessionValue, state_of, push_made, after_undo, entry_with, value_with}
 use Rattle.dgn_session.specs.SessionParts.{value_of}
-use Rattle.dgn_session.specs.SessionParts.{carried}
+use Rattle.dgn_session.specs.SessionParts.{value_after}
 use Rattle.dgn_session.proofs.PlannedBody.{IsPlanned, text_is, made_are, entry_leads, entry_is}
 use Rattle.dgn_session.proofs.Steps.{pushed_state, undone_state}
 
@@ -30,7 +30,7 @@ value_same v dim body body' tail entries entries' axes text behind es =
 
 -- an undo, on the session's value
 pub undone_value : (d g : Design) (l m : LogState) (mask : Mask) (fence : Option (List Pt)) → g.dim ≡ d.dim → g.tail.items ≡ d.tail.items
-    → IsUndone l.entries d.body.items m.entries g.body.items → state_of (value_of g m mask fence) ≡ undone (state_of (value_of d l mask fence))
+    → IsUndone l.entries d.body.items m.entries g.body.items → state_of (value_of g m mask fence) ≡ after_undo (state_of (value_of d l mask fence))
 undone_value d g l m mask fence axes tail is =
     ap state_of (value_same (value_of d l mask fence) g.dim g.body.items g.body.items g.tail.items m.entries m.entries axes refl tail refl)
     ∙ undone_state (value_of d l mask fence) g.body.items m.entries is
@@ -38,7 +38,7 @@ undone_value d g l m mask fence axes tail is =
 -- where a design and its log have what a plan leaves, a session of them has it too
 pub carried_value : (d g : Design) (l m : LogState) (mask : Mask) (fence : Option (List Pt)) (ps : List Put) (append : List ℕ) → g.dim ≡ d.dim
     → g.tail.items ≡ d.tail.items → g.body.items ≡ write d.body.items ps ++ append → m.entries ≡ l.entries ++ entry_of d.body.items ps ∷ []
-    → value_of g m mask fence ≡ carried ps append (value_of d l mask fence)
+    → value_of g m mask fence ≡ value_after ps append (value_of d l mask fence)
 carried_value d g l m mask fence ps append axes tail body entries =
     value_same (value_of d l mask fence) g.dim g.body.items (write d.body.items ps ++ append) g.tail.items m.entries
     (l.entries ++ entry_of d.body.items ps ∷ []) axes body tail entries
@@ -47,19 +47,19 @@ carried_value d g l m mask fence ps append axes tail body entries =
 -- entry more
 pub record HasMade (a : Applied) (fields : List Field) (old new : SessionValue) : Type 0 where
   pub accepted : a ≡ Done (state_of new).top
-  pub done : state_of new ≡ pushed a (state_of old)
+  pub done : state_of new ≡ push_made a (state_of old)
   pub value : new ≡ value_with (spelling (state_of new).top) (old.entries ++ entry_with (state_of old).top fields ∷ []) old
 
 -- the elements become others by these fields, which is planned and carried out
 module _ (old : SessionValue) (fields : List Field) (made : List Element) (p : Plan) (planned : IsPlanned old.dim old.tail old.body fields made p) where
   -- a session's value that has what the plan leaves
   abbrev after : SessionValue
-  after = carried p.patches p.append old
+  after = value_after p.patches p.append old
 
   are : (state_of after).top ≡ made
   are = made_are old.dim old.tail old.body fields made p planned
 
-  done_after : state_of after ≡ pushed (Done made) (state_of old)
+  done_after : state_of after ≡ push_made (Done made) (state_of old)
   done_after =
       pushed_state old (write old.body p.patches ++ p.append) (entry_of old.body p.patches) made
       (entry_leads old.dim old.tail old.body fields made p planned) are
@@ -71,9 +71,9 @@ module _ (old : SessionValue) (fields : List Field) (made : List Element) (p : P
       ∙ ap (λ (e : Entry). value_with (spelling (state_of after).top) (old.entries ++ e ∷ []) old)
       (entry_is old.dim old.tail old.body fields made p planned)
 
-  pub has_made : (a : Applied) → a ≡ Done made → (new : SessionValue) → new ≡ carried p.patches p.append old → HasMade a fields old new
+  pub has_made : (a : Applied) → a ≡ Done made → (new : SessionValue) → new ≡ value_after p.patches p.append old → HasMade a fields old new
   has_made a done new is = subst (HasMade a fields old) (sym is) (record {
     accepted = done ∙ ap Done (sym are);
-    done = done_after ∙ sym (ap (λ (x : Applied). pushed x (state_of old)) done);
+    done = done_after ∙ sym (ap (λ (x : Applied). push_made x (state_of old)) done);
     value = value_after;
   })

@@ -11,7 +11,7 @@ use Rattle.dgn_drawing.specs.Spelling.{spell, spelling, size_of}
 use Rattle.dgn_drawing.specs.WellFormed.{IsDimension, IsWellFormed}
 use Rattle.dgn_drawing.specs.Rows.{row_of, row_at}
 use Rattle.dgn_drawing.specs.Nesting.{BeginsFree}
-use Rattle.dgn_drawing.specs.Faults.{IsSound}
+use Rattle.dgn_drawing.specs.Faults.{HasNoFault}
 use Rattle.dgn_drawing.proofs.RecordsRead.{size_said-spell, size-spell}
 use Rattle.dgn_drawing.proofs.Rows.{row_at-spell}
 use Rattle.elem_index.proofs.Places.{sound_spell}
@@ -93,11 +93,11 @@ module _ (b : List ℕ) (rows : List Row) (at : ℕ) (rest : List ℕ) (are : Ar
       ∙ take_at (spell f.element) (spelling f.behind) (size_of f.element) refl
 
   -- it is sound
-  pub sound_first : IsSpelling b → (size : ℕ) (first : List ℕ) → size ≡ size_said rest → first ≡ take size rest → IsSound first
+  pub sound_first : IsSpelling b → (size : ℕ) (first : List ℕ) → size ≡ size_said rest → first ≡ take size rest → HasNoFault first
   sound_first some size first said front =
       let f = first_of_left b rows at rest are is within some.0 some.1 some.2 in
       let axes = some.2.axes in
-      subst IsSound (sym (first_is some.0 some.1 some.2 size first said front)) (sound_spell some.0 f.element axes f.good)
+      subst HasNoFault (sym (first_is some.0 some.1 some.2 size first said front)) (sound_spell some.0 f.element axes f.good)
 
   -- with its row, one less is left
   pub left_more : (size : ℕ) (first : List ℕ) (row : Row) (more : List Row) → size ≡ size_said rest → first ≡ take size rest → row ≡ row_at first

@@ -42,7 +42,7 @@ pub record IsBlock (b : List ℕ) (rows : List Row) (size : ℕ) : Type 0 where
   pub few : length rows ≤ size
 
 -- rows are others and some behind them, of which the first, if there is one, has no bit C
-pub record IsBehind (old new : List Row) : Type 0 where
+pub record ExtendsRows (old new : List Row) : Type 0 where
   pub more : List Row
   pub are : new ≡ old ++ more
   pub free : BeginsFree itself more

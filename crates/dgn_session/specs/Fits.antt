@@ -10,7 +10,7 @@ use Rattle.edit_ops.specs.Fields.{IsIn}
 use Rattle.dgn_audit.specs.Findings.{findings}
 use Rattle.dgn_audit.specs.Fitting.{apply_fit, fit_fields}
 use Rattle.dgn_audit.specs.Laws.{is_outside}
-use Rattle.dgn_session.specs.State.{State, pushed, undone, undo_refused, entry_with}
+use Rattle.dgn_session.specs.State.{State, push_made, after_undo, undo_refused, entry_with}
 use Rattle.dgn_session.specs.Laws.{opened_in}
 
 -- what a fit of the tree that holds element n comes to in a state
@@ -18,8 +18,8 @@ abbrev pub fit_applied : ℕ → State → Applied
 fit_applied n s = apply_fit s.dim s.top n
 
 -- one that is done pushes what it makes, and one that is refused leaves the state
-abbrev pub fit_made : ℕ → State → State
-fit_made n s = pushed (fit_applied n s) s
+abbrev pub after_fit : ℕ → State → State
+after_fit n s = push_made (fit_applied n s) s
 
 -- the entry of a fit of these elements
 abbrev pub fit_entry : ℕ → List Element → ℕ → Entry
@@ -35,8 +35,9 @@ pub record IsFit (dim : ℕ) (es : List Element) (n : ℕ) (made : List Element)
 
 -- after a fit that is done an undo is not refused, and gives the state before
 abbrev pub FitsAreUndone : Type 0
-FitsAreUndone = (s : State) (n : ℕ) (made : List Element) → fit_applied n s ≡ Done made → (undone (fit_made n s) ≡ s) × (undo_refused (fit_made n s) ≡ false)
+FitsAreUndone = (s : State) (n : ℕ) (made : List Element) → fit_applied n s ≡ Done made
+    → (after_undo (after_fit n s) ≡ s) × (undo_refused (after_fit n s) ≡ false)
 
 -- the opened elements stay
 abbrev pub OpenedStayFitted : Type 0
-OpenedStayFitted = (s : State) (n : ℕ) → opened_in (fit_made n s) ≡ opened_in s
+OpenedStayFitted = (s : State) (n : ℕ) → opened_in (after_fit n s) ≡ opened_in s

@@ -12,23 +12,24 @@ use Rattle.dgn_drawing.specs.Spelling.{spelling}
 use Rattle.dgn_drawing.specs.Opening.{elements_of}
 use Rattle.elem_index.specs.Offsets.{offset_of}
 use Rattle.edit_ops.specs.Applying.{Done}
-use Rattle.dgn_session.specs.State.{State, SessionValue, state_of, applied, edited, fence_applied, fence_edited, undone, undo_refused}
+use Rattle.dgn_session.specs.State.{State, SessionValue, state_of, edit_applied, after_edit, fence_applied, after_fence_edit, after_undo, undo_refused}
 use Rattle.dgn_session.specs.Imported.{imported}
 use Rattle.dgn_session.specs.Kept.{rows_of, AreKept}
 
 -- after an edit that is done an undo is not refused, and gives the state before
 abbrev pub EditsAreUndone : Type 0
-EditsAreUndone = (s : State) (e : Edit) (made : List Element) → applied e s ≡ Done made → (undone (edited e s) ≡ s) × (undo_refused (edited e s) ≡ false)
+EditsAreUndone = (s : State) (e : Edit) (made : List Element) → edit_applied e s ≡ Done made
+    → (after_undo (after_edit e s) ≡ s) × (undo_refused (after_edit e s) ≡ false)
 
 -- and so it is after an edit that is done of all that a fence chooses
 abbrev pub FenceEditsAreUndone : Type 0
 FenceEditsAreUndone =
     (s : State) (mode : Mode) (e : FenceEdit) (made : List Element) → fence_applied mode e s ≡ Some (Done made)
-    → (undone (fence_edited mode e s) ≡ s) × (undo_refused (fence_edited mode e s) ≡ false)
+    → (after_undo (after_fence_edit mode e s) ≡ s) × (undo_refused (after_fence_edit mode e s) ≡ false)
 
 -- and so it is after an import
 abbrev pub ImportsAreUndone : Type 0
-ImportsAreUndone = (s : State) (new : List Element) → (undone (imported new s) ≡ s) × (undo_refused (imported new s) ≡ false)
+ImportsAreUndone = (s : State) (new : List Element) → (after_undo (imported new s) ≡ s) × (undo_refused (imported new s) ≡ false)
 
 -- the last list of a stack
 abbrev pub last_of : List Element → List (List Element) → List Element
@@ -42,14 +43,14 @@ opened_in s = last_of s.top s.earlier
 -- they stay
 abbrev pub OpenedStay : Type 0
 OpenedStay =
-    (s : State) → ((e : Edit) → opened_in (edited e s) ≡ opened_in s)
-    × ((mode : Mode) (e : FenceEdit) → opened_in (fence_edited mode e s) ≡ opened_in s)
+    (s : State) → ((e : Edit) → opened_in (after_edit e s) ≡ opened_in s)
+    × ((mode : Mode) (e : FenceEdit) → opened_in (after_fence_edit mode e s) ≡ opened_in s)
     × ((new : List Element) → opened_in (imported new s) ≡ opened_in s)
-    × (opened_in (undone s) ≡ opened_in s)
+    × (opened_in (after_undo s) ≡ opened_in s)
 
 -- a value of a session
-abbrev pub IsSound : SessionValue → Type 0
-IsSound v = AreKept v.dim v.tail v.body (reverse v.entries)
+abbrev pub IsSessionValue : SessionValue → Type 0
+IsSessionValue v = AreKept v.dim v.tail v.body (reverse v.entries)
 
 -- there is one list below the top for each entry
 abbrev pub EntriesAreCounted : Type 0
@@ -58,7 +59,7 @@ EntriesAreCounted = (v : SessionValue) → length (state_of v).earlier ≡ lengt
 -- the k newest entries, each written back in turn, give the exact bytes of the list that stands k below the top
 abbrev pub EntriesLeadBack : Type 0
 EntriesLeadBack =
-    (v : SessionValue) → IsSound v → (k : ℕ) (es : List Element) → slice_get ((state_of v).top ∷ (state_of v).earlier) k ≡ Some es
+    (v : SessionValue) → IsSessionValue v → (k : ℕ) (es : List Element) → slice_get ((state_of v).top ∷ (state_of v).earlier) k ≡ Some es
     → back_by k v.body (reverse v.entries) ≡ spelling es
 
 -- what all entries lead back to: the opened body
@@ -77,4 +78,4 @@ pub record StandsStill (dim : ℕ) (opened b : List ℕ) (entries : List Entry) 
   pub bytes : (k : ℕ) → k < length opened → IsUnheld k entries → slice_index b k ≡ slice_index opened k
 
 abbrev pub OpenedStandsStill : Type 0
-OpenedStandsStill = (v : SessionValue) → IsSound v → StandsStill v.dim (opened_body v) v.body (reverse v.entries)
+OpenedStandsStill = (v : SessionValue) → IsSessionValue v → StandsStill v.dim (opened_body v) v.body (reverse v.entries)

@@ -15,8 +15,8 @@ abbrev pub value_of : Design → LogState → Mask → Option (List Pt) → Sess
 value_of d l mask fence = record { dim = d.dim; body = d.body.items; tail = d.tail.items; entries = l.entries; mask = mask; fence = fence }
 
 -- the value of a session that begins on a design
-abbrev pub started : Design → SessionValue
-started d = record { dim = d.dim; body = d.body.items; tail = d.tail.items; entries = []; mask = all_levels; fence = None }
+abbrev pub first_value : Design → SessionValue
+first_value d = record { dim = d.dim; body = d.body.items; tail = d.tail.items; entries = []; mask = all_levels; fence = None }
 
 -- patches and bytes to append, as a plan
 abbrev pub plan_of : List Put → List ℕ → Plan
@@ -27,5 +27,5 @@ abbrev pub IsSoundPlan : ℕ → List ℕ → List ℕ → Plan → Type 0
 IsSoundPlan dim tail b p = IsSoundChange dim tail b p.patches p.append
 
 -- a session's value where patches are written into the body and bytes are put behind it, with the entry of this
-abbrev pub carried : List Put → List ℕ → SessionValue → SessionValue
-carried ps append v = value_with (write v.body ps ++ append) (v.entries ++ entry_of v.body ps ∷ []) v
+abbrev pub value_after : List Put → List ℕ → SessionValue → SessionValue
+value_after ps append v = value_with (write v.body ps ++ append) (v.entries ++ entry_of v.body ps ∷ []) v

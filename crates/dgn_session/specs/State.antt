@@ -31,24 +31,24 @@ abbrev pub all_levels : Mask
 all_levels = record { 0 = 18446744073709551615 }
 
 -- it begins with the opened elements alone, all levels and no fence
-abbrev pub begun : ℕ → List Element → ℕ → State
-begun dim es rest = record { dim = dim; rest = rest; top = es; earlier = []; mask = all_levels; fence = None }
+abbrev pub first_state : ℕ → List Element → ℕ → State
+first_state dim es rest = record { dim = dim; rest = rest; top = es; earlier = []; mask = all_levels; fence = None }
 
 -- the state with another stack
 abbrev pub with_stack : List Element → List (List Element) → State → State
 with_stack top earlier s = record s { top = top; earlier = earlier }
 
 -- what an edit comes to in a state
-abbrev pub applied : Edit → State → Applied
-applied e s = apply s.dim s.top s.rest e
+abbrev pub edit_applied : Edit → State → Applied
+edit_applied e s = apply s.dim s.top s.rest e
 
 -- an edit that is done pushes what it makes, and one that is refused leaves the state
-abbrev pub pushed : Applied → State → State
-pushed (Done made) s = with_stack made (s.top ∷ s.earlier) s
-pushed (Refused cause) s = s
+abbrev pub push_made : Applied → State → State
+push_made (Done made) s = with_stack made (s.top ∷ s.earlier) s
+push_made (Refused cause) s = s
 
-abbrev pub edited : Edit → State → State
-edited e s = pushed (applied e s) s
+abbrev pub after_edit : Edit → State → State
+after_edit e s = push_made (edit_applied e s) s
 
 -- whether it is refused
 abbrev pub is_refused : Applied → Bool
@@ -64,21 +64,21 @@ abbrev pub fence_applied : Mode → FenceEdit → State → Option Applied
 fence_applied mode e s = option_map (apply_all s.dim s.top s.rest e) (selection mode s)
 
 -- what it leaves: where no fence is set it is refused
-abbrev pub pushed_if : Option Applied → State → State
-pushed_if None s = s
-pushed_if (Some applied) s = pushed applied s
+abbrev pub push_if_made : Option Applied → State → State
+push_if_made None s = s
+push_if_made (Some applied) s = push_made applied s
 
-abbrev pub fence_edited : Mode → FenceEdit → State → State
-fence_edited mode e s = pushed_if (fence_applied mode e s) s
+abbrev pub after_fence_edit : Mode → FenceEdit → State → State
+after_fence_edit mode e s = push_if_made (fence_applied mode e s) s
 
 -- the top is dropped, where a list is below it
-abbrev pub dropped : List (List Element) → State → State
-dropped [] s = s
-dropped (es ∷ earlier) s = with_stack es earlier s
+abbrev pub drop_top : List (List Element) → State → State
+drop_top [] s = s
+drop_top (es ∷ earlier) s = with_stack es earlier s
 
 -- an undo drops the top, and is refused where it is the only list
-abbrev pub undone : State → State
-undone s = dropped s.earlier s
+abbrev pub after_undo : State → State
+after_undo s = drop_top s.earlier s
 
 abbrev pub is_none : List (List Element) → Bool
 is_none [] = true

@@ -1,7 +1,7 @@
 // The nesting follows what an edit appends, block by block: no more rows are kept than those of a block.
 
 ghost use Rattle.std.specs.Prelude.{◌≡◌, ◌≤◌, [], ◌∷◌, ◌++◌, length, IfOk, OnOk, OnErr};
-ghost use Rattle.dgn_session.specs.CarryingOut.{IsSpelling, IsBlock, IsBehind, Grows};
+ghost use Rattle.dgn_session.specs.CarryingOut.{IsSpelling, IsBlock, ExtendsRows, Grows};
 
 use dgn_drawing::{MOST_DESIGN, Row, row_of};
 use elem_head::head;
@@ -18,10 +18,10 @@ const BLOCK: usize = 4096;
 // have grown by some of them.
 pub(crate) fn nest_appended(alloc: Global, nest: &mut Nest, bytes: &[u8]) -> Result<u32, AllocError>
     requires spelled { IsSpelling bytes.now }
-    requires short { length bytes.now ≤ MOST_DESIGN }
-    requires few { length nest.old.rows ≤ MOST_DESIGN }
+    requires bytes_bounded { length bytes.now ≤ MOST_DESIGN }
+    requires rows_bounded { length nest.old.rows ≤ MOST_DESIGN }
     ensures grown { IfOk result (Grows bytes.now nest.old.rows nest.new.rows) }
-    ensures begun { OnErr result (IsBehind nest.old.rows nest.new.rows) }
+    ensures begun { OnErr result (ExtendsRows nest.old.rows nest.new.rows) }
 {
     let mut rows = Vec::new(alloc);
     let mut rest = bytes;

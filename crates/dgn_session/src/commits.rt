@@ -4,7 +4,7 @@ ghost use Rattle.std.specs.Prelude.{◌≡◌, ◌≤◌, [], ◌∷◌, ◌++�
 ghost use Rattle.patch_bytes.specs.Puts.{write};
 ghost use Rattle.undo_log.specs.Entries.{entry_of};
 ghost use Rattle.dgn_session.specs.Kept.{IsKept};
-ghost use Rattle.dgn_session.specs.CarryingOut.{IsSpelling, IsBehind, IsFollowed, IsSoundChange};
+ghost use Rattle.dgn_session.specs.CarryingOut.{IsSpelling, ExtendsRows, IsFollowed, IsSoundChange};
 
 use crate::appended::nest_appended;
 use crate::room::make_room;
@@ -60,14 +60,14 @@ fn follow(
 ) -> Result<(), AllocError>
     requires kept { IsKept design.old nest.old log.old }
     requires spelled { IsSpelling append.now }
-    requires short { length append.now ≤ MOST_DESIGN }
+    requires bounded { length append.now ≤ MOST_DESIGN }
     ensures kept { IsKept design.new nest.old log.new }
     ensures dim { design.new.dim ≡ design.old.dim }
     ensures tail { design.new.tail.items ≡ design.old.tail.items }
     ensures body { design.new.body.items ≡ design.old.body.items }
     ensures entries { log.new.entries ≡ log.old.entries }
     ensures followed { OnOk result (IsFollowed append.now nest.old.rows nest.new.rows design.new log.new) }
-    ensures begun { OnErr result (IsBehind nest.old.rows nest.new.rows) }
+    ensures begun { OnErr result (ExtendsRows nest.old.rows nest.new.rows) }
 {
     let count = nest_appended(alloc, nest, append)?;
     make_room(design, log, append.len(), count)

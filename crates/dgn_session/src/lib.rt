@@ -20,13 +20,12 @@ mod selecting;
 mod session;
 mod taking;
 
+pub(crate) use commits::carry_out;
 pub use fence_edit_fault::FenceEditFault;
 pub use nothing::Nothing;
 pub use select_fault::SelectFault;
-pub use session::Session;
-
-pub(crate) use commits::carry_out;
 pub(crate) use selecting::select;
+pub use session::Session;
 pub(crate) use taking::{last_len, take_back};
 
 #[cfg(test)]

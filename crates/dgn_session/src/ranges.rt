@@ -6,7 +6,7 @@ ghost use Rattle.edit_ops.specs.Applying.{Done};
 ghost use Rattle.edit_ops.specs.Planned.{IsRefused};
 ghost use Rattle.dgn_audit.specs.Findings.{findings};
 ghost use Rattle.dgn_session.specs.State.{state_of, value_with};
-ghost use Rattle.dgn_session.specs.Fits.{fit_applied, fit_made, fit_entry, IsFit};
+ghost use Rattle.dgn_session.specs.Fits.{fit_applied, after_fit, fit_entry, IsFit};
 
 use crate::session::Session;
 use dgn_audit::{Finding, audit, plan_fit};
@@ -30,7 +30,7 @@ impl Session {
     /// root of that tree; Locked, of the least fitted element that is locked. Memory says that there was none for it.
     /// The session is then as before: all memory is taken before the first byte is written.
     pub fn fit(&mut self, n: u32) -> Result<(), EditFault>
-        ensures done { OnOk result (state_of self.new ≡ fit_made n (state_of self.old)) }
+        ensures done { OnOk result (state_of self.new ≡ after_fit n (state_of self.old)) }
         ensures accepted { OnOk result (fit_applied n (state_of self.old) ≡ Done (state_of self.new).top) }
         ensures value { OnOk result (self.new ≡ value_with (spelling (state_of self.new).top)
             (self.old.entries ++ fit_entry self.old.dim (state_of self.old).top n ∷ []) self.old) }

@@ -22,7 +22,7 @@ pub(crate) fn make_room(
     ensures body { design.new.body.items ≡ design.old.body.items }
     ensures tail { design.new.tail.items ≡ design.old.tail.items }
     ensures entries { log.new.entries ≡ log.old.entries }
-    ensures room { OnOk result (HasRoom bytes count design.new log.new) }
+    ensures has_room { OnOk result (HasRoom bytes count design.new log.new) }
 {
     log.reserve(&mut design.body, bytes)?;
     design.reserve_index(count)

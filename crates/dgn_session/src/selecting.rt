@@ -5,7 +5,7 @@ ghost use Rattle.dgn_drawing.specs.Rows.{row_of};
 ghost use Rattle.dgn_drawing.specs.Nesting.{itself};
 ghost use Rattle.dgn_drawing.specs.WellFormed.{IsDimension};
 ghost use Rattle.dgn_drawing.specs.declared.mask.Mask.{Mask};
-ghost use Rattle.dgn_drawing.specs.Faults.{IsSoundIn};
+ghost use Rattle.dgn_drawing.specs.Faults.{HasNoFaultIn};
 ghost use Rattle.dgn_drawing.specs.Reading.{element_at};
 ghost use Rattle.dgn_drawing.specs.Shown.{tree_shown, shown_alone, IsRoot};
 ghost use Rattle.dgn_fence.specs.Selected.{selected};
@@ -116,7 +116,7 @@ fn takes_lone(
     mode: Mode,
 ) -> Result<bool, AllocError>
     requires dimension { IsDimension dim }
-    requires element { IsSoundIn dim b.now }
+    requires element { HasNoFaultIn dim b.now }
     ensures { IfOk result
         (λ taken. (number depth : ℕ) → taken ≡ takes mode fence.now (shown_alone dim mask number depth (element_at dim b.now))) }
 {

@@ -9,12 +9,13 @@ ghost use Rattle.edit_ops.specs.Fenced.{IsFenceEdit};
 ghost use Rattle.edit_ops.specs.FenceLaws.{ChangesFencedFields};
 ghost use Rattle.edit_ops.specs.Laws.{ChangesItsFields};
 ghost use Rattle.edit_ops.specs.Planned.{IsRefused};
-ghost use Rattle.dgn_session.specs.State.{SessionValue, state_of, begun, applied, edited, undone, with_mask, entry, value_with, value_with_mask};
-ghost use Rattle.dgn_session.specs.State.{selection, fence_applied, fence_edited, with_fence, fence_entry, value_with_fence};
+ghost use Rattle.dgn_session.specs.State.{SessionValue, state_of, first_state, edit_applied, after_edit};
+ghost use Rattle.dgn_session.specs.State.{after_undo, with_mask, entry, value_with, value_with_mask};
+ghost use Rattle.dgn_session.specs.State.{selection, fence_applied, after_fence_edit, with_fence, fence_entry, value_with_fence};
 ghost use Rattle.dgn_session.specs.Answers.{IsFenceRefused};
 ghost use Rattle.dgn_session.specs.Kept.{IsKept};
-ghost use Rattle.dgn_session.specs.SessionParts.{value_of, started};
-ghost use Rattle.dgn_session.specs.Laws.{IsSound};
+ghost use Rattle.dgn_session.specs.SessionParts.{value_of, first_value};
+ghost use Rattle.dgn_session.specs.Laws.{IsSessionValue};
 
 use crate::fence_edit_fault::FenceEditFault;
 use crate::nothing::Nothing;
@@ -64,8 +65,8 @@ impl Session {
     /// was no memory.
     pub fn start(alloc: Global, d: Design) -> Result<Session, AllocError>
         requires { IsWhole d }
-        ensures value { IfOk result (λ s. s ≡ started d) }
-        ensures begun { IfOk result (λ s. state_of s ≡ begun d.dim (elements d) (length d.tail.items)) }
+        ensures value { IfOk result (λ s. s ≡ first_value d) }
+        ensures begun { IfOk result (λ s. state_of s ≡ first_state d.dim (elements d) (length d.tail.items)) }
     {
         let nest = nest_design(alloc, &d)?;
         Ok(Session {
@@ -85,14 +86,14 @@ impl Session {
     /// where there is no memory for it. The session is then as before: all memory is taken before the first byte is
     /// written.
     pub fn edit(&mut self, e: &Edit) -> Result<(), EditFault>
-        ensures done { OnOk result (state_of self.new ≡ edited e.now (state_of self.old)) }
-        ensures accepted { OnOk result (applied e.now (state_of self.old) ≡ Done (state_of self.new).top) }
+        ensures done { OnOk result (state_of self.new ≡ after_edit e.now (state_of self.old)) }
+        ensures accepted { OnOk result (edit_applied e.now (state_of self.old) ≡ Done (state_of self.new).top) }
         ensures value { OnOk result (self.new ≡ value_with (spelling (state_of self.new).top)
             (self.old.entries ++ entry self.old.dim (state_of self.old).top e.now ∷ []) self.old) }
         ensures within { OnOk result (IsEdit e.now) }
         ensures changed { OnOk result
             (ChangesItsFields self.old.dim (state_of self.old).top e.now (state_of self.new).top) }
-        ensures refused { IfErr result (IsRefused (applied e.now (state_of self.old))) }
+        ensures refused { IfErr result (IsRefused (edit_applied e.now (state_of self.old))) }
         ensures kept { OnErr result (self.new ≡ self.old) }
     {
         let plan = plan(self.alloc, &self.design, &self.nest, e, 0)?;
@@ -109,7 +110,7 @@ impl Session {
     /// before it append count too. Memory comes where there is no memory for it. The session is then as before: all
     /// memory is taken before the first byte is written.
     pub fn edit_fence(&mut self, mode: Mode, e: &FenceEdit) -> Result<u32, FenceEditFault>
-        ensures done { OnOk result (state_of self.new ≡ fence_edited mode e.now (state_of self.old)) }
+        ensures done { OnOk result (state_of self.new ≡ after_fence_edit mode e.now (state_of self.old)) }
         ensures accepted { OnOk result
             (fence_applied mode e.now (state_of self.old) ≡ Some (Done (state_of self.new).top)) }
         ensures count { IfOk result (λ count. Some count ≡ option_map length (selection mode (state_of self.old))) }
@@ -138,7 +139,7 @@ impl Session {
     ///
     /// Nothing comes exactly where there is no entry, and the session is then as before.
     pub fn undo(&mut self) -> Result<(), Nothing>
-        ensures done { OnOk result (state_of self.new ≡ undone (state_of self.old)) }
+        ensures done { OnOk result (state_of self.new ≡ after_undo (state_of self.old)) }
         ensures back { OnOk result (IsUndone self.old.entries self.old.body self.new.entries self.new.body) }
         ensures value { OnOk result (self.new ≡ value_with self.new.body self.new.entries self.old) }
         ensures nothing { IsErr result ↔ (self.old.entries ≡ []) }
@@ -239,7 +240,7 @@ impl Session {
     /// What leads back to each drawing before the last edits.
     pub fn log(&self) -> &Log
         ensures entries { result.now.entries ≡ self.now.entries }
-        ensures sound { IsSound self.now }
+        ensures sound { IsSessionValue self.now }
     {
         &self.log
     }

@@ -13,7 +13,7 @@ use undo_log::{Entry, Log};
 /// The length of the body before the last edit, in bytes; none exactly where there is no entry.
 pub fn last_len(entries: &[Entry]) -> Option<u32>
     ensures none { IsNone result ↔ (entries.now ≡ []) }
-    ensures some { IfSome result (HasLast entries.now) }
+    ensures last { IfSome result (HasLast entries.now) }
 {
     match entries {
         [.., last] => Some(last.len),

@@ -46,7 +46,7 @@ pub ran_none : (all : List Step) (s : State) (old : Seen) → Ran all all 0 s s 
 ran_none all s old = record {
   done = [];
   texts = refl;
-  said = record { cause = refl; other = refl; told = unsaid old.content; stays = λ willing. willing; able = λ _. tt };
+  said = record { cause = refl; other = refl; changes = unsaid old.content; stays_willing = λ willing. willing; never_fails = λ _. tt };
   count = omega arith;
   state = refl;
 }
@@ -112,9 +112,9 @@ pub ran_front : (all left : List Step) (refused : ℕ) (from s : State) (old now
 ran_front all left refused from s old now ran = record {
   cause = ran.said.cause;
   other = ran.said.other;
-  told = (ran.done, (texts_of left s, ran.texts), ran.said.told);
-  stays = ran.said.stays;
-  able = λ _. tt;
+  changes = (ran.done, (texts_of left s, ran.texts), ran.said.changes);
+  stays_willing = ran.said.stays_willing;
+  never_fails = λ _. tt;
 }
 
 -- and where the desk stops in the midst of its text, a front of that too

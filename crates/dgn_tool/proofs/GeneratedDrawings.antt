@@ -7,7 +7,7 @@ use Rattle.elem_index.specs.Answers.{opened_of}
 use Rattle.elem_index.proofs.OpeningAnswers.{opens_as_once}
 use Rattle.elem_index.specs.declared.design.Design.{Design}
 use Rattle.elem_index.specs.Design.{elements, IsWhole}
-use Rattle.dgn_session.specs.SessionParts.{started}
+use Rattle.dgn_session.specs.SessionParts.{first_value}
 use Rattle.dgn_session.specs.State.{SessionValue}
 use Rattle.dgn_tool.specs.Generation.{drawing_of}
 use Rattle.dgn_generator.specs.Generator.{generated}
@@ -26,6 +26,7 @@ begins seed count bytes design few are whole text =
     opens_as_once (generated seed count) (opened_of design) (drawing_of seed count) opens (generated_opens seed count few).opens
 
 -- and a session that begins on it has its tail
-pub tail_begun : {E : Type 0} (r : Result SessionValue E) (d : Design) (t : List ℕ) → IfOk r (λ s. s ≡ started d) → d.tail.items ≡ t → IfOk r (λ s. s.tail ≡ t)
+pub tail_begun : {E : Type 0} (r : Result SessionValue E) (d : Design) (t : List ℕ) → IfOk r (λ s. s ≡ first_value d) → d.tail.items ≡ t
+    → IfOk r (λ s. s.tail ≡ t)
 tail_begun (Ok s) d t is same = ap (λ (v : SessionValue). v.tail) is ∙ same
 tail_begun (Err e) d t is same = tt

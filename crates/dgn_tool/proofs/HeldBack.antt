@@ -174,7 +174,7 @@ as_seen request old run new status content reads writes stays r = record {
   bytes = r.bytes;
   never_fewer = subst (λ n. old.write_faults ≤ n) (sym writes) r.never_fewer;
   stays_willing = λ willing. stays (r.stays_willing willing);
-  stays = subst (EditsAsAsked request status old.content) (sym content) r.stays;
+  as_asked = subst (EditsAsAsked request status old.content) (sym content) r.as_asked;
 }
 
 -- where nothing is held back, what is told is what is told below
@@ -191,27 +191,27 @@ pub flushed_run : (request : Option Request) (old run new : Seen) (held : List �
     → Writes flush (λ told now. now ≡ told) run (record new { content = with_held held new.content })
     → IfOk flush (λ _. held ≡ []) → IsSettled old.content → Runs request old new (flushed_status flush ended)
 flushed_run request old run new held (Ok x) ended r w none settled =
-    as_seen request old run new ended (sym (unheld held new.content none) ∙ w.told) w.other w.cause w.stays r
+    as_seen request old run new ended (sym (unheld held new.content none) ∙ w.changes) w.other w.cause w.stays_willing r
 flushed_run request old run new held (Err stops.Failed) ended r w none settled =
     let rose : Rose old.write_faults new.write_faults = rose_since old.write_faults run.write_faults new.write_faults r.never_fewer w.cause.1 in
     record {
       outcome = λ ending. absurd ending;
-      prefix = λ _. held_below (outcome_of request) held old.content new.content run.content (sym w.told) settled (came_to request old run ended r);
+      prefix = λ _. held_below (outcome_of request) held old.content new.content run.content (sym w.changes) settled (came_to request old run ended r);
       counted = λ ending. absurd ending;
       usage = λ is. absurd (let x = is in cc);
       improper = λ _ ending. absurd ending;
       read_fault = λ is. absurd (let x = is in cc);
       write_fault = λ _. rose;
       complete = λ _ unwritten. absurd (unwritten rose);
-      complete_willing = λ willing _. absurd (w.able (r.stays_willing willing));
+      complete_willing = λ willing _. absurd (w.never_fails (r.stays_willing willing));
       bytes = λ ending. absurd ending;
       never_fewer = let first = r.never_fewer in let second = w.cause.0 in omega arith;
-      stays_willing = λ willing. w.stays (r.stays_willing willing);
-      stays = λ input script output asked written. absurd written;
+      stays_willing = λ willing. w.stays_willing (r.stays_willing willing);
+      as_asked = λ input script output asked written. absurd written;
     }
 flushed_run request old run new held (Err stops.Memory) ended r w none settled = record {
   outcome = λ ending. absurd ending;
-  prefix = λ _. held_below (outcome_of request) held old.content new.content run.content (sym w.told) settled (came_to request old run ended r);
+  prefix = λ _. held_below (outcome_of request) held old.content new.content run.content (sym w.changes) settled (came_to request old run ended r);
   counted = λ ending. absurd ending;
   usage = λ is. absurd (let x = is in cc);
   improper = λ _ ending. absurd ending;
@@ -221,8 +221,8 @@ flushed_run request old run new held (Err stops.Memory) ended r w none settled =
   complete_willing = λ _ _. tt;
   bytes = λ ending. absurd ending;
   never_fewer = let first = r.never_fewer in let second = w.cause in omega arith;
-  stays_willing = λ willing. w.stays (r.stays_willing willing);
-  stays = λ input script output asked written. absurd written;
+  stays_willing = λ willing. w.stays_willing (r.stays_willing willing);
+  as_asked = λ input script output asked written. absurd written;
 }
 
 -- what the flush left, by the desk below
@@ -240,7 +240,7 @@ Exits request old new number = (status : Status) × (number ≡ number_of status
 exits : (request : Option Request) {started old run told new last : Seen} {held : List ℕ} {ended status : Status} {number : ℕ} → started ≡ old
     → last ≡ new → Flushed run told new held ended status → number ≡ number_of status → IsSettled old.content → Runs request started run ended
     → Exits request old last number
-exits request {started = started} {old = old} {run = run} {told = told} {new = new} {last = last} {held = held} {ended = ended} {status = status} begun left
+exits request {started = started} {old = old} {run = run} {changes = told} {new = new} {last = last} {held = held} {ended = ended} {status = status} begun left
     f numbered settled r =
     let own : Runs request old run ended = subst (λ s. Runs request s run ended) begun r in
     let writes : Writes f.flush (λ was now. now ≡ was) run (record new { content = with_held held new.content }) =

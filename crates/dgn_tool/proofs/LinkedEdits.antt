@@ -20,7 +20,7 @@ use Rattle.dgn_drawing.specs.Shown.{tree_shown}
 use Rattle.dgn_drawing.specs.declared.limits.TheConstants.{MOST_DESIGN}
 use Rattle.dgn_fence.specs.Taken.{takes}
 use Rattle.dgn_fence.specs.Selected.{selected}
-use Rattle.dgn_session.specs.State.{State, applied, pushed, pushed_if, with_stack, fence_applied, dropped, with_fence, with_mask, undo_refused}
+use Rattle.dgn_session.specs.State.{State, edit_applied, push_made, push_if_made, with_stack, fence_applied, drop_top, with_fence, with_mask, undo_refused}
 use Rattle.edit_ops.specs.Applying.{Applied, Done, Refused, apply, IsEdit}
 use Rattle.edit_ops.specs.Fields.{Rise, filled}
 use Rattle.edit_ops.specs.Fenced.{apply_all, AreRoots, IsFenceEdit}
@@ -178,7 +178,7 @@ module _ (dim rest : ℕ) (t : List ℕ) (base : List Element) where
 command_links : (t : List ℕ) (base : List Element) (s : State) (left : List RemainingEdit) (c : Command) → IsEditIn c → IsStacked base s left
     → AreLinked s.dim s.rest t base left → AreLinked s.dim s.rest t base ((answer_of s c).left left)
 command_links t base s left (command.Edit e) fits stacked linked =
-    edit_links s.dim s.rest t base s.top left e (applied e s) fits refl (stack_top base s left stacked) linked
+    edit_links s.dim s.rest t base s.top left e (edit_applied e s) fits refl (stack_top base s left stacked) linked
 command_links t base s left (command.Fenced mode e) fits stacked linked =
     fence_links s.dim s.rest t base s.top left s.mask mode e s.fence fits (stack_top base s left stacked) linked
 command_links t base s left command.Undo fits stacked linked = undo_links s.dim s.rest t base (undo_refused s) left linked
@@ -203,20 +203,20 @@ step_links t base s left (Import v by) fits stacked linked = import_leaves t bas
 -- What no command changes of a state.
 module _ {X : Type 0} (part : State → X) (stack : (top : List Element) (earlier : List (List Element)) (s : State) → part (with_stack top earlier s) ≡ part s)
     (mask : (m : Mask) (s : State) → part (with_mask m s) ≡ part s) (fence : (f : Option (List Pt)) (s : State) → part (with_fence f s) ≡ part s) where
-  pushed_keeps : (came : Applied) (s : State) → part (pushed came s) ≡ part s
+  pushed_keeps : (came : Applied) (s : State) → part (push_made came s) ≡ part s
   pushed_keeps (Done made) s = stack made (s.top ∷ s.earlier) s
   pushed_keeps (Refused cause) s = refl
 
-  pushed_if_keeps : (came : Option Applied) (s : State) → part (pushed_if came s) ≡ part s
+  pushed_if_keeps : (came : Option Applied) (s : State) → part (push_if_made came s) ≡ part s
   pushed_if_keeps None s = refl
   pushed_if_keeps (Some came) s = pushed_keeps came s
 
-  dropped_keeps : (earlier : List (List Element)) (s : State) → part (dropped earlier s) ≡ part s
+  dropped_keeps : (earlier : List (List Element)) (s : State) → part (drop_top earlier s) ≡ part s
   dropped_keeps [] s = refl
   dropped_keeps (es ∷ earlier) s = stack es earlier s
 
   command_keeps : (s : State) (c : Command) → part (answer_of s c).state ≡ part s
-  command_keeps s (command.Edit e) = pushed_keeps (applied e s) s
+  command_keeps s (command.Edit e) = pushed_keeps (edit_applied e s) s
   command_keeps s (command.Fenced mode e) = pushed_if_keeps (fence_applied mode e s) s
   command_keeps s command.Undo = dropped_keeps s.earlier s
   command_keeps s (command.Levels m) = mask m s

@@ -16,7 +16,7 @@ use Rattle.dgn_drawing.specs.Opening.{elements_of}
 use Rattle.dgn_drawing.proofs.Fronts.{body_spelled}
 use Rattle.dgn_session.specs.State.{State, SessionValue, state_of, earlier_of}
 use Rattle.dgn_session.specs.Kept.{AreKept}
-use Rattle.dgn_session.specs.Laws.{IsSound}
+use Rattle.dgn_session.specs.Laws.{IsSessionValue}
 use Rattle.dgn_session.proofs.Steps.{bodies_first}
 use Rattle.dgn_answers.specs.Remaining.{RemainingEdit}
 use Rattle.dgn_answers.specs.Steps.{Step, after_all, refused_count, with_steps}
@@ -54,7 +54,7 @@ taken_are dim tail b base (m ∷ left) kept lists =
     ∙ ap (map (packed_made dim)) (sym (reverse-append (m ∷ []) left))
 
 -- what is taken off a session that ran these commands
-pub packs : (cs : List Step) (from v : SessionValue) → from.entries ≡ [] → AllLogAs cs from v → state_of v ≡ after_all cs (state_of from) → IsSound v
+pub packs : (cs : List Step) (from v : SessionValue) → from.entries ≡ [] → AllLogAs cs from v → state_of v ≡ after_all cs (state_of from) → IsSessionValue v
     → all_taken v.body (reverse v.entries) ≡ packed_after cs (state_of from)
 packs cs from v none logs after sound =
     let base : List Element = (state_of from).top in

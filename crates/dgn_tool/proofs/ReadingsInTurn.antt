@@ -80,15 +80,15 @@ ends_on before (Err o) next = refl
 
 -- nothing was read yet
 pub nothing_read : (old : Seen) → OnlyReads old old
-nothing_read old = record { told = nothing_done old.content; calm = refl; quiet = refl; stays = λ willing. willing }
+nothing_read old = record { changes = nothing_done old.content; calm = refl; quiet = refl; stays_willing = λ willing. willing }
 
 -- reading twice is reading
 reads_twice : {old mid new : Seen} → OnlyReads old mid → OnlyReads mid new → OnlyReads old new
 reads_twice {old = old} {mid = mid} {new = new} first second = record {
-  told = read_twice old.content mid.content new.content first.told second.told;
+  changes = read_twice old.content mid.content new.content first.changes second.changes;
   calm = second.calm ∙ first.calm;
   quiet = second.quiet ∙ first.quiet;
-  stays = λ willing. second.stays (first.stays willing);
+  stays_willing = λ willing. second.stays_willing (first.stays_willing willing);
 }
 
 -- a value for which nothing is read
@@ -103,10 +103,10 @@ pub wants_more : {T : Type 0} (reading : Files → Reading T) (old new : Seen) �
 wants_more reading old new reads = record {
   cause = reads.quiet;
   other = reads.calm;
-  told = where_told (λ c. (o : Outcome) → Stops o c new.content) (λ c. (o : Outcome) → MayComeTo (reading c.files).answer o → Stops o c new.content)
-      old.content (stopped_early old.content new.content reads.told) (λ c stops o may. stops o);
-  stays = reads.stays;
-  able = λ _. tt;
+  changes = where_told (λ c. (o : Outcome) → Stops o c new.content) (λ c. (o : Outcome) → MayComeTo (reading c.files).answer o → Stops o c new.content)
+      old.content (stopped_early old.content new.content reads.changes) (λ c stops o may. stops o);
+  stays_willing = reads.stays_willing;
+  never_fails = λ _. tt;
 }
 
 -- a part that reads nothing came to its outcome
@@ -147,7 +147,7 @@ covers : {T U : Type 0} (whole : Files → Reading T) (part : Files → Reading 
 covers whole part (ends.Said ending) old mid new reads covered comes = record {
   cause = comes.cause ∙ reads.quiet;
   other = comes.other ∙ reads.calm;
-  told = through _ _ (λ c. EndsThere (whole c.files) ending c new.content) old.content mid.content reads.told covered comes.told
+  changes = through _ _ (λ c. EndsThere (whole c.files) ending c new.content) old.content mid.content reads.changes covered comes.changes
       (λ c left by so.
       let is = by.ended so.outcome so.answer_is so.bytes in
       record {
@@ -156,27 +156,27 @@ covers whole part (ends.Said ending) old mid new reads covered comes = record {
         leaves = leaves_read so.outcome (status_said ending) left c new.content so.leaves;
         bytes = is.1;
       });
-  stays = λ willing. comes.stays (reads.stays willing);
-  able = λ _. tt;
+  stays_willing = λ willing. comes.stays_willing (reads.stays_willing willing);
+  never_fails = λ _. tt;
 }
 covers whole part ends.ReadFault old mid new reads covered comes = record {
   rose = subst (λ n. Rose n new.read_faults) reads.calm comes.rose;
   quiet = comes.quiet ∙ reads.quiet;
-  stays = λ willing. comes.stays (reads.stays willing);
-  only = read_twice old.content mid.content new.content reads.told comes.only;
-  lacks = λ willing there. comes.lacks (reads.stays willing)
+  stays_willing = λ willing. comes.stays_willing (reads.stays_willing willing);
+  only = read_twice old.content mid.content new.content reads.changes comes.only;
+  lacks = λ willing there. comes.lacks (reads.stays_willing willing)
       (onto (λ files. Covers files (whole files) (part files)) (λ files. AreThere files (whole files).sources) (λ files. AreThere files (part files).sources)
-      old.content mid.content reads.told covered there (λ files by all. by.there all));
+      old.content mid.content reads.changes covered there (λ files by all. by.there all));
 }
 covers whole part (ends.Stopped stop) old mid new reads covered comes =
     let stopped : Result Ending Stop = Err stop in
     record {
       cause = subst (λ n. Counts n new.write_faults stopped) reads.quiet comes.cause;
       other = comes.other ∙ reads.calm;
-      told = through _ _ (λ c. (o : Outcome) → MayComeTo (whole c.files).answer o → Stops o c new.content) old.content mid.content reads.told covered
-          comes.told (λ c left by so o may. stops_read o left c new.content (so o (by.may o may)));
-      stays = λ willing. comes.stays (reads.stays willing);
-      able = λ willing. comes.able (reads.stays willing);
+      changes = through _ _ (λ c. (o : Outcome) → MayComeTo (whole c.files).answer o → Stops o c new.content) old.content mid.content reads.changes covered
+          comes.changes (λ c left by so o may. stops_read o left c new.content (so o (by.may o may)));
+      stays_willing = λ willing. comes.stays_willing (reads.stays_willing willing);
+      never_fails = λ willing. comes.never_fails (reads.stays_willing willing);
     }
 
 -- the whole reads these files, which are bytes, and then as the rest
@@ -195,7 +195,7 @@ module _ {T : Type 0} (whole rest : Files → Reading T) where
       → ComesTo rest r mid new → ComesTo whole r old new
   continues (Ok value) old mid new reads goes comes = record {
     reads = reads_twice reads comes.reads;
-    gives = through _ _ (λ c. ((whole c.files).answer ≡ Ok value) × AreInBytes c.files (whole c.files).sources) old.content mid.content reads.told goes
+    gives = through _ _ (λ c. ((whole c.files).answer ≡ Ok value) × AreInBytes c.files (whole c.files).sources) old.content mid.content reads.changes goes
         comes.gives (λ c left g so. (g.answer ∙ so.0, goes_bytes c.files (whole c.files) (rest c.files) g so.1));
   }
   continues (Err end) old mid new reads goes comes =

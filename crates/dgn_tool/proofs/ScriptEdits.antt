@@ -38,7 +38,7 @@ use Rattle.edit_script.specs.Fences.{fdelete_command}
 use Rattle.edit_script.specs.Imports.{is_name, given_shift, import_command, is_import, limited, imports_with}
 use Rattle.edit_script.specs.Grammar.{alone, asking, range_reading, fence_reading, listing_reading, other_reading, reading_of, is_blank_line, is_comment}
 use Rattle.edit_script.specs.Grammar.{command_of}
-use Rattle.edit_script.specs.Script.{joined, commands_from}
+use Rattle.edit_script.specs.Script.{with_line, commands_from}
 use Rattle.dgn_tool.specs.Laws.{IsEditIn}
 use Rattle.dgn_tool.specs.ScriptLaws.{ScriptsHoldEdits, UntouchedByScripts}
 use Rattle.dgn_tool.proofs.UntouchedBytes.{untouched}
@@ -313,7 +313,7 @@ limited_says imports reading h = cond_both (nat_le 4 imports && is_import readin
 
 -- the lines of a script
 joined_so : (number : ℕ) (reading : Reading) (more : Result (List Command) ScriptFault) → SaysEdit reading → IfOk more (All IsEditIn)
-    → IfOk (joined number reading more) (All IsEditIn)
+    → IfOk (with_line number reading more) (All IsEditIn)
 joined_so number Nothing more h k = k
 joined_so number (Asks c) (Ok cs) h k = All-cons IsEditIn c cs h.holds k
 joined_so number (Asks c) (Err e) h k = tt

@@ -4,7 +4,7 @@ use Rattle.std.specs.List.{AllByRecursion}
 use Rattle.std.proofs.lemmas.List.{append-nil, reverse-append, reverse-reverse}
 use Rattle.dgn_desk.specs.Content.{Files}
 use Rattle.dgn_import.specs.declared.second.Second.{Second}
-use Rattle.dgn_import.specs.Seconds.{SecondValue, value_of, waiting, IsSound}
+use Rattle.dgn_import.specs.Seconds.{SecondValue, value_of, seconds_left, IsOpened}
 use Rattle.dgn_tool.specs.Inputs.{second_in, seconds_behind}
 use Rattle.dgn_tool.specs.Readings.{Reading, ◌>>=◌}
 use Rattle.dgn_tool.proofs.ReadingsInTurn.{reads_on, read_alike}
@@ -22,18 +22,18 @@ seconds_more files before (name ∷ names) more =
 
 -- Sound second drawings.
 
-sound_back : (seconds turned : List Second) → AllByRecursion IsSound seconds → AllByRecursion IsSound turned
-    → AllByRecursion IsSound (reverse seconds ++ turned)
+sound_back : (seconds turned : List Second) → AllByRecursion IsOpened seconds → AllByRecursion IsOpened turned
+    → AllByRecursion IsOpened (reverse seconds ++ turned)
 sound_back [] turned all more = more
 sound_back (x ∷ seconds) turned all more =
-    subst (AllByRecursion IsSound)
+    subst (AllByRecursion IsOpened)
     (sym (ap (λ (l : List Second). l ++ turned) (reverse-append (x ∷ []) seconds) ∙ append_assoc (reverse seconds) (x ∷ []) turned))
     (sound_back seconds (x ∷ turned) all.1 (all.0, more))
 
-pub sound_turned : (seconds turned : List Second) → AllByRecursion IsSound seconds → turned ≡ reverse seconds → AllByRecursion IsSound turned
+pub sound_turned : (seconds turned : List Second) → AllByRecursion IsOpened seconds → turned ≡ reverse seconds → AllByRecursion IsOpened turned
 sound_turned seconds turned all is =
-    subst (AllByRecursion IsSound) (append-nil (reverse seconds) ∙ sym is) (sound_back seconds [] all tt)
+    subst (AllByRecursion IsOpened) (append-nil (reverse seconds) ∙ sym is) (sound_back seconds [] all tt)
 
 -- turned round, the next one stands last
-pub turned_back : (seconds turned : List Second) → turned ≡ reverse seconds → map value_of seconds ≡ waiting turned
+pub turned_back : (seconds turned : List Second) → turned ≡ reverse seconds → map value_of seconds ≡ seconds_left turned
 turned_back seconds turned is = ap (map value_of) (sym (reverse-reverse seconds)) ∙ ap (λ (l : List Second). map value_of (reverse l)) (sym is)

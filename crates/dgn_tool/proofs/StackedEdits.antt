@@ -8,7 +8,7 @@ use Rattle.dgn_drawing.specs.Opening.{elements_of}
 use Rattle.edit_ops.specs.Applying.{Applied, Done, Refused}
 use Rattle.edit_ops.specs.Fenced.{apply_all}
 use Rattle.dgn_session.specs.Fits.{fit_applied}
-use Rattle.dgn_session.specs.State.{State, applied, pushed, pushed_if, selection, dropped, is_none, with_fence}
+use Rattle.dgn_session.specs.State.{State, edit_applied, push_made, push_if_made, selection, drop_top, is_none, with_fence}
 use Rattle.dgn_drawing.specs.declared.command.Command.{Command}
 use Rattle.dgn_drawing.specs.declared.command.Command.TheVariants as command
 use Rattle.dgn_answers.specs.Texts.{fence_refused}
@@ -26,17 +26,17 @@ abbrev pub IsStacked : List Element → State → List RemainingEdit → Type 0
 IsStacked base s left = s.top ∷ s.earlier ≡ lists_made left ++ base ∷ []
 
 done_step : (base : List Element) (s : State) (left : List RemainingEdit) (kind : EditKind) (came : Applied) → IsStacked base s left
-    → IsStacked base (pushed came s) (with_edit came s.top kind left)
+    → IsStacked base (push_made came s) (with_edit came s.top kind left)
 done_step base s left kind (Done made) stacked = ap (λ (l : List (List Element)). made ∷ l) stacked
 done_step base s left kind (Refused cause) stacked = stacked
 
 fence_step : (base : List Element) (s : State) (left : List RemainingEdit) (e : FenceEdit) (came : List ℕ → Applied) (chosen : Option (List ℕ))
-    → IsStacked base s left → IsStacked base (pushed_if (option_map came chosen) s) (with_fence_edit (option_map came chosen) chosen s.top e left)
+    → IsStacked base s left → IsStacked base (push_if_made (option_map came chosen) s) (with_fence_edit (option_map came chosen) chosen s.top e left)
 fence_step base s left e came None stacked = stacked
 fence_step base s left e came (Some ns) stacked = done_step base s left (Fenced e ns) (came ns) stacked
 
 undo_step : (base : List Element) (s : State) (earlier : List (List Element)) (left : List RemainingEdit) → s.top ∷ earlier ≡ lists_made left ++ base ∷ []
-    → s.earlier ≡ earlier → IsStacked base (dropped earlier s) (without_newest (is_none earlier) left)
+    → s.earlier ≡ earlier → IsStacked base (drop_top earlier s) (without_newest (is_none earlier) left)
 undo_step base s [] left stacked is = ap (λ (l : List (List Element)). s.top ∷ l) is ∙ stacked
 undo_step base s (es ∷ earlier) [] stacked is = absurd (let x = stacked in cc)
 undo_step base s (es ∷ earlier) (m ∷ left) stacked is = let x = stacked in cc
@@ -44,7 +44,7 @@ undo_step base s (es ∷ earlier) (m ∷ left) stacked is = let x = stacked in c
 -- a command leaves such a stack
 command_stacks : (base : List Element) (s : State) (left : List RemainingEdit) (c : Command) → IsStacked base s left
     → IsStacked base (answer_of s c).state ((answer_of s c).left left)
-command_stacks base s left (command.Edit e) stacked = done_step base s left (Alone e) (applied e s) stacked
+command_stacks base s left (command.Edit e) stacked = done_step base s left (Alone e) (edit_applied e s) stacked
 command_stacks base s left (command.Fenced mode e) stacked = fence_step base s left e (apply_all s.dim s.top s.rest e) (selection mode s) stacked
 command_stacks base s left command.Undo stacked = undo_step base s s.earlier left stacked refl
 command_stacks base s left (command.Fence corners) stacked =

@@ -49,7 +49,7 @@ ended_run : (request : Option Request) (status : Status) (old new : Seen) → Is
     → (IsNone request → status ≡ statuses.Usage) → IfSome old.content (λ c. FilesInBytes request c.files)
     → Writes {T = Unit {0}} (Ok tt) (λ told now. IfSome told (λ c. Leaves (outcome_of request c.files) status c now)) old new → Runs request old new status
 ended_run request status old new ending usage improper bytes left = record {
-  outcome = λ _. left.told;
+  outcome = λ _. left.changes;
   prefix = λ stopped. absurd (not_stopped status ending stopped);
   counted = λ _. (left.other, left.cause);
   usage = usage;
@@ -60,8 +60,8 @@ ended_run request status old new ending usage improper bytes left = record {
   complete_willing = λ _ _. faultless status ending;
   bytes = λ _. bytes;
   never_fewer = omega (arith, left.cause);
-  stays_willing = left.stays;
-  stays = edits_as_asked request status old.content new.content (λ _. left.told) (λ _. bytes);
+  stays_willing = left.stays_willing;
+  as_asked = edits_as_asked request status old.content new.content (λ _. left.changes) (λ _. bytes);
 }
 
 -- or that was stopped
@@ -70,22 +70,22 @@ stopped_run : (request : Option Request) (stop : Stop) (old new : Seen)
     → Runs request old new (status_of (ends.Stopped stop))
 stopped_run request stops.Failed old new left = record {
   outcome = λ ending. absurd ending;
-  prefix = λ _. left.told;
+  prefix = λ _. left.changes;
   counted = λ ending. absurd ending;
   usage = λ is. absurd (let x = is in cc);
   improper = λ _ ending. absurd ending;
   read_fault = λ is. absurd (let x = is in cc);
   write_fault = λ _. left.cause.1;
   complete = λ _ unwritten. absurd (unwritten left.cause.1);
-  complete_willing = λ willing _. absurd (left.able willing);
+  complete_willing = λ willing _. absurd (left.never_fails willing);
   bytes = λ ending. absurd ending;
   never_fewer = left.cause.0;
-  stays_willing = left.stays;
-  stays = λ input script output asked written. absurd written;
+  stays_willing = left.stays_willing;
+  as_asked = λ input script output asked written. absurd written;
 }
 stopped_run request stops.Memory old new left = record {
   outcome = λ ending. absurd ending;
-  prefix = λ _. left.told;
+  prefix = λ _. left.changes;
   counted = λ ending. absurd ending;
   usage = λ is. absurd (let x = is in cc);
   improper = λ _ ending. absurd ending;
@@ -95,8 +95,8 @@ stopped_run request stops.Memory old new left = record {
   complete_willing = λ _ _. tt;
   bytes = λ ending. absurd ending;
   never_fewer = omega (arith, left.cause);
-  stays_willing = left.stays;
-  stays = λ input script output asked written. absurd written;
+  stays_willing = left.stays_willing;
+  as_asked = λ input script output asked written. absurd written;
 }
 
 -- what is told at an ending: the outcome, and that the files which were read are bytes
@@ -121,7 +121,7 @@ ends_as : (request : Request) (old new : Seen) (end : End) → (end ≡ ends.Rea
     → ComesTo (λ files. ending_of (reading_of (Some request) files)) (Err end) old new → Runs (Some request) old new (status_of end)
 ends_as request old new (ends.Said ending) reads ended =
     let is = said_ends ending in
-    let told = said_told (reading_of (Some request)) ending old.content new.content ended.told in
+    let told = said_told (reading_of (Some request)) ending old.content new.content ended.changes in
     ended_run (Some request) (status_said ending) old new is.0 (λ usage. absurd (is.1 usage)) (λ none. absurd (let x = none in cc)) told.1
     (done_so ending tt ended (λ _. told.0))
 ends_as request old new ends.ReadFault reads ended = record {
@@ -136,8 +136,8 @@ ends_as request old new ends.ReadFault reads ended = record {
   complete_willing = λ willing there. absurd (ended.lacks willing there);
   bytes = λ ending. absurd ending;
   never_fewer = omega (arith, ended.quiet);
-  stays_willing = ended.stays;
-  stays = λ input script output asked written. absurd written;
+  stays_willing = ended.stays_willing;
+  as_asked = λ input script output asked written. absurd written;
 }
 ends_as request old new (ends.Stopped stop) reads ended =
     stopped_run (Some request) stop old new (stopped_so stop ended (stopped_told (reading_of (Some request)) old.content new.content))

@@ -67,7 +67,7 @@ pub record EndsThere {T : Type 0} (reading : Reading T) (ending : Ending) (old :
 pub record IsUnread {T : Type 0} (reading : Files → Reading T) (old new : Seen) : Type 0 where
   pub rose : Rose old.read_faults new.read_faults
   pub quiet : new.write_faults ≡ old.write_faults
-  pub stays : StaysWilling old.willing new.willing
+  pub stays_willing : StaysWilling old.willing new.willing
   pub only : OnlyLeftDiffers old.content new.content
   pub lacks : IsTrue old.willing → IfSome old.content (λ c. AreThere c.files (reading c.files).sources) → ⊥
 

@@ -28,7 +28,7 @@ pub record Runs (request : Option Request) (old new : Seen) (status : Status) : 
   pub bytes : IsEnding status → IfSome old.content (λ c. FilesInBytes request c.files)
   pub never_fewer : old.write_faults ≤ new.write_faults
   pub stays_willing : StaysWilling old.willing new.willing
-  pub stays : EditsAsAsked request status old.content new.content
+  pub as_asked : EditsAsAsked request status old.content new.content
 
 -- the same of a desk before and after
 abbrev pub DeskRuns : {D : Type 0} → Ghosts D → Option Request → D → D → Status → Type 0

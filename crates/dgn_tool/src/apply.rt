@@ -50,8 +50,8 @@ fn apply_entries<D: Desk>(
     entries: &[PatchEntry],
     output: &str,
 ) -> Result<Ending, Stop>
-    requires few { length body.items + length tail.now ≤ MOST_DESIGN }
-    requires many { length entries.now < 2 ^ 32 }
+    requires bounded { length body.items + length tail.now ≤ MOST_DESIGN }
+    requires bounded { length entries.now < 2 ^ 32 }
     ensures { DeskComes D.Desk (entries_outcome body.items tail.now (all_packed entries.now) output.now)
         desk.old desk.new result }
 {

@@ -2,10 +2,10 @@ ghost use Rattle.std.specs.Prelude.{◌≡◌, IfOk, OnOk};
 ghost use Rattle.std.specs.List.{AllByRecursion};
 ghost use Rattle.dgn_desk.specs.Seen.{DeskWrites};
 ghost use Rattle.dgn_session.specs.State.{state_of};
-ghost use Rattle.dgn_import.specs.Seconds.{IsSound};
+ghost use Rattle.dgn_import.specs.Seconds.{IsOpened};
 ghost use Rattle.dgn_answers.specs.Steps.{steps_of, after_all, texts_of, refused_count};
 ghost use Rattle.dgn_tool.specs.Leaving.{SaysAs};
-ghost use Rattle.dgn_import.specs.Seconds.{waiting};
+ghost use Rattle.dgn_import.specs.Seconds.{seconds_left};
 
 use dgn_answers::take_step;
 use dgn_desk::{Desk, Stop, say_all};
@@ -24,14 +24,14 @@ pub fn run_all<D: Desk>(
     commands: &[Command],
     seconds: &mut Vec<Second>,
 ) -> Result<u64, Stop>
-    requires { AllByRecursion IsSound seconds.old.items }
+    requires { AllByRecursion IsOpened seconds.old.items }
     ensures said { DeskWrites D.Desk result
-        (SaysAs result (texts_of (steps_of commands.now (waiting seconds.old.items)) (state_of session.old)))
+        (SaysAs result (texts_of (steps_of commands.now (seconds_left seconds.old.items)) (state_of session.old)))
         desk.old desk.new }
     ensures refused { IfOk result
-        (λ refused. refused ≡ refused_count (steps_of commands.now (waiting seconds.old.items)) (state_of session.old)) }
+        (λ refused. refused ≡ refused_count (steps_of commands.now (seconds_left seconds.old.items)) (state_of session.old)) }
     ensures state { OnOk result
-        (state_of session.new ≡ after_all (steps_of commands.now (waiting seconds.old.items)) (state_of session.old)) }
+        (state_of session.new ≡ after_all (steps_of commands.now (seconds_left seconds.old.items)) (state_of session.old)) }
     ensures tail { session.new.tail ≡ session.old.tail }
 {
     let mut out = Vec::new(alloc);

@@ -2,7 +2,7 @@
 
 ghost use Rattle.std.specs.Prelude.{Some};
 ghost use Rattle.std.specs.List.{AllByRecursion};
-ghost use Rattle.dgn_import.specs.Seconds.{IsSound};
+ghost use Rattle.dgn_import.specs.Seconds.{IsOpened};
 ghost use Rattle.elem_index.specs.Design.{IsWhole};
 ghost use Rattle.elem_index.specs.Answers.{opened_of};
 ghost use Rattle.dgn_session.specs.State.{state_of};
@@ -10,7 +10,7 @@ ghost use Rattle.dgn_tool.specs.Ends.{DeskComes, DeskEnds};
 ghost use Rattle.dgn_answers.specs.Steps.{steps_of};
 ghost use Rattle.dgn_tool.specs.Outcome.{edited, edited_from, reading_of};
 ghost use Rattle.dgn_tool.specs.Request.{Edit};
-ghost use Rattle.dgn_import.specs.Seconds.{waiting};
+ghost use Rattle.dgn_import.specs.Seconds.{seconds_left};
 
 use crate::commands::run_all;
 use crate::drawing::write_drawing;
@@ -55,9 +55,9 @@ fn run_script<D: Desk>(
     output: &str,
 ) -> Result<Ending, Stop>
     requires whole { IsWhole design }
-    requires sound { AllByRecursion IsSound seconds.old.items }
+    requires sound { AllByRecursion IsOpened seconds.old.items }
     ensures { DeskComes D.Desk
-        (edited (opened_of design) (steps_of commands.now (waiting seconds.old.items)) output.now)
+        (edited (opened_of design) (steps_of commands.now (seconds_left seconds.old.items)) output.now)
         desk.old desk.new result }
 {
     let mut session = Session::start(alloc, design)?;
@@ -73,10 +73,10 @@ fn finish<D: Desk>(
     seconds: &mut Vec<Second>,
     output: &str,
 ) -> Result<Ending, Stop>
-    requires { AllByRecursion IsSound seconds.old.items }
+    requires { AllByRecursion IsOpened seconds.old.items }
     ensures { DeskComes D.Desk
         (edited_from (state_of session.old) session.old.tail
-        (steps_of commands.now (waiting seconds.old.items)) output.now)
+        (steps_of commands.now (seconds_left seconds.old.items)) output.now)
         desk.old desk.new result }
 {
     let before = session.design().body.len();

@@ -12,7 +12,7 @@ use patch_file::{PatchEntry, apply_entry, stands};
 fn put_entry(body: &mut Vec<u8>, tail: usize, entry: &PatchEntry, number: u32) -> Result<(), PutEnd>
     requires { length body.old.items + tail ≤ MOST_DESIGN }
     ensures put { Puts result (put_from tail number body.old.items (packed_of entry.now ∷ [])) body.new.items }
-    ensures few { OnOk result (length body.new.items + tail ≤ MOST_DESIGN) }
+    ensures bounded { OnOk result (length body.new.items + tail ≤ MOST_DESIGN) }
 {
     if !stands(body, entry) {
         return Err(PutEnd::Refused { number });
@@ -32,10 +32,10 @@ pub(crate) fn put_entries(
     tail: usize,
     entries: &[PatchEntry],
 ) -> Result<(), PutEnd>
-    requires many { length entries.now < 2 ^ 32 }
-    requires few { length body.old.items + tail ≤ MOST_DESIGN }
+    requires bounded { length entries.now < 2 ^ 32 }
+    requires bounded { length body.old.items + tail ≤ MOST_DESIGN }
     ensures put { Puts result (put_from tail 1 body.old.items (all_packed entries.now)) body.new.items }
-    ensures few { OnOk result (length body.new.items + tail ≤ MOST_DESIGN) }
+    ensures bounded { OnOk result (length body.new.items + tail ≤ MOST_DESIGN) }
 {
     let mut number = 0;
     'entries: for entry in entries {

@@ -130,7 +130,7 @@ pub(crate) fn read_entries<D: Desk>(
     desk: &mut D,
     patch: &str,
 ) -> Result<Vec<PatchEntry>, End>
-    ensures few { IfOk result (λ entries. length entries.items < 2 ^ 32) }
+    ensures bounded { IfOk result (λ entries. length entries.items < 2 ^ 32) }
     ensures read { DeskReads D.Desk (λ files. entries_in files patch.now) (λ entries. all_packed entries.items)
         desk.old desk.new result }
 {

@@ -39,8 +39,8 @@ pub(crate) fn generate_file<D: Desk>(
     count: u32,
     output: &str,
 ) -> Result<Ending, Stop>
-    requires some { 1 ≤ count }
-    requires few { count ≤ 200000 }
+    requires positive { 1 ≤ count }
+    requires bounded { count ≤ 200000 }
     ensures { DeskComes D.Desk (generation seed count output.now) desk.old desk.new result }
 {
     let mut session = begin(alloc, seed, count)?;
@@ -49,8 +49,8 @@ pub(crate) fn generate_file<D: Desk>(
 
 // Begins a session on the drawing of a seed and a count. It opens, so opening it fails for want of memory alone.
 fn begin(alloc: Global, seed: u32, count: u32) -> Result<Session, AllocError>
-    requires some { 1 ≤ count }
-    requires few { count ≤ 200000 }
+    requires positive { 1 ≤ count }
+    requires bounded { count ≤ 200000 }
     ensures state { IfOk result (λ s. state_of s ≡ first_state (drawing_of seed count)) }
     ensures tail { IfOk result (λ s. s.tail ≡ (drawing_of seed count).tail) }
 {
@@ -80,7 +80,7 @@ fn try_drawing<D: Desk>(
 // Runs the fixed script on the drawing of a session, whose elements have `before` bytes, and gives its summary.
 fn summarize(alloc: Global, session: &mut Session, before: usize) -> Result<Vec<u8>, AllocError>
     requires before { before ≡ length (spelling (state_of session.old).top) }
-    requires few { before ≤ MOST_DESIGN }
+    requires bounded { before ≤ MOST_DESIGN }
     ensures text { IfOk result (λ text. text.items ≡ summary (state_of session.old) session.old.tail) }
     ensures state { OnOk result (state_of session.new ≡ after_all fixed_steps (state_of session.old)) }
     ensures tail { OnOk result (session.new.tail ≡ session.old.tail) }

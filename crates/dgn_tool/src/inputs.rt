@@ -4,11 +4,11 @@ ghost use Rattle.std.specs.Prelude.{IfOk};
 ghost use Rattle.std.specs.List.{AllByRecursion};
 ghost use Rattle.elem_index.specs.Design.{IsWhole};
 ghost use Rattle.elem_index.specs.Answers.{opened_of};
-ghost use Rattle.dgn_import.specs.Seconds.{IsSound};
+ghost use Rattle.dgn_import.specs.Seconds.{IsOpened};
 ghost use Rattle.dgn_tool.specs.Ends.{DeskReads};
 ghost use Rattle.dgn_answers.specs.Steps.{steps_of};
 ghost use Rattle.dgn_tool.specs.Inputs.{Inputs as InputsValue, inputs_in};
-ghost use Rattle.dgn_import.specs.Seconds.{waiting};
+ghost use Rattle.dgn_import.specs.Seconds.{seconds_left};
 
 use crate::{End, open_design, read_commands, read_seconds};
 use dgn_desk::Desk;
@@ -37,9 +37,9 @@ pub(crate) fn read_inputs<D: Desk>(
     script: &str,
 ) -> Result<Inputs, End>
     ensures whole { IfOk result (λ i. IsWhole i.design) }
-    ensures sound { IfOk result (λ i. AllByRecursion IsSound i.seconds.items) }
+    ensures sound { IfOk result (λ i. AllByRecursion IsOpened i.seconds.items) }
     ensures read { DeskReads D.Desk (λ files. inputs_in files input.now script.now)
-        (λ i. record { drawing = opened_of i.design; steps = steps_of i.commands.items (waiting i.seconds.items) })
+        (λ i. record { drawing = opened_of i.design; steps = steps_of i.commands.items (seconds_left i.seconds.items) })
         desk.old desk.new result }
 {
     let design = open_design(alloc, desk, input)?;

@@ -23,7 +23,7 @@ pub fn filling_len(before: usize, tail: &[u8], now: usize) -> usize
     requires tail { length tail.now ≤ MOST_DESIGN }
     requires now { now ≤ MOST_DESIGN }
     ensures exact { result ≡ (if is_blocks before tail.now then left_in_block (now + length tail.now) else 0) }
-    ensures few { result < 512 }
+    ensures bounded { result < 512 }
 {
     if (before + tail.len()) % BLOCK == 0 && !tail.is_empty() {
         (BLOCK - (now + tail.len()) % BLOCK) % BLOCK

@@ -2,10 +2,10 @@
 
 ghost use Rattle.std.specs.Prelude.{◌≡◌, ◌≤◌, ◌<◌, [], length, reverse, IfOk, Some};
 ghost use Rattle.std.specs.List.{AllByRecursion};
-ghost use Rattle.dgn_import.specs.Seconds.{IsSound as IsSoundSecond};
+ghost use Rattle.dgn_import.specs.Seconds.{IsOpened as IsSoundSecond};
 ghost use Rattle.elem_index.specs.Design.{IsWhole};
 ghost use Rattle.elem_index.specs.Answers.{opened_of};
-ghost use Rattle.dgn_session.specs.Laws.{IsSound};
+ghost use Rattle.dgn_session.specs.Laws.{IsSessionValue};
 ghost use Rattle.dgn_session.specs.State.{state_of};
 ghost use Rattle.patch_file.specs.Spelling.{patch_spelling};
 ghost use Rattle.patch_file.specs.Standing.{all_taken};
@@ -16,7 +16,7 @@ ghost use Rattle.dgn_answers.specs.Steps.{steps_of, refused_count};
 ghost use Rattle.dgn_tool.specs.Packing.{packed, packed_after, filed_patch, TakesLast};
 ghost use Rattle.dgn_tool.specs.Outcome.{reading_of};
 ghost use Rattle.dgn_tool.specs.Request.{Pack};
-ghost use Rattle.dgn_import.specs.Seconds.{waiting};
+ghost use Rattle.dgn_import.specs.Seconds.{seconds_left};
 
 use crate::inputs::{Inputs, read_inputs};
 use crate::{End, Ending, end_with, file_and_say};
@@ -73,7 +73,7 @@ fn pack_commands<D: Desk>(
     requires whole { IsWhole design }
     requires sound { AllByRecursion IsSoundSecond seconds.old.items }
     ensures { DeskComes D.Desk
-        (packed (opened_of design) (steps_of commands.now (waiting seconds.old.items)) patch.now)
+        (packed (opened_of design) (steps_of commands.now (seconds_left seconds.old.items)) patch.now)
         desk.old desk.new result }
 {
     let did = pack_edits(alloc, design, commands, seconds)?;
@@ -93,9 +93,9 @@ fn pack_edits(
     requires whole { IsWhole design }
     requires sound { AllByRecursion IsSoundSecond seconds.old.items }
     ensures refused { IfOk result (λ p. p.refused
-        ≡ refused_count (steps_of commands.now (waiting seconds.old.items)) (first_state (opened_of design))) }
+        ≡ refused_count (steps_of commands.now (seconds_left seconds.old.items)) (first_state (opened_of design))) }
     ensures entries { IfOk result (λ p. all_packed p.entries.items
-        ≡ packed_after (steps_of commands.now (waiting seconds.old.items)) (first_state (opened_of design))) }
+        ≡ packed_after (steps_of commands.now (seconds_left seconds.old.items)) (first_state (opened_of design))) }
 {
     let mut session = Session::start(alloc, design)?;
     pack_session(alloc, &mut session, commands, seconds)
@@ -111,9 +111,9 @@ fn pack_session(
     requires begun { session.old.entries ≡ [] }
     requires sound { AllByRecursion IsSoundSecond seconds.old.items }
     ensures refused { IfOk result (λ p. p.refused
-        ≡ refused_count (steps_of commands.now (waiting seconds.old.items)) (state_of session.old)) }
+        ≡ refused_count (steps_of commands.now (seconds_left seconds.old.items)) (state_of session.old)) }
     ensures entries { IfOk result (λ p. all_packed p.entries.items
-        ≡ packed_after (steps_of commands.now (waiting seconds.old.items)) (state_of session.old)) }
+        ≡ packed_after (steps_of commands.now (seconds_left seconds.old.items)) (state_of session.old)) }
 {
     let tally = run_unsaid(alloc, session, commands, seconds)?;
     let entries = take_all(alloc, session)?;
@@ -127,7 +127,7 @@ fn pack_session(
 // written back, so that no copy of the drawing is made.
 fn take_all(alloc: Global, session: &mut Session) -> Result<Vec<PatchEntry>, AllocError>
     ensures taken { IfOk result (λ taken. all_packed taken.items ≡ all_taken session.old.body (reverse session.old.entries)) }
-    ensures sound { IsSound session.old }
+    ensures sound { IsSessionValue session.old }
 {
     let count = session.log().entries().len();
     let mut taken = Vec::with_capacity(alloc, count)?;

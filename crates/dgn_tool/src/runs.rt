@@ -58,7 +58,7 @@ pub fn run<D: Desk>(alloc: Global, words: &[String], desk: &mut D) -> Status
         (λ c. FilesInBytes (request_of (map string_bytes words.now)) c.files) }
     ensures never_fewer { D.write_faults desk.old ≤ D.write_faults desk.new }
     ensures stays_willing { StaysWilling (D.willing desk.old) (D.willing desk.new) }
-    ensures stays { EditsAsAsked (request_of (map string_bytes words.now)) result (D.content desk.old) (D.content desk.new) }
+    ensures as_asked { EditsAsAsked (request_of (map string_bytes words.now)) result (D.content desk.old) (D.content desk.new) }
 {
     run_words(alloc, words, desk)
 }

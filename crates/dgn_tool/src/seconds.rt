@@ -2,12 +2,12 @@
 
 ghost use Rattle.std.specs.Prelude.{◌≡◌, map, IfOk, OnOk};
 ghost use Rattle.std.specs.List.{AllByRecursion, list_all};
-ghost use Rattle.dgn_import.specs.Seconds.{value_of, IsSound};
+ghost use Rattle.dgn_import.specs.Seconds.{value_of, IsOpened};
 ghost use Rattle.edit_script.specs.Imports.{is_name_byte};
 ghost use Rattle.dgn_tool.specs.Ends.{DeskReads};
 ghost use Rattle.dgn_tool.specs.Inputs.{second_in, seconds_behind, seconds_in};
 ghost use Rattle.dgn_tool.specs.SecondFiles.{text_named, names_of};
-ghost use Rattle.dgn_import.specs.Seconds.{waiting};
+ghost use Rattle.dgn_import.specs.Seconds.{seconds_left};
 
 use crate::end::End;
 use crate::files::read_file;
@@ -24,8 +24,8 @@ pub fn read_seconds<D: Desk>(
     desk: &mut D,
     commands: &[Command],
 ) -> Result<Vec<Second>, End>
-    ensures sound { IfOk result (λ seconds. AllByRecursion IsSound seconds.items) }
-    ensures read { DeskReads D.Desk (λ files. seconds_in files commands.now) (λ seconds. waiting seconds.items)
+    ensures sound { IfOk result (λ seconds. AllByRecursion IsOpened seconds.items) }
+    ensures read { DeskReads D.Desk (λ files. seconds_in files commands.now) (λ seconds. seconds_left seconds.items)
         desk.old desk.new result }
 {
     let mut seconds = Vec::new(alloc);
@@ -43,8 +43,8 @@ fn read_for<D: Desk>(
     command: &Command,
     seconds: &mut Vec<Second>,
 ) -> Result<(), End>
-    requires { AllByRecursion IsSound seconds.old.items }
-    ensures sound { OnOk result (AllByRecursion IsSound seconds.new.items) }
+    requires { AllByRecursion IsOpened seconds.old.items }
+    ensures sound { OnOk result (AllByRecursion IsOpened seconds.new.items) }
     ensures read { DeskReads D.Desk (λ files. seconds_behind files (map value_of seconds.old.items) (names_of command.now))
         (λ _. map value_of seconds.new.items) desk.old desk.new result }
 {
@@ -60,7 +60,7 @@ fn read_for<D: Desk>(
 
 // Reads the named second file whole, and opens it, or ends the run.
 fn read_named<D: Desk>(alloc: Global, desk: &mut D, name: &str) -> Result<Second, End>
-    ensures sound { IfOk result IsSound }
+    ensures sound { IfOk result IsOpened }
     ensures read { DeskReads D.Desk (λ files. second_in files name.now) value_of desk.old desk.new result }
 {
     let bytes = read_file(alloc, desk, name, MOST_DESIGN, b"too long import\n")?;

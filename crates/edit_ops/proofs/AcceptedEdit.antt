@@ -26,7 +26,7 @@ use Rattle.edit_ops.specs.declared.asking.test.Test.TheVariants as tests
 use Rattle.edit_ops.specs.Trees.{Live, live_from, live_tree, above_tree, found_at, path_to}
 use Rattle.edit_ops.specs.Causes.{unknown, broken, broken_in, silent, unmovable, lookless, unmarkable, cause_at, first_cause, first_of}
 use Rattle.edit_ops.specs.Causes.{part_cause, causes_of, target_of, target_cause, cause_of}
-use Rattle.edit_ops.specs.Applying.{Done, unless, apply, changed_forest}
+use Rattle.edit_ops.specs.Applying.{Done, applied_unless, apply, changed_forest}
 use Rattle.edit_ops.specs.Written.{IsReady}
 use Rattle.edit_ops.proofs.ReadableElements.{silent_class}
 use Rattle.edit_ops.proofs.PartPlace.{IsPlaced, placed, first_left}
@@ -90,20 +90,21 @@ markable m kind is = λ same.
 -- live elements that can be moved, and that stay on the plane, are ready for a move or a copy
 movables : (dim : ℕ) (by : Displacement) (e : Edit)
     → ((v : Element) → has_spots (class_of v.kind) ≡ true → stays_on_plane dim by v ≡ true → IsReady dim e v)
-    → (vs : List Live) → first_cause dim tests.Moves vs ≡ None → first_cause dim (tests.Leaves by) vs ≡ None → AllByRecursion (λ v. IsReady dim e v.element) vs
+    → (vs : List Live) → first_cause dim tests.Moves vs ≡ None → first_cause dim (tests.StaysOnPlane by) vs ≡ None
+    → AllByRecursion (λ v. IsReady dim e v.element) vs
 movables dim by e able vs moves leaves =
-    all_both (λ v. cause_at dim tests.Moves v.number v.element ≡ None) (λ v. cause_at dim (tests.Leaves by) v.number v.element ≡ None)
+    all_both (λ v. cause_at dim tests.Moves v.number v.element ≡ None) (λ v. cause_at dim (tests.StaysOnPlane by) v.number v.element ≡ None)
     (λ v. IsReady dim e v.element)
     (λ v moves stays. able v.element (movable v.number (class_of v.element.kind) moves)
     (met (stays_on_plane dim by v.element) (causes.OffPlane v.number) stays))
-    vs (none_first dim tests.Moves vs moves) (none_first dim (tests.Leaves by) vs leaves)
+    vs (none_first dim tests.Moves vs moves) (none_first dim (tests.StaysOnPlane by) vs leaves)
 
 -- so nothing stands against the copy of each live element where each can be moved and stays on the plane
 pub copy_ready : (dim : ℕ) (by : Displacement) (n : ℕ) (vs : List Live)
-    → option_or (first_cause dim tests.Moves vs) (first_cause dim (tests.Leaves by) vs) ≡ None
+    → option_or (first_cause dim tests.Moves vs) (first_cause dim (tests.StaysOnPlane by) vs) ≡ None
     → AllByRecursion (λ v. IsReady dim (edit.Copy n by) v.element) vs
 copy_ready dim by n vs is =
-    let both = none_both (first_cause dim tests.Moves vs) (first_cause dim (tests.Leaves by) vs) is in
+    let both = none_both (first_cause dim tests.Moves vs) (first_cause dim (tests.StaysOnPlane by) vs) is in
     movables dim by (edit.Copy n by) (λ v spots stays. (spots, stays)) vs both.0 both.1
 
 -- nothing stands against an edit of each live element of its part where none of its causes stands
@@ -187,11 +188,11 @@ pub record IsKept (es : List Element) (n : ℕ) : Type 0 where
 -- where neither it is unknown nor something keeps its part
 pub kept : (dim : ℕ) (es : List Element) (n : ℕ) → n < length es → part_cause dim es n ≡ None → IsKept es n
 kept dim es n known is =
-    let both = none_both (broken (broken_in es (root_of row_of es n))) (first_cause dim tests.Lives (path_to es n)) is in
+    let both = none_both (broken (broken_in es (root_of row_of es n))) (first_cause dim tests.NotDeleted (path_to es n)) is in
     let x : IsThere es n = is_there es n known in
     let P : Live → Type 0 = λ v. v.element.deleted ≡ false in
-    let each : AllByRecursion P (path_to es n) = all_so (λ v. cause_at dim tests.Lives v.number v.element ≡ None) P
-    (λ v is. unmet v.element.deleted (causes.Deleted v.number) is) (path_to es n) (none_first dim tests.Lives (path_to es n) both.1) in
+    let each : AllByRecursion P (path_to es n) = all_so (λ v. cause_at dim tests.NotDeleted v.number v.element ≡ None) P
+    (λ v is. unmet v.element.deleted (causes.Deleted v.number) is) (path_to es n) (none_first dim tests.NotDeleted (path_to es n) both.1) in
     let last : AllByRecursion P (option_to_list (found_at es n)) = each_last P (above_tree es n) (option_to_list (found_at es n)) each in
     let one = subst (λ (o : Option Element). AllByRecursion P
     (option_to_list (option_map (λ (e : Element). record { number = n; place = offset_of es n; element = e }) o))) x.there last in
@@ -263,7 +264,7 @@ accepted dim es rest e n named each first is =
     }
 
 -- what is done has no cause, and leaves the elements of the changed trees
-pub done_unless : (c : Option Cause) (left made : List Element) → unless c left ≡ Done made → (c ≡ None) × (made ≡ left)
+pub done_unless : (c : Option Cause) (left made : List Element) → applied_unless c left ≡ Done made → (c ≡ None) × (made ≡ left)
 done_unless None left made is = let x = is in (refl, cc)
 done_unless (Some c) left made is = absurd (let x = is in cc)
 
@@ -274,4 +275,4 @@ done_is dim es rest e made done = done_unless (cause_of dim es rest e) (flat (ch
 -- and what has no cause is done
 pub done_without_cause : (dim : ℕ) (es : List Element) (rest : ℕ) (e : Edit) → cause_of dim es rest e ≡ None
     → apply dim es rest e ≡ Done (flat (changed_forest dim es e))
-done_without_cause dim es rest e none = ap (λ (c : Option Cause). unless c (flat (changed_forest dim es e))) none
+done_without_cause dim es rest e none = ap (λ (c : Option Cause). applied_unless c (flat (changed_forest dim es e))) none

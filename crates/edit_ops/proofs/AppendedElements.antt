@@ -18,7 +18,7 @@ use Rattle.dgn_drawing.specs.Spelling.{spell, spelling}
 use Rattle.dgn_drawing.specs.WellFormed.{IsDimension, IsWellFormed}
 use Rattle.dgn_drawing.specs.Rows.{row_of}
 use Rattle.dgn_drawing.specs.Nesting.{Leaf, NoTree, Tree, is_counted, flat, forest, BeginsFree}
-use Rattle.dgn_drawing.specs.NewElements.{NewElement, IsNew, kind_made, made}
+use Rattle.dgn_drawing.specs.NewElements.{NewElement, IsNew, kind_made, element_made}
 use Rattle.dgn_drawing.specs.Opening.{dimension, BeginsWithTcb, Opens}
 use Rattle.dgn_drawing.proofs.FirstElements.{dimension_is}
 use Rattle.dgn_drawing.proofs.MadeElements.{made_good}
@@ -142,44 +142,46 @@ append_causes dim es rest new none =
     (eqb-true new.axes dim (met (new.axes == dim) causes.Dimension axes.0), short.0)
 
 -- the elements that it leaves
-append_leaves : (dim : ℕ) (es : List Element) (new : NewElement) → flat (changed_forest dim es (edit.Append new)) ≡ es ++ (made new ∷ [])
+append_leaves : (dim : ℕ) (es : List Element) (new : NewElement) → flat (changed_forest dim es (edit.Append new)) ≡ es ++ (element_made new ∷ [])
 append_leaves dim es new =
-    flat-joined (forest row_of es) (Tree Leaf (made new) NoTree NoTree) ∙ ap (λ (l : List Element). l ++ (made new ∷ [])) (flat-forest row_of es)
+    flat-joined (forest row_of es) (Tree Leaf (element_made new) NoTree NoTree)
+    ∙ ap (λ (l : List Element). l ++ (element_made new ∷ [])) (flat-forest row_of es)
 
 module _ (f : List ℕ) (dim : ℕ) (es : List Element) (t : List ℕ) (rest : ℕ) (new : NewElement) (fits : IsNew new) (opens : Opens f dim es t) where
   -- it nests behind the others
-  append_nests : forest row_of (es ++ (made new ∷ [])) ≡ changed_forest dim es (edit.Append new)
-  append_nests = leaf_appended es (made new) (some_element es opens.first) refl (plain_made new.shape) (straight_made new.shape) (own_made new.shape)
+  append_nests : forest row_of (es ++ (element_made new ∷ [])) ≡ changed_forest dim es (edit.Append new)
+  append_nests = leaf_appended es (element_made new) (some_element es opens.first) refl (plain_made new.shape) (straight_made new.shape) (own_made new.shape)
 
   module _ (left : List Element) (done : apply dim es rest (edit.Append new) ≡ Done left) where
-    left_is : left ≡ es ++ (made new ∷ [])
+    left_is : left ≡ es ++ (element_made new ∷ [])
     left_is = (done_is dim es rest (edit.Append new) left done).1 ∙ append_leaves dim es new
 
-    one_long : length (spelling (made new ∷ [])) ≡ bytes_appended es (edit.Append new)
-    one_long = ap (length {A = ℕ}) (append-nil (spell (made new)))
+    one_long : length (spelling (element_made new ∷ [])) ≡ bytes_appended es (edit.Append new)
+    one_long = ap (length {A = ℕ}) (append-nil (spell (element_made new)))
 
     -- the drawing with an appended element opens
     pub append_opens : Opens (spelling left ++ t) dim left t
     append_opens =
         let axes : new.axes ≡ dim = (append_causes dim es rest new (done_is dim es rest (edit.Append new) left done).0).0 in
-        let good : IsWellFormed dim (made new) = subst (λ (d : ℕ). IsWellFormed d (made new)) axes (made_good new fits).good in
-        subst (λ (l : List Element). Opens (spelling l ++ t) dim l t) (sym left_is) (appended_opens f dim es (made new ∷ []) t opens (good, tt))
+        let good : IsWellFormed dim (element_made new) = subst (λ (d : ℕ). IsWellFormed d (element_made new)) axes (made_good new fits).good in
+        subst (λ (l : List Element). Opens (spelling l ++ t) dim l t) (sym left_is) (appended_opens f dim es (element_made new ∷ []) t opens (good, tt))
 
     -- it keeps the limit of a design file
     pub append_fits : length (spelling es) + rest ≤ MOST_DESIGN → length (spelling left) + rest ≤ MOST_DESIGN
     append_fits few =
         subst (λ (l : List Element). length (spelling l) + rest ≤ MOST_DESIGN) (sym left_is)
-        (appended_fits dim es (made new ∷ []) (edit.Append new) refl rest one_long
+        (appended_fits dim es (element_made new ∷ []) (edit.Append new) refl rest one_long
         (append_causes dim es rest new (done_is dim es rest (edit.Append new) left done).0).1)
 
     -- and has changed no field
     pub append_changes : ChangesItsFields dim es (edit.Append new) left
     append_changes =
         subst (ChangesItsFields dim es (edit.Append new)) (sym left_is)
-        (appended_changes dim es (made new ∷ []) (edit.Append new) refl one_long refl append_nests)
+        (appended_changes dim es (element_made new ∷ []) (edit.Append new) refl one_long refl append_nests)
 
 -- an appended element that isn't refused is planned by its bytes
 pub append_plan : (dim : ℕ) (es : List Element) (rest : ℕ) (new : NewElement) (p : Plan) → cause_of dim es rest (edit.Append new) ≡ None
-    → p.patches ≡ [] → p.append ≡ spell (made new) → IsPlan dim es rest (edit.Append new) p
+    → p.patches ≡ [] → p.append ≡ spell (element_made new) → IsPlan dim es rest (edit.Append new) p
 append_plan dim es rest new p none patches append =
-    appended_plan dim es (made new ∷ []) (edit.Append new) refl rest p none (append_leaves dim es new) patches (append ∙ sym (append-nil (spell (made new))))
+    appended_plan dim es (element_made new ∷ []) (edit.Append new) refl rest p none (append_leaves dim es new) patches (append
+    ∙ sym (append-nil (spell (element_made new))))

@@ -8,7 +8,7 @@ use Rattle.dgn_drawing.specs.declared.edit.Edit.TheVariants as edit
 use Rattle.dgn_drawing.specs.Values.{Displacement}
 use Rattle.dgn_drawing.specs.Element.{Element}
 use Rattle.dgn_drawing.specs.Spelling.{spell, spelling}
-use Rattle.dgn_drawing.specs.NewElements.{NewElement, made}
+use Rattle.dgn_drawing.specs.NewElements.{NewElement, element_made}
 use Rattle.dgn_drawing.specs.Opening.{Opens}
 use Rattle.dgn_drawing.specs.Nesting.{flat}
 use Rattle.edit_ops.specs.declared.causes.cause.Cause.{Cause}
@@ -17,7 +17,7 @@ use Rattle.edit_ops.specs.declared.causes.edit_fault.EditFault.{EditFault}
 use Rattle.edit_ops.specs.declared.causes.edit_fault.EditFault.TheVariants as faults
 use Rattle.edit_ops.specs.declared.types.plan.Plan.{Plan}
 use Rattle.edit_ops.specs.Causes.{unknown, part_cause, causes_of, first_of, target_of, target_cause, cause_of}
-use Rattle.edit_ops.specs.Applying.{Refused, unless, apply, changed_forest, copied, ChangesInPlace, IsEdit}
+use Rattle.edit_ops.specs.Applying.{Refused, applied_unless, apply, changed_forest, copied, ChangesInPlace, IsEdit}
 use Rattle.edit_ops.specs.Written.{part_puts}
 use Rattle.edit_ops.specs.Copying.{AddsUnless}
 use Rattle.edit_ops.specs.Planned.{IsPlan, IsPlanBehind, PlansUnless}
@@ -44,7 +44,7 @@ named_first dim es rest e n named =
 
 -- with a cause it is refused
 with_cause : (dim : ℕ) (es : List Element) (rest : ℕ) (e : Edit) (c : Cause) → cause_of dim es rest e ≡ Some c → apply dim es rest e ≡ Refused c
-with_cause dim es rest e c is = ap (λ (o : Option Cause). unless o (flat (changed_forest dim es e))) is
+with_cause dim es rest e c is = ap (λ (o : Option Cause). applied_unless o (flat (changed_forest dim es e))) is
 
 -- an edit of an unknown element is refused
 pub unknown_refused : (dim : ℕ) (es : List Element) (rest : ℕ) (e : Edit) (n : ℕ) (c : Cause) → target_of e ≡ Some n → unknown n es ≡ Some c
@@ -87,7 +87,7 @@ copied_plan dim es rest e n m by p named is none patches append =
 -- an appended element without a cause is planned by its bytes
 pub made_plan : (dim : ℕ) (es : List Element) (rest : ℕ) (e : Edit) (new : NewElement) (p : Plan) → e ≡ edit.Append new
     → first_of (causes_of dim es rest e) ≡ None
-    → p.patches ≡ [] → p.append ≡ spell (made new) → IsPlan dim es rest e p
+    → p.patches ≡ [] → p.append ≡ spell (element_made new) → IsPlan dim es rest e p
 made_plan dim es rest e new p is none patches append =
     let free : cause_of dim es rest (edit.Append new) ≡ None = ap (λ (x : Edit). first_of (causes_of dim es rest x)) (sym is) ∙ none in
     subst (λ (x : Edit). IsPlan dim es rest x p) (sym is) (append_plan dim es rest new p free patches append)

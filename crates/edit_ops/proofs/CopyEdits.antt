@@ -39,7 +39,7 @@ copy_short dim es rest n by none =
     let causes = (named_cause dim es rest (edit.Copy n by) n refl none).2 in
     let a = none_both (other_axes dim by.axes) _ causes in
     let b = none_both (first_cause dim tests.Moves (live_tree es n)) _ a.1 in
-    let c = none_both (first_cause dim (tests.Leaves by) (live_tree es n)) _ b.1 in
+    let c = none_both (first_cause dim (tests.StaysOnPlane by) (live_tree es n)) _ b.1 in
     (none_both (too_long (length (spelling es) + rest + bytes_appended es (edit.Copy n by))) None c.1).0
 
 module _ (f : List ℕ) (dim : ℕ) (es : List Element) (t : List ℕ) (rest n : ℕ) (by : Displacement) (fits : IsShift by) (opens : Opens f dim es t) where

@@ -30,7 +30,7 @@ copy_first : (dim : ℕ) (es : List Element) (rest n : ℕ) (by : Displacement)
     (option_or (copy_cause dim es by n) (too_long (length (spelling es) + rest + bytes_appended es (edit.Copy n by))))
 copy_first dim es rest n by =
     five_as_two (part_cause dim es n) (other_axes dim by.axes) (first_cause dim tests.Moves (live_tree es n))
-    (first_cause dim (tests.Leaves by) (live_tree es n))
+    (first_cause dim (tests.StaysOnPlane by) (live_tree es n))
     (too_long (length (spelling es) + rest + bytes_appended es (edit.Copy n by)))
 
 -- what stands against it and is told, else what is told of the length

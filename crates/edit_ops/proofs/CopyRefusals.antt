@@ -46,7 +46,7 @@ module _ (P : Cause → Type 0) (floating : (m : ℕ) → P (causes.Floating m))
 
     pub copy_refused : (dim : ℕ) (es : List Element) (by : Displacement) (n : ℕ) (c : Cause) → copy_cause dim es by n ≡ Some c → P c
     copy_refused dim es by n c is =
-        either_refuses (P c) (first_cause dim tests.Moves (live_tree es n)) (first_cause dim (tests.Leaves by) (live_tree es n)) c
+        either_refuses (P c) (first_cause dim tests.Moves (live_tree es n)) (first_cause dim (tests.StaysOnPlane by) (live_tree es n)) c
         (first_refuses P dim tests.Moves (λ v x moves. unmovable_so v.number (class_of v.element.kind) x moves) (live_tree es n) c)
-        (first_refuses P dim (tests.Leaves by) (λ v x leaves. off_so v.number (stays_on_plane dim by v.element) x leaves) (live_tree es n) c)
+        (first_refuses P dim (tests.StaysOnPlane by) (λ v x leaves. off_so v.number (stays_on_plane dim by v.element) x leaves) (live_tree es n) c)
         is

@@ -12,8 +12,8 @@ use Rattle.elem_index.specs.declared.design.Design.{Design}
 use Rattle.elem_index.specs.Design.{elements, IsWhole}
 use Rattle.elem_index.specs.Offsets.{offset_of}
 use Rattle.elem_index.proofs.Places.{axes_of, each_at, stands_at, body_is}
-use Rattle.edit_ops.specs.declared.asking.found.Found.{Found}
-use Rattle.edit_ops.specs.Found.{IsFound}
+use Rattle.edit_ops.specs.declared.asking.element_view.ElementView.{ElementView}
+use Rattle.edit_ops.specs.ElementViews.{IsElementView}
 use Rattle.dgn_drawing.specs.declared.limits.TheConstants.{MOST_DESIGN}
 
 -- the element whose spelling is given
@@ -54,7 +54,7 @@ module _ (d : Design) (whole : IsWhole d) (n : ℕ) (b : List ℕ) (is : Some b 
         let sits = read ∙ ap head_of there.2 ∙ (all-sits d.dim there.0 (axes_of d whole) good).0.head in
         cc
 
-    pub found_here : (f : Found) → f.place ≡ offset_of (elements d) n → f.kind ≡ h.kind → f.deleted ≡ h.deleted → f.bytes.now ≡ b → IsFound d n f
+    pub found_here : (f : ElementView) → f.place ≡ offset_of (elements d) n → f.kind ≡ h.kind → f.deleted ≡ h.deleted → f.bytes.now ≡ b → IsElementView d n f
     found_here f place kind deleted bytes = record {
       element = there.0;
       there = there.1;

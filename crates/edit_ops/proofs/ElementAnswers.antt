@@ -28,7 +28,7 @@ use Rattle.elem_index.specs.declared.design.Design.{Design}
 use Rattle.elem_index.specs.Design.{elements, IsWhole}
 use Rattle.elem_index.specs.Offsets.{offset_of}
 use Rattle.edit_ops.specs.declared.causes.cause.Cause.TheVariants as causes
-use Rattle.edit_ops.specs.declared.asking.found.Found.{Found}
+use Rattle.edit_ops.specs.declared.asking.element_view.ElementView.{ElementView}
 use Rattle.edit_ops.specs.declared.asking.test.Test.{Test}
 use Rattle.edit_ops.specs.declared.asking.test.Test.TheVariants as tests
 use Rattle.edit_ops.specs.Trees.{Live, found_at}
@@ -36,25 +36,26 @@ use Rattle.edit_ops.specs.Causes.{says_locked, is_locked}
 use Rattle.edit_ops.specs.Asking.{cause_in, MayBeAskedOf, locked_in}
 use Rattle.edit_ops.specs.Written.{live_puts, look_put, new_look}
 use Rattle.edit_ops.specs.Putting.{MayBePut}
-use Rattle.edit_ops.specs.Found.{IsFound}
+use Rattle.edit_ops.specs.ElementViews.{IsElementView}
 use Rattle.edit_ops.proofs.ReadableElements.{IsShown, is_shown, shown_long, not_silent_form}
 use Rattle.elem_index.proofs.Places.{axes_of}
 use Rattle.edit_ops.proofs.DesignElements.{four_bytes}
 use Rattle.edit_ops.proofs.WiderRanges.{one_of}
 
 -- the test of the plane may be asked where the element has spots
-pub asked_of_spots : (test : Test) (by : Displacement) (o : Option Element) (e : Element) → test ≡ tests.Leaves by → o ≡ Some e → MayBeAskedOf test o
+pub asked_of_spots : (test : Test) (by : Displacement) (o : Option Element) (e : Element) → test ≡ tests.StaysOnPlane by → o ≡ Some e → MayBeAskedOf test o
     → has_spots (class_of e.kind) ≡ true
 asked_of_spots test by o e is there asked =
-    let known : MayBeAskedOf (tests.Leaves by) o = subst (λ (x : Test). MayBeAskedOf x o) is asked in
-    subst (MayBeAskedOf (tests.Leaves by)) there known
+    let known : MayBeAskedOf (tests.StaysOnPlane by) o = subst (λ (x : Test). MayBeAskedOf x o) is asked in
+    subst (MayBeAskedOf (tests.StaysOnPlane by)) there known
 
 -- what the test of the plane has against an element
-pub plane_cause : (dim : ℕ) (test : Test) (by : Displacement) (m : ℕ) (o : Option Element) (e : Element) (b : Bool) → test ≡ tests.Leaves by → o ≡ Some e
+pub plane_cause : (dim : ℕ) (test : Test) (by : Displacement) (m : ℕ) (o : Option Element) (e : Element) (b : Bool) → test ≡ tests.StaysOnPlane by → o ≡ Some e
     → stays_on_plane dim by e ≡ b
     → cause_in dim test m o ≡ cond b None (Some (causes.OffPlane m))
 plane_cause dim test by m o e b is there stays =
-    ap (λ (x : Test). cause_in dim x m o) is ∙ ap (cause_in dim (tests.Leaves by) m) there ∙ ap (λ (x : Bool). cond x None (Some (causes.OffPlane m))) stays
+    ap (λ (x : Test). cause_in dim x m o) is ∙ ap (cause_in dim (tests.StaysOnPlane by) m) there
+    ∙ ap (λ (x : Bool). cond x None (Some (causes.OffPlane m))) stays
 
 -- the body of a silent class isn't locked
 unlocked : (class : Class) (kind : ℕ) (b : Body) → is_silent class ≡ true → form_in class kind ≡ form_of_body b → is_locked b ≡ false
@@ -93,7 +94,7 @@ readable_of e es m v there each =
     (option_to_list (option_map (λ (x : Element). record { number = m; place = offset_of es m; element = x }) o)) in
     (subst P there each).0
 
-module _ (d : Design) (whole : IsWhole d) (m : ℕ) (f : Found) (found : IsFound d m f) where
+module _ (d : Design) (whole : IsWhole d) (m : ℕ) (f : ElementView) (found : IsElementView d m f) where
   axes : IsDimension d.dim
   axes = axes_of d whole
 

@@ -8,14 +8,14 @@ use Rattle.dgn_layout.specs.declared.spot.Spot.{Spot}
 use Rattle.dgn_drawing.specs.Element.{Element}
 use Rattle.elem_index.specs.declared.design.Design.{Design}
 use Rattle.elem_index.specs.Design.{elements, IsWhole}
-use Rattle.edit_ops.specs.declared.asking.found.Found.{Found}
+use Rattle.edit_ops.specs.declared.asking.element_view.ElementView.{ElementView}
 use Rattle.edit_ops.specs.declared.asking.test.Test.TheVariants as tests
 use Rattle.edit_ops.specs.Causes.{unmovable}
 use Rattle.edit_ops.specs.Asking.{cause_in}
-use Rattle.edit_ops.specs.Found.{IsFound}
+use Rattle.edit_ops.specs.ElementViews.{IsElementView}
 use Rattle.edit_ops.proofs.AcceptedEdit.{movable}
 
-module _ (d : Design) (whole : IsWhole d) (m : ℕ) (f : Found) (found : IsFound d m f) where
+module _ (d : Design) (whole : IsWhole d) (m : ℕ) (f : ElementView) (found : IsElementView d m f) where
   abbrev here_too : Option Element
   here_too = slice_get (elements d) m
 

@@ -21,7 +21,7 @@ use Rattle.dgn_drawing.specs.declared.edit.Edit.TheVariants as edit
 use Rattle.edit_ops.specs.declared.causes.cause.Cause.{Cause}
 use Rattle.edit_ops.specs.declared.types.plan.Plan.{Plan}
 use Rattle.edit_ops.specs.Causes.{cause_of, bytes_appended}
-use Rattle.edit_ops.specs.Applying.{Done, changed_forest, unless}
+use Rattle.edit_ops.specs.Applying.{Done, changed_forest, applied_unless}
 use Rattle.edit_ops.specs.Fields.{Field, IsIn, Rise, filled}
 use Rattle.edit_ops.specs.Fenced.{edit_at, edits_at, cause_of_all, fenced_forest, fenced_fields, all_appended, apply_all, AreRoots, IsFenceEdit}
 use Rattle.edit_ops.specs.Planned.{IsFencePlan}
@@ -128,7 +128,7 @@ module _ (f : List ℕ) (dim : ℕ) (es : List Element) (t : List ℕ) (e : Fenc
       → IsFencePlan dim es rest e ns p
   left_planned rest p none patches append = record {
     made = made;
-    done = ap (λ (c : Option Cause). unless c (flat (fenced_forest dim es e ns))) none ∙ ap Done left.listed;
+    done = ap (λ (c : Option Cause). applied_unless c (flat (fenced_forest dim es e ns))) none ∙ ap Done left.listed;
     patches = patches ∙ puts_fill;
     append = append ∙ sym left.bytes ∙ sym behind;
   }

@@ -11,14 +11,14 @@ use Rattle.dgn_drawing.specs.Numbering.{end_of, headers_in, headers_of}
 use Rattle.nest_tree.proofs.NestingSteps.{flat-forest}
 use Rattle.elem_index.specs.Offsets.{offset_of}
 use Rattle.edit_ops.specs.Trees.{Live, count_in, above_from, above_tree}
-use Rattle.edit_ops.specs.Written.{found}
+use Rattle.edit_ops.specs.Written.{lives_of}
 use Rattle.edit_ops.proofs.PartPlace.{first_left, others_left}
 use Rattle.dgn_drawing.proofs.ListRests.{drop_front}
 use Rattle.edit_ops.proofs.LiveFound.{offset_next, offset_behind, found_first}
 
 -- the headers above an element of trees that stand in a drawing are those at their numbers
 found_above_in : (es : List Element) (f : Forest Element) (n first p : ℕ) (behind : List Element) → drop first es ≡ flat f ++ behind → p ≡ offset_of es first
-    → found es (headers_in n first f) ≡ above_from n first p f
+    → lives_of es (headers_in n first f) ≡ above_from n first p f
 found_above_in es NoTree n first p behind left at = refl
 found_above_in es (Tree knot e below others) zero first p behind left at = refl
 found_above_in es (Tree knot e below others) (suc n) first p behind left at =
@@ -35,14 +35,14 @@ found_above_in es (Tree knot e below others) (suc n) first p behind left at =
     let outer = found_above_in es others (n - count_in below) (end_of first below) (p + (size_of e + length (spelling (flat below)))) behind past at_past in
     elim (cases_Bool (nat_lt n (count_in below))) [
       | inl within ↦
-          ap (found es) (cond-true (nat_lt n (count_in below)) (first ∷ headers_in n (first + 1) below)
+          ap (lives_of es) (cond-true (nat_lt n (count_in below)) (first ∷ headers_in n (first + 1) below)
           (headers_in (n - count_in below) (end_of first below) others) within)
           ∙ found_first es first p e (headers_in n (first + 1) below) there at
           ∙ ap (λ (vs : List Live). here ∷ vs) inner
           ∙ sym (cond-true (nat_lt n (count_in below)) (here ∷ above_from n (first + 1) (p + size_of e) below)
           (above_from (n - count_in below) (end_of first below) (p + (size_of e + length (spelling (flat below)))) others) within)
       | inr beyond ↦
-          ap (found es) (cond-false (nat_lt n (count_in below)) (first ∷ headers_in n (first + 1) below)
+          ap (lives_of es) (cond-false (nat_lt n (count_in below)) (first ∷ headers_in n (first + 1) below)
           (headers_in (n - count_in below) (end_of first below) others) beyond)
           ∙ outer
           ∙ sym (cond-false (nat_lt n (count_in below)) (here ∷ above_from n (first + 1) (p + size_of e) below)
@@ -50,5 +50,5 @@ found_above_in es (Tree knot e below others) (suc n) first p behind left at =
     ]
 
 -- so are those of an element of a drawing
-pub found_above : (es : List Element) (n : ℕ) → found es (headers_of row_of es n) ≡ above_tree es n
+pub found_above : (es : List Element) (n : ℕ) → lives_of es (headers_of row_of es n) ≡ above_tree es n
 found_above es n = found_above_in es (forest row_of es) n 0 0 [] (sym (flat-forest row_of es) ∙ sym (append-nil (flat (forest row_of es)))) refl

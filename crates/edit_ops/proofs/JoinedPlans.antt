@@ -21,7 +21,7 @@ use Rattle.edit_ops.specs.declared.causes.edit_fault.EditFault.{EditFault}
 use Rattle.edit_ops.specs.declared.causes.edit_fault.EditFault.TheVariants as faults
 use Rattle.edit_ops.specs.declared.types.plan.Plan.{Plan}
 use Rattle.edit_ops.specs.Causes.{cause_of, bytes_appended}
-use Rattle.edit_ops.specs.Applying.{Refused, unless, apply, copied, changed_forest, IsEdit}
+use Rattle.edit_ops.specs.Applying.{Refused, applied_unless, apply, copied, changed_forest, IsEdit}
 use Rattle.edit_ops.specs.Fields.{part_fields, filled}
 use Rattle.edit_ops.specs.Written.{part_puts}
 use Rattle.edit_ops.specs.Planned.{IsPlan, IsFencePlan, IsRefused}
@@ -93,7 +93,7 @@ next_left : (ns : List ℕ) (i : ℕ) → i < length ns → drop i ns ≡ get_or
 next_left ns i within = rw (add-one, drop-cons ns i 0) refl
 
 -- what is refused is so with its cause
-refused_with : (c : Option Cause) (left : List Element) (cause : Cause) → unless c left ≡ Refused cause → c ≡ Some cause
+refused_with : (c : Option Cause) (left : List Element) (cause : Cause) → applied_unless c left ≡ Refused cause → c ≡ Some cause
 refused_with None left cause is = absurd (let x = is in cc)
 refused_with (Some c) left cause is = let x = is in cc
 
@@ -134,7 +134,7 @@ module _ (dim : ℕ) (es : List Element) (tail : ℕ) (e : FenceEdit) (ns : List
   next_fails n left patches append (faults.Refused c) joined is =
       let first : cause_of dim es (tail + length append) (edit_at e n) ≡ Some c =
       refused_with (cause_of dim es (tail + length append) (edit_at e n)) (flat (changed_forest dim es (edit_at e n))) c is in
-      ap (λ (o : Option Cause). unless o (flat (fenced_forest dim es e ns)))
+      ap (λ (o : Option Cause). applied_unless o (flat (fenced_forest dim es e ns)))
       (sym joined.causes ∙ ap (λ (o : Option Cause). option_or o
       (cause_of_all dim es (tail + length append + bytes_appended es (edit_at e n)) (edits_at e left))) first)
   next_fails n left patches append faults.Memory joined is = tt

@@ -18,12 +18,12 @@ use Rattle.edit_ops.specs.declared.causes.cause.Cause.{Cause}
 use Rattle.edit_ops.specs.declared.causes.cause.Cause.TheVariants as causes
 use Rattle.edit_ops.specs.declared.causes.edit_fault.EditFault.{EditFault}
 use Rattle.edit_ops.specs.declared.causes.edit_fault.EditFault.TheVariants as faults
-use Rattle.edit_ops.specs.declared.asking.found.Found.{Found}
+use Rattle.edit_ops.specs.declared.asking.element_view.ElementView.{ElementView}
 use Rattle.edit_ops.specs.declared.asking.test.Test.TheVariants as tests
 use Rattle.edit_ops.specs.Trees.{Live, found_at}
 use Rattle.edit_ops.specs.Causes.{off_plane, cause_at, first_cause}
-use Rattle.edit_ops.specs.Written.{found, IsReady}
-use Rattle.edit_ops.specs.Found.{IsFound}
+use Rattle.edit_ops.specs.Written.{lives_of, IsReady}
+use Rattle.edit_ops.specs.ElementViews.{IsElementView}
 use Rattle.edit_ops.proofs.AcceptedEdit.{met, movable, none_first}
 use Rattle.edit_ops.proofs.EditedBytes.{all_both, all_so}
 use Rattle.edit_ops.proofs.ListedLive.{found_next, cause_both, cause_alone}
@@ -33,19 +33,19 @@ use Rattle.edit_ops.proofs.ElementAnswers.{plane_cause, stays_found}
 
 -- the first of joined elements that leaves is the first of the first list, and else of the second
 pub leaving_both : (dim : ℕ) (e : Edit) (us vs : List Live) → leaving dim e (us ++ vs) ≡ option_or (leaving dim e us) (leaving dim e vs)
-leaving_both dim (edit.Move n by) us vs = cause_both dim (tests.Leaves by) us vs
-leaving_both dim (edit.Copy n by) us vs = cause_both dim (tests.Leaves by) us vs
+leaving_both dim (edit.Move n by) us vs = cause_both dim (tests.StaysOnPlane by) us vs
+leaving_both dim (edit.Copy n by) us vs = cause_both dim (tests.StaysOnPlane by) us vs
 leaving_both dim (edit.Sym n change) us vs = refl
 leaving_both dim (edit.Delete n) us vs = refl
 leaving_both dim (edit.Append new) us vs = refl
 
 -- so it is the next of those that are left, or one behind it
 pub leaving_next : (dim : ℕ) (e : Edit) (es : List Element) (live : List ℕ) (i : ℕ) → i < length live
-    → leaving dim e (found es (drop i live))
-    ≡ option_or (leaving dim e (option_to_list (found_at es (get_or live i 0)))) (leaving dim e (found es (drop (i + 1) live)))
+    → leaving dim e (lives_of es (drop i live))
+    ≡ option_or (leaving dim e (option_to_list (found_at es (get_or live i 0)))) (leaving dim e (lives_of es (drop (i + 1) live)))
 leaving_next dim e es live i within =
     ap (leaving dim e) (found_next es live i within)
-    ∙ leaving_both dim e (option_to_list (found_at es (get_or live i 0))) (found es (drop (i + 1) live))
+    ∙ leaving_both dim e (option_to_list (found_at es (get_or live i 0))) (lives_of es (drop (i + 1) live))
 
 -- where the first of two stops, both do
 pub stopped_first : (a b : Option Cause) (fault : EditFault) → IsStopped a fault → IsStopped (option_or a b) fault
@@ -56,13 +56,13 @@ stopped_first a b faults.Memory is = tt
 pub ready_staying : (dim : ℕ) (e : Edit) (vs : List Live) → AllByRecursion (λ v. MayBePut e v.element) vs → leaving dim e vs ≡ None
     → AllByRecursion (λ v. IsReady dim e v.element) vs
 ready_staying dim (edit.Move n by) vs fits stay =
-    all_both (λ v. MayBePut (edit.Move n by) v.element) (λ v. cause_at dim (tests.Leaves by) v.number v.element ≡ None)
+    all_both (λ v. MayBePut (edit.Move n by) v.element) (λ v. cause_at dim (tests.StaysOnPlane by) v.number v.element ≡ None)
     (λ v. IsReady dim (edit.Move n by) v.element)
-    (λ v spots stays. (spots, met (stays_on_plane dim by v.element) (causes.OffPlane v.number) stays)) vs fits (none_first dim (tests.Leaves by) vs stay)
+    (λ v spots stays. (spots, met (stays_on_plane dim by v.element) (causes.OffPlane v.number) stays)) vs fits (none_first dim (tests.StaysOnPlane by) vs stay)
 ready_staying dim (edit.Copy n by) vs fits stay =
-    all_both (λ v. MayBePut (edit.Copy n by) v.element) (λ v. cause_at dim (tests.Leaves by) v.number v.element ≡ None)
+    all_both (λ v. MayBePut (edit.Copy n by) v.element) (λ v. cause_at dim (tests.StaysOnPlane by) v.number v.element ≡ None)
     (λ v. IsReady dim (edit.Copy n by) v.element)
-    (λ v spots stays. (spots, met (stays_on_plane dim by v.element) (causes.OffPlane v.number) stays)) vs fits (none_first dim (tests.Leaves by) vs stay)
+    (λ v spots stays. (spots, met (stays_on_plane dim by v.element) (causes.OffPlane v.number) stays)) vs fits (none_first dim (tests.StaysOnPlane by) vs stay)
 ready_staying dim (edit.Sym n change) vs fits stay = fits
 ready_staying dim (edit.Delete n) vs fits stay = fits
 ready_staying dim (edit.Append new) vs fits stay = fits
@@ -75,13 +75,13 @@ movable_fit dim n by vs none =
     (λ v moves. movable v.number (class_of v.element.kind) moves) vs (none_first dim tests.Moves vs none)
 
 -- whether one element leaves is told by its sums
-pub leaving_found : (d : Design) (whole : IsWhole d) (m : ℕ) (f : Found) (found : IsFound d m f) (by : Displacement)
+pub leaving_found : (d : Design) (whole : IsWhole d) (m : ℕ) (f : ElementView) (found : IsElementView d m f) (by : Displacement)
     → has_spots (class_of found.element.kind) ≡ true
-    → first_cause d.dim (tests.Leaves by) (option_to_list (found_at (elements d) m))
+    → first_cause d.dim (tests.StaysOnPlane by) (option_to_list (found_at (elements d) m))
     ≡ off_plane m (list_all (λ s. is_on_plane (sum_at by f.bytes.now s)) (spots_of d.dim f.kind f.bytes.now))
 leaving_found d whole m f found by spots =
-    cause_alone d.dim (tests.Leaves by) (elements d) m
-    ∙ plane_cause d.dim (tests.Leaves by) by m (slice_get (elements d) m) found.element
+    cause_alone d.dim (tests.StaysOnPlane by) (elements d) m
+    ∙ plane_cause d.dim (tests.StaysOnPlane by) by m (slice_get (elements d) m) found.element
     (list_all (λ s. is_on_plane (sum_at by f.bytes.now s)) (spots_of d.dim f.kind f.bytes.now)) refl found.there
     (sym (stays_found d whole m f found by spots))
 

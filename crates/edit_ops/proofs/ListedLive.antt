@@ -17,13 +17,13 @@ use Rattle.edit_ops.specs.declared.asking.test.Test.TheVariants as tests
 use Rattle.edit_ops.specs.Trees.{Live, found_at}
 use Rattle.edit_ops.specs.Causes.{cause_at, first_cause}
 use Rattle.edit_ops.specs.Asking.{cause_in, MayBeAsked, MayBeAskedOf}
-use Rattle.edit_ops.specs.Written.{found, puts_at, live_puts}
+use Rattle.edit_ops.specs.Written.{lives_of, puts_at, live_puts}
 use Rattle.edit_ops.proofs.EachLive.{each_first, each_last}
 
 -- the next of the numbers that are left
-pub found_next : (es : List Element) (live : List ℕ) (i : ℕ) → i < length live → found es (drop i live) ≡ option_to_list (found_at es (get_or live i 0))
-    ++ found es (drop (i + 1) live)
-found_next es live i within = ap (found es) (drop_more live i 0 within)
+pub found_next : (es : List Element) (live : List ℕ) (i : ℕ) → i < length live → lives_of es (drop i live) ≡ option_to_list (found_at es (get_or live i 0))
+    ++ lives_of es (drop (i + 1) live)
+found_next es live i within = ap (lives_of es) (drop_more live i 0 within)
 
 -- what a test has against the next and those behind it
 first_of : (dim : ℕ) (test : Test) (es : List Element) (m : ℕ) (o : Option Element) (vs : List Live)
@@ -33,11 +33,11 @@ first_of dim test es m None vs = refl
 first_of dim test es m (Some e) vs = refl
 
 pub cause_next : (dim : ℕ) (test : Test) (es : List Element) (live : List ℕ) (i : ℕ) → i < length live
-    → first_cause dim test (found es (drop i live))
-    ≡ option_or (cause_in dim test (get_or live i 0) (slice_get es (get_or live i 0))) (first_cause dim test (found es (drop (i + 1) live)))
+    → first_cause dim test (lives_of es (drop i live))
+    ≡ option_or (cause_in dim test (get_or live i 0) (slice_get es (get_or live i 0))) (first_cause dim test (lives_of es (drop (i + 1) live)))
 cause_next dim test es live i within =
     ap (first_cause dim test) (found_next es live i within)
-    ∙ first_of dim test es (get_or live i 0) (slice_get es (get_or live i 0)) (found es (drop (i + 1) live))
+    ∙ first_of dim test es (get_or live i 0) (slice_get es (get_or live i 0)) (lives_of es (drop (i + 1) live))
 
 -- the first of three that is there, however they are taken together
 pub or_assoc : (a b c : Option Cause) → option_or (option_or a b) c ≡ option_or a (option_or b c)
@@ -66,46 +66,46 @@ cause_alone dim test es m =
 
 -- a test may be asked of an element that can be moved
 asked_of : (dim : ℕ) (test : Test) (m : ℕ) (o : Option Element) → cause_in dim tests.Moves m o ≡ None → MayBeAskedOf test o
-asked_of dim tests.Lives m o is = tt
+asked_of dim tests.NotDeleted m o is = tt
 asked_of dim tests.Unlocked m o is = tt
 asked_of dim tests.Widens m o is = tt
 asked_of dim tests.Moves m o is = tt
 asked_of dim tests.Looks m o is = tt
 asked_of dim tests.Marks m o is = tt
-asked_of dim (tests.Leaves by) m None is = tt
-asked_of dim (tests.Leaves by) m (Some e) is = movable m (class_of e.kind) is
+asked_of dim (tests.StaysOnPlane by) m None is = tt
+asked_of dim (tests.StaysOnPlane by) m (Some e) is = movable m (class_of e.kind) is
 
 -- a test may be asked of the next and of those behind it
-pub asked_next : (dim : ℕ) (test : Test) (es : List Element) (live : List ℕ) (i : ℕ) → i < length live → MayBeAsked dim test (found es (drop i live))
-    → MayBeAskedOf test (slice_get es (get_or live i 0)) × MayBeAsked dim test (found es (drop (i + 1) live))
-asked_next dim tests.Lives es live i within asked = (tt, tt)
+pub asked_next : (dim : ℕ) (test : Test) (es : List Element) (live : List ℕ) (i : ℕ) → i < length live → MayBeAsked dim test (lives_of es (drop i live))
+    → MayBeAskedOf test (slice_get es (get_or live i 0)) × MayBeAsked dim test (lives_of es (drop (i + 1) live))
+asked_next dim tests.NotDeleted es live i within asked = (tt, tt)
 asked_next dim tests.Unlocked es live i within asked = (tt, tt)
 asked_next dim tests.Widens es live i within asked = (tt, tt)
 asked_next dim tests.Moves es live i within asked = (tt, tt)
 asked_next dim tests.Looks es live i within asked = (tt, tt)
 asked_next dim tests.Marks es live i within asked = (tt, tt)
-asked_next dim (tests.Leaves by) es live i within asked =
+asked_next dim (tests.StaysOnPlane by) es live i within asked =
     let m : ℕ = get_or live i 0 in
-    let parts = none_both (cause_in dim tests.Moves m (slice_get es m)) (first_cause dim tests.Moves (found es (drop (i + 1) live)))
+    let parts = none_both (cause_in dim tests.Moves m (slice_get es m)) (first_cause dim tests.Moves (lives_of es (drop (i + 1) live)))
     (sym (cause_next dim tests.Moves es live i within) ∙ asked) in
-    (asked_of dim (tests.Leaves by) m (slice_get es m) parts.0, parts.1)
+    (asked_of dim (tests.StaysOnPlane by) m (slice_get es m) parts.0, parts.1)
 
 -- what holds of each that is left holds of the next and of those behind it
-pub each_next : (P : Live → Type 0) (es : List Element) (live : List ℕ) (i : ℕ) → i < length live → AllByRecursion P (found es (drop i live))
-    → AllByRecursion P (option_to_list (found_at es (get_or live i 0))) × AllByRecursion P (found es (drop (i + 1) live))
+pub each_next : (P : Live → Type 0) (es : List Element) (live : List ℕ) (i : ℕ) → i < length live → AllByRecursion P (lives_of es (drop i live))
+    → AllByRecursion P (option_to_list (found_at es (get_or live i 0))) × AllByRecursion P (lives_of es (drop (i + 1) live))
 each_next P es live i within each =
     let both = subst (AllByRecursion P) (found_next es live i within) each in (
-      each_first P (option_to_list (found_at es (get_or live i 0))) (found es (drop (i + 1) live)) both,
-      each_last P (option_to_list (found_at es (get_or live i 0))) (found es (drop (i + 1) live)) both,
+      each_first P (option_to_list (found_at es (get_or live i 0))) (lives_of es (drop (i + 1) live)) both,
+      each_last P (option_to_list (found_at es (get_or live i 0))) (lives_of es (drop (i + 1) live)) both,
     )
 
 -- what is put into the next and those behind it
 pub puts_next : (dim : ℕ) (e : Edit) (es : List Element) (live : List ℕ) (i : ℕ) (done : List Put) → i < length live
-    → (done ++ live_puts dim e (option_to_list (found_at es (get_or live i 0)))) ++ live_puts dim e (found es (drop (i + 1) live)) ≡ done
-    ++ live_puts dim e (found es (drop i live))
+    → (done ++ live_puts dim e (option_to_list (found_at es (get_or live i 0)))) ++ live_puts dim e (lives_of es (drop (i + 1) live)) ≡ done
+    ++ live_puts dim e (lives_of es (drop i live))
 puts_next dim e es live i done within =
     let next : List Live = option_to_list (found_at es (get_or live i 0)) in
-    append_assoc done (live_puts dim e next) (live_puts dim e (found es (drop (i + 1) live)))
+    append_assoc done (live_puts dim e next) (live_puts dim e (lives_of es (drop (i + 1) live)))
     ∙ ap (λ (ps : List Put). done ++ ps)
-    (sym (flat_map-append (λ v. puts_at dim e v.place v.element) next (found es (drop (i + 1) live)))
+    (sym (flat_map-append (λ v. puts_at dim e v.place v.element) next (lives_of es (drop (i + 1) live)))
     ∙ ap (live_puts dim e) (sym (found_next es live i within)))

@@ -13,7 +13,7 @@ use Rattle.dgn_drawing.specs.Numbering.{end_of}
 use Rattle.elem_index.specs.Offsets.{offset_of}
 use Rattle.elem_index.proofs.Places.{stands_at}
 use Rattle.edit_ops.specs.Trees.{Live, live_from, live_tree, found_at}
-use Rattle.edit_ops.specs.Written.{found}
+use Rattle.edit_ops.specs.Written.{lives_of}
 use Rattle.edit_ops.proofs.PartPlace.{IsPlaced, placed, first_left, others_left}
 use Rattle.edit_ops.proofs.EachLive.{live_first, live_behind, live_dead, live_alive}
 use Rattle.dgn_drawing.proofs.ListRests.{drop_front}
@@ -35,20 +35,20 @@ offset_behind es (e ∷ front) rest n at is left =
     omega (arith, length-append (spell e) (spelling front))
 
 -- the elements of two lists of numbers
-found-both : (es : List Element) (ns ms : List ℕ) → found es (ns ++ ms) ≡ found es ns ++ found es ms
+found-both : (es : List Element) (ns ms : List ℕ) → lives_of es (ns ++ ms) ≡ lives_of es ns ++ lives_of es ms
 found-both es ns ms = flat_map-append (λ m. option_to_list (found_at es m)) ns ms
 
 -- the elements of numbers of which the first is known
 pub found_first : (es : List Element) (n p : ℕ) (e : Element) (ns : List ℕ) → slice_get es n ≡ Some e → p ≡ offset_of es n
-    → found es (n ∷ ns) ≡ record { number = n; place = p; element = e } ∷ found es ns
+    → lives_of es (n ∷ ns) ≡ record { number = n; place = p; element = e } ∷ lives_of es ns
 found_first es n p e ns there at =
-    ap (λ (o : Option Element). option_to_list (option_map (λ (e : Element). record { number = n; place = offset_of es n; element = e }) o) ++ found es ns)
+    ap (λ (o : Option Element). option_to_list (option_map (λ (e : Element). record { number = n; place = offset_of es n; element = e }) o) ++ lives_of es ns)
     there
-    ∙ ap (λ (k : ℕ). record { number = n; place = k; element = e } ∷ found es ns) (sym at)
+    ∙ ap (λ (k : ℕ). record { number = n; place = k; element = e } ∷ lives_of es ns) (sym at)
 
 -- the live elements of trees that stand in a drawing are those at their numbers
 pub found_live : (es : List Element) (n p : ℕ) (f : Forest Element) (behind : List Element) → drop n es ≡ flat f ++ behind → p ≡ offset_of es n
-    → found es (map (λ (v : Live). v.number) (live_from n p f)) ≡ live_from n p f
+    → lives_of es (map (λ (v : Live). v.number) (live_from n p f)) ≡ live_from n p f
 found_live es n p NoTree behind left at = refl
 found_live es n p (Tree knot e below others) behind left at =
     let there = first_left es n e ((flat below ++ flat others) ++ behind) left in
@@ -62,13 +62,13 @@ found_live es n p (Tree knot e below others) behind left at =
     let outer = found_live es (end_of n below) (p + (size_of e + length (spelling (flat below)))) others behind past at_past in
     elim (cases_Bool e.deleted) [
       | inl dead ↦
-          ap (λ (vs : List Live). found es (map (λ (v : Live). v.number) vs)) (live_dead n p knot e below others dead) ∙ outer
+          ap (λ (vs : List Live). lives_of es (map (λ (v : Live). v.number) vs)) (live_dead n p knot e below others dead) ∙ outer
           ∙ sym (live_dead n p knot e below others dead)
       | inr alive ↦
-          ap (λ (vs : List Live). found es (map (λ (v : Live). v.number) vs)) (live_alive n p knot e below others alive)
-          ∙ ap (found es) (map-append (λ (v : Live). v.number) (live_first n p e below) (live_behind n p e below others))
+          ap (λ (vs : List Live). lives_of es (map (λ (v : Live). v.number) vs)) (live_alive n p knot e below others alive)
+          ∙ ap (lives_of es) (map-append (λ (v : Live). v.number) (live_first n p e below) (live_behind n p e below others))
           ∙ found-both es (map (λ (v : Live). v.number) (live_first n p e below)) (map (λ (v : Live). v.number) (live_behind n p e below others))
-          ∙ ap (λ (vs : List Live). vs ++ found es (map (λ (v : Live). v.number) (live_behind n p e below others)))
+          ∙ ap (λ (vs : List Live). vs ++ lives_of es (map (λ (v : Live). v.number) (live_behind n p e below others)))
           (found_first es n p e (map (λ (v : Live). v.number) (live_from (n + 1) (p + size_of e) below)) there at
           ∙ ap (λ (vs : List Live). record { number = n; place = p; element = e } ∷ vs) inner)
           ∙ ap (λ (vs : List Live). live_first n p e below ++ vs) outer
@@ -76,12 +76,12 @@ found_live es n p (Tree knot e below others) behind left at =
     ]
 
 -- so are those of the tree of one element
-pub found_tree : (es : List Element) (n : ℕ) → n < length es → found es (map (λ (v : Live). v.number) (live_tree es n)) ≡ live_tree es n
+pub found_tree : (es : List Element) (n : ℕ) → n < length es → lives_of es (map (λ (v : Live). v.number) (live_tree es n)) ≡ live_tree es n
 found_tree es n known =
     let p : IsPlaced es n = placed es n known in
     let left : drop n es ≡ flat (Tree p.knot p.head p.below NoTree) ++ p.behind
     = ap (drop n) p.parts ∙ drop_at p.front ((p.head ∷ flat p.below) ++ p.behind) n p.count
     ∙ ap (λ (l : List Element). (p.head ∷ l) ++ p.behind) (sym (append-nil (flat p.below))) in
-    ap (λ (f : Forest Element). found es (map (λ (v : Live). v.number) (live_from n (offset_of es n) f))) p.tree
+    ap (λ (f : Forest Element). lives_of es (map (λ (v : Live). v.number) (live_from n (offset_of es n) f))) p.tree
     ∙ found_live es n (offset_of es n) (Tree p.knot p.head p.below NoTree) p.behind left refl
     ∙ ap (live_from n (offset_of es n)) (sym p.tree)

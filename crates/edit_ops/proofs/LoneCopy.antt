@@ -20,21 +20,21 @@ use Rattle.elem_index.specs.Design.{elements, IsWhole}
 use Rattle.elem_index.proofs.Places.{axes_of}
 use Rattle.patch_bytes.specs.Puts.{write}
 use Rattle.edit_ops.specs.declared.causes.cause.Cause.{Cause}
-use Rattle.edit_ops.specs.declared.asking.found.Found.{Found}
+use Rattle.edit_ops.specs.declared.asking.element_view.ElementView.{ElementView}
 use Rattle.edit_ops.specs.declared.asking.test.Test.TheVariants as tests
 use Rattle.edit_ops.specs.Trees.{Live, tree_at, found_at, live_tree}
 use Rattle.edit_ops.specs.Causes.{unmovable, off_plane, first_cause}
 use Rattle.edit_ops.specs.Asking.{cause_in}
 use Rattle.edit_ops.specs.Written.{sum_put, live_puts}
 use Rattle.edit_ops.specs.Copying.{tree_copy, copy_cause}
-use Rattle.edit_ops.specs.Found.{IsFound}
+use Rattle.edit_ops.specs.ElementViews.{IsElementView}
 use Rattle.edit_ops.proofs.AcceptedEdit.{copy_ready}
 use Rattle.edit_ops.proofs.CopiedPart.{bytes_copied}
 use Rattle.edit_ops.proofs.ListedLive.{cause_alone}
 use Rattle.edit_ops.proofs.ElementMoves.{moves_found, some_spots}
 use Rattle.edit_ops.proofs.ElementAnswers.{holds_found, plane_cause, stays_found}
 
-module _ (d : Design) (whole : IsWhole d) (n : ℕ) (f : Found) (found : IsFound d n f)
+module _ (d : Design) (whole : IsWhole d) (n : ℕ) (f : ElementView) (found : IsElementView d n f)
     (one : live_tree (elements d) n ≡ option_to_list (found_at (elements d) n)) (by : Displacement) where
   abbrev es : List Element
   es = elements d
@@ -46,16 +46,17 @@ module _ (d : Design) (whole : IsWhole d) (n : ℕ) (f : Found) (found : IsFound
   stays = list_all (λ s. is_on_plane (sum_at by f.bytes.now s)) (spots_of d.dim f.kind f.bytes.now)
 
   -- what refuses it
-  copy_alone : copy_cause d.dim (elements d) by n ≡ option_or (unmovable n (class_of f.kind)) (cause_in d.dim (tests.Leaves by) n (slice_get (elements d) n))
+  copy_alone : copy_cause d.dim (elements d) by n ≡ option_or (unmovable n (class_of f.kind))
+  (cause_in d.dim (tests.StaysOnPlane by) n (slice_get (elements d) n))
   copy_alone =
-      ap (λ (l : List Live). option_or (first_cause d.dim tests.Moves l) (first_cause d.dim (tests.Leaves by) l)) one
-      ∙ ap (λ (c : Option Cause). option_or c (first_cause d.dim (tests.Leaves by) (option_to_list (found_at es n))))
+      ap (λ (l : List Live). option_or (first_cause d.dim tests.Moves l) (first_cause d.dim (tests.StaysOnPlane by) l)) one
+      ∙ ap (λ (c : Option Cause). option_or c (first_cause d.dim (tests.StaysOnPlane by) (option_to_list (found_at es n))))
       (cause_alone d.dim tests.Moves es n ∙ sym (moves_found d whole n f found))
-      ∙ ap (option_or (unmovable n (class_of f.kind))) (cause_alone d.dim (tests.Leaves by) es n)
+      ∙ ap (option_or (unmovable n (class_of f.kind))) (cause_alone d.dim (tests.StaysOnPlane by) es n)
 
   pub unmoved : (c : Option Cause) → unmovable n (class_of f.kind) ≡ c
-      → copy_cause d.dim (elements d) by n ≡ option_or c (cause_in d.dim (tests.Leaves by) n (slice_get (elements d) n))
-  unmoved c is = copy_alone ∙ ap (λ (o : Option Cause). option_or o (cause_in d.dim (tests.Leaves by) n its)) is
+      → copy_cause d.dim (elements d) by n ≡ option_or c (cause_in d.dim (tests.StaysOnPlane by) n (slice_get (elements d) n))
+  unmoved c is = copy_alone ∙ ap (λ (o : Option Cause). option_or o (cause_in d.dim (tests.StaysOnPlane by) n its)) is
 
   module _ (movable : unmovable n (class_of f.kind) ≡ None) where
     spots : has_spots (class_of found.element.kind) ≡ true
@@ -68,7 +69,7 @@ module _ (d : Design) (whole : IsWhole d) (n : ℕ) (f : Found) (found : IsFound
     pub copy_leaves_plane : copy_cause d.dim (elements d) by n
         ≡ off_plane n (list_all (λ s. is_on_plane (sum_at by f.bytes.now s)) (spots_of d.dim f.kind f.bytes.now))
     copy_leaves_plane = unmoved None movable
-        ∙ plane_cause d.dim (tests.Leaves by) by n its found.element stays refl found.there (sym (stays_found d whole n f found by spots))
+        ∙ plane_cause d.dim (tests.StaysOnPlane by) by n its found.element stays refl found.there (sym (stays_found d whole n f found by spots))
 
     -- what it puts into the bytes of the element
     puts_alone : live_puts d.dim (edit.Copy n by) (live_tree (elements d) n) ≡ map (sum_put by f.place f.bytes.now) (spots_of d.dim f.kind f.bytes.now)

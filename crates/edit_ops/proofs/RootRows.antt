@@ -16,7 +16,7 @@ use Rattle.edit_ops.specs.declared.asking.test.Test.TheVariants as tests
 use Rattle.edit_ops.specs.Trees.{Live, above_tree, found_at}
 use Rattle.edit_ops.specs.Causes.{broken, broken_in, first_cause, part_cause}
 use Rattle.edit_ops.specs.Asking.{broken_by, cause_in}
-use Rattle.edit_ops.specs.Written.{found}
+use Rattle.edit_ops.specs.Written.{lives_of}
 use Rattle.edit_ops.proofs.HeadersFound.{found_above}
 use Rattle.edit_ops.proofs.ListedLive.{or_assoc, cause_both, cause_alone}
 
@@ -80,26 +80,27 @@ broken_by_rows es n = broken_by_root es (root_of row_of es n) ∙ ap (broken_by 
 -- what keeps a part from any edit, as it is asked for
 pub part_cause_is : (dim : ℕ) (es : List Element) (rows : List Row) (n : ℕ) (above : List Live) (a b c : Option Cause) → rows ≡ map row_of es
     → above ≡ above_tree es n
-    → a ≡ broken (broken_by rows (root_of itself rows n)) → b ≡ first_cause dim tests.Lives above → c ≡ cause_in dim tests.Lives n (slice_get es n)
+    → a ≡ broken (broken_by rows (root_of itself rows n)) → b ≡ first_cause dim tests.NotDeleted above → c ≡ cause_in dim tests.NotDeleted n (slice_get es n)
     → option_or (option_or a b) c ≡ part_cause dim es n
 part_cause_is dim es rows n above a b c by over is_a is_b is_c =
     let first : a ≡ broken (broken_in es (root_of row_of es n)) =
     is_a ∙ ap (λ (r : List Row). broken (broken_by r (root_of itself r n))) by ∙ ap broken (sym (broken_by_rows es n)) in
-    let second : b ≡ first_cause dim tests.Lives (above_tree es n) = is_b ∙ ap (first_cause dim tests.Lives) over in
-    let third : c ≡ first_cause dim tests.Lives (option_to_list (found_at es n)) = is_c ∙ sym (cause_alone dim tests.Lives es n) in
+    let second : b ≡ first_cause dim tests.NotDeleted (above_tree es n) = is_b ∙ ap (first_cause dim tests.NotDeleted) over in
+    let third : c ≡ first_cause dim tests.NotDeleted (option_to_list (found_at es n)) = is_c ∙ sym (cause_alone dim tests.NotDeleted es n) in
     or_assoc a b c
     ∙ ap (λ (x : Option Cause). option_or x (option_or b c)) first
     ∙ ap (λ (x : Option Cause). option_or (broken (broken_in es (root_of row_of es n))) (option_or x c)) second
-    ∙ ap (λ (x : Option Cause). option_or (broken (broken_in es (root_of row_of es n))) (option_or (first_cause dim tests.Lives (above_tree es n)) x)) third
+    ∙ ap (λ (x : Option Cause). option_or (broken (broken_in es (root_of row_of es n))) (option_or (first_cause dim tests.NotDeleted (above_tree es n)) x))
+    third
     ∙ ap (λ (x : Option Cause). option_or (broken (broken_in es (root_of row_of es n))) x)
-    (sym (cause_both dim tests.Lives (above_tree es n) (option_to_list (found_at es n))))
+    (sym (cause_both dim tests.NotDeleted (above_tree es n) (option_to_list (found_at es n))))
 
 -- above a root there are no headers, and nothing keeps its part from any edit where it is live and no number of its tree is broken
 module _ (es : List Element) (rows : List Row) (n : ℕ) (by : rows ≡ map row_of es) (root : parent_of itself rows n ≡ Some None) where
   pub none_above : above_tree es n ≡ []
   none_above =
       sym (found_above es n)
-      ∙ ap (found es) (sym (headers_by_rows row_of es n) ∙ ap (λ (r : List Row). headers_of itself r n) (sym by) ∙ ends_climb itself rows n (sym root))
+      ∙ ap (lives_of es) (sym (headers_by_rows row_of es n) ∙ ap (λ (r : List Row). headers_of itself r n) (sym by) ∙ ends_climb itself rows n (sym root))
 
   pub root_free : (dim : ℕ) (e : Element) → n < length es → first_broken_of itself rows n ≡ Some None → slice_get es n ≡ Some e → e.deleted ≡ false
       → part_cause dim es n ≡ None
@@ -107,6 +108,6 @@ module _ (es : List Element) (rows : List Row) (n : ℕ) (by : rows ≡ map row_
       let within : n < length rows = omega (arith, ap (length {A = Row}) by, length-map es row_of) in
       let own : root_of itself rows n ≡ Some n = root_known itself rows n within ∙ ap Some (ends_first itself rows n (sym root)) in
       let unbroken : broken (broken_by rows (root_of itself rows n)) ≡ None = ap (λ (o : Option ℕ). broken (broken_by rows o)) own ∙ ap broken sound in
-      let lives : cause_in dim tests.Lives n (slice_get es n) ≡ None =
-      ap (cause_in dim tests.Lives n) there ∙ ap (λ (b : Bool). cond b (Some (causes.Deleted n)) None) alive in
+      let lives : cause_in dim tests.NotDeleted n (slice_get es n) ≡ None =
+      ap (cause_in dim tests.NotDeleted n) there ∙ ap (λ (b : Bool). cond b (Some (causes.Deleted n)) None) alive in
       sym (part_cause_is dim es rows n [] None None None by (sym none_above) (sym unbroken) refl (sym lives))

@@ -14,7 +14,7 @@ use Rattle.dgn_drawing.specs.Element.{Element}
 use Rattle.dgn_drawing.specs.Spelling.{spell, spelling}
 use Rattle.dgn_drawing.specs.WellFormed.{IsDimension, IsWellFormed}
 use Rattle.dgn_drawing.specs.Rows.{row_of}
-use Rattle.dgn_drawing.specs.NewElements.{made}
+use Rattle.dgn_drawing.specs.NewElements.{element_made}
 use Rattle.dgn_drawing.specs.Nesting.{Leaf, Whole, Forest, NoTree, Tree, flat, nest, forest, forest_map, joined, itself, BeginsFree}
 use Rattle.dgn_drawing.specs.Shown.{roots}
 use Rattle.dgn_drawing.specs.Opening.{dimension, BeginsWithTcb, Opens}
@@ -53,7 +53,7 @@ own_bytes dim es (edit.Move n by) = []
 own_bytes dim es (edit.Copy n by) = spelling (flat (copied dim es (edit.Copy n by) n))
 own_bytes dim es (edit.Sym n change) = []
 own_bytes dim es (edit.Delete n) = []
-own_bytes dim es (edit.Append new) = spell (made new)
+own_bytes dim es (edit.Append new) = spell (element_made new)
 
 -- the edits of an edit of several roots put these, and append these
 abbrev pub all_puts : ℕ → List Element → List Edit → List Put

@@ -42,8 +42,8 @@ pub sums_last : (dim : ℕ) (es : List Element) (e : Edit) (n : ℕ) → target_
     → first_of (causes_of dim es 0 e) ≡ option_or (first_of (causes_asked dim es e)) (leaving dim e (live_tree es n))
 sums_last dim es (edit.Move m by) n named here =
     last_apart (first_cause dim tests.Unlocked (above_tree es m ++ live_tree es m)) (other_axes dim by.axes)
-    (first_cause dim tests.Widens (above_tree es m)) (first_cause dim tests.Moves (live_tree es m)) (first_cause dim (tests.Leaves by) (live_tree es m))
-    ∙ ap (λ (k : ℕ). option_or (first_of (causes_asked dim es (edit.Move m by))) (first_cause dim (tests.Leaves by) (live_tree es k)))
+    (first_cause dim tests.Widens (above_tree es m)) (first_cause dim tests.Moves (live_tree es m)) (first_cause dim (tests.StaysOnPlane by) (live_tree es m))
+    ∙ ap (λ (k : ℕ). option_or (first_of (causes_asked dim es (edit.Move m by))) (first_cause dim (tests.StaysOnPlane by) (live_tree es k)))
     (same_some m n named)
 sums_last dim es (edit.Copy m by) n named here = absurd here
 sums_last dim es (edit.Sym m change) n named here = sym (or_nothing (first_of (causes_of dim es 0 (edit.Sym m change))))

@@ -29,10 +29,10 @@ use Rattle.dgn_drawing.proofs.FieldPlaces.{all-sits}
 use Rattle.elem_index.specs.declared.design.Design.{Design}
 use Rattle.elem_index.specs.Design.{elements, IsWhole}
 use Rattle.elem_index.specs.Offsets.{offset_of}
-use Rattle.edit_ops.specs.declared.asking.found.Found.{Found}
-use Rattle.edit_ops.specs.Found.{IsFound}
+use Rattle.edit_ops.specs.declared.asking.element_view.ElementView.{ElementView}
+use Rattle.edit_ops.specs.ElementViews.{IsElementView}
 use Rattle.edit_ops.specs.Trees.{Live, found_at}
-use Rattle.edit_ops.specs.Written.{found, wider_puts, holding_puts, above_puts}
+use Rattle.edit_ops.specs.Written.{lives_of, wider_puts, holding_puts, above_puts}
 use Rattle.edit_ops.proofs.ListedLive.{found_next}
 use Rattle.edit_ops.proofs.ReadableElements.{IsShown, is_shown, shown_long}
 use Rattle.elem_index.proofs.Places.{axes_of}
@@ -84,13 +84,13 @@ all_wider dim r vs = flat_map (λ v. wider_puts dim r v.place (spell v.element))
 
 -- what is put into the next header and those behind it
 pub wider_next : (dim : ℕ) (r : Box3) (es : List Element) (above : List ℕ) (i : ℕ) (done : List Put) → i < length above
-    → (done ++ all_wider dim r (option_to_list (found_at es (get_or above i 0)))) ++ all_wider dim r (found es (drop (i + 1) above)) ≡ done
-    ++ all_wider dim r (found es (drop i above))
+    → (done ++ all_wider dim r (option_to_list (found_at es (get_or above i 0)))) ++ all_wider dim r (lives_of es (drop (i + 1) above)) ≡ done
+    ++ all_wider dim r (lives_of es (drop i above))
 wider_next dim r es above i done within =
     let next : List Live = option_to_list (found_at es (get_or above i 0)) in
-    append_assoc done (all_wider dim r next) (all_wider dim r (found es (drop (i + 1) above)))
+    append_assoc done (all_wider dim r next) (all_wider dim r (lives_of es (drop (i + 1) above)))
     ∙ ap (λ (ps : List Put). done ++ ps)
-    (sym (flat_map-append (λ v. wider_puts dim r v.place (spell v.element)) next (found es (drop (i + 1) above)))
+    (sym (flat_map-append (λ v. wider_puts dim r v.place (spell v.element)) next (lives_of es (drop (i + 1) above)))
     ∙ ap (all_wider dim r) (sym (found_next es above i within)))
 
 -- where nothing is put into any header, nothing is put
@@ -197,7 +197,7 @@ spots_loud Class.Silent some = absurd (let x = some in cc)
 abbrev pub range_moved : ℕ → Displacement → List ℕ → Box3
 range_moved dim by b = record { lo = displaced (take dim by.by) (corner_at b 4); hi = displaced (take dim by.by) (corner_at b 16) }
 
-module _ (d : Design) (whole : IsWhole d) (m : ℕ) (f : Found) (here : IsFound d m f) where
+module _ (d : Design) (whole : IsWhole d) (m : ℕ) (f : ElementView) (here : IsElementView d m f) where
   -- the display header of an element that has one
   header_sits : (shown : IsShown here.element) → DisplaySits (spell here.element) shown.display
   header_sits shown =

@@ -8,7 +8,7 @@ use Rattle.dgn_drawing.specs.Rows.{row_of}
 use Rattle.dgn_drawing.specs.Nesting.{Leaf, Forest, NoTree, Tree, flat, forest, joined}
 use Rattle.dgn_drawing.specs.Values.{IsShift, IsLook}
 use Rattle.dgn_drawing.specs.Changes.{shift, recolour, mark, range_in, widen, freed}
-use Rattle.dgn_drawing.specs.NewElements.{IsNew, made}
+use Rattle.dgn_drawing.specs.NewElements.{IsNew, element_made}
 use Rattle.edit_ops.specs.declared.causes.cause.Cause.{Cause}
 use Rattle.edit_ops.specs.Trees.{tree_at, exchange, live_map}
 use Rattle.edit_ops.specs.Causes.{cause_of}
@@ -57,17 +57,17 @@ changed_forest dim es (edit.Move n by) = altered dim es (edit.Move n by) n
 changed_forest dim es (edit.Copy n by) = joined (forest row_of es) (copied dim es (edit.Copy n by) n)
 changed_forest dim es (edit.Sym n change) = altered dim es (edit.Sym n change) n
 changed_forest dim es (edit.Delete n) = altered dim es (edit.Delete n) n
-changed_forest dim es (edit.Append new) = joined (forest row_of es) (Tree Leaf (made new) NoTree NoTree)
+changed_forest dim es (edit.Append new) = joined (forest row_of es) (Tree Leaf (element_made new) NoTree NoTree)
 
 -- refused with the cause, if there is one, and else done
-abbrev pub unless : Option Cause → List Element → Applied
-unless None made = Done made
-unless (Some cause) made = Refused cause
+abbrev pub applied_unless : Option Cause → List Element → Applied
+applied_unless None made = Done made
+applied_unless (Some cause) made = Refused cause
 
 -- what an edit comes to on these elements of a file of that dimension. `rest` is the number of bytes of the tail
 -- and of what is pending
 abbrev pub apply : ℕ → List Element → ℕ → Edit → Applied
-apply dim es rest e = unless (cause_of dim es rest e) (flat (changed_forest dim es e))
+apply dim es rest e = applied_unless (cause_of dim es rest e) (flat (changed_forest dim es e))
 
 -- what the type of an edit keeps of its values
 abbrev pub IsEdit : Edit → Type 0

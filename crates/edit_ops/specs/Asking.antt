@@ -21,12 +21,12 @@ cause_in dim test m None = None
 
 -- the test may be asked of these elements
 abbrev pub MayBeAsked : ℕ → Test → List Live → Type 0
-MayBeAsked dim (tests.Leaves by) vs = first_cause dim tests.Moves vs ≡ None
+MayBeAsked dim (tests.StaysOnPlane by) vs = first_cause dim tests.Moves vs ≡ None
 MayBeAsked dim other vs = Unit {0}
 
 -- and of this one
 abbrev pub MayBeAskedOf : Test → Option Element → Type 0
-MayBeAskedOf (tests.Leaves by) (Some e) = IsTrue (has_spots (class_of e.kind))
+MayBeAskedOf (tests.StaysOnPlane by) (Some e) = IsTrue (has_spots (class_of e.kind))
 MayBeAskedOf test other = Unit {0}
 
 -- whether the bytes of an element of that type say that it is locked: bit 8 of its properties, where it has any

@@ -11,7 +11,7 @@ use Rattle.dgn_drawing.specs.Rows.{row_of}
 use Rattle.dgn_drawing.specs.Nesting.{flat, forest}
 use Rattle.dgn_drawing.specs.Numbering.{root_of, first_broken_of}
 use Rattle.dgn_drawing.specs.Changes.{stays_on_plane}
-use Rattle.dgn_drawing.specs.NewElements.{made}
+use Rattle.dgn_drawing.specs.NewElements.{element_made}
 use Rattle.edit_ops.specs.declared.causes.cause.Cause.{Cause}
 use Rattle.edit_ops.specs.declared.causes.cause.Cause.TheVariants as causes
 use Rattle.edit_ops.specs.declared.asking.test.Test.{Test}
@@ -89,13 +89,13 @@ off_plane m stays = if stays then None else Some (causes.OffPlane m)
 
 -- what a test has against element m
 abbrev pub cause_at : ℕ → Test → ℕ → Element → Option Cause
-cause_at dim tests.Lives m e = deleted m e
+cause_at dim tests.NotDeleted m e = deleted m e
 cause_at dim tests.Unlocked m e = locked m e.body
 cause_at dim tests.Widens m e = unwidened m (class_of e.kind)
 cause_at dim tests.Moves m e = unmovable m (class_of e.kind)
 cause_at dim tests.Looks m e = lookless m (class_of e.kind)
 cause_at dim tests.Marks m e = unmarkable m e.kind
-cause_at dim (tests.Leaves by) m e = off_plane m (stays_on_plane dim by e)
+cause_at dim (tests.StaysOnPlane by) m e = off_plane m (stays_on_plane dim by e)
 
 -- what it has against the first of these elements against which it has something
 abbrev pub first_cause : ℕ → Test → List Live → Option Cause
@@ -109,7 +109,7 @@ too_long bytes = if nat_lt MOST_DESIGN bytes then Some causes.TooLong else None
 -- how many bytes an edit appends: a copy as many as the part that it copies has
 abbrev pub bytes_appended : List Element → Edit → ℕ
 bytes_appended es (edit.Copy n by) = length (spelling (flat (tree_at n (forest row_of es))))
-bytes_appended es (edit.Append new) = size_of (made new)
+bytes_appended es (edit.Append new) = size_of (element_made new)
 bytes_appended es other = 0
 
 -- the first of some causes that stands
@@ -122,7 +122,7 @@ first_of (c ∷ cs) = option_or c (first_of cs)
 abbrev pub part_cause : ℕ → List Element → ℕ → Option Cause
 part_cause dim es n =
     option_or (broken (broken_in es (root_of row_of es n)))
-    (first_cause dim tests.Lives (path_to es n))
+    (first_cause dim tests.NotDeleted (path_to es n))
 
 -- what is against an edit of the part of element n, in the order in which it is asked, once there is such an
 -- element and nothing keeps it from any edit. `rest` is the number of bytes of the tail and of what is pending
@@ -132,12 +132,12 @@ causes_of dim es rest (edit.Move n by) =
     ∷ other_axes dim by.axes
     ∷ first_cause dim tests.Widens (above_tree es n)
     ∷ first_cause dim tests.Moves (live_tree es n)
-    ∷ first_cause dim (tests.Leaves by) (live_tree es n)
+    ∷ first_cause dim (tests.StaysOnPlane by) (live_tree es n)
     ∷ []
 causes_of dim es rest (edit.Copy n by) =
     other_axes dim by.axes
     ∷ first_cause dim tests.Moves (live_tree es n)
-    ∷ first_cause dim (tests.Leaves by) (live_tree es n)
+    ∷ first_cause dim (tests.StaysOnPlane by) (live_tree es n)
     ∷ too_long (length (spelling es) + rest + bytes_appended es (edit.Copy n by))
     ∷ []
 causes_of dim es rest (edit.Sym n change) =

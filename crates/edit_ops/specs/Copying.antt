@@ -19,7 +19,7 @@ tree_copy dim es by n = copied dim es (edit.Copy n by) n
 
 -- what refuses it: a live element of which not all coordinates are read, or else one that would leave the plane
 abbrev pub copy_cause : ℕ → List Element → Displacement → ℕ → Option Cause
-copy_cause dim es by n = option_or (first_cause dim tests.Moves (live_tree es n)) (first_cause dim (tests.Leaves by) (live_tree es n))
+copy_cause dim es by n = option_or (first_cause dim tests.Moves (live_tree es n)) (first_cause dim (tests.StaysOnPlane by) (live_tree es n))
 
 -- this is the cause that is told; want of memory says nothing of it
 abbrev pub IsStopped : Option Cause → EditFault → Type 0

@@ -17,7 +17,7 @@ use Rattle.dgn_drawing.specs.Changes.{shift, recolour, mark}
 use Rattle.edit_ops.specs.declared.causes.cause.Cause.{Cause}
 use Rattle.edit_ops.specs.Trees.{live_map}
 use Rattle.edit_ops.specs.Causes.{bytes_appended, cause_of}
-use Rattle.edit_ops.specs.Applying.{Applied, copied, unless}
+use Rattle.edit_ops.specs.Applying.{Applied, copied, applied_unless}
 use Rattle.edit_ops.specs.Fields.{Field, edited_fields}
 
 -- the edit of root n that it asks for
@@ -62,7 +62,7 @@ fenced_forest dim es fence.Delete ns = roots_changed mark es ns
 
 -- what an edit of these roots comes to on these elements of a file of that dimension
 abbrev pub apply_all : ℕ → List Element → ℕ → FenceEdit → List ℕ → Applied
-apply_all dim es rest e ns = unless (cause_of_all dim es rest (edits_at e ns)) (flat (fenced_forest dim es e ns))
+apply_all dim es rest e ns = applied_unless (cause_of_all dim es rest (edits_at e ns)) (flat (fenced_forest dim es e ns))
 
 -- the fields that it writes: those of its roots, joined
 abbrev pub fenced_fields : ℕ → List Element → FenceEdit → List ℕ → List Field

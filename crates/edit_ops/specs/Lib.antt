@@ -9,7 +9,7 @@ pub mod Causes
 pub mod Applying
 pub mod Fields
 pub mod Written
-pub mod Found
+pub mod ElementViews
 pub mod Asking
 pub mod Copying
 pub mod Putting

@@ -24,8 +24,8 @@ MayBePut (edit.Append new) e = Unit {0}
 
 -- what the sums have against the first of these that a move or a copy would have leave the design plane
 abbrev pub leaving : ℕ → Edit → List Live → Option Cause
-leaving dim (edit.Move n by) vs = first_cause dim (tests.Leaves by) vs
-leaving dim (edit.Copy n by) vs = first_cause dim (tests.Leaves by) vs
+leaving dim (edit.Move n by) vs = first_cause dim (tests.StaysOnPlane by) vs
+leaving dim (edit.Copy n by) vs = first_cause dim (tests.StaysOnPlane by) vs
 leaving dim other vs = None
 
 -- the coordinate fields of these live elements, one element's behind the other's

@@ -84,5 +84,5 @@ MayWiden (edit.Move n by) vs = AllByRecursion (λ v. IsTrue (has_spots (class_of
 MayWiden other vs = Unit {0}
 
 -- the elements of these numbers
-abbrev pub found : List Element → List ℕ → List Live
-found es ms = flat_map (λ m. option_to_list (found_at es m)) ms
+abbrev pub lives_of : List Element → List ℕ → List Live
+lives_of es ms = flat_map (λ m. option_to_list (found_at es m)) ms

@@ -39,7 +39,7 @@ pub fn plan_all(
     ensures kept { IfOk result (λ _. IsFenceEdit edit.now) }
     ensures refused { IfErr result
         (IsRefused (apply_all d.now.dim (elements d.now) (length d.now.tail.items) edit.now roots.now)) }
-    ensures some { IsErrOf result EditFault.Memory → 0 < length roots.now }
+    ensures memory { IsErrOf result EditFault.Memory → 0 < length roots.now }
 {
     is_fence_edit(edit);
     let mut all = Plan {
@@ -69,7 +69,7 @@ fn join_plans(
         (λ _. IsFencePlan d.now.dim (elements d.now) (length d.now.tail.items) edit.now roots.now all.new) }
     ensures refused { IfErr result
         (IsRefused (apply_all d.now.dim (elements d.now) (length d.now.tail.items) edit.now roots.now)) }
-    ensures some { IsErrOf result EditFault.Memory → 0 < length roots.now }
+    ensures memory { IsErrOf result EditFault.Memory → 0 < length roots.now }
 {
     let mut numbers = no_numbers(alloc);
     'roots: for n in roots {
@@ -90,7 +90,7 @@ fn join_root(
 ) -> Result<(), EditFault>
     requires whole { IsWhole d.now }
     requires nesting { t.now.rows ≡ map row_of (elements d.now) }
-    requires room { length d.now.body.items + (length d.now.tail.items + length all.old.append) ≤ MOST_DESIGN }
+    requires bounded { length d.now.body.items + (length d.now.tail.items + length all.old.append) ≤ MOST_DESIGN }
     ensures { PlansUnless d.now.dim (elements d.now) (length d.now.tail.items + length all.old.append) (edit_at edit.now n) result all.old all.new }
 {
     let pending = all.append.len();

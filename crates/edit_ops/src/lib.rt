@@ -15,8 +15,8 @@ mod parts;
 mod plans;
 pub mod types;
 
+pub use asking::element_view::{ElementView, find};
 pub(crate) use asking::first::{first_cause, move_cause};
-pub use asking::found::{Found, find};
 pub(crate) use asking::shift::same_shift;
 pub(crate) use asking::test::Test;
 pub use causes::cause::Cause;

@@ -9,7 +9,7 @@ use Rattle.edit_script.specs.declared.reading.Reading.{Reading}
 use Rattle.edit_script.specs.declared.reading.Reading.TheVariants.{Nothing, Asks, Bad}
 use Rattle.edit_script.specs.Imports.{is_import, limited, imports_with}
 use Rattle.edit_script.specs.Grammar.{command_of}
-use Rattle.edit_script.specs.Script.{commands_from, with_first, joined}
+use Rattle.edit_script.specs.Script.{commands_from, with_first, with_line}
 use Rattle.edit_script.specs.Laws.{IsRead, IsFirst, Means}
 
 -- of a line that is read the limit changes nothing
@@ -59,7 +59,7 @@ here from imports line lines e = record { before = []; line = line; behind = lin
 -- a line before others, by what it says
 joins : (from imports : ℕ) (line : List ℕ) (lines : List (List ℕ)) (reading : Reading) (rest : Result (List Command) ScriptFault)
     → limited imports (command_of line) ≡ reading
-    → Means lines (from + 1) (imports_with imports (command_of line)) rest → Means (line ∷ lines) from imports (joined from reading rest)
+    → Means lines (from + 1) (imports_with imports (command_of line)) rest → Means (line ∷ lines) from imports (with_line from reading rest)
 joins from imports line lines Nothing rest e h = passed from imports line lines rest e h
 joins from imports line lines (Asks c) rest e h = said from imports c line lines rest e h
 joins from imports line lines Bad rest e h = here from imports line lines e

@@ -16,22 +16,22 @@ with_first c (Ok more) = Ok (c ∷ more)
 with_first c (Err e) = Err e
 
 -- what a line with this number says, before what those behind it say
-abbrev pub joined : ℕ → Reading → Result (List Command) ScriptFault → Result (List Command) ScriptFault
-joined number Nothing more = more
-joined number (Asks c) more = with_first c more
-joined number Bad more = Err (fault.Line number)
+abbrev pub with_line : ℕ → Reading → Result (List Command) ScriptFault → Result (List Command) ScriptFault
+with_line number Nothing more = more
+with_line number (Asks c) more = with_first c more
+with_line number Bad more = Err (fault.Line number)
 
 -- the commands of these lines, of which the first has this number and stands behind so many lines that ask for an import
 abbrev pub commands_from : ℕ → ℕ → List (List ℕ) → Result (List Command) ScriptFault
 commands_from number imports [] = Ok []
 commands_from number imports (line ∷ lines) =
-    joined number (limited imports (command_of line)) (commands_from (number + 1) (imports_with imports (command_of line)) lines)
+    with_line number (limited imports (command_of line)) (commands_from (number + 1) (imports_with imports (command_of line)) lines)
 
 -- the commands of a script, or its first line that is bad
 abbrev pub commands_of : List ℕ → Result (List Command) ScriptFault
 commands_of text = commands_from 1 0 (lines_of text)
 
 -- what a fault says of a script: Memory says nothing
-abbrev pub Tells : List ℕ → ScriptFault → Type 0
-Tells text (fault.Line number) = commands_of text ≡ Err (fault.Line number)
-Tells text fault.Memory = Unit {0}
+abbrev pub TellsOfScript : List ℕ → ScriptFault → Type 0
+TellsOfScript text (fault.Line number) = commands_of text ≡ Err (fault.Line number)
+TellsOfScript text fault.Memory = Unit {0}

@@ -51,7 +51,7 @@ impl Reading {
     pub fn imports_with(&self, imports: u32) -> u32
         requires { imports < 4294967295 }
         ensures exact { result ≡ imports_with imports self.now }
-        ensures few { result ≤ imports + 1 }
+        ensures bounded { result ≤ imports + 1 }
     {
         if self.is_import() {
             imports + 1

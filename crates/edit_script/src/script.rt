@@ -1,5 +1,5 @@
 ghost use Rattle.std.specs.Prelude.{◌≡◌, ◌≤◌, length, Ok, IfOk, IfErr};
-ghost use Rattle.edit_script.specs.Script.{commands_of, Tells};
+ghost use Rattle.edit_script.specs.Script.{commands_of, TellsOfScript};
 
 use crate::MOST_SCRIPT;
 use crate::fault::ScriptFault;
@@ -16,7 +16,7 @@ use std::alloc::Global;
 pub fn read_script(alloc: Global, bytes: &[u8]) -> Result<Vec<Command>, ScriptFault>
     requires { length bytes.now ≤ MOST_SCRIPT }
     ensures commands { IfOk result (λ v. commands_of bytes.now ≡ Ok v.items) }
-    ensures fault { IfErr result (Tells bytes.now) }
+    ensures fault { IfErr result (TellsOfScript bytes.now) }
 {
     let mut commands = Vec::new(alloc);
     let mut rest = bytes;

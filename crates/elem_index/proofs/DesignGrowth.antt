@@ -20,7 +20,7 @@ use Rattle.dgn_drawing.proofs.Offsets.{drop-offset}
 use Rattle.elem_index.specs.declared.design.Design.{Design}
 use Rattle.elem_index.specs.Offsets.{offset_of, offsets_of}
 use Rattle.elem_index.specs.Kinds.{Kind}
-use Rattle.elem_index.specs.Design.{kept_of, kind_of_row, kind_at, kinds_in, elements, IsOpen, IsWhole, IsFront, IsKeptAlso, SameText}
+use Rattle.elem_index.specs.Design.{kept_of, kind_of_row, kind_at, kinds_in, elements, IsOpen, IsWhole, HasGrown, IsKeptAlso, SameText}
 use Rattle.elem_index.proofs.KindBytes.{length-kinds_in, kinds_in-more, kinds_in-take, kind_at-spell, counted_long}
 use Rattle.elem_index.proofs.Places.{length-offsets, get_or-offsets, stands_at, offset_past, each_at, take_one_more}
 use Rattle.dgn_drawing.specs.declared.limits.TheConstants.{MOST_DESIGN}
@@ -37,7 +37,7 @@ offsets_more es kept at within first place =
 
 -- what is kept of the first elements is theirs, and the next one begins at the place
 pub record Left (d : Design) (at : ℕ) : Type 0 where
-  pub front : IsFront d
+  pub front : HasGrown d
   pub place : at ≡ offset_of (elements d) (length (kept_of d))
 
 -- dimension and bytes are the same, whatever room there is
@@ -116,7 +116,7 @@ module _ (d : Design) (is_open : IsOpen d) where
       }
 
 -- no more is kept than there are elements
-front_within : (d : Design) → IsFront d → length (kept_of d) ≤ length (elements d)
+front_within : (d : Design) → HasGrown d → length (kept_of d) ≤ length (elements d)
 front_within d front =
     omega (arith, ap (length {A = ℕ}) front.first, length-take (length (kept_of d)) (offsets_of (elements d)), length-offsets (elements d))
 
@@ -204,7 +204,7 @@ module _ (d : Design) (at : ℕ) (left : Left d at) where
   }
 
 -- the element whose offset was kept last, whose head says its size: the walk goes on behind it
-module _ (d : Design) (front : IsFront d) (n last : ℕ) (long : length (kept_of d) ≡ n + 1) (is : last ≡ slice_index_or (kept_of d) n last) where
+module _ (d : Design) (front : HasGrown d) (n last : ℕ) (long : length (kept_of d) ≡ n + 1) (is : last ≡ slice_index_or (kept_of d) n last) where
   last_heads : Heads d n
   last_heads = heads_at d front.is_open n (omega (arith, front_within d front, long))
 

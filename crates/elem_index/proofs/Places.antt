@@ -11,7 +11,7 @@ use Rattle.group_head.specs.Headers.{total_at}
 use Rattle.dgn_drawing.specs.Element.{Element}
 use Rattle.dgn_drawing.specs.Spelling.{spell, spelling, size_of}
 use Rattle.dgn_drawing.specs.WellFormed.{IsDimension, IsWellFormed}
-use Rattle.dgn_drawing.specs.Faults.{IsSoundIn, IsSound}
+use Rattle.dgn_drawing.specs.Faults.{HasNoFaultIn, HasNoFault}
 use Rattle.dgn_drawing.proofs.RecordsRead.{size_said-spell, element_fault-spell}
 use Rattle.dgn_drawing.proofs.Rows.{row_at-spell}
 use Rattle.dgn_drawing.proofs.BodyEnds.{total_within}
@@ -152,15 +152,15 @@ each_at P [] n e each found = absurd (let f = found in cc)
 each_at P (x ∷ es) zero e each found = let same : x ≡ e = cc in subst P same each.0
 each_at P (x ∷ es) (suc n) e each found = each_at P es n e each.1 found
 
-pub sound_in : (dim : ℕ) (e : Element) → IsDimension dim → IsWellFormed dim e → IsSoundIn dim (spell e)
+pub sound_in : (dim : ℕ) (e : Element) → IsDimension dim → IsWellFormed dim e → HasNoFaultIn dim (spell e)
 sound_in dim e axes good = record {
   size = sym (size_said-spell dim e axes good []) ∙ ap size_said (append-nil (spell e));
   fault = element_fault-spell dim e axes good;
 }
 
-pub sound_spell : (dim : ℕ) (e : Element) → IsDimension dim → IsWellFormed dim e → IsSound (spell e)
-sound_spell dim e (inl two) good = inl (subst (λ (n : ℕ). IsSoundIn n (spell e)) two (sound_in dim e (inl two) good))
-sound_spell dim e (inr three) good = inr (subst (λ (n : ℕ). IsSoundIn n (spell e)) three (sound_in dim e (inr three) good))
+pub sound_spell : (dim : ℕ) (e : Element) → IsDimension dim → IsWellFormed dim e → HasNoFault (spell e)
+sound_spell dim e (inl two) good = inl (subst (λ (n : ℕ). HasNoFaultIn n (spell e)) two (sound_in dim e (inl two) good))
+sound_spell dim e (inr three) good = inr (subst (λ (n : ℕ). HasNoFaultIn n (spell e)) three (sound_in dim e (inr three) good))
 
 -- the bytes of an element of a whole design, between its offset and the next
 module _ (d : Design) (whole : IsWhole d) (n : ℕ) (known : n < length (elements d)) (start end : ℕ) (begins : start ≡ offset_of (elements d) n)
@@ -223,8 +223,8 @@ module _ (d : Design) (whole : IsWhole d) (n : ℕ) (b : List ℕ) (is : Some b 
   good : IsWellFormed d.dim this.0
   good = each_at (IsWellFormed d.dim) (elements d) n this.0 (opening_of d whole).each this.1
 
-  pub sound_here : IsSound b
-  sound_here = subst IsSound (sym this.2) (sound_spell d.dim this.0 (axes_of d whole) good)
+  pub sound_here : HasNoFault b
+  sound_here = subst HasNoFault (sym this.2) (sound_spell d.dim this.0 (axes_of d whole) good)
 
   pub row_read : row_at b ≡ row_of this.0
   row_read = ap row_at this.2 ∙ row_at-spell d.dim this.0 (axes_of d whole) good

@@ -9,7 +9,7 @@ use Rattle.dgn_drawing.specs.Opening.{offsets_from}
 use Rattle.dgn_drawing.proofs.Offsets.{take-offsets_from, sizes-rows}
 use Rattle.elem_index.specs.declared.design.Design.{Design}
 use Rattle.elem_index.specs.Offsets.{offsets_of}
-use Rattle.elem_index.specs.Design.{kept_of, kinds_of, spare_of, kind_of_row, kinds_in, elements, IsOpen, IsWhole, IsFront, IsBehind}
+use Rattle.elem_index.specs.Design.{kept_of, kinds_of, spare_of, kind_of_row, kinds_in, elements, IsOpen, IsWhole, HasGrown, HasShrunk}
 use Rattle.elem_index.proofs.KindBytes.{kinds_in-take, kinds_in-front}
 use Rattle.elem_index.proofs.Places.{length-offsets}
 
@@ -30,7 +30,7 @@ offsets-front es more rows = offsets-rows es (take (length es) more) (sym rows) 
 module _ (old new : Design) (whole : IsWhole old) (is_open : IsOpen new) (kept : kept_of new ≡ kept_of old) (kinds : kinds_of new ≡ kinds_of old) where
   -- before it grows: the first elements have the rows that there were, and there is room for the others
   pub front_after : map row_of (take (length (elements old)) (elements new)) ≡ map row_of (elements old)
-      → length (elements new) ≤ length (elements old) + spare_of new → IsFront new
+      → length (elements new) ≤ length (elements old) + spare_of new → HasGrown new
   front_after rows room =
       let n : ℕ = length (elements old) in
       let is : kept_of new ≡ offsets_of (elements old) = kept ∙ whole.kept in
@@ -44,7 +44,7 @@ module _ (old new : Design) (whole : IsWhole old) (is_open : IsOpen new) (kept :
       }
 
   -- before it shrinks: the elements have the rows that the first ones had
-  pub behind_after : (count : ℕ) → length (elements new) ≡ count → map row_of (take count (elements old)) ≡ map row_of (elements new) → IsBehind count new
+  pub behind_after : (count : ℕ) → length (elements new) ≡ count → map row_of (take count (elements old)) ≡ map row_of (elements new) → HasShrunk count new
   behind_after count many rows =
       record {
         is_open = is_open;

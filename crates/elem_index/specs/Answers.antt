@@ -38,9 +38,9 @@ TellsFault found (OpenFault.Attr at) = found ≡ Err (Attr at)
 TellsFault found OpenFault.Memory = Unit {0}
 
 -- the answer tells what is found, but for want of memory
-abbrev pub Tells : Result Opened Fault → Result Design OpenFault → Type 0
-Tells found (Ok d) = found ≡ Ok (opened_of d)
-Tells found (Err fault) = TellsFault found fault
+abbrev pub TellsOpening : Result Opened Fault → Result Design OpenFault → Type 0
+TellsOpening found (Ok d) = found ≡ Ok (opened_of d)
+TellsOpening found (Err fault) = TellsFault found fault
 
 -- bytes begin with an element without fault, of that size
 pub record BeginsSound (dim : ℕ) (b : List ℕ) (size : ℕ) : Type 0 where

@@ -80,14 +80,14 @@ pub record IsWhole (d : Design) : Type 0 where
 
 -- body and tail open, the kept offsets, bytes and totals are those of the first elements, and spare is at least the
 -- number of the others
-pub record IsFront (d : Design) : Type 0 where
+pub record HasGrown (d : Design) : Type 0 where
   pub is_open : IsOpen d
   pub first : kept_of d ≡ take (length (kept_of d)) (offsets_of (elements d))
   pub kinds : kinds_of d ≡ take (length (kept_of d)) (kinds_in (elements d))
   pub room : length (elements d) ≤ length (kept_of d) + spare_of d
 
 -- body and tail open, there are `count` elements, and their offsets, bytes and totals are the first ones of the kept
-pub record IsBehind (count : ℕ) (d : Design) : Type 0 where
+pub record HasShrunk (count : ℕ) (d : Design) : Type 0 where
   pub is_open : IsOpen d
   pub many : length (elements d) ≡ count
   pub first : take count (kept_of d) ≡ offsets_of (elements d)

@@ -48,7 +48,7 @@ pub(crate) fn next_size(dim: u8, at: u32, rest: &[u8]) -> Result<Option<usize>, 
     requires { IsDimension dim }
     ensures next { IfOk result (BeginsNext dim rest.now) }
     ensures fault { IfErr result (BeginsFaulty dim at rest.now) }
-    ensures more { IsErr result → IsFalse (begins_with_mark rest.now) }
+    ensures unmarked { IsErr result → IsFalse (begins_with_mark rest.now) }
 {
     if is_bare(rest) {
         Ok(Some(HEAD_END))
@@ -97,7 +97,7 @@ pub(crate) fn size_said(rest: &[u8]) -> usize
 #[inline(always)]
 fn is_bare(rest: &[u8]) -> bool
     ensures bare { IsTrue result → BeginsBare rest.now }
-    ensures more { IsTrue result → IsFalse (begins_with_mark rest.now) }
+    ensures unmarked { IsTrue result → IsFalse (begins_with_mark rest.now) }
 {
     match rest {
         [first, kind, 0, 0, ..] => is_silent(kind % 128) && (*first != 0xFF || *kind != 0xFF),

@@ -3,7 +3,7 @@ ghost use Rattle.dgn_drawing.specs.Spelling.{spell};
 ghost use Rattle.elem_index.specs.Offsets.{offset_of, offsets_of};
 ghost use Rattle.elem_index.specs.Opened.{opening};
 ghost use Rattle.elem_index.specs.Design.{elements, kind_bytes, totals_of, IsWhole};
-ghost use Rattle.elem_index.specs.Answers.{HasCount, HasToldFault, Tells, TellsFault};
+ghost use Rattle.elem_index.specs.Answers.{HasCount, HasToldFault, TellsOpening, TellsFault};
 
 use crate::beginning::{begins_with_tcb, dimension};
 use crate::kind_list::KindList;
@@ -44,7 +44,7 @@ pub fn read_design(alloc: Global, mut bytes: Vec<u8>) -> Result<Design, OpenFaul
     ensures whole { IfOk result IsWhole }
     ensures text { IfOk result (λ d. d.body.items ++ d.tail.items ≡ bytes.items) }
     ensures fault { IfErr result (HasToldFault bytes.items) }
-    ensures told { Tells (opening bytes.items) result }
+    ensures opening { TellsOpening (opening bytes.items) result }
 {
     if !begins_with_tcb(&bytes) {
         return Err(OpenFault::NotDesign);
@@ -69,7 +69,7 @@ pub fn count_elements(bytes: &[u8]) -> Result<u32, OpenFault>
     requires { length bytes.now ≤ MOST_DESIGN }
     ensures count { IfOk result (HasCount bytes.now) }
     ensures fault { IfErr result (HasToldFault bytes.now) }
-    ensures told { IfErr result (TellsFault (opening bytes.now)) }
+    ensures first_fault { IfErr result (TellsFault (opening bytes.now)) }
     ensures memory { IsErrOf result OpenFault.Memory → ⊥ }
 {
     if !begins_with_tcb(bytes) {

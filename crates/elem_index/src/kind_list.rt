@@ -78,7 +78,7 @@ impl KindList {
     pub(crate) fn reserve(&mut self, n: usize) -> Result<(), AllocError>
         ensures spare { OnOk result (n ≤ self.new.spare) }
         ensures items { self.new.items ≡ self.old.items }
-        ensures more { self.old.spare ≤ self.new.spare }
+        ensures keeps_room { self.old.spare ≤ self.new.spare }
     {
         self.kinds.reserve(n)?;
         self.totals.reserve(n)

@@ -37,7 +37,7 @@ impl Walk {
     // mark, or at the end of the file.
     #[inline(always)]
     fn next_place(&mut self, f: &[u8]) -> Result<Option<u32>, OpenFault>
-        requires few { length f.now ≤ MOST_DESIGN }
+        requires bounded { length f.now ≤ MOST_DESIGN }
         requires axes { self.old.dim ≡ dimension f.now }
         ensures step { IfOk result (Steps f.now self.old.at self.new.at) }
         ensures fault { IfErr result (StandsFaulty f.now self.old.at) }
@@ -59,11 +59,11 @@ impl Walk {
 // The offsets of all elements of the file, what is kept of each beside, and the byte behind the last one. A head is at
 // hand when the walk is at it, so that is the time to keep what the rows want of it.
 pub(crate) fn elements_in(alloc: Global, f: &[u8]) -> Result<(Vec<u32>, KindList, usize), OpenFault>
-    requires few { length f.now ≤ MOST_DESIGN }
+    requires bounded { length f.now ≤ MOST_DESIGN }
     requires tcb { is_tcb f.now ≡ true }
     ensures opens { IfOk result (λ run. IsRun f.now run.0.items run.1.items run.2) }
     ensures fault { IfErr result (HasToldFault f.now) }
-    ensures told { IfErr result (TellsFault (opening f.now)) }
+    ensures first_fault { IfErr result (TellsFault (opening f.now)) }
 {
     let mut walk = Walk::begin(f);
     let mut kept = Vec::new(alloc);
@@ -79,11 +79,11 @@ pub(crate) fn elements_in(alloc: Global, f: &[u8]) -> Result<(Vec<u32>, KindList
 
 // How many elements the file has.
 pub(crate) fn count_in(f: &[u8]) -> Result<u32, OpenFault>
-    requires few { length f.now ≤ MOST_DESIGN }
+    requires bounded { length f.now ≤ MOST_DESIGN }
     requires tcb { is_tcb f.now ≡ true }
     ensures count { IfOk result (HasCount f.now) }
     ensures fault { IfErr result (HasToldFault f.now) }
-    ensures told { IfErr result (TellsFault (opening f.now)) }
+    ensures first_fault { IfErr result (TellsFault (opening f.now)) }
     ensures memory { IsErrOf result OpenFault.Memory → ⊥ }
 {
     let mut walk = Walk::begin(f);

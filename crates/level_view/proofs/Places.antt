@@ -5,7 +5,7 @@ use Rattle.dgn_drawing.specs.declared.row.Row.{Row}
 use Rattle.dgn_drawing.specs.Element.{Element}
 use Rattle.dgn_drawing.specs.Spelling.{spell}
 use Rattle.dgn_drawing.specs.WellFormed.{IsWellFormed}
-use Rattle.dgn_drawing.specs.Faults.{IsSoundIn}
+use Rattle.dgn_drawing.specs.Faults.{HasNoFaultIn}
 use Rattle.dgn_drawing.specs.Reading.{element_at}
 use Rattle.dgn_drawing.specs.Rows.{row_of}
 use Rattle.dgn_drawing.specs.Nesting.{Forest, itself, forest}
@@ -49,8 +49,8 @@ module _ (d : Design) (whole : IsWhole d) (n : ℕ) (b : List ℕ) (is : Some b 
   good : IsWellFormed d.dim this.0
   good = each_at (IsWellFormed d.dim) (elements d) n this.0 whole.is_open.opens.each this.1
 
-  pub sound_here : IsSoundIn d.dim b
-  sound_here = subst (IsSoundIn d.dim) (sym this.2) (sound_in d.dim this.0 (axes_of d whole) good)
+  pub sound_here : HasNoFaultIn d.dim b
+  sound_here = subst (HasNoFaultIn d.dim) (sym this.2) (sound_in d.dim this.0 (axes_of d whole) good)
 
   pub element_here : slice_get (elements d) n ≡ Some (element_at d.dim b)
   element_here = this.1 ∙ ap Some (sym (ap (element_at d.dim) this.2 ∙ element_at-spell d.dim this.0 (axes_of d whole) good))

@@ -5,7 +5,7 @@ use Rattle.dgn_drawing.specs.declared.types.item.Item.{Item}
 use Rattle.dgn_drawing.specs.declared.mask.Mask.{Mask}
 use Rattle.dgn_drawing.specs.Element.{Element}
 use Rattle.dgn_drawing.specs.Reading.{element_at}
-use Rattle.dgn_drawing.specs.Faults.{IsSoundIn}
+use Rattle.dgn_drawing.specs.Faults.{HasNoFaultIn}
 use Rattle.dgn_drawing.specs.Rows.{row_of}
 use Rattle.dgn_drawing.specs.Numbering.{Mark, mark_of}
 use Rattle.dgn_drawing.specs.Shown.{its_item, shown_alone}
@@ -55,4 +55,4 @@ pub record IsPlace (dim : ℕ) (es : List Element) (n : ℕ) (p : Place) : Type 
   pub knot : p.knot ≡ code_knot mark.knot
   pub depth : p.depth ≡ mark.depth
   pub end : p.end ≡ mark.end
-  pub sound : IsSoundIn dim p.bytes.now
+  pub sound : HasNoFaultIn dim p.bytes.now

@@ -3,7 +3,7 @@
 ghost use Rattle.std.specs.Prelude.{◌≡◌, IfOk};
 ghost use Rattle.std.specs.Option.{option_to_list};
 ghost use Rattle.dgn_drawing.specs.WellFormed.{IsDimension};
-ghost use Rattle.dgn_drawing.specs.Faults.{IsSoundIn};
+ghost use Rattle.dgn_drawing.specs.Faults.{HasNoFaultIn};
 ghost use Rattle.dgn_drawing.specs.Reading.{element_at};
 ghost use Rattle.dgn_drawing.specs.Shown.{shown_alone};
 
@@ -21,7 +21,7 @@ pub(crate) fn shown_alone(
     place: Place<'_>,
 ) -> Result<Option<Item>, AllocError>
     requires dimension { IsDimension dim }
-    requires sound { IsSoundIn dim place.bytes.now }
+    requires sound { HasNoFaultIn dim place.bytes.now }
     ensures { IfOk result (λ found. option_to_list found ≡ shown_alone dim mask place.entry.number place.entry.depth (element_at dim place.entry.bytes.now)) }
 {
     let head = head(place.bytes);

@@ -4,7 +4,7 @@
 ghost use Rattle.std.specs.Prelude.{◌≡◌, ◌++◌, reverse, OnOk};
 ghost use Rattle.std.specs.Option.{option_to_list};
 ghost use Rattle.dgn_drawing.specs.WellFormed.{IsDimension};
-ghost use Rattle.dgn_drawing.specs.Faults.{IsSoundIn};
+ghost use Rattle.dgn_drawing.specs.Faults.{HasNoFaultIn};
 ghost use Rattle.dgn_drawing.specs.Reading.{element_at};
 ghost use Rattle.dgn_drawing.specs.Shown.{shown_alone};
 ghost use Rattle.level_view.specs.Back.{begins_below, past, with_group, with_element};
@@ -54,7 +54,7 @@ fn add_group(
     items: &mut Vec<Item>,
 ) -> Result<(), AllocError>
     requires dimension { IsDimension dim }
-    requires sound { IsSoundIn dim place.bytes.now }
+    requires sound { HasNoFaultIn dim place.bytes.now }
     ensures { OnOk result (reverse items.new.items
         ≡ with_group dim place.entry.number place.entry.depth place.entry.end (element_at dim place.entry.bytes.now) (reverse items.old.items)) }
 {
@@ -80,7 +80,7 @@ fn add_run(
     items: &mut Vec<Item>,
 ) -> Result<(), AllocError>
     requires dimension { IsDimension dim }
-    requires sound { IsSoundIn dim place.bytes.now }
+    requires sound { HasNoFaultIn dim place.bytes.now }
     ensures { OnOk result (reverse items.new.items ≡ shown_alone dim mask place.entry.number place.entry.depth (element_at dim place.entry.bytes.now)
         ++ past place.entry.end (reverse items.old.items)) }
 {
@@ -97,7 +97,7 @@ pub(crate) fn add(
     items: &mut Vec<Item>,
 ) -> Result<(), AllocError>
     requires dimension { IsDimension dim }
-    requires sound { IsSoundIn dim place.bytes.now }
+    requires sound { HasNoFaultIn dim place.bytes.now }
     ensures { OnOk result (reverse items.new.items
         ≡ with_element dim mask place.entry.knot place.entry.number place.entry.depth place.entry.end (element_at dim place.entry.bytes.now)
         (reverse items.old.items)) }

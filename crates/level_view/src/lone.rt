@@ -2,7 +2,7 @@
 
 ghost use Rattle.std.specs.Prelude.{◌≡◌, ◌↔◌, map, slice_get, option_map, Some, IsNone, IfSome};
 ghost use Rattle.dgn_drawing.specs.declared.mask.Mask.{Mask};
-ghost use Rattle.dgn_drawing.specs.Faults.{IsSoundIn};
+ghost use Rattle.dgn_drawing.specs.Faults.{HasNoFaultIn};
 ghost use Rattle.dgn_drawing.specs.Nesting.{itself, Leaf};
 ghost use Rattle.dgn_drawing.specs.Numbering.{knot_of};
 ghost use Rattle.dgn_drawing.specs.Reading.{element_at};
@@ -23,7 +23,7 @@ pub fn lone_element<'a>(d: &'a Design, t: &Nest, n: u32) -> Option<&'a [u8]>
     requires root { IsRoot itself t.now.rows n }
     ensures none { IsNone result ↔ (knot_of itself t.now.rows n ≡ Some Leaf → ⊥) }
     ensures bytes { IfSome result (λ b. Some b.now ≡ option_map spell (slice_get (elements d.now) n)) }
-    ensures sound { IfSome result (λ b. IsSoundIn d.now.dim b.now) }
+    ensures sound { IfSome result (λ b. HasNoFaultIn d.now.dim b.now) }
     ensures shown { IfSome result (λ b. (mask : Mask)
         → tree_shown d.now.dim mask (elements d.now) n ≡ shown_alone d.now.dim mask n 0 (element_at d.now.dim b.now)) }
 {

@@ -2,7 +2,7 @@
 // list that grows towards the front of the drawing, so the least is its last.
 
 ghost use Rattle.std.specs.Prelude.{◌≡◌, ◌<◌, ◌++◌, reverse, OnOk};
-ghost use Rattle.dgn_drawing.specs.Faults.{IsSoundIn};
+ghost use Rattle.dgn_drawing.specs.Faults.{HasNoFaultIn};
 ghost use Rattle.dgn_drawing.specs.Reading.{element_at};
 ghost use Rattle.level_view.specs.Numbers.{alone_if, has_item, is_alone, first_below, numbers_past, with_group_number, with_number};
 
@@ -23,7 +23,7 @@ fn has_item(kind: u8) -> bool
 
 // Whether an element shows its item by itself: where it has one, unless it is marked deleted or the mask hides its level.
 fn is_alone(_dim: u8, mask: Mask, b: &[u8]) -> bool
-    requires { IsSoundIn _dim b.now }
+    requires { HasNoFaultIn _dim b.now }
     ensures { result ≡ is_alone mask (element_at _dim b.now) }
 {
     let head = head(b);
@@ -64,7 +64,7 @@ fn put_number(numbers: &mut Vec<u32>, number: u32, shown: bool) -> Result<(), Al
 
 // Adds the number of a group's header to those of what its members show, if they show anything.
 fn add_group(_dim: u8, place: Place<'_>, numbers: &mut Vec<u32>) -> Result<(), AllocError>
-    requires { IsSoundIn _dim place.bytes.now }
+    requires { HasNoFaultIn _dim place.bytes.now }
     ensures { OnOk result (reverse numbers.new.items
         ≡ with_group_number place.entry.number place.entry.end (element_at _dim place.entry.bytes.now) (reverse numbers.old.items)) }
 {
@@ -79,7 +79,7 @@ fn add_group(_dim: u8, place: Place<'_>, numbers: &mut Vec<u32>) -> Result<(), A
 
 // Puts the number of a run's header in the place of those of what its parts show.
 fn add_run(_dim: u8, mask: Mask, place: Place<'_>, numbers: &mut Vec<u32>) -> Result<(), AllocError>
-    requires { IsSoundIn _dim place.bytes.now }
+    requires { HasNoFaultIn _dim place.bytes.now }
     ensures { OnOk result (reverse numbers.new.items ≡ alone_if (is_alone mask (element_at _dim place.entry.bytes.now)) place.entry.number
         ++ numbers_past place.entry.end (reverse numbers.old.items)) }
 {
@@ -94,7 +94,7 @@ pub(crate) fn add_number(
     place: Place<'_>,
     numbers: &mut Vec<u32>,
 ) -> Result<(), AllocError>
-    requires { IsSoundIn dim place.bytes.now }
+    requires { HasNoFaultIn dim place.bytes.now }
     ensures { OnOk result (reverse numbers.new.items
         ≡ with_number mask place.entry.knot place.entry.number place.entry.end (element_at dim place.entry.bytes.now) (reverse numbers.old.items)) }
 {

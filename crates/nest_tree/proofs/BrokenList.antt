@@ -9,8 +9,8 @@ use Rattle.std.proofs.lemmas.Bool.{cases_Bool, cases_lt, cond-true, cond-false, 
 use Rattle.dgn_drawing.specs.declared.row.Row.{Row}
 use Rattle.dgn_drawing.specs.Nesting.{itself, Forest, NoTree, Tree, flat, forest}
 use Rattle.dgn_drawing.specs.Numbering.{Mark, end_of, marks, is_broken, first_from, first_broken_of}
-use Rattle.nest_tree.specs.Linked.{Link}
-use Rattle.nest_tree.specs.Places.{marks_in, link_of, end_of_mark, broken_by_link}
+use Rattle.nest_tree.specs.NestEntries.{NestEntry}
+use Rattle.nest_tree.specs.Places.{marks_in, entry_of, end_of_mark, broken_by_entry}
 use Rattle.nest_tree.specs.Passing.{passing, broken_in, first_at, if_below}
 use Rattle.nest_tree.proofs.NestingSteps.{flat-forest}
 use Rattle.nest_tree.proofs.ListStacks.{length-marks}
@@ -204,23 +204,23 @@ module _ (rows : List Row) where
       at_point n list i (λ k d less. halves.0 k d (omega arith) less) (λ k d more inside. halves.1 k d more inside) ∙ ap (first_at n) is
 
   -- what is kept of an element, and its row, say whether it is broken
-  module _ (n : ℕ) (link : Link) (cbit : Bool) (is : Some link ≡ option_map link_of (slice_get (marks_in rows) n))
+  module _ (n : ℕ) (entry : NestEntry) (cbit : Bool) (is : Some entry ≡ option_map entry_of (slice_get (marks_in rows) n))
       (here : Some cbit ≡ option_map (λ (r : Row). r.cbit) (slice_get rows n))
       (list new : List ℕ) (so_far : list ≡ passing (is_broken itself rows) 0 n) where
-    said : (b : Bool) → broken_by_link n link cbit ≡ b → is_broken itself rows (0 + n) ≡ b
+    said : (b : Bool) → broken_by_entry n entry cbit ≡ b → is_broken itself rows (0 + n) ≡ b
     said b test =
         let place : n ≡ 0 + n = omega arith in
-        ap (is_broken itself rows) (sym place) ∙ sym (broken_is rows n link cbit is here) ∙ test
+        ap (is_broken itself rows) (sym place) ∙ sym (broken_is rows n entry cbit is here) ∙ test
 
     -- so the list grows by one that is, and by no other
-    pub broken_kept : broken_by_link n link cbit ≡ true → new ≡ list ++ n ∷ [] → new ≡ passing (is_broken itself rows) 0 (n + 1)
+    pub broken_kept : broken_by_entry n entry cbit ≡ true → new ≡ list ++ n ∷ [] → new ≡ passing (is_broken itself rows) 0 (n + 1)
     broken_kept test grown =
         let place : n ≡ 0 + n = omega arith in
         let next : suc n ≡ n + 1 = omega arith in
         grown ∙ ap (λ (l : List ℕ). l ++ n ∷ []) so_far ∙ ap (λ (k : ℕ). passing (is_broken itself rows) 0 n ++ k ∷ []) place
         ∙ sym (one_passes (is_broken itself rows) 0 n (said true test)) ∙ ap (passing (is_broken itself rows) 0) next
 
-    pub sound_passed : broken_by_link n link cbit ≡ false → new ≡ list → new ≡ passing (is_broken itself rows) 0 (n + 1)
+    pub sound_passed : broken_by_entry n entry cbit ≡ false → new ≡ list → new ≡ passing (is_broken itself rows) 0 (n + 1)
     sound_passed test same =
         let next : suc n ≡ n + 1 = omega arith in
         same ∙ so_far ∙ sym (one_fails (is_broken itself rows) 0 n (said false test)) ∙ ap (passing (is_broken itself rows) 0) next

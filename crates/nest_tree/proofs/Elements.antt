@@ -11,7 +11,7 @@ use Rattle.dgn_drawing.specs.Element.{Line, Points, Text, Node, Cell, Header, Pl
 use Rattle.dgn_drawing.specs.Spelling.{spell, size_of}
 use Rattle.dgn_drawing.specs.WellFormed.{IsDimension, IsWellFormed, HasBody}
 use Rattle.dgn_drawing.specs.Reading.{form_at}
-use Rattle.dgn_drawing.specs.Faults.{is_shown, IsSoundIn, IsSound}
+use Rattle.dgn_drawing.specs.Faults.{is_shown, HasNoFaultIn, HasNoFault}
 use Rattle.dgn_drawing.specs.Rows.{total_of}
 use Rattle.dgn_drawing.proofs.RecordsRead.{kind-spell, size-spell, form-spell, size_said-spell, end_at-spell, element_fault-spell}
 use Rattle.dgn_drawing.proofs.BytesSpelled.{shown_after}
@@ -43,7 +43,7 @@ total_word dim (Shown d (Cell total name run origin) rest) has = has.1.word
 total_word dim (Shown d (Header total number) rest) has = has.1.0
 
 module _ (dim : ℕ) (e : Element) (axes : IsDimension dim) (good : IsWellFormed dim e) where
-  sound : IsSoundIn dim (spell e)
+  sound : HasNoFaultIn dim (spell e)
   sound = record {
     size = sym (size_said-spell dim e axes good []) ∙ ap size_said (append-nil (spell e));
     fault = element_fault-spell dim e axes good;
@@ -62,9 +62,9 @@ module _ (dim : ℕ) (e : Element) (axes : IsDimension dim) (good : IsWellFormed
   counted : class_of e.kind ≡ Class.Counted → 40 ≤ size_of e
   counted is = total_within (spell e) (either axes) (ap class_of (kind-spell dim e axes good) ∙ is)
     where
-      either : IsDimension dim → IsSound (spell e)
-      either (inl two) = inl (subst (λ (n : ℕ). IsSoundIn n (spell e)) two sound)
-      either (inr three) = inr (subst (λ (n : ℕ). IsSoundIn n (spell e)) three sound)
+      either : IsDimension dim → HasNoFault (spell e)
+      either (inl two) = inl (subst (λ (n : ℕ). HasNoFaultIn n (spell e)) two sound)
+      either (inr three) = inr (subst (λ (n : ℕ). HasNoFaultIn n (spell e)) three sound)
 
   sized : (c : Class) → class_of e.kind ≡ c → least_size c ≤ size_of e
   sized Class.Counted is = counted is

@@ -9,17 +9,17 @@ use Rattle.std.proofs.lemmas.Bool.{cases_lt}
 use Rattle.dgn_drawing.specs.declared.row.Row.{Row}
 use Rattle.dgn_drawing.specs.Nesting.{Whole, nest, BeginsFree, itself}
 use Rattle.dgn_drawing.specs.Numbering.{Mark, marks, is_broken, is_broken_as}
-use Rattle.nest_tree.specs.Linked.{Link}
+use Rattle.nest_tree.specs.NestEntries.{NestEntry}
 use Rattle.nest_tree.specs.Depths.{IsWordTotal}
 use Rattle.nest_tree.specs.Passing.{passing, broken_in, below}
-use Rattle.nest_tree.specs.Places.{marks_in, link_of, end_of_mark, ArePlaces, NestApart}
+use Rattle.nest_tree.specs.Places.{marks_in, entry_of, end_of_mark, ArePlaces, NestApart}
 use Rattle.nest_tree.specs.Nested.{IsNest}
 use Rattle.nest_tree.proofs.HeaderChains.{get_first}
 use Rattle.nest_tree.proofs.ListStacks.{length-marks_in}
 use Rattle.nest_tree.proofs.OpenLists.{length-ends}
 use Rattle.nest_tree.proofs.BrokenList.{parted}
 use Rattle.nest_tree.proofs.NumbersApart.{numbered_behind}
-use Rattle.nest_tree.proofs.FirstLinks.{all_marks}
+use Rattle.nest_tree.proofs.FirstEntries.{all_marks}
 use Rattle.nest_tree.proofs.BrokenNumbers.{passing_same, below_first, below_all}
 
 -- each list has as much room as the one with the least
@@ -82,13 +82,14 @@ module _ (rows new : List Row) (apart : NestApart rows new) where
       ∙ sym (passing_same (is_broken itself rows) (is_broken itself (rows ++ new)) 0 (length rows) broken_first)
 
 -- what is kept of the rows is what is kept of the first of all
-module _ (rows new all : List Row) (ends : List ℕ) (links : List Link) (broken : List ℕ) (kept : IsNest rows ends links broken) (apart : NestApart rows new)
+module _ (rows new all : List Row) (ends : List ℕ) (entries : List NestEntry) (broken : List ℕ) (kept : IsNest rows ends entries broken)
+    (apart : NestApart rows new)
     (is : all ≡ rows ++ new) where
   pub length-grown : length all ≡ length rows + length new
   length-grown = ap (length {A = Row}) is ∙ length-append rows new
 
   pub length-kept_ends : length ends ≡ length rows
-  length-kept_ends = length-ends rows (length rows) ends links kept.places
+  length-kept_ends = length-ends rows (length rows) ends entries kept.places
 
   -- the new rows are those behind the kept places
   pub grown_new : new ≡ drop (length ends) all
@@ -100,13 +101,13 @@ module _ (rows new all : List Row) (ends : List ℕ) (links : List Link) (broken
   grown_marks : take (length rows) (marks_in all) ≡ take (length rows) (marks_in rows)
   grown_marks = ap (λ (l : List Row). take (length rows) (marks_in l)) is ∙ marks_first rows new apart ∙ sym (all_marks rows)
 
-  pub grown_places : ArePlaces all (length ends) ends links
+  pub grown_places : ArePlaces all (length ends) ends entries
   grown_places =
-      subst (λ (k : ℕ). ArePlaces all k ends links) (sym length-kept_ends)
+      subst (λ (k : ℕ). ArePlaces all k ends entries) (sym length-kept_ends)
       record {
         within = omega (arith, length-grown);
         ends_are = kept.places.ends_are ∙ ap (map end_of_mark) (sym grown_marks);
-        links_are = kept.places.links_are ∙ ap (map link_of) (sym grown_marks);
+        entries_are = kept.places.entries_are ∙ ap (map entry_of) (sym grown_marks);
       }
 
   pub grown_apart : drop (length ends) (marks_in all) ≡ marks (nest itself Whole (drop (length ends) all)) (length ends) 0 None
@@ -121,7 +122,7 @@ module _ (rows new all : List Row) (ends : List ℕ) (links : List Link) (broken
       ∙ ap (passing (is_broken itself all) 0) (sym (at ∙ length-kept_ends))
 
 -- the first ones of all are left
-module _ (all : List Row) (ends : List ℕ) (links : List Link) (broken : List ℕ) (kept : IsNest all ends links broken) (count : ℕ) (some : 1 ≤ count)
+module _ (all : List Row) (ends : List ℕ) (entries : List NestEntry) (broken : List ℕ) (kept : IsNest all ends entries broken) (count : ℕ) (some : 1 ≤ count)
     (free : BeginsFree itself (drop count all)) where
   left_some : 0 < length (take count all)
   left_some = let all_some = kept.some in omega (arith, length-take count all)
@@ -156,7 +157,7 @@ module _ (all : List Row) (ends : List ℕ) (links : List Link) (broken : List �
     | inr past ↦ ap (below count) kept.are_broken ∙ broken_all all count past ∙ ap broken_in (sym (take_all count all past))
   ]
 
-  pub left : IsNest (take count all) (take count ends) (take count links) (below count broken)
+  pub left : IsNest (take count all) (take count ends) (take count entries) (below count broken)
   left =
       let few = kept.few in
       record {
@@ -166,7 +167,7 @@ module _ (all : List Row) (ends : List ℕ) (links : List Link) (broken : List �
         places = record {
           within = omega arith;
           ends_are = left_of end_of_mark ends kept.places.ends_are;
-          links_are = left_of link_of links kept.places.links_are;
+          entries_are = left_of entry_of entries kept.places.entries_are;
         };
         are_broken = left_broken;
       }

@@ -18,7 +18,7 @@ pub mod OpenLists
 pub mod RowsRead
 pub mod LeavesRead
 mod WorkedNestings
-pub mod FirstLinks
+pub mod FirstEntries
 pub mod NumbersApart
 pub mod LeastNumber
 pub mod Depths

@@ -9,12 +9,12 @@ use Rattle.dgn_drawing.specs.declared.row.Row.{Row}
 use Rattle.dgn_drawing.specs.Nesting.{leaf, shape, member_count, front_count, is_spline_part, has_bit, itself, nest, forest, flat, Forest, Tree, NoTree}
 use Rattle.dgn_drawing.specs.Numbering.{Mark, end_of, marks}
 use Rattle.nest_tree.specs.declared.knot.Knot.{Knot}
-use Rattle.nest_tree.specs.Linked.{Link}
+use Rattle.nest_tree.specs.NestEntries.{NestEntry}
 use Rattle.nest_tree.specs.declared.shape.Scope.{Scope}
 use Rattle.nest_tree.specs.declared.shape.Shape as code
 use Rattle.nest_tree.specs.declared.open_list.OpenList.{OpenList}
 use Rattle.nest_tree.specs.Shapes.{code_knot, defined_scope, code_shape, rows_between, shape_in}
-use Rattle.nest_tree.specs.Places.{marks_in, link_of, parent_in, depth_in, knot_in, kind_in, scope_below, list_in, list_around, resume, IsInside, IsStack}
+use Rattle.nest_tree.specs.Places.{marks_in, entry_of, parent_in, depth_in, knot_in, kind_in, scope_below, list_in, list_around, resume, IsInside, IsStack}
 use Rattle.nest_tree.specs.Places.{Going}
 use Rattle.dgn_drawing.specs.Nesting.{is_header}
 use Rattle.nest_tree.proofs.NestingSteps.{nest_nil, count_within, flat-forest}
@@ -202,15 +202,15 @@ module _ (rows : List Row) (at : ℕ) (f : OpenList) (going : Going rows at f) (
         let most = count_read in
         omega (arith, end_read)
 
-    pub link_read : link_of mark_read ≡ record { parent = f.parent; depth = f.depth; knot = s.knot }
-    link_read = sym (ap (λ (x : code.Shape). record { parent = f.parent; depth = f.depth; knot = x.knot }) said)
+    pub entry_read : entry_of mark_read ≡ record { parent = f.parent; depth = f.depth; knot = s.knot }
+    entry_read = sym (ap (λ (x : code.Shape). record { parent = f.parent; depth = f.depth; knot = x.knot }) said)
 
-    pub known_link : Some (record { parent = f.parent; depth = f.depth; knot = s.knot }) ≡ option_map link_of (slice_get (marks_in rows) at)
-    known_link =
+    pub known_entry : Some (record { parent = f.parent; depth = f.depth; knot = s.knot }) ≡ option_map entry_of (slice_get (marks_in rows) at)
+    known_entry =
         let e = ends in
         let long = length-marks_in rows in
-        let found = slice_get-get_or (map link_of (marks_in rows)) at (link_of mark_read) (omega (arith, length-map (marks_in rows) link_of)) in
-        sym (sym (slice_get-map link_of (marks_in rows) at) ∙ found ∙ ap (λ (l : Link). Some l) (mark_is link_of (link_of mark_read) ∙ link_read))
+        let found = slice_get-get_or (map entry_of (marks_in rows)) at (entry_of mark_read) (omega (arith, length-map (marks_in rows) entry_of)) in
+        sym (sym (slice_get-map entry_of (marks_in rows) at) ∙ found ∙ ap (λ (l : NestEntry). Some l) (mark_is entry_of (entry_of mark_read) ∙ entry_read))
 
     list_said : list_read ≡ record { scope = s.inside; end = at + 1 + s.count; depth = f.depth + 1; parent = Some at }
     list_said = sym (ap (λ (x : code.Shape). record { scope = x.inside; end = at + 1 + x.count; depth = f.depth + 1; parent = Some at }) said)

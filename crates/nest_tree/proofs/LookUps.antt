@@ -8,9 +8,9 @@ use Rattle.dgn_drawing.specs.declared.row.Row.{Row}
 use Rattle.dgn_drawing.specs.Nesting.{itself}
 use Rattle.dgn_drawing.specs.Nesting as nesting
 use Rattle.dgn_drawing.specs.Numbering.{Mark, mark_of, is_broken_as, is_broken, is_loose}
-use Rattle.nest_tree.specs.Linked.{Link}
+use Rattle.nest_tree.specs.NestEntries.{NestEntry}
 use Rattle.nest_tree.specs.Shapes.{code_knot, defined_knot}
-use Rattle.nest_tree.specs.Places.{marks_in, link_of, broken_by_link}
+use Rattle.nest_tree.specs.Places.{marks_in, entry_of, broken_by_entry}
 use Rattle.nest_tree.proofs.ListStacks.{length-marks_in}
 use Rattle.nest_tree.specs.Depths.{IsSized, IsWordTotal}
 use Rattle.nest_tree.proofs.OpenLists.{no_mark}
@@ -66,14 +66,14 @@ same_loose nesting.Loose = refl
 
 -- whether an element is broken
 module _ (rows : List Row) (n : ℕ) where
-  pub broken_is : (link : Link) (cbit : Bool) → Some link ≡ option_map link_of (slice_get (marks_in rows) n)
-      → Some cbit ≡ option_map (λ (r : Row). r.cbit) (slice_get rows n) → broken_by_link n link cbit ≡ is_broken itself rows n
+  pub broken_is : (entry : NestEntry) (cbit : Bool) → Some entry ≡ option_map entry_of (slice_get (marks_in rows) n)
+      → Some cbit ≡ option_map (λ (r : Row). r.cbit) (slice_get rows n) → broken_by_entry n entry cbit ≡ is_broken itself rows n
   unfolding marks_in
-  broken_is link cbit is here =
-      let m = found_of link_of (slice_get (marks_in rows) n) link is in
+  broken_is entry cbit is here =
+      let m = found_of entry_of (slice_get (marks_in rows) n) entry is in
       let r = found_of (λ (r : Row). r.cbit) (slice_get rows n) cbit here in
       let place : mark_of itself rows n ≡ Some m.0 = m.1 in
-      ap (λ (l : Link). broken_by_link n l cbit) m.2
+      ap (λ (l : NestEntry). broken_by_entry n l cbit) m.2
       ∙ ap (λ (b : Bool). b || (not (n == 0) && not (is_some m.0.parent) && cbit)) (same_loose m.0.knot)
       ∙ ap (λ (b : Bool). is_loose m.0.knot || (not (n == 0) && not (is_some m.0.parent) && b)) r.2
       ∙ ap (λ (o : Option Mark). is_broken_as itself n o (Some r.0)) (sym place)
@@ -85,9 +85,9 @@ low_at [] n m low is = absurd (let e = is in cc)
 low_at (x ∷ l) zero m low is = let same : x ≡ m = cc in subst (λ (y : Mark). y.depth ≤ 3278) same low.0
 low_at (x ∷ l) (suc n) m low is = low_at l n m low.1 is
 
-pub low_depth : (rows : List Row) (n : ℕ) → AllByRecursion IsSized rows → AllByRecursion IsWordTotal rows → (link : Link)
-    → Some link ≡ option_map link_of (slice_get (marks_in rows) n) → link.depth ≤ 3278
+pub low_depth : (rows : List Row) (n : ℕ) → AllByRecursion IsSized rows → AllByRecursion IsWordTotal rows → (entry : NestEntry)
+    → Some entry ≡ option_map entry_of (slice_get (marks_in rows) n) → entry.depth ≤ 3278
 unfolding marks_in
-low_depth rows n sized words link is =
-    let m = found_of link_of (slice_get (marks_in rows) n) link is in
-    subst (λ (x : Link). x.depth ≤ 3278) (sym m.2) (low_at (marks_in rows) n m.0 (depths_low rows sized words) m.1)
+low_depth rows n sized words entry is =
+    let m = found_of entry_of (slice_get (marks_in rows) n) entry is in
+    subst (λ (x : NestEntry). x.depth ≤ 3278) (sym m.2) (low_at (marks_in rows) n m.0 (depths_low rows sized words) m.1)

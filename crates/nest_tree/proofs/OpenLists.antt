@@ -7,28 +7,29 @@ use Rattle.dgn_drawing.specs.Nesting as nesting
 use Rattle.dgn_drawing.specs.Nesting.{Whole, itself, nest}
 use Rattle.dgn_drawing.specs.Numbering.{Mark, marks}
 use Rattle.nest_tree.specs.declared.knot.Knot.{Knot}
-use Rattle.nest_tree.specs.Linked.{Link}
+use Rattle.nest_tree.specs.NestEntries.{NestEntry}
 use Rattle.nest_tree.specs.declared.shape.Shape as code
 use Rattle.nest_tree.specs.declared.open_list.OpenList.{OpenList}
 use Rattle.nest_tree.specs.Shapes.{code_knot, code_shape, shape_in, rows_between, IsBetween}
-use Rattle.nest_tree.specs.Places.{marks_in, link_of, ArePlaces, end_in, parent_in, depth_in, knot_in, kind_in, scope_below, list_in, resume, Going}
+use Rattle.nest_tree.specs.Places.{marks_in, entry_of, ArePlaces, end_in, parent_in, depth_in, knot_in, kind_in, scope_below, list_in, resume, Going}
 use Rattle.nest_tree.specs.Sources.{no_row}
-use Rattle.nest_tree.proofs.ListStacks.{length-marks_in, take_marks, end_read, link_read, going_ends, mark_read}
+use Rattle.nest_tree.proofs.ListStacks.{length-marks_in, take_marks, end_read, entry_read, going_ends, mark_read}
 
 abbrev pub no_mark : Mark
 no_mark = record { knot = nesting.Leaf; depth = 0; parent = None; end = 0 }
 
-module _ (rows : List Row) (n : ℕ) (ends : List ℕ) (links : List Link) (places : ArePlaces rows n ends links) where
+module _ (rows : List Row) (n : ℕ) (ends : List ℕ) (entries : List NestEntry) (places : ArePlaces rows n ends entries) where
   pub length-ends : length ends ≡ n
   length-ends =
       let within = places.within in
       ap (length {A = ℕ}) places.ends_are ∙ length-map (take n (marks_in rows)) (λ (m : Mark). m.end)
       ∙ omega (arith, length-take n (marks_in rows), length-marks_in rows)
 
-  pub length-links : length links ≡ n
-  length-links =
+  pub length-entries : length entries ≡ n
+  length-entries =
       let within = places.within in
-      ap (length {A = Link}) places.links_are ∙ length-map (take n (marks_in rows)) link_of ∙ omega (arith, length-take n (marks_in rows), length-marks_in rows)
+      ap (length {A = NestEntry}) places.entries_are ∙ length-map (take n (marks_in rows)) entry_of
+      ∙ omega (arith, length-take n (marks_in rows), length-marks_in rows)
 
   -- what is kept at one place is what the marks say there
   kept_at : {B : Type 0} (f : Mark → B) (i : ℕ) (d e : B) → i < n → get_or (map f (take n (marks_in rows))) i d ≡ get_or (map f (marks_in rows)) i e
@@ -49,9 +50,10 @@ module _ (rows : List Row) (n : ℕ) (ends : List ℕ) (links : List Link) (plac
   unfolding mark_at
   said_at f i e before = let within = places.within in get_or-map f (marks_in rows) i no_mark e (omega (arith, length-marks_in rows))
 
-  pub link_at : (i : ℕ) (d : Link) → i < n → get_or links i d ≡ record { parent = parent_in rows i; depth = depth_in rows i; knot = knot_in rows i }
-  link_at i d before =
-      ap (λ (l : List Link). get_or l i d) places.links_are ∙ kept_at link_of i d (link_of no_mark) before ∙ said_at link_of i (link_of no_mark) before
+  pub entry_at : (i : ℕ) (d : NestEntry) → i < n → get_or entries i d ≡ record { parent = parent_in rows i; depth = depth_in rows i; knot = knot_in rows i }
+  entry_at i d before =
+      ap (λ (l : List NestEntry). get_or l i d) places.entries_are ∙ kept_at entry_of i d (entry_of no_mark) before
+      ∙ said_at entry_of i (entry_of no_mark) before
       ∙ ap (λ (o : Option ℕ). record { parent = o; depth = (mark_at i).depth; knot = code_knot (mark_at i).knot })
       (sym (said_at (λ (m : Mark). m.parent) i None before))
       ∙ ap (λ (k : ℕ). record { parent = parent_in rows i; depth = k; knot = code_knot (mark_at i).knot }) (sym (said_at (λ (m : Mark). m.depth) i 0 before))
@@ -74,8 +76,9 @@ begins rows n f within is apart = record {
 
 -- one element more has its place
 module _ (rows : List Row) (at : ℕ) (f : OpenList) (going : Going rows at f) (inside : at < f.end) (s : code.Shape)
-    (is : s ≡ code_shape (shape_in f.scope (rows_between rows at f.end))) (ends : List ℕ) (links : List Link) (places : ArePlaces rows at ends links) where
-  pub one_more : ArePlaces rows (at + 1) (ends ++ (at + 1 + s.count) ∷ []) (links ++ record { parent = f.parent; depth = f.depth; knot = s.knot } ∷ [])
+    (is : s ≡ code_shape (shape_in f.scope (rows_between rows at f.end))) (ends : List ℕ) (entries : List NestEntry)
+    (places : ArePlaces rows at ends entries) where
+  pub one_more : ArePlaces rows (at + 1) (ends ++ (at + 1 + s.count) ∷ []) (entries ++ record { parent = f.parent; depth = f.depth; knot = s.knot } ∷ [])
   one_more =
       let bound = going_ends rows at f going in
       record {
@@ -84,34 +87,34 @@ module _ (rows : List Row) (at : ℕ) (f : OpenList) (going : Going rows at f) (
             ∙ ap (λ (n : ℕ). map (λ (m : Mark). m.end) (take at (marks_in rows)) ++ n ∷ []) (sym (end_read rows at f going inside s is))
             ∙ sym (map_push (λ (m : Mark). m.end) (take at (marks_in rows)) (mark_read rows at f going inside))
             ∙ ap (map (λ (m : Mark). m.end)) (sym (take_marks rows at f going inside));
-        links_are = ap (λ (l : List Link). l ++ record { parent = f.parent; depth = f.depth; knot = s.knot } ∷ []) places.links_are
-            ∙ ap (λ (x : Link). map link_of (take at (marks_in rows)) ++ x ∷ []) (sym (link_read rows at f going inside s is))
-            ∙ sym (map_push link_of (take at (marks_in rows)) (mark_read rows at f going inside))
-            ∙ ap (map link_of) (sym (take_marks rows at f going inside));
+        entries_are = ap (λ (l : List NestEntry). l ++ record { parent = f.parent; depth = f.depth; knot = s.knot } ∷ []) places.entries_are
+            ∙ ap (λ (x : NestEntry). map entry_of (take at (marks_in rows)) ++ x ∷ []) (sym (entry_read rows at f going inside s is))
+            ∙ sym (map_push entry_of (take at (marks_in rows)) (mark_read rows at f going inside))
+            ∙ ap (map entry_of) (sym (take_marks rows at f going inside));
       }
 
--- what stands for a link past the end
-abbrev pub no_link : Link
-no_link = record { parent = None; depth = 0; knot = Knot.Leaf }
+-- what stands for an entry past the end
+abbrev pub no_entry : NestEntry
+no_entry = record { parent = None; depth = 0; knot = Knot.Leaf }
 
 -- the list below a header, by what is kept of it
-module _ (rows : List Row) (n : ℕ) (ends : List ℕ) (links : List Link) (places : ArePlaces rows n ends links) (i : ℕ) (before : i < n) where
+module _ (rows : List Row) (n : ℕ) (ends : List ℕ) (entries : List NestEntry) (places : ArePlaces rows n ends entries) (i : ℕ) (before : i < n) where
   pub list_below_is : (depth : ℕ)
-      → record { scope = scope_below (get_or links i no_link).knot (get_or rows i no_row).kind; end = get_or ends i 0; depth = depth; parent = Some i }
+      → record { scope = scope_below (get_or entries i no_entry).knot (get_or rows i no_row).kind; end = get_or ends i 0; depth = depth; parent = Some i }
       ≡ list_in rows (Some i) depth
   list_below_is depth =
       let within = places.within in
-      ap (λ (x : Link). record { scope = scope_below x.knot (get_or rows i no_row).kind; end = get_or ends i 0; depth = depth; parent = Some i })
-      (link_at rows n ends links places i no_link before)
+      ap (λ (x : NestEntry). record { scope = scope_below x.knot (get_or rows i no_row).kind; end = get_or ends i 0; depth = depth; parent = Some i })
+      (entry_at rows n ends entries places i no_entry before)
       ∙ ap (λ (k : ℕ). record { scope = scope_below (knot_in rows i) k; end = get_or ends i 0; depth = depth; parent = Some i }) (kind_at rows i (omega arith))
       ∙ ap (λ (k : ℕ). record { scope = scope_below (knot_in rows i) (kind_in rows i); end = k; depth = depth; parent = Some i })
-      (end_at rows n ends links places i 0 before)
+      (end_at rows n ends entries places i 0 before)
 
-  pub parent_is : (get_or links i no_link).parent ≡ parent_in rows i
-  parent_is = ap (λ (x : Link). x.parent) (link_at rows n ends links places i no_link before)
+  pub parent_is : (get_or entries i no_entry).parent ≡ parent_in rows i
+  parent_is = ap (λ (x : NestEntry). x.parent) (entry_at rows n ends entries places i no_entry before)
 
-  pub depth_is : (get_or links i no_link).depth ≡ depth_in rows i
-  depth_is = ap (λ (x : Link). x.depth) (link_at rows n ends links places i no_link before)
+  pub depth_is : (get_or entries i no_entry).depth ≡ depth_in rows i
+  depth_is = ap (λ (x : NestEntry). x.depth) (entry_at rows n ends entries places i no_entry before)
 
 -- one element is read on, by the rows from number `first` on
 module _ (rows new : List Row) (first : ℕ) (are : new ≡ drop first rows) (at : ℕ) (f : OpenList) (going : Going rows at f) (inside : at < f.end)

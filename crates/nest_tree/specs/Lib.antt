@@ -1,4 +1,4 @@
-pub mod Linked
+pub mod NestEntries
 pub mod Shapes
 pub mod Kept
 pub mod Sources

@@ -7,7 +7,7 @@ use Rattle.dgn_drawing.specs.declared.row.Row.{Row}
 use Rattle.dgn_drawing.specs.Nesting.{Whole, itself, nest, forest}
 use Rattle.dgn_drawing.specs.Numbering.{Mark, marks, marks_of, is_loose}
 use Rattle.nest_tree.specs.declared.knot.Knot.{Knot}
-use Rattle.nest_tree.specs.Linked.{Link}
+use Rattle.nest_tree.specs.NestEntries.{NestEntry}
 use Rattle.nest_tree.specs.declared.open_list.OpenList.{OpenList}
 use Rattle.nest_tree.specs.declared.shape.Scope.{Scope}
 use Rattle.nest_tree.specs.Shapes.{code_knot, defined_knot, defined_scope}
@@ -21,22 +21,22 @@ abbrev pub NestApart : List Row → List Row → Type 0
 NestApart rows new = marks_in (rows ++ new) ≡ marks_in rows ++ marks (nest itself Whole new) (length rows) 0 None
 
 -- what is kept of a mark beside its end
-abbrev pub link_of : Mark → Link
-link_of m = record { parent = m.parent; depth = m.depth; knot = code_knot m.knot }
+abbrev pub entry_of : Mark → NestEntry
+entry_of m = record { parent = m.parent; depth = m.depth; knot = code_knot m.knot }
 
 abbrev pub end_of_mark : Mark → ℕ
 end_of_mark m = m.end
 
 -- whether an element is broken, by what is kept of it, and by whether it has bit C: a loose header, or a root but for
 -- element 0 with bit C
-abbrev pub broken_by_link : ℕ → Link → Bool → Bool
-broken_by_link n link cbit = is_loose (defined_knot link.knot) || not (n == 0) && not (is_some link.parent) && cbit
+abbrev pub broken_by_entry : ℕ → NestEntry → Bool → Bool
+broken_by_entry n entry cbit = is_loose (defined_knot entry.knot) || not (n == 0) && not (is_some entry.parent) && cbit
 
 -- what is kept of the first n elements
-pub record ArePlaces (rows : List Row) (n : ℕ) (ends : List ℕ) (links : List Link) : Type 0 where
+pub record ArePlaces (rows : List Row) (n : ℕ) (ends : List ℕ) (entries : List NestEntry) : Type 0 where
   pub within : n ≤ length rows
   pub ends_are : ends ≡ map end_of_mark (take n (marks_in rows))
-  pub links_are : links ≡ map link_of (take n (marks_in rows))
+  pub entries_are : entries ≡ map entry_of (take n (marks_in rows))
 
 -- what the marks say of element n
 abbrev pub end_in : List Row → ℕ → ℕ

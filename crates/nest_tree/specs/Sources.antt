@@ -5,7 +5,7 @@ use Rattle.dgn_drawing.specs.declared.row.Row.{Row}
 use Rattle.dgn_layout.specs.Classes.{class_of}
 use Rattle.dgn_drawing.specs.Nesting.{bytes_of, is_header, itself}
 use Rattle.nest_tree.specs.declared.source.Source.{Source}
-use Rattle.nest_tree.specs.declared.ahead.Ahead.{Ahead}
+use Rattle.nest_tree.specs.declared.scan.Scan.{Scan}
 use Rattle.nest_tree.specs.Shapes.{IsRow}
 use Rattle.nest_tree.specs.Kept.{kept_rows, counted_in, AreKept}
 
@@ -52,7 +52,7 @@ abbrev pub HaveBitC : List Row → ℕ → ℕ → Type 0
 HaveBitC rows i j = (k : ℕ) → i ≤ k → k < j → (get_or rows k no_row).cbit ≡ true
 
 -- what is known where row `at` is read
-pub record IsAhead (rows : List Row) (at : ℕ) (a : Ahead) : Type 0 where
+pub record IsScan (rows : List Row) (at : ℕ) (a : Scan) : Type 0 where
   pub counted : a.counted ≡ counted_in (take at rows)
   pub near : a.near ≤ length rows
   pub within : a.marked ≤ length rows

@@ -8,7 +8,7 @@ ghost use Rattle.nest_tree.specs.Laws.{ElementsHaveRows};
 /// Lists are read from the front: each element is a leaf or the head of a tree over some of those
 /// behind it, and reading goes on behind these. The trees have the elements of the list in its order.
 pub fn lists_are_read()
-    ensures some { ListsAreRead }
+    ensures lists { ListsAreRead }
     ensures none { NothingIsReadOfNothing }
     ensures order { OrderIsKept }
 {}

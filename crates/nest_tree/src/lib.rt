@@ -1,17 +1,17 @@
 //! Nests the elements of a drawing as trees, by their rows alone.
 #![tactic(auto)]
 
-mod ahead;
 mod broken;
+mod entry_list;
 mod knot;
 pub mod laws;
-mod link;
-mod link_list;
 mod members;
+mod nest_entry;
 mod nested;
 mod nesting;
 mod open_list;
 mod reading;
+mod scan;
 mod seen;
 mod shape;
 mod source;

@@ -5,14 +5,14 @@ ghost use Rattle.nest_tree.specs.Depths.{IsSized, IsWordTotal};
 ghost use Rattle.dgn_drawing.specs.Nesting.{BeginsFree, itself};
 ghost use Rattle.dgn_drawing.specs.Numbering.{span_of, depth_of, parent_of, knot_of, root_of, first_broken_of};
 ghost use Rattle.nest_tree.specs.Shapes.{code_knot, IsRow};
-ghost use Rattle.nest_tree.specs.Places.{marks_in, link_of, end_of_mark};
+ghost use Rattle.nest_tree.specs.Places.{marks_in, entry_of, end_of_mark};
 ghost use Rattle.nest_tree.specs.Passing.{broken_in, first_at, if_below};
 ghost use Rattle.nest_tree.specs.Nested.{Nested, nested_of, IsNest};
 
 use crate::broken::cut_broken;
+use crate::entry_list::EntryList;
 use crate::knot::Knot;
-use crate::link::Link;
-use crate::link_list::LinkList;
+use crate::nest_entry::NestEntry;
 use crate::reading::read_on;
 use crate::seen::{SeenRows, Step};
 use crate::source::Source;
@@ -35,7 +35,7 @@ pub struct Nest {
     // For each element the number behind the last one below it.
     pub(crate) ends: Vec<u32>,
     // What else is kept of each element.
-    pub(crate) links: LinkList,
+    pub(crate) entries: EntryList,
     // The numbers of all broken elements.
     pub(crate) broken: Vec<u32>,
 }
@@ -43,14 +43,14 @@ pub struct Nest {
 impl Model for Nest {
     ghost Value = { Nested };
 
-    ghost view = { λ s. nested_of s.seen.list (vec_capacity s.sums - 1) (vec_capacity s.ends - vec_len s.ends) s.links.spare
+    ghost view = { λ s. nested_of s.seen.list (vec_capacity s.sums - 1) (vec_capacity s.ends - vec_len s.ends) s.entries.spare
         (vec_capacity s.broken - vec_len s.broken) };
 
-    ghost invariant = { λ s. IsNest s.seen.list s.ends.items s.links.items s.broken.items };
+    ghost invariant = { λ s. IsNest s.seen.list s.ends.items s.entries.items s.broken.items };
 }
 
 // What stands at place `n` of a list.
-fn entry<T: Copy>(list: &[T], n: usize) -> Option<T>
+fn item_at<T: Copy>(list: &[T], n: usize) -> Option<T>
     ensures { result ≡ slice_get list.now n }
 {
     list.get(n).copied()
@@ -71,14 +71,14 @@ impl Nest {
     /// An error says that there was no memory.
     pub fn reserve(&mut self, n: u32) -> Result<(), AllocError>
         ensures rows { self.new.rows ≡ self.old.rows }
-        ensures room { OnOk result (n ≤ self.new.spare) }
+        ensures has_room { OnOk result (n ≤ self.new.spare) }
 
         // Room that there was is never given back.
-        ensures more { self.old.spare ≤ self.new.spare }
+        ensures keeps_room { self.old.spare ≤ self.new.spare }
     {
         let more = n as usize;
         self.sums.reserve(more + 1)?;
-        self.links.reserve(more)?;
+        self.entries.reserve(more)?;
         self.broken.reserve(more)?;
         self.ends.reserve(more)
     }
@@ -86,8 +86,8 @@ impl Nest {
     /// Adds the elements with these rows behind the others, of which they nest apart, since the first of
     /// them has no bit C. It takes no memory.
     pub fn grow(&mut self, rows: &[Row])
-        requires room { length rows.now ≤ self.old.spare }
-        requires few { length self.old.rows + length rows.now < 4294967295 }
+        requires has_room { length rows.now ≤ self.old.spare }
+        requires bounded { length self.old.rows + length rows.now < 4294967295 }
         requires each { AllByRecursion IsRow rows.now }
         requires free { BeginsFree itself rows.now }
         ensures { self.new.rows ≡ self.old.rows ++ rows.now }
@@ -102,7 +102,7 @@ impl Nest {
             &seen,
             &Source::Listed(rows, &self.sums),
             &mut self.ends,
-            &mut self.links,
+            &mut self.entries,
             &mut self.broken,
         );
         self.sums.clear();
@@ -113,14 +113,14 @@ impl Nest {
     /// Keeps the first `count` elements. The others nest apart from them, since the first of these has
     /// no bit C. It takes no memory.
     pub fn shrink(&mut self, count: u32)
-        requires some { 1 ≤ count }
+        requires positive { 1 ≤ count }
         requires free { BeginsFree itself (drop count self.old.rows) }
         ensures { self.new.rows ≡ take count self.old.rows }
     {
         let kept = count as usize;
         self.seen = self.seen.then(&Step::First(count));
         self.ends.truncate(kept);
-        self.links.truncate(count);
+        self.entries.truncate(count);
         cut_broken(&mut self.broken, count);
     }
 
@@ -132,18 +132,18 @@ impl Nest {
     }
 
     // What is kept of element `n`, where there is one.
-    fn link(&self, n: u32) -> Option<Link>
-        ensures link { result ≡ option_map link_of (slice_get (marks_in self.now.rows) n) }
+    fn entry(&self, n: u32) -> Option<NestEntry>
+        ensures entry { result ≡ option_map entry_of (slice_get (marks_in self.now.rows) n) }
         ensures words { AllByRecursion IsWordTotal self.now.rows }
     {
-        self.links.get(n)
+        self.entries.get(n)
     }
 
     // The number behind the last element below element `n`, where there is one.
     fn end(&self, n: u32) -> Option<u32>
         ensures { result ≡ option_map end_of_mark (slice_get (marks_in self.now.rows) n) }
     {
-        entry(&self.ends, n as usize)
+        item_at(&self.ends, n as usize)
     }
 
     /// The span of element `n`: its number, and the number behind the last element below it. None
@@ -162,8 +162,8 @@ impl Nest {
         ensures depth { result ≡ depth_of itself self.now.rows n }
         ensures low { AllByRecursion IsSized self.now.rows → IfSome result (λ d. d ≤ 3278) }
     {
-        let link = self.link(n)?;
-        Some(link.depth())
+        let entry = self.entry(n)?;
+        Some(entry.depth())
     }
 
     /// The number of the header that element `n` stands below; None within for a root. None exactly for
@@ -172,8 +172,8 @@ impl Nest {
         ensures none { IsNone result ↔ (length self.now.rows ≤ n) }
         ensures parent { result ≡ parent_of itself self.now.rows n }
     {
-        let link = self.link(n)?;
-        Some(link.parent())
+        let entry = self.entry(n)?;
+        Some(entry.parent())
     }
 
     /// The root of the tree that holds element `n`. None exactly for an unknown number.
@@ -195,8 +195,8 @@ impl Nest {
         ensures none { IsNone result ↔ (length self.now.rows ≤ n) }
         ensures knot { result ≡ option_map code_knot (knot_of itself self.now.rows n) }
     {
-        let link = self.link(n)?;
-        Some(link.knot())
+        let entry = self.entry(n)?;
+        Some(entry.knot())
     }
 
     // The least broken number that isn't below `n`, where there is one.
@@ -208,7 +208,7 @@ impl Nest {
                 ensures { result ≡ nat_lt m.now n }
             { *m < n },
         );
-        entry(&self.broken, below)
+        item_at(&self.broken, below)
     }
 
     /// The least broken number in the span of element `n`, where there is one. Broken are the loose

@@ -7,9 +7,9 @@ ghost use Rattle.nest_tree.specs.Kept.{kept_rows, AreKept};
 ghost use Rattle.nest_tree.specs.Shapes.{IsRow};
 ghost use Rattle.nest_tree.specs.Sources.{rows_of, IsSource};
 
+use crate::entry_list::EntryList;
 use crate::knot::Knot;
-use crate::link::Link;
-use crate::link_list::LinkList;
+use crate::nest_entry::NestEntry;
 use crate::nested::Nest;
 use crate::reading::read_on;
 use crate::seen::{SeenRows, Step};
@@ -21,8 +21,8 @@ use std::alloc::{AllocError, Global};
 /// Nests the elements with these rows. Element 0 is a leaf, and every other one is read by its type.
 /// An error says that there was no memory.
 pub fn nest(alloc: Global, rows: &[Row]) -> Result<Nest, AllocError>
-    requires some { 0 < length rows.now }
-    requires few { length rows.now < 4294967295 }
+    requires nonempty { 0 < length rows.now }
+    requires bounded { length rows.now < 4294967295 }
     requires each { AllByRecursion IsRow rows.now }
     ensures { IfOk result (λ t. t.rows ≡ rows.now) }
 {
@@ -45,7 +45,7 @@ pub fn nest_kept(
     totals: &[u16],
     end: u32,
 ) -> Result<Nest, AllocError>
-    requires some { 0 < length places.now }
+    requires nonempty { 0 < length places.now }
     requires kept { AreKept places.now kinds.now totals.now end }
     ensures { IfOk result (λ t. t.rows ≡ kept_rows places.now kinds.now totals.now end) }
 {
@@ -66,8 +66,8 @@ fn have_word_totals(_places: &[u32], _kinds: &[u8], totals: &[u16], _end: u32)
 
 // The nesting of the rows that are seen, of which the source gives those behind the first one.
 fn nest_source(alloc: Global, seen: SeenRows, source: &Source<'_>) -> Result<Nest, AllocError>
-    requires some { 0 < length seen.list }
-    requires few { length seen.list < 4294967295 }
+    requires nonempty { 0 < length seen.list }
+    requires bounded { length seen.list < 4294967295 }
     requires source { IsSource source.now }
     requires rows { rows_of source.now ≡ drop 1 seen.list }
     requires words { AllByRecursion IsWordTotal seen.list }
@@ -75,16 +75,16 @@ fn nest_source(alloc: Global, seen: SeenRows, source: &Source<'_>) -> Result<Nes
 {
     let count = 1 + source.len();
     let mut ends = Vec::with_capacity(alloc, count)?;
-    let mut links = LinkList::with_capacity(alloc, count)?;
+    let mut entries = EntryList::with_capacity(alloc, count)?;
     let mut broken = Vec::with_capacity(alloc, count)?;
     ends.push_reserved(1);
-    links.push(Link::new(None, 0, Knot::Leaf));
-    read_on(&seen, source, &mut ends, &mut links, &mut broken);
+    entries.push(NestEntry::new(None, 0, Knot::Leaf));
+    read_on(&seen, source, &mut ends, &mut entries, &mut broken);
     Ok(Nest {
         seen,
         sums: Vec::new(alloc),
         ends,
-        links,
+        entries,
         broken,
     })
 }

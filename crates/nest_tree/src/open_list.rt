@@ -6,8 +6,8 @@ ghost use Rattle.dgn_drawing.specs.Numbering.{Mark};
 ghost use Rattle.nest_tree.specs.Sources.{rows_of, IsSource};
 ghost use Rattle.nest_tree.specs.Places.{marks_in, ArePlaces, Going, parent_in, scope_below, list_in, list_around};
 
+use crate::entry_list::EntryList;
 use crate::knot::Knot;
-use crate::link_list::LinkList;
 use crate::seen::SeenRows;
 use crate::shape::Scope;
 use crate::source::Source;
@@ -28,7 +28,7 @@ pub(crate) struct OpenList {
 // The list of all elements, which ends before number `end`.
 pub(crate) fn all_elements(_seen: &SeenRows, end: usize) -> OpenList
     requires all { end ≡ length _seen.now.list }
-    requires few { length _seen.now.list < 4294967295 }
+    requires bounded { length _seen.now.list < 4294967295 }
     ensures { result ≡ list_in _seen.now.list None 0 }
 {
     OpenList {
@@ -56,21 +56,21 @@ fn list_below(
     first: usize,
     source: &Source<'_>,
     ends: &[u32],
-    links: &LinkList,
+    entries: &EntryList,
     header: u32,
     depth: u32,
 ) -> OpenList
-    requires few { length _seen.now.list < 4294967295 }
+    requires bounded { length _seen.now.list < 4294967295 }
     requires source { IsSource source.now }
     requires rows { rows_of source.now ≡ drop first _seen.now.list }
-    requires places { ArePlaces _seen.now.list (length links.now.items) ends.now links.now.items }
-    requires known { header < length links.now.items }
+    requires places { ArePlaces _seen.now.list (length entries.now.items) ends.now entries.now.items }
+    requires known { header < length entries.now.items }
     requires read { first ≤ header }
     ensures { result ≡ list_in _seen.now.list (Some header) depth }
 {
     let n = header as usize;
     OpenList {
-        scope: scope_below(links.at(header).knot(), source.kind(n - first)),
+        scope: scope_below(entries.at(header).knot(), source.kind(n - first)),
         end: ends[n],
         depth,
         parent: Some(header),
@@ -83,23 +83,23 @@ fn list_around(
     first: usize,
     source: &Source<'_>,
     ends: &[u32],
-    links: &LinkList,
+    entries: &EntryList,
     n: u32,
 ) -> OpenList
-    requires few { length seen.now.list < 4294967295 }
+    requires bounded { length seen.now.list < 4294967295 }
     requires source { IsSource source.now }
     requires rows { rows_of source.now ≡ drop first seen.now.list }
     requires within { first ≤ length seen.now.list }
-    requires places { ArePlaces seen.now.list (length links.now.items) ends.now links.now.items }
-    requires known { n < length links.now.items }
-    requires above { IfSome (parent_in seen.now.list n) (λ p. p < length links.now.items) }
+    requires places { ArePlaces seen.now.list (length entries.now.items) ends.now entries.now.items }
+    requires known { n < length entries.now.items }
+    requires above { IfSome (parent_in seen.now.list n) (λ p. p < length entries.now.items) }
     requires read { IfSome (parent_in seen.now.list n) (λ p. first ≤ p) }
     ensures { result ≡ list_around seen.now.list n }
 {
-    let link = links.at(n);
-    match link.parent() {
+    let entry = entries.at(n);
+    match entry.parent() {
         None => all_elements(seen, first + source.len()),
-        Some(parent) => list_below(seen, first, source, ends, links, parent, link.depth()),
+        Some(parent) => list_below(seen, first, source, ends, entries, parent, entry.depth()),
     }
 }
 
@@ -109,17 +109,17 @@ pub(crate) fn list_at(
     first: usize,
     source: &Source<'_>,
     ends: &[u32],
-    links: &LinkList,
+    entries: &EntryList,
     at: u32,
     mut list: OpenList,
 ) -> OpenList
-    requires few { length seen.now.list < 4294967295 }
+    requires bounded { length seen.now.list < 4294967295 }
     requires source { IsSource source.now }
     requires rows { rows_of source.now ≡ drop first seen.now.list }
     requires apart { AllByRecursion (λ (m : Mark). IfSome m.parent (λ p. first ≤ p)) (drop first (marks_in seen.now.list)) }
     requires within { at < length seen.now.list }
     requires read { first ≤ at }
-    requires places { ArePlaces seen.now.list at ends.now links.now.items }
+    requires places { ArePlaces seen.now.list at ends.now entries.now.items }
     requires going { Going seen.now.list at list }
     requires header { IfSome list.parent (λ p. first ≤ p) }
     ensures going { Going seen.now.list at result }
@@ -128,7 +128,7 @@ pub(crate) fn list_at(
 {
     while list.end <= at {
         match list.parent {
-            Some(header) => list = list_around(seen, first, source, ends, links, header),
+            Some(header) => list = list_around(seen, first, source, ends, entries, header),
             None => unreachable!(),
         }
     }

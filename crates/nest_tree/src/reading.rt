@@ -6,16 +6,16 @@ ghost use Rattle.dgn_drawing.specs.Nesting.{Whole, itself, nest};
 ghost use Rattle.dgn_drawing.specs.Numbering.{marks};
 ghost use Rattle.nest_tree.specs.Depths.{IsWordTotal};
 ghost use Rattle.nest_tree.specs.Shapes.{code_shape, rows_between, shape_in};
-ghost use Rattle.nest_tree.specs.Sources.{rows_of, IsSource, IsAhead, AreLeaves};
+ghost use Rattle.nest_tree.specs.Sources.{rows_of, IsSource, IsScan, AreLeaves};
 ghost use Rattle.nest_tree.specs.Places.{marks_in, Going};
 ghost use Rattle.nest_tree.specs.Read.{AreRead, HaveRoom};
 
-use crate::ahead::Ahead;
 use crate::broken::add_if_broken;
+use crate::entry_list::EntryList;
 use crate::knot::Knot;
-use crate::link::Link;
-use crate::link_list::LinkList;
+use crate::nest_entry::NestEntry;
 use crate::open_list::{OpenList, all_elements, list_at};
+use crate::scan::Scan;
 use crate::seen::SeenRows;
 use crate::shape::{Shape, shape_at};
 use crate::source::Source;
@@ -27,35 +27,35 @@ pub(crate) fn read_on(
     seen: &SeenRows,
     source: &Source<'_>,
     ends: &mut Vec<u32>,
-    links: &mut LinkList,
+    entries: &mut EntryList,
     broken: &mut Vec<u32>,
 )
-    requires few { length seen.now.list < 4294967295 }
-    requires some { 0 < length ends.old.items }
+    requires bounded { length seen.now.list < 4294967295 }
+    requires nonempty { 0 < length ends.old.items }
     requires source { IsSource source.now }
     requires rows { rows_of source.now ≡ drop (length ends.old.items) seen.now.list }
     requires words { AllByRecursion IsWordTotal (rows_of source.now) }
-    requires read { AreRead seen.now.list (length ends.old.items) ends.old.items links.old.items broken.old.items }
+    requires read { AreRead seen.now.list (length ends.old.items) ends.old.items entries.old.items broken.old.items }
     requires apart { drop (length ends.old.items) (marks_in seen.now.list)
         ≡ marks (nest itself Whole (drop (length ends.old.items) seen.now.list)) (length ends.old.items) 0 None }
-    requires room { HaveRoom (length (rows_of source.now)) (vec_capacity ends.old - vec_len ends.old) links.old.spare
+    requires has_room { HaveRoom (length (rows_of source.now)) (vec_capacity ends.old - vec_len ends.old) entries.old.spare
         (vec_capacity broken.old - vec_len broken.old) }
-    ensures { AreRead seen.now.list (length seen.now.list) ends.new.items links.new.items broken.new.items }
+    ensures { AreRead seen.now.list (length seen.now.list) ends.new.items entries.new.items broken.new.items }
 {
     let first = ends.len();
     let count = first + source.len();
     let mut list = all_elements(seen, count);
-    let mut ahead = Ahead::new();
+    let mut scan = Scan::new();
     let mut at = first;
     'elements: while at < count {
-        list = list_at(seen, first, source, ends, links, at as u32, list);
+        list = list_at(seen, first, source, ends, entries, at as u32, list);
         let list_end = list.end as usize - first;
         let roots = list.parent.is_none();
         let orphans = roots && source.cbit(at - first);
         let leaves = leaf_run(source, at - first, list_end, roots, orphans);
         if leaves == 0 {
             list = put_next(
-                seen, first, source, list, at, &mut ahead, ends, links, broken,
+                seen, first, source, list, at, &mut scan, ends, entries, broken,
             );
             at += 1;
         } else {
@@ -66,7 +66,7 @@ pub(crate) fn read_on(
                 leaves as u32,
                 orphans,
                 ends,
-                links,
+                entries,
                 broken,
             );
             at += leaves;
@@ -99,26 +99,29 @@ fn put_leaves(
     count: u32,
     orphans: bool,
     ends: &mut Vec<u32>,
-    links: &mut LinkList,
+    entries: &mut EntryList,
     broken: &mut Vec<u32>,
 )
-    requires few { length _seen.now.list < 4294967295 }
+    requires bounded { length _seen.now.list < 4294967295 }
     requires begun { 0 < at }
     requires going { Going _seen.now.list at around }
     requires within { at + count ≤ around.end }
     requires near { around.depth < 65536 }
     requires leaves { AreLeaves (is_none around.parent) orphans _seen.now.list at (at + count) }
     requires roots { orphans ≡ true → is_none around.parent ≡ true }
-    requires read { AreRead _seen.now.list at ends.old.items links.old.items broken.old.items }
-    requires room { HaveRoom (length _seen.now.list - at) (vec_capacity ends.old - vec_len ends.old) links.old.spare
+    requires read { AreRead _seen.now.list at ends.old.items entries.old.items broken.old.items }
+    requires has_room { HaveRoom (length _seen.now.list - at) (vec_capacity ends.old - vec_len ends.old) entries.old.spare
         (vec_capacity broken.old - vec_len broken.old) }
-    ensures read { AreRead _seen.now.list (at + count) ends.new.items links.new.items broken.new.items }
+    ensures read { AreRead _seen.now.list (at + count) ends.new.items entries.new.items broken.new.items }
     ensures going { Going _seen.now.list (at + count) around }
-    ensures room { HaveRoom (length _seen.now.list - (at + count)) (vec_capacity ends.new - vec_len ends.new) links.new.spare
+    ensures keeps_room { HaveRoom (length _seen.now.list - (at + count)) (vec_capacity ends.new - vec_len ends.new) entries.new.spare
         (vec_capacity broken.new - vec_len broken.new) }
 {
     push_numbers(at + 1, count, ends);
-    links.push_same(Link::new(around.parent, around.depth, Knot::Leaf), count);
+    entries.push_same(
+        NestEntry::new(around.parent, around.depth, Knot::Leaf),
+        count,
+    );
     if orphans {
         push_numbers(at, count, broken);
     }
@@ -126,10 +129,10 @@ fn put_leaves(
 
 // Puts so many numbers, from `first` on, behind the others. There is room for them.
 fn push_numbers(first: u32, count: u32, list: &mut Vec<u32>)
-    requires few { first + count < 4294967296 }
-    requires room { vec_len list.old + count ≤ vec_capacity list.old }
+    requires bounded { first + count < 4294967296 }
+    requires has_room { vec_len list.old + count ≤ vec_capacity list.old }
     ensures items { list.new.items ≡ list.old.items ++ range_with_len first count }
-    ensures room { vec_capacity list.old ≤ vec_capacity list.new }
+    ensures keeps_room { vec_capacity list.old ≤ vec_capacity list.new }
 {
     for number in first..first + count {
         list.push_reserved(number);
@@ -144,27 +147,27 @@ fn put_next(
     source: &Source<'_>,
     around: OpenList,
     at: usize,
-    ahead: &mut Ahead,
+    scan: &mut Scan,
     ends: &mut Vec<u32>,
-    links: &mut LinkList,
+    entries: &mut EntryList,
     broken: &mut Vec<u32>,
 ) -> OpenList
-    requires few { length seen.now.list < 4294967295 }
+    requires bounded { length seen.now.list < 4294967295 }
     requires begun { first ≤ at }
     requires source { IsSource source.now }
     requires rows { rows_of source.now ≡ drop first seen.now.list }
-    requires ahead { IsAhead (rows_of source.now) (at - first) ahead.old }
+    requires scan { IsScan (rows_of source.now) (at - first) scan.old }
     requires going { Going seen.now.list at around }
     requires inside { at < around.end }
     requires near { around.depth < 65536 }
-    requires read { AreRead seen.now.list at ends.old.items links.old.items broken.old.items }
-    requires room { HaveRoom (length seen.now.list - at) (vec_capacity ends.old - vec_len ends.old) links.old.spare
+    requires read { AreRead seen.now.list at ends.old.items entries.old.items broken.old.items }
+    requires has_room { HaveRoom (length seen.now.list - at) (vec_capacity ends.old - vec_len ends.old) entries.old.spare
         (vec_capacity broken.old - vec_len broken.old) }
-    ensures ahead { IsAhead (rows_of source.now) (at + 1 - first) ahead.new }
-    ensures read { AreRead seen.now.list (at + 1) ends.new.items links.new.items broken.new.items }
+    ensures scan { IsScan (rows_of source.now) (at + 1 - first) scan.new }
+    ensures read { AreRead seen.now.list (at + 1) ends.new.items entries.new.items broken.new.items }
     ensures going { Going seen.now.list (at + 1) result }
     ensures header { (result.parent ≡ around.parent) ⊎ (result.parent ≡ Some at) }
-    ensures room { HaveRoom (length seen.now.list - (at + 1)) (vec_capacity ends.new - vec_len ends.new) links.new.spare
+    ensures keeps_room { HaveRoom (length seen.now.list - (at + 1)) (vec_capacity ends.new - vec_len ends.new) entries.new.spare
         (vec_capacity broken.new - vec_len broken.new) }
 {
     let cbit = source.cbit(at - first);
@@ -173,9 +176,9 @@ fn put_next(
         around.scope,
         at - first,
         around.end as usize - first,
-        ahead,
+        scan,
     );
-    put_element(seen, around, at as u32, cbit, shape, ends, links, broken);
+    put_element(seen, around, at as u32, cbit, shape, ends, entries, broken);
     list_behind(seen, around, at as u32, shape)
 }
 
@@ -188,32 +191,32 @@ fn put_element(
     cbit: bool,
     shape: Shape,
     ends: &mut Vec<u32>,
-    links: &mut LinkList,
+    entries: &mut EntryList,
     broken: &mut Vec<u32>,
 )
-    requires few { length seen.now.list < 4294967295 }
+    requires bounded { length seen.now.list < 4294967295 }
     requires going { Going seen.now.list at around }
     requires inside { at < around.end }
     requires near { around.depth < 65536 }
     requires row { Some cbit ≡ option_map (λ r. r.cbit) (slice_get seen.now.list at) }
     requires shape { shape ≡ code_shape (shape_in around.scope (rows_between seen.now.list at around.end)) }
-    requires read { AreRead seen.now.list at ends.old.items links.old.items broken.old.items }
-    requires room { HaveRoom (length seen.now.list - at) (vec_capacity ends.old - vec_len ends.old) links.old.spare
+    requires read { AreRead seen.now.list at ends.old.items entries.old.items broken.old.items }
+    requires has_room { HaveRoom (length seen.now.list - at) (vec_capacity ends.old - vec_len ends.old) entries.old.spare
         (vec_capacity broken.old - vec_len broken.old) }
-    ensures read { AreRead seen.now.list (at + 1) ends.new.items links.new.items broken.new.items }
-    ensures room { HaveRoom (length seen.now.list - (at + 1)) (vec_capacity ends.new - vec_len ends.new) links.new.spare
+    ensures read { AreRead seen.now.list (at + 1) ends.new.items entries.new.items broken.new.items }
+    ensures keeps_room { HaveRoom (length seen.now.list - (at + 1)) (vec_capacity ends.new - vec_len ends.new) entries.new.spare
         (vec_capacity broken.new - vec_len broken.new) }
 {
     let end = at as usize + 1 + shape.count;
     ends.push_reserved(end as u32);
-    let link = Link::new(around.parent, around.depth, shape.knot);
-    links.push(link);
-    add_if_broken(seen, at, link, cbit, broken);
+    let entry = NestEntry::new(around.parent, around.depth, shape.knot);
+    entries.push(entry);
+    add_if_broken(seen, at, entry, cbit, broken);
 }
 
 // The list that is read behind element `at` of a list. Where it has nothing below it, no list is entered.
 fn list_behind(_seen: &SeenRows, around: OpenList, at: u32, shape: Shape) -> OpenList
-    requires few { length _seen.now.list < 4294967295 }
+    requires bounded { length _seen.now.list < 4294967295 }
     requires going { Going _seen.now.list at around }
     requires inside { at < around.end }
     requires shape { shape ≡ code_shape (shape_in around.scope (rows_between _seen.now.list at around.end)) }

@@ -5,11 +5,11 @@ ghost use Rattle.dgn_drawing.specs.Nesting.{front_count, is_all, is_parts, group
 ghost use Rattle.dgn_layout.specs.Classes.{is_among};
 ghost use Rattle.dgn_drawing.specs.declared.row.Row.{Row};
 ghost use Rattle.nest_tree.specs.Shapes.{defined_scope, code_shape, is_part_in, shape_in, rows_between, IsBetween};
-ghost use Rattle.nest_tree.specs.Sources.{no_row, rows_of, IsSource, IsAhead};
+ghost use Rattle.nest_tree.specs.Sources.{no_row, rows_of, IsSource, IsScan};
 
-use crate::ahead::Ahead;
 use crate::knot::Knot;
 use crate::members::members;
+use crate::scan::Scan;
 use crate::source::Source;
 use dgn_drawing::is_counted;
 use dgn_layout::SHARED_CELL;
@@ -91,17 +91,17 @@ pub(crate) fn shape_at(
     scope: Scope,
     at: usize,
     end: usize,
-    ahead: &mut Ahead,
+    scan: &mut Scan,
 ) -> Shape
     requires source { IsSource source.now }
     requires between { IsBetween (rows_of source.now) at end }
-    requires ahead { IsAhead (rows_of source.now) at ahead.old }
+    requires scan { IsScan (rows_of source.now) at scan.old }
     ensures shape { result ≡ code_shape (shape_in scope (rows_between (rows_of source.now) at end)) }
-    ensures ahead { IsAhead (rows_of source.now) (at + 1) ahead.new }
+    ensures scan { IsScan (rows_of source.now) (at + 1) scan.new }
 {
     let kind = source.kind(at);
     if is_counted(kind) {
-        let members = members(source, at, end, ahead);
+        let members = members(source, at, end, scan);
         if is_parts(scope) {
             LEAF
         } else {

@@ -25,12 +25,12 @@ pub(crate) fn has_word_total(_row: Row)
 // Puts the sums of the rows in place of what the list holds: sum i is how many bytes the first i rows have together. There
 // is room for them.
 pub(crate) fn set_sums(rows: &[Row], sums: &mut Vec<u64>)
-    requires few { length rows.now < 4294967295 }
-    requires room { length rows.now + 1 ≤ vec_capacity sums.old }
+    requires bounded { length rows.now < 4294967295 }
+    requires has_room { length rows.now + 1 ≤ vec_capacity sums.old }
     ensures sums { sums.new.items ≡ places_from 0 rows.now }
     ensures light { bytes_of itself rows.now ≤ 4294967295 * length rows.now }
     ensures words { AllByRecursion IsWordTotal rows.now }
-    ensures room { vec_capacity sums.old ≤ vec_capacity sums.new }
+    ensures keeps_room { vec_capacity sums.old ≤ vec_capacity sums.new }
 {
     sums.clear();
     sums.push_reserved(0);

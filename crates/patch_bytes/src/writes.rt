@@ -41,7 +41,7 @@ fn exchanged(buf: &mut [u8], p: Patch) -> [u8; 4]
 // is known makes the copies single moves. The new bytes are named one by one, since a processor waits long for a number
 // that it has just put to the stack in pieces.
 fn exchange<const LEN: usize>(buf: &mut [u8], p: Patch) -> [u8; 4]
-    requires long { p.len ≡ LEN }
+    requires same_length { p.len ≡ LEN }
     requires within { IsWithin (length buf.old) (put_of p) }
     ensures written { buf.new ≡ lay buf.old (put_of p) }
     ensures old { take p.len result ≡ (old_of buf.old (put_of p)).bytes }

@@ -10,7 +10,8 @@ use Rattle.std.proofs.lemmas.Slice.Eq.{starts_is}
 use Rattle.std.proofs.lemmas.Bool.Decides.{Decides-eqb}
 use Rattle.patch_file.specs.Exchanges.{Exchange, AllKeepRules}
 use Rattle.patch_file.specs.Spelling.{Packed, mark, number, field_spelling, entry_spelling, IsEntry}
-use Rattle.patch_file.specs.Reading.{◌>>=◌, bytes_at, number_at, byte_at, mark_at, head_at, keeps_rules, exchange_at, field_at, fields_at, entry_at, entries_at, patch_of}
+use Rattle.patch_file.specs.Reading.{◌>>=◌, bytes_at, number_at, byte_at, mark_at, head_at}
+use Rattle.patch_file.specs.Reading.{keeps_rules, exchange_at, field_at, fields_at, entry_at, entries_at, patch_of}
 use Rattle.patch_file.specs.BadPieces.{FieldNumbers, FitRules, IsBadField, NumbersCut, BreaksRules, BytesCut, end_after, FieldsStand, HeadStands}
 use Rattle.patch_file.specs.BadPieces.{IsBadEntry, HeadCut, FieldBad, AppendCut, EntriesStand, CountStands, IsBad, MarkBad, CountCut, EntryBad, BytesBehind}
 use Rattle.patch_file.proofs.SpellingsRead.{number_again, field_again, fields_again, head_again, entry_again, entries_again}

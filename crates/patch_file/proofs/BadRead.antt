@@ -11,7 +11,8 @@ use Rattle.std.proofs.lemmas.Slice.Eq.{starts_is}
 use Rattle.std.proofs.lemmas.Bool.Decides.{Decides-eqb}
 use Rattle.patch_file.specs.Exchanges.{Exchange, AllKeepRules}
 use Rattle.patch_file.specs.Spelling.{mark, number, field_spelling, entry_spelling}
-use Rattle.patch_file.specs.Reading.{◌>>=◌, bytes_at, number_at, byte_at, mark_at, head_at, keeps_rules, exchange_at, field_at, fields_at, entry_at, entries_at, patch_of}
+use Rattle.patch_file.specs.Reading.{◌>>=◌, bytes_at, number_at, byte_at, mark_at, head_at}
+use Rattle.patch_file.specs.Reading.{keeps_rules, exchange_at, field_at, fields_at, entry_at, entries_at, patch_of}
 use Rattle.patch_file.specs.BadPieces.{FieldNumbers, FitRules, IsBadField, NumbersCut, BreaksRules, BytesCut, end_after, HeadStands}
 use Rattle.patch_file.specs.BadPieces.{IsBadEntry, HeadCut, FieldBad, AppendCut, EntriesStand, CountStands, IsBad, MarkBad, CountCut, EntryBad, BytesBehind}
 use Rattle.patch_file.proofs.ReadSteps.{guard_ok}
@@ -144,7 +145,8 @@ fields_err from len (suc n) bytes left fits e =
                 record {
                   fields = f ∷ b.fields;
                   rest = b.rest;
-                  parts = t.parts ∙ ap (λ (r : List ℕ). field_spelling f ++ r) b.parts ∙ sym (append_assoc (field_spelling f) (flat_map field_spelling b.fields) b.rest)
+                  parts = t.parts ∙ ap (λ (r : List ℕ). field_spelling f ++ r) b.parts
+                      ∙ sym (append_assoc (field_spelling f) (flat_map field_spelling b.fields) b.rest)
                       ∙ ap (λ (r : List ℕ). r ++ b.rest) (sym (flat_map-cons field_spelling f b.fields));
                   rules = (field_rules from len bytes a.0 a.1, b.rules);
                   few = omega arith;
@@ -249,7 +251,8 @@ patch_err bytes left fits e =
       | inl p ↦ let g = mark_err bytes left p in MarkBad g.0 g.1
       | inr m ↦
           let t = mark_takes bytes m.0 fits m.1 in
-          elim (bind_err (number_at (length m.0) m.0) (λ count. entries_at count.0 count.1 >>= λ x. cond (eqb (length x.1) 0) (Ok x.0) (Err (length x.1))) left m.2) [
+          elim (bind_err (number_at (length m.0) m.0) (λ count. entries_at count.0 count.1 >>= λ x. cond (eqb (length x.1) 0) (Ok x.0) (Err (length x.1)))
+          left m.2) [
             | inl p ↦ let g = number_err (length m.0) left m.0 p in CountCut m.0 t.parts g.0 g.1
             | inr a ↦
                 let c = number_takes (length m.0) m.0 a.0 t.fits a.1 in

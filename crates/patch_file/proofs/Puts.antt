@@ -12,7 +12,7 @@ use Rattle.undo_log.specs.Commits.{Change, changed, MayCommit}
 use Rattle.patch_file.specs.Exchanges.{Exchange, IsSized, AllKeepRules}
 use Rattle.patch_file.specs.Spelling.{Packed}
 use Rattle.patch_file.specs.Standing.{HoldsOld, Stands, new_of, put_on, exchanged, taken_of, MayTake, AllStand, put_all, all_taken, MayTakeAll}
-use Rattle.patch_file.specs.Laws.{edited}
+use Rattle.patch_file.specs.Laws.{exchange_made}
 
 apart_from : (p q : Put) → IsApart p q → IsApart q p
 apart_from p q a = record { none = λ k held also. a.none k also held }
@@ -131,7 +131,7 @@ taken_gives_the_same b e may =
       ap (λ (x : List ℕ). x ++ drop e.len b) written ∙ whole,
     )
 
-one_edit : (b d : List ℕ) (p : Put) → old_of d (old_of b p) ≡ p → exchanged d (old_of b p) ≡ edited b p
+one_edit : (b d : List ℕ) (p : Put) → old_of d (old_of b p) ≡ p → exchanged d (old_of b p) ≡ exchange_made b p
 unfolding old_of
 one_edit b d p e =
     let made : List ℕ → Exchange = λ x. record { at = p.at; was = (old_of b p).bytes; put = x } in
@@ -143,15 +143,15 @@ apart_there b more (p ∷ ps) w = (old_of-append b more p w.0, apart_there b mor
 
 -- what stands where an edit wrote is what it wrote, with bytes appended too
 edits_are : (b d : List ℕ) (ps : List Put) → AreWithin (length b) ps → AllByRecursion (λ p. old_of d p ≡ p) ps
-    → map (exchanged d) (map (old_of b) ps) ≡ map (edited b) ps
+    → map (exchanged d) (map (old_of b) ps) ≡ map (exchange_made b) ps
 edits_are b d [] w there = refl
 edits_are b d (p ∷ ps) w there =
     let same : old_of d (old_of b p) ≡ p = sym (same_place d p (old_of b p) (at-old_of b p) (long-old_of b p w.0)) ∙ there.0 in
     ap (λ (x : Exchange). x ∷ map (exchanged d) (map (old_of b) ps)) (one_edit b d p same)
-    ∙ ap (λ (xs : List Exchange). edited b p ∷ xs) (edits_are b d ps w.1 there.1)
+    ∙ ap (λ (xs : List Exchange). exchange_made b p ∷ xs) (edits_are b d ps w.1 there.1)
 
 pub taken_is_the_edit : (b : List ℕ) (c : Change) → MayCommit b c
-    → taken_of (changed b c) (entry_of b c.patches) ≡ record { len = length b; fields = map (edited b) c.patches; append = c.append }
+    → taken_of (changed b c) (entry_of b c.patches) ≡ record { len = length b; fields = map (exchange_made b) c.patches; append = c.append }
 taken_is_the_edit b c may =
     let ps : List Put = c.patches in
     let n : length (write b ps) ≡ length b = length-write b ps may.within in
@@ -161,7 +161,7 @@ taken_is_the_edit b c may =
     moved (write b ps) (write b ps ++ c.append) ps (apart_there (write b ps) c.append ps within) (written_there b ps may.within may.apart) in
     let made : List Exchange → List ℕ → Packed = λ fs xs. record { len = length b; fields = fs; append = xs } in
     ap (λ (fs : List Exchange). made fs (drop (length b) (write b ps ++ c.append))) (edits_are b (write b ps ++ c.append) ps may.within there)
-    ∙ ap (made (map (edited b) ps)) append
+    ∙ ap (made (map (exchange_made b) ps)) append
 
 -- what is taken off keeps the rules
 pub taken_rules : (b : List ℕ) (n m : ℕ) (ps : List Put) → Span n ps m → AllByRecursion IsSized (map (exchanged b) ps) → AllKeepRules n m (map (exchanged b) ps)

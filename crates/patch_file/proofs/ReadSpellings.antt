@@ -62,7 +62,8 @@ part_takes : (left n : ℕ) (bytes : List ℕ) (x : List ℕ × List ℕ) → Is
 part_takes left n bytes x fits e =
     let p = bytes_take left n bytes x e in (taken bytes x.0 x.1 fits p.parts, p.long)
 
-pub field_takes : (from len : ℕ) (bytes : List ℕ) (x : Exchange × List ℕ) → IsBytes bytes → field_at from len bytes ≡ Ok x → Takes bytes (field_spelling x.0) x.1
+pub field_takes : (from len : ℕ) (bytes : List ℕ) (x : Exchange × List ℕ) → IsBytes bytes → field_at from len bytes ≡ Ok x
+    → Takes bytes (field_spelling x.0) x.1
 field_takes from len bytes x fits e =
     let p = field_parts from len bytes x e in
     let place = number_takes (length bytes) bytes p.place fits p.number in

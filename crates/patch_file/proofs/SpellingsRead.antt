@@ -33,7 +33,8 @@ passes : (from len at count : ℕ) → 1 ≤ count → count ≤ 4 → from ≤ 
 passes from len at count a b c d =
     and_from _ _ (and_from _ _ (and_from _ _ (le-leb 1 count a) (le-leb count 4 b)) (le-leb from at c)) (le-leb (at + count) len d)
 
-pub field_again : (from len : ℕ) (f : Exchange) (rest : List ℕ) → len < 2 ^ 32 → KeepsRules from len f → field_at from len (field_spelling f ++ rest) ≡ Ok (f, rest)
+pub field_again : (from len : ℕ) (f : Exchange) (rest : List ℕ) → len < 2 ^ 32 → KeepsRules from len f → field_at from len (field_spelling f ++ rest)
+    ≡ Ok (f, rest)
 unfolding field_at
 field_again from len f rest small rules =
     let least = rules.least in

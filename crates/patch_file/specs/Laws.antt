@@ -44,8 +44,8 @@ AllTakenGiveTheSame =
     × (put_all (back_by (length es) b es) (all_taken b es) ≡ b)
 
 -- what an edit writes at a place, over what stands there
-abbrev pub edited : List ℕ → Put → Exchange
-edited b p = record { at = p.at; was = (old_of b p).bytes; put = p.bytes }
+abbrev pub exchange_made : List ℕ → Put → Exchange
+exchange_made b p = record { at = p.at; was = (old_of b p).bytes; put = p.bytes }
 
 -- what is taken off the body that an edit of b left is what the edit wrote, over what stood there, and what it
 -- appended
@@ -53,7 +53,7 @@ abbrev pub TakenIsTheEdit : Type 0
 TakenIsTheEdit =
     (b : List ℕ) (c : Change) → MayCommit b c
     → taken_of (changed b c) (entry_of b c.patches)
-    ≡ record { len = length b; fields = map (edited b) c.patches; append = c.append }
+    ≡ record { len = length b; fields = map (exchange_made b) c.patches; append = c.append }
 
 -- it can be taken off there, where the edit's patches rise within the body
 abbrev pub EditsMayBeTaken : Type 0

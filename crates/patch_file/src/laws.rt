@@ -29,7 +29,7 @@ pub fn reads_by_pieces()
 /// back to, and put on that gives the exact body. So it is with all that is taken off while the
 /// entries of a log are written back in turn, put on in the order of the edits.
 pub fn applied_gives_the_same()
-    ensures one { TakenGivesTheSame }
+    ensures one_entry { TakenGivesTheSame }
     ensures all { AllTakenGiveTheSame }
 {}
 

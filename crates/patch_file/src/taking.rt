@@ -18,7 +18,7 @@ use undo_log::Entry;
 // What the patch exchanges: its bytes were, and what stands there now is put.
 fn exchanged(body: &[u8], patch: &Patch) -> Field
     requires { IsWithin (length body.now) (put_of patch.now) }
-    ensures is { exchange_of result ≡ exchanged body.now (put_of patch.now) }
+    ensures exchange { exchange_of result ≡ exchanged body.now (put_of patch.now) }
     ensures sized { IsSized (exchange_of result) }
 {
     let from = patch.at as usize;
@@ -34,7 +34,7 @@ fn exchanged(body: &[u8], patch: &Patch) -> Field
 // What all of them exchange, in order.
 fn all_exchanged(alloc: Global, body: &[u8], patches: &[Patch]) -> Result<FieldList, AllocError>
     requires { AreWithin (length body.now) (map put_of patches.now) }
-    ensures are { IfOk result (λ f. f ≡ map (exchanged body.now) (map put_of patches.now)) }
+    ensures exchanges { IfOk result (λ f. f ≡ map (exchanged body.now) (map put_of patches.now)) }
     ensures sized { IfOk result (λ f. AllByRecursion IsSized f) }
 {
     let mut fields = FieldList::with_capacity(alloc, patches.len())?;

@@ -6,9 +6,9 @@ unfoldable pub tcb : ℕ → ℕ → List ℕ
 tcb first mark = (first ∷ 9 ∷ 254 ∷ 2 ∷ []) ++ replicate 1210 0 ++ (mark ∷ []) ++ replicate 321 0
 
 -- the pieces one behind the other
-abbrev pub joined : List (List ℕ) → List ℕ
-joined [] = []
-joined (piece ∷ pieces) = piece ++ joined pieces
+abbrev pub concatenated : List (List ℕ) → List ℕ
+concatenated [] = []
+concatenated (piece ∷ pieces) = piece ++ concatenated pieces
 
 -- the bytes with the two of a word from place n on, the low one first
 abbrev pub put_word : ℕ → ℕ → List ℕ → List ℕ

@@ -1,5 +1,5 @@
 ghost use Rattle.std.specs.Prelude.{◌≡◌, ◌++◌, map, IfOk, OnOk};
-ghost use Rattle.sample_elements.specs.Samples.{tcb, joined};
+ghost use Rattle.sample_elements.specs.Samples.{tcb, concatenated};
 
 use std::alloc::{AllocError, Global};
 
@@ -12,7 +12,7 @@ const MARK: usize = 1214;
 /// The bytes of a drawing: a TCB with this first byte, 0x08 or 0xC8, and this byte 1214, in which bit 0x40 is set for three
 /// axes, and the pieces behind it. An error says that there was no memory.
 pub fn drawing(alloc: Global, first: u8, mark: u8, pieces: &[&[u8]]) -> Result<Vec<u8>, AllocError>
-    ensures { IfOk result (λ bytes. bytes.items ≡ tcb first mark ++ joined (map (λ piece. piece.now) pieces.now)) }
+    ensures { IfOk result (λ bytes. bytes.items ≡ tcb first mark ++ concatenated (map (λ piece. piece.now) pieces.now)) }
 {
     let mut bytes = Vec::new(alloc);
     push_tcb(&mut bytes, first, mark)?;

@@ -54,8 +54,8 @@ fn are_places(nested: &Nest, places: &[Place]) -> bool {
 
 // Whether the elements of the rows have these places.
 fn has_places(alloc: Global, rows: &[Row], places: &[Place]) -> bool
-    requires some { 0 < length rows.now }
-    requires few { length rows.now < 4294967295 }
+    requires nonempty { 0 < length rows.now }
+    requires bounded { length rows.now < 4294967295 }
     requires each { AllByRecursion IsRow rows.now }
 {
     match nest(alloc, rows) {
@@ -143,8 +143,8 @@ fn ends_of_both(
     rows: &[Row],
     more: &[Row],
 ) -> Result<(Vec<u32>, Vec<u32>), AllocError>
-    requires some { 0 < length rows.now }
-    requires few { length rows.now + length more.now < 4294967295 }
+    requires nonempty { 0 < length rows.now }
+    requires bounded { length rows.now + length more.now < 4294967295 }
     requires each { AllByRecursion IsRow rows.now }
     requires each_more { AllByRecursion IsRow more.now }
     requires free { BeginsFree itself more.now }

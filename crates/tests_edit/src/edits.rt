@@ -23,7 +23,7 @@ use std::test::Fail;
 // A drawing of few bytes: a TCB of two or three axes, these elements, and no tail.
 fn opened(alloc: Global, axes: u8, elements: &[&[u8]]) -> Option<Design>
     ensures whole { IfSome result IsWhole }
-    ensures few { IfSome result (λ d. length d.body.items ≤ 1700) }
+    ensures bounded { IfSome result (λ d. length d.body.items ≤ 1700) }
     ensures alone { IfSome result (λ d. length d.tail.items ≡ 0) }
 {
     let mark = if axes == 3 { 0x40 } else { 0 };

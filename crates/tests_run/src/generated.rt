@@ -65,8 +65,8 @@ fn eight_elements(rt: HostRuntime) -> Result<(), Fail> {
 
 // How many bytes a drawing has, and these as one number.
 fn measures(alloc: Global, seed: u32, count: u32) -> Result<(usize, u64), AllocError>
-    requires some { 1 ≤ count }
-    requires few { count ≤ 200000 }
+    requires nonempty { 1 ≤ count }
+    requires bounded { count ≤ 200000 }
 {
     let drawing = generate(alloc, seed, count)?;
     Ok((drawing.len(), told(&drawing)))

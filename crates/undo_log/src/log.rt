@@ -40,10 +40,10 @@ impl Log {
         ensures entries { self.new.entries ≡ self.old.entries }
         ensures bytes { buf.new.items ≡ buf.old.items }
         ensures spare { OnOk result (1 ≤ self.new.spare) }
-        ensures room { OnOk result (vec_len buf.new + extra ≤ vec_capacity buf.new) }
+        ensures has_room { OnOk result (vec_len buf.new + extra ≤ vec_capacity buf.new) }
 
         // Room that there was is never given back.
-        ensures more { self.old.spare ≤ self.new.spare }
+        ensures keeps_room { self.old.spare ≤ self.new.spare }
         ensures wide { vec_capacity buf.old ≤ vec_capacity buf.new }
     {
         self.kept.reserve(1)?;
@@ -54,8 +54,8 @@ impl Log {
     /// the bytes that stood where the patches wrote, and the length that `buf` had. It takes no memory.
     pub fn commit(&mut self, buf: &mut Vec<u8>, mut patches: PatchList, append: &[u8])
         requires spare { 1 ≤ self.old.spare }
-        requires room { vec_len buf.old + length append.now ≤ vec_capacity buf.old }
-        requires few { vec_len buf.old + length append.now ≤ 4294967295 }
+        requires has_room { vec_len buf.old + length append.now ≤ vec_capacity buf.old }
+        requires bounded { vec_len buf.old + length append.now ≤ 4294967295 }
         requires within { AreWithin (length buf.old.items) patches }
         requires apart { AreApart patches }
         ensures body { buf.new.items ≡ write buf.old.items patches ++ append.now }
@@ -84,7 +84,7 @@ impl Log {
         ensures exactly { IsFalse result ↔ (self.old.entries ≡ []) }
         ensures undone { result ≡ true
             → IsUndone self.old.entries buf.old.items self.new.entries buf.new.items }
-        ensures room { vec_capacity buf.new ≡ vec_capacity buf.old }
+        ensures keeps_room { vec_capacity buf.new ≡ vec_capacity buf.old }
         ensures freed { result ≡ true → self.new.spare ≡ self.old.spare + 1 }
         ensures kept { result ≡ false → self.new ≡ self.old }
         ensures same { result ≡ false → buf.new ≡ buf.old }

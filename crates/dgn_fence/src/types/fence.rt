@@ -3,7 +3,7 @@ ghost use Rattle.std.specs.List.{list_any, list_all};
 ghost use Rattle.std.specs.Cmp.{partial_equiv_from_equiv};
 ghost use Rattle.std.specs.Cmp.Lexicographic.{pointwise, lists_equiv};
 ghost use Rattle.dgn_drawing.specs.WellFormed.{IsDimension};
-ghost use Rattle.dgn_drawing.specs.Faults.{IsSoundIn};
+ghost use Rattle.dgn_drawing.specs.Faults.{HasNoFaultIn};
 ghost use Rattle.dgn_drawing.specs.Reading.{element_at};
 ghost use Rattle.dgn_drawing.specs.Shown.{its_item};
 ghost use Rattle.plane_geom.specs.declared.pt.Pt.{Pt};
@@ -89,7 +89,7 @@ impl Fence {
         b: &[u8],
     ) -> Result<bool, AllocError>
         requires dimension { IsDimension dim }
-        requires element { IsSoundIn dim b.now }
+        requires element { HasNoFaultIn dim b.now }
         ensures { IfOk result
             (λ taken. (number depth : ℕ) → taken ≡ takes mode self.now (its_item dim number depth (element_at dim b.now))) }
     {
@@ -107,7 +107,7 @@ impl Fence {
     #[inline(never)]
     fn takes_made(&self, alloc: Global, mode: Mode, dim: u8, b: &[u8]) -> Result<bool, AllocError>
         requires dimension { IsDimension dim }
-        requires element { IsSoundIn dim b.now }
+        requires element { HasNoFaultIn dim b.now }
         ensures { IfOk result
             (λ taken. (number depth : ℕ) → taken ≡ takes mode self.now (its_item dim number depth (element_at dim b.now))) }
     {

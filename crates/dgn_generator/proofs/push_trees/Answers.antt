@@ -12,7 +12,7 @@ trees-preserved c =
     grows_drawn c.args.count c.trees.before c.trees.state c.drawn-first.result c.drawn-second.result c.trees.bytes.items
     (c.args.bytes.now.items ++ spelling (trees_within c.args.count c.args.count 0 c.args.seed))
     c.push_tree.new.bytes.items c.in_ok-before.field-0 c.trees-test.true c.drawn-first.ensures.next c.drawn-second.ensures.next
-    c.in_ok-before.ensures.bytes c.in_ok-before.ensures.size c.in_ok-before.ensures.few c.in_ok-before.ensures.some c.trees.invariant
+    c.in_ok-before.ensures.bytes c.in_ok-before.ensures.size c.in_ok-before.ensures.bounded c.in_ok-before.ensures.positive c.trees.invariant
 
 pub returns : goal.returns
 returns c =

@@ -4,7 +4,7 @@ ghost use Rattle.dgn_layout.specs.Classes.{class_of, is_silent};
 ghost use Rattle.elem_index.specs.Design.{elements, IsWhole};
 ghost use Rattle.edit_ops.specs.Causes.{unwidened, unmovable, lookless, unmarkable, first_cause};
 ghost use Rattle.edit_ops.specs.Asking.{cause_in, MayBeAsked, MayBeAskedOf, locked_in};
-ghost use Rattle.edit_ops.specs.Written.{found};
+ghost use Rattle.edit_ops.specs.Written.{lives_of};
 
 use crate::asking::shift::same_shift;
 use crate::{Cause, Test, find};
@@ -21,8 +21,8 @@ const LOCKED: u32 = 8;
 /// one are read; or else OffPlane, where one would leave the design plane. Each has the first such number.
 pub fn move_cause(d: &Design, live: &[u32], by: &Shift) -> Option<Cause>
     requires { IsWhole d.now }
-    ensures { result ≡ option_or (first_cause d.now.dim Test.Moves (found (elements d.now) live.now))
-        (first_cause d.now.dim (Test.Leaves by.now) (found (elements d.now) live.now)) }
+    ensures { result ≡ option_or (first_cause d.now.dim Test.Moves (lives_of (elements d.now) live.now))
+        (first_cause d.now.dim (Test.StaysOnPlane by.now) (lives_of (elements d.now) live.now)) }
 {
     let cause = first_cause(d, live, &Test::Moves);
     if cause.is_some() {
@@ -34,16 +34,16 @@ pub fn move_cause(d: &Design, live: &[u32], by: &Shift) -> Option<Cause>
 
 // The test of whether elements stay on the plane with this displacement.
 fn leaves(by: &Shift) -> Test
-    ensures { result ≡ Test.Leaves by.now }
+    ensures { result ≡ Test.StaysOnPlane by.now }
 {
-    Test::Leaves(same_shift(by))
+    Test::StaysOnPlane(same_shift(by))
 }
 
 /// What a test has against the first of the elements of these numbers against which it has something.
 pub fn first_cause(d: &Design, live: &[u32], test: &Test) -> Option<Cause>
     requires whole { IsWhole d.now }
-    requires asked { MayBeAsked d.now.dim test.now (found (elements d.now) live.now) }
-    ensures { result ≡ first_cause d.now.dim test.now (found (elements d.now) live.now) }
+    requires asked { MayBeAsked d.now.dim test.now (lives_of (elements d.now) live.now) }
+    ensures { result ≡ first_cause d.now.dim test.now (lives_of (elements d.now) live.now) }
 {
     'live: for m in live {
         let cause = cause_against(d, test, *m);
@@ -62,13 +62,13 @@ pub fn cause_against(d: &Design, test: &Test, m: u32) -> Option<Cause>
 {
     let found = find(d, m)?;
     match test {
-        Test::Lives => deleted(m, found.deleted),
+        Test::NotDeleted => deleted(m, found.deleted),
         Test::Unlocked => locked_at(m, found.kind, found.bytes),
         Test::Widens => unwidened(m, class(found.kind)),
         Test::Moves => unmovable(m, class(found.kind)),
         Test::Looks => lookless(m, class(found.kind)),
         Test::Marks => unmarkable(m, found.kind),
-        Test::Leaves(by) => {
+        Test::StaysOnPlane(by) => {
             if stays_on_plane(d.dim, found.kind, found.bytes, by) {
                 None
             } else {
@@ -92,7 +92,7 @@ fn deleted(m: u32, deleted: bool) -> Option<Cause>
 // Element m, of that type and with the bytes b, is locked.
 fn locked_at(m: u32, kind: u8, b: &[u8]) -> Option<Cause>
     requires kind { kind < 128 }
-    requires long { IsFalse (is_silent (class_of kind)) → 36 ≤ length b.now }
+    requires long_enough { IsFalse (is_silent (class_of kind)) → 36 ≤ length b.now }
     ensures { result ≡ (if locked_in kind b.now then Some (Cause.Locked m) else None) }
 {
     if !is_silent(kind) && (properties(b) >> LOCKED) & 1 == 1 {

@@ -4,7 +4,7 @@ use dgn_drawing::Shift;
 #[derive(Drop)]
 pub enum Test {
     /// Whether it isn't marked deleted.
-    Lives,
+    NotDeleted,
     /// Whether it isn't locked.
     Unlocked,
     /// Whether its range, that of a header, can be made wider.
@@ -16,5 +16,5 @@ pub enum Test {
     /// Whether it can be marked deleted.
     Marks,
     /// Whether it stays on the design plane.
-    Leaves(Shift),
+    StaysOnPlane(Shift),
 }

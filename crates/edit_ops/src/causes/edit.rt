@@ -5,7 +5,7 @@ ghost use Rattle.edit_ops.specs.Applying.{ChangesInPlace};
 ghost use Rattle.edit_ops.specs.Asked.{causes_asked};
 ghost use Rattle.edit_ops.specs.Causes.{first_cause, too_long, first_of, causes_of, target_of};
 ghost use Rattle.edit_ops.specs.Trees.{above_of, live_of};
-ghost use Rattle.edit_ops.specs.Written.{found};
+ghost use Rattle.edit_ops.specs.Written.{lives_of};
 
 use crate::{Cause, Test, first_cause, other_axes, silent, too_long};
 use dgn_drawing::{Edit, MOST_DESIGN, New, size_made};
@@ -17,8 +17,8 @@ use elem_index::Design;
 pub fn edit_cause(d: &Design, edit: &Edit, above: &[u32], live: &[u32]) -> Option<Cause>
     requires whole { IsWhole d.now }
     requires in_place { ChangesInPlace edit.now }
-    requires above { found (elements d.now) above.now ≡ above_of (elements d.now) (target_of edit.now) }
-    requires live { found (elements d.now) live.now ≡ live_of (elements d.now) (target_of edit.now) }
+    requires above { lives_of (elements d.now) above.now ≡ above_of (elements d.now) (target_of edit.now) }
+    requires live { lives_of (elements d.now) live.now ≡ live_of (elements d.now) (target_of edit.now) }
     ensures { result ≡ first_of (causes_asked d.now.dim (elements d.now) edit.now) }
 {
     match edit {
@@ -37,7 +37,7 @@ pub fn edit_cause(d: &Design, edit: &Edit, above: &[u32], live: &[u32]) -> Optio
 // What is against an element that is appended. `pending` is how many bytes are to be appended already.
 pub fn append_cause(d: &Design, new: &New, pending: usize) -> Option<Cause>
     requires whole { IsWhole d.now }
-    requires room { length d.now.body.items + (length d.now.tail.items + pending) ≤ MOST_DESIGN }
+    requires bounded { length d.now.body.items + (length d.now.tail.items + pending) ≤ MOST_DESIGN }
     ensures { result ≡ first_of
         (causes_of d.now.dim (elements d.now) (length d.now.tail.items + pending) (Edit.Append new.now)) }
 {
@@ -46,8 +46,8 @@ pub fn append_cause(d: &Design, new: &New, pending: usize) -> Option<Cause>
 
 // The file would be too long with so many bytes more.
 pub fn growth_cause(d: &Design, appended: usize, pending: usize) -> Option<Cause>
-    requires few { appended ≤ MOST_DESIGN }
-    requires room { length d.now.body.items + (length d.now.tail.items + pending) ≤ MOST_DESIGN }
+    requires appended_bounded { appended ≤ MOST_DESIGN }
+    requires bounded { length d.now.body.items + (length d.now.tail.items + pending) ≤ MOST_DESIGN }
     ensures { result ≡ too_long
         (length d.now.body.items + (length d.now.tail.items + pending) + appended) }
 {
@@ -58,7 +58,7 @@ pub fn growth_cause(d: &Design, appended: usize, pending: usize) -> Option<Cause
 fn locked(d: &Design, above: &[u32], live: &[u32]) -> Option<Cause>
     requires { IsWhole d.now }
     ensures { result ≡ first_cause d.now.dim Test.Unlocked
-        (found (elements d.now) above.now ++ found (elements d.now) live.now) }
+        (lives_of (elements d.now) above.now ++ lives_of (elements d.now) live.now) }
 {
     first_cause(d, above, &Test::Unlocked).or(first_cause(d, live, &Test::Unlocked))
 }

@@ -7,7 +7,7 @@ ghost use Rattle.elem_index.specs.Design.{elements, IsWhole};
 ghost use Rattle.edit_ops.specs.Trees.{above_tree};
 ghost use Rattle.edit_ops.specs.Causes.{unknown, broken, silent, other_axes, too_long, part_cause};
 ghost use Rattle.edit_ops.specs.Asking.{broken_by};
-ghost use Rattle.edit_ops.specs.Written.{found};
+ghost use Rattle.edit_ops.specs.Written.{lives_of};
 
 use crate::asking::first::{cause_against, first_cause};
 use crate::{Cause, Test, find};
@@ -34,12 +34,12 @@ pub fn unknown(d: &Design, n: u32) -> Option<Cause>
 pub fn part_cause(d: &Design, t: &Nest, n: u32, above: &[u32]) -> Option<Cause>
     requires whole { IsWhole d.now }
     requires nesting { t.now.rows ≡ map row_of (elements d.now) }
-    requires above { found (elements d.now) above.now ≡ above_tree (elements d.now) n }
+    requires above { lives_of (elements d.now) above.now ≡ above_tree (elements d.now) n }
     ensures { result ≡ part_cause d.now.dim (elements d.now) n }
 {
     broken(t, n)
-        .or(first_cause(d, above, &Test::Lives))
-        .or(cause_against(d, &Test::Lives, n))
+        .or(first_cause(d, above, &Test::NotDeleted))
+        .or(cause_against(d, &Test::NotDeleted, n))
 }
 
 // The tree that holds element n has a broken number.

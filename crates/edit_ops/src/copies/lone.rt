@@ -17,14 +17,14 @@ ghost use Rattle.elem_index.specs.Design.{elements, IsWhole};
 ghost use Rattle.patch_bytes.specs.Puts.{lay, write};
 ghost use Rattle.edit_ops.specs.Causes.{unmovable};
 ghost use Rattle.edit_ops.specs.Copying.{tree_copy, copy_cause, AddsUnless};
-ghost use Rattle.edit_ops.specs.Found.{IsFound};
+ghost use Rattle.edit_ops.specs.ElementViews.{IsElementView};
 ghost use Rattle.edit_ops.specs.Trees.{found_at, live_tree, tree_at};
 ghost use Rattle.edit_ops.specs.Written.{sum_put};
 
 use crate::asking::first::unmovable;
 use crate::asking::shift::is_shift;
 use crate::copies::tree::free_first;
-use crate::{Cause, EditFault, Found};
+use crate::{Cause, EditFault, ElementView};
 use dgn_drawing::{Shift, put_number, spots_in, sum};
 use dgn_layout::{Spot, class};
 use elem_index::Design;
@@ -34,12 +34,12 @@ use elem_index::Design;
 pub fn push_lone_copy(
     d: &Design,
     n: u32,
-    found: Found,
+    found: ElementView,
     by: &Shift,
     out: &mut Vec<u8>,
 ) -> Result<(), EditFault>
     requires whole { IsWhole d.now }
-    requires found { IsFound d.now n found }
+    requires found { IsElementView d.now n found }
     requires part { spelling (flat (tree_at n (forest row_of (elements d.now)))) ≡ found.bytes.now }
     requires live { live_tree (elements d.now) n ≡ option_to_list (found_at (elements d.now) n) }
     ensures copied { AddsUnless (copy_cause d.now.dim (elements d.now) by.now n)
@@ -61,15 +61,15 @@ pub fn push_lone_copy(
 
 // Makes the bytes of such an element those of its copy, and answers whether each sum is on the design plane. Where one
 // isn't, some of them are laid.
-fn lay_copy(copy: &mut [u8], d: &Design, n: u32, found: Found, by: &Shift) -> bool
+fn lay_copy(copy: &mut [u8], d: &Design, n: u32, found: ElementView, by: &Shift) -> bool
     requires whole { IsWhole d.now }
-    requires found { IsFound d.now n found }
+    requires found { IsElementView d.now n found }
     requires part { spelling (flat (tree_at n (forest row_of (elements d.now)))) ≡ found.bytes.now }
     requires live { live_tree (elements d.now) n ≡ option_to_list (found_at (elements d.now) n) }
     requires movable { unmovable n (class_of found.kind) ≡ None }
     requires same { copy.old ≡ found.bytes.now }
     requires fits { IsShift by.now }
-    ensures stays { result ≡ list_all (λ s. is_on_plane (sum_at by.now found.entry.bytes.now s))
+    ensures on_plane { result ≡ list_all (λ s. is_on_plane (sum_at by.now found.entry.bytes.now s))
         (spots_of d.now.dim found.entry.kind found.entry.bytes.now) }
     ensures copied { IsTrue result
         → copy.new ≡ spelling (flat (tree_copy d.now.dim (elements d.now) by.now n)) }
@@ -80,12 +80,12 @@ fn lay_copy(copy: &mut [u8], d: &Design, n: u32, found: Found, by: &Shift) -> bo
 }
 
 // Lays the sums at all spots of an element into as many bytes as it has, and answers whether each is on the design plane.
-fn lay_sums(copy: &mut [u8], dim: u8, found: Found, by: &Shift) -> bool
+fn lay_sums(copy: &mut [u8], dim: u8, found: ElementView, by: &Shift) -> bool
     requires dimension { IsDimension dim }
     requires kind { found.kind < 128 }
     requires holds { HoldsPoints dim found.kind found.bytes.now (length found.bytes.now) }
-    requires long { length copy.old ≡ length found.bytes.now }
-    ensures stays { result ≡ list_all (λ s. is_on_plane (sum_at by.now found.entry.bytes.now s))
+    requires same_length { length copy.old ≡ length found.bytes.now }
+    ensures on_plane { result ≡ list_all (λ s. is_on_plane (sum_at by.now found.entry.bytes.now s))
         (spots_of dim found.entry.kind found.entry.bytes.now) }
     ensures laid { IsTrue result → (a : List ℕ) → length a ≡ found.entry.place → write (a ++ copy.old)
         (map (sum_put by.now found.entry.place found.entry.bytes.now) (spots_of dim found.entry.kind found.entry.bytes.now))
@@ -100,10 +100,10 @@ fn lay_sums(copy: &mut [u8], dim: u8, found: Found, by: &Shift) -> bool
 }
 
 // Writes the sum at a spot there, and answers whether it is on the design plane. Where it isn't, nothing is written.
-fn put_sum(copy: &mut [u8], found: Found, spot: Spot, by: &Shift) -> bool
+fn put_sum(copy: &mut [u8], found: ElementView, spot: Spot, by: &Shift) -> bool
     requires within { spot.at + 4 ≤ length found.bytes.now }
-    requires long { length copy.old ≡ length found.bytes.now }
-    ensures stays { result ≡ is_on_plane (sum_at by.now found.entry.bytes.now spot) }
+    requires same_length { length copy.old ≡ length found.bytes.now }
+    ensures on_plane { result ≡ is_on_plane (sum_at by.now found.entry.bytes.now spot) }
     ensures laid { IsTrue result → copy.new ≡ lay copy.old (record {
       at = spot.at;
       bytes = number_bytes spot (sum_at by.now found.entry.bytes.now spot);

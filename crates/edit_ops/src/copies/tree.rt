@@ -8,7 +8,7 @@ ghost use Rattle.elem_index.specs.Offsets.{offset_of};
 ghost use Rattle.edit_ops.specs.Trees.{tree_at, live_tree};
 ghost use Rattle.patch_bytes.specs.Puts.{write, Span};
 ghost use Rattle.edit_ops.specs.Applying.{IsEdit, copied};
-ghost use Rattle.edit_ops.specs.Written.{found, live_puts, IsReady};
+ghost use Rattle.edit_ops.specs.Written.{lives_of, live_puts, IsReady};
 ghost use Rattle.edit_ops.specs.Copying.{AddsUnless};
 ghost use Rattle.edit_ops.specs.Putting.{MayBePut, leaving};
 
@@ -52,7 +52,7 @@ pub fn part_len(d: &Design, t: &Nest, n: u32) -> usize
     requires nesting { t.now.rows ≡ map row_of (elements d.now) }
     requires known { n < length (elements d.now) }
     ensures exact { result ≡ length (spelling (flat (tree_at n (forest row_of (elements d.now))))) }
-    ensures few { result ≤ MOST_DESIGN }
+    ensures bounded { result ≤ MOST_DESIGN }
 {
     place_of(d, part_end(t, n)) - place_of(d, n)
 }
@@ -73,7 +73,7 @@ pub fn push_copy(
     requires nesting { t.now.rows ≡ map row_of (elements d.now) }
     requires known { n < length (elements d.now) }
     requires fits { IsEdit edit.now }
-    requires live { found (elements d.now) live.now ≡ live_tree (elements d.now) n }
+    requires live { lives_of (elements d.now) live.now ≡ live_tree (elements d.now) n }
     requires readable { AllByRecursion (λ v. MayBePut edit.now v.element) (live_tree (elements d.now) n) }
     ensures copied { AddsUnless (leaving d.now.dim edit.now (live_tree (elements d.now) n))
         (spelling (flat (copied d.now.dim (elements d.now) edit.now n))) result out.old.items out.new.items }

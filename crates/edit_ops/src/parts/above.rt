@@ -4,7 +4,7 @@ ghost use Rattle.dgn_drawing.specs.Nesting.{itself};
 ghost use Rattle.dgn_drawing.specs.Numbering.{parent_of};
 ghost use Rattle.elem_index.specs.Design.{elements};
 ghost use Rattle.edit_ops.specs.Trees.{above_tree};
-ghost use Rattle.edit_ops.specs.Written.{found};
+ghost use Rattle.edit_ops.specs.Written.{lives_of};
 
 use elem_index::Design;
 use nest_tree::types::Nest;
@@ -31,7 +31,7 @@ pub fn put_numbers_above(
 ) -> Result<(), AllocError>
     requires nesting { t.now.rows ≡ map row_of (elements _d.now) }
     requires known { n < length (elements _d.now) }
-    ensures found { OnOk result (found (elements _d.now) above.new.items ≡ above_tree (elements _d.now) n) }
+    ensures found { OnOk result (lives_of (elements _d.now) above.new.items ≡ above_tree (elements _d.now) n) }
 {
     above.clear();
     let mut i = n;

@@ -4,7 +4,7 @@ ghost use Rattle.dgn_drawing.specs.Nesting.{itself};
 ghost use Rattle.dgn_drawing.specs.Numbering.{mark_of};
 ghost use Rattle.elem_index.specs.Design.{elements, IsWhole};
 ghost use Rattle.edit_ops.specs.Trees.{live_tree};
-ghost use Rattle.edit_ops.specs.Written.{found};
+ghost use Rattle.edit_ops.specs.Written.{lives_of};
 
 use crate::find;
 use elem_index::Design;
@@ -40,7 +40,7 @@ pub fn live_numbers(alloc: Global, d: &Design, t: &Nest, n: u32) -> Result<Vec<u
     requires nesting { t.now.rows ≡ map row_of (elements d.now) }
     requires known { n < length (elements d.now) }
     ensures numbers { IfOk result (λ live. live.items ≡ map (λ v. v.number) (live_tree (elements d.now) n)) }
-    ensures found { IfOk result (λ live. found (elements d.now) live.items ≡ live_tree (elements d.now) n) }
+    ensures found { IfOk result (λ live. lives_of (elements d.now) live.items ≡ live_tree (elements d.now) n) }
 {
     let mut live = Vec::new(alloc);
     put_live_numbers(d, t, n, &mut live)?;
@@ -54,7 +54,7 @@ pub fn put_live_numbers(d: &Design, t: &Nest, n: u32, live: &mut Vec<u32>) -> Re
     requires nesting { t.now.rows ≡ map row_of (elements d.now) }
     requires known { n < length (elements d.now) }
     ensures numbers { OnOk result (live.new.items ≡ map (λ v. v.number) (live_tree (elements d.now) n)) }
-    ensures found { OnOk result (found (elements d.now) live.new.items ≡ live_tree (elements d.now) n) }
+    ensures found { OnOk result (lives_of (elements d.now) live.new.items ≡ live_tree (elements d.now) n) }
 {
     live.clear();
     let end = part_end(t, n);

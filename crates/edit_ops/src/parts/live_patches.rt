@@ -11,11 +11,11 @@ ghost use Rattle.range_code.specs.Plane.{is_on_plane};
 ghost use Rattle.dgn_drawing.specs.SpotNumbers.{sum_at, number_bytes};
 ghost use Rattle.edit_ops.specs.Causes.{off_plane};
 ghost use Rattle.edit_ops.specs.Trees.{found_at};
-ghost use Rattle.edit_ops.specs.Written.{found, live_puts, sum_put, new_look};
+ghost use Rattle.edit_ops.specs.Written.{lives_of, live_puts, sum_put, new_look};
 ghost use Rattle.edit_ops.specs.Copying.{AddsUnless};
 ghost use Rattle.edit_ops.specs.Putting.{MayBePut, leaving, all_spots};
 
-use crate::{Cause, EditFault, Found, find};
+use crate::{Cause, EditFault, ElementView, find};
 use dgn_drawing::{Edit, MOST_DESIGN, Shift, SymbChange, bytes_at, spots_in, sum};
 use dgn_layout::Spot;
 use elem_head::symb;
@@ -38,9 +38,9 @@ pub fn push_live(
     edit: &Edit,
 ) -> Result<(), EditFault>
     requires whole { IsWhole d.now }
-    requires readable { AllByRecursion (λ v. MayBePut edit.now v.element) (found (elements d.now) live.now) }
-    ensures { AddsUnless (leaving d.now.dim edit.now (found (elements d.now) live.now))
-        (live_puts d.now.dim edit.now (found (elements d.now) live.now)) result patches.old patches.new }
+    requires readable { AllByRecursion (λ v. MayBePut edit.now v.element) (lives_of (elements d.now) live.now) }
+    ensures { AddsUnless (leaving d.now.dim edit.now (lives_of (elements d.now) live.now))
+        (live_puts d.now.dim edit.now (lives_of (elements d.now) live.now)) result patches.old patches.new }
 {
     make_room(patches, d, live, edit)?;
     'live: for m in live {
@@ -58,7 +58,7 @@ fn make_room(
     edit: &Edit,
 ) -> Result<(), AllocError>
     requires whole { IsWhole d.now }
-    requires readable { AllByRecursion (λ v. MayBePut edit.now v.element) (found (elements d.now) live.now) }
+    requires readable { AllByRecursion (λ v. MayBePut edit.now v.element) (lives_of (elements d.now) live.now) }
     ensures { patches.new ≡ patches.old }
 {
     match edit {
@@ -70,8 +70,8 @@ fn make_room(
 // How many coordinate fields the elements of these numbers have, as far as the number goes.
 fn numbers_in(d: &Design, live: &[u32]) -> usize
     requires whole { IsWhole d.now }
-    requires spotted { AllByRecursion (λ v. IsTrue (has_spots (class_of v.element.kind))) (found (elements d.now) live.now) }
-    ensures { result ≡ min (length (all_spots d.now.dim (found (elements d.now) live.now))) 18446744073709551615 }
+    requires spotted { AllByRecursion (λ v. IsTrue (has_spots (class_of v.element.kind))) (lives_of (elements d.now) live.now) }
+    ensures { result ≡ min (length (all_spots d.now.dim (lives_of (elements d.now) live.now))) 18446744073709551615 }
 {
     let mut count = 0_usize;
     'live: for m in live {
@@ -123,13 +123,13 @@ fn push_moved(
     patches: &mut PatchList,
     dim: u8,
     m: u32,
-    found: Found,
+    found: ElementView,
     by: &Shift,
 ) -> Result<(), EditFault>
     requires dimension { IsDimension dim }
     requires kind { found.kind < 128 }
     requires holds { HoldsPoints dim found.kind found.bytes.now (length found.bytes.now) }
-    requires few { found.place + length found.bytes.now ≤ MOST_DESIGN }
+    requires bounded { found.place + length found.bytes.now ≤ MOST_DESIGN }
     ensures { AddsUnless
         (off_plane m (list_all (λ s. is_on_plane (sum_at by.now found.entry.bytes.now s)) (spots_of dim found.entry.kind found.entry.bytes.now)))
         (map (sum_put by.now found.entry.place found.entry.bytes.now) (spots_of dim found.entry.kind found.entry.bytes.now))
@@ -144,12 +144,17 @@ fn push_moved(
 
 // Appends the sums at all spots of an element, and answers whether each is on the design plane. Where one isn't, those
 // before it are appended.
-fn push_sums(patches: &mut PatchList, dim: u8, found: Found, by: &Shift) -> Result<bool, AllocError>
+fn push_sums(
+    patches: &mut PatchList,
+    dim: u8,
+    found: ElementView,
+    by: &Shift,
+) -> Result<bool, AllocError>
     requires dimension { IsDimension dim }
     requires kind { found.kind < 128 }
     requires holds { HoldsPoints dim found.kind found.bytes.now (length found.bytes.now) }
-    requires few { found.place + length found.bytes.now ≤ MOST_DESIGN }
-    ensures stays { IfOk result (λ stays. stays ≡ list_all (λ s. is_on_plane (sum_at by.now found.entry.bytes.now s))
+    requires bounded { found.place + length found.bytes.now ≤ MOST_DESIGN }
+    ensures on_plane { IfOk result (λ stays. stays ≡ list_all (λ s. is_on_plane (sum_at by.now found.entry.bytes.now s))
         (spots_of dim found.entry.kind found.entry.bytes.now)) }
     ensures put { IfOk result (λ stays. IsTrue stays → patches.new ≡ patches.old
         ++ map (sum_put by.now found.entry.place found.entry.bytes.now) (spots_of dim found.entry.kind found.entry.bytes.now)) }
@@ -166,9 +171,9 @@ fn push_sums(patches: &mut PatchList, dim: u8, found: Found, by: &Shift) -> Resu
 }
 
 // The sum at a spot, or None exactly where it is off the design plane.
-fn sum_patch(found: Found, spot: Spot, by: &Shift) -> Option<Patch>
+fn sum_patch(found: ElementView, spot: Spot, by: &Shift) -> Option<Patch>
     requires within { spot.at + 4 ≤ length found.bytes.now }
-    requires few { found.place + length found.bytes.now ≤ MOST_DESIGN }
+    requires bounded { found.place + length found.bytes.now ≤ MOST_DESIGN }
     ensures on { OnSome result (IsTrue (is_on_plane (sum_at by.now found.entry.bytes.now spot))) }
     ensures off { IfNone result (IsFalse (is_on_plane (sum_at by.now found.entry.bytes.now spot))) }
     ensures put { IfSome result
@@ -179,9 +184,9 @@ fn sum_patch(found: Found, spot: Spot, by: &Shift) -> Option<Patch>
 }
 
 /// A number at a spot of an element.
-pub fn number_patch(found: Found, spot: Spot, number: i32) -> Patch
+pub fn number_patch(found: ElementView, spot: Spot, number: i32) -> Patch
     requires within { spot.at + 4 ≤ length found.bytes.now }
-    requires few { found.place + length found.bytes.now ≤ MOST_DESIGN }
+    requires bounded { found.place + length found.bytes.now ≤ MOST_DESIGN }
     ensures { put_of result ≡ record {
       at = found.entry.place + spot.at;
       bytes = number_bytes spot number;
@@ -195,9 +200,9 @@ pub fn number_patch(found: Found, spot: Spot, number: i32) -> Patch
 }
 
 // The two bytes of an element's look with what is given of another.
-fn look_patch(found: Found, change: &SymbChange) -> Patch
-    requires long { 36 ≤ length found.bytes.now }
-    requires few { found.place + length found.bytes.now ≤ MOST_DESIGN }
+fn look_patch(found: ElementView, change: &SymbChange) -> Patch
+    requires long_enough { 36 ≤ length found.bytes.now }
+    requires bounded { found.place + length found.bytes.now ≤ MOST_DESIGN }
     ensures { put_of result ≡ record {
       at = found.entry.place + 34;
       bytes = new_look change.now (symbology_of found.entry.bytes.now);
@@ -215,10 +220,10 @@ fn look_patch(found: Found, change: &SymbChange) -> Patch
 }
 
 // The type and the deleted bit of an element, with the bit set.
-fn mark_patch(found: Found) -> Patch
+fn mark_patch(found: ElementView) -> Patch
     requires kind { found.kind < 128 }
-    requires long { 4 ≤ length found.bytes.now }
-    requires few { found.place + length found.bytes.now ≤ MOST_DESIGN }
+    requires long_enough { 4 ≤ length found.bytes.now }
+    requires bounded { found.place + length found.bytes.now ≤ MOST_DESIGN }
     ensures { put_of result ≡ record { at = found.entry.place + 1; bytes = (found.entry.kind + 128) ∷ [] } }
 {
     Patch {

@@ -7,27 +7,27 @@ ghost use Rattle.dgn_drawing.specs.Numbering.{parent_of, first_broken_of};
 ghost use Rattle.dgn_drawing.specs.Rows.{row_of};
 ghost use Rattle.dgn_drawing.specs.Spelling.{spelling};
 ghost use Rattle.elem_index.specs.Design.{elements, IsWhole};
-ghost use Rattle.edit_ops.specs.Found.{IsFound, IsLone};
+ghost use Rattle.edit_ops.specs.ElementViews.{IsElementView, IsLone};
 ghost use Rattle.edit_ops.specs.Trees.{found_at, live_tree, tree_at};
 ghost use Rattle.edit_ops.specs.Lone.{IsOnePart, IsLoneRoot};
 
 use crate::parts::live::part_end;
-use crate::{Found, find};
+use crate::{ElementView, find};
 use elem_index::Design;
 use nest_tree::types::Nest;
 
 // Element n, which there is, where it is its whole part and isn't marked deleted.
-pub fn lone_at<'a>(d: &'a Design, t: &Nest, n: u32) -> Option<Found<'a>>
+pub fn lone_at<'a>(d: &'a Design, t: &Nest, n: u32) -> Option<ElementView<'a>>
     requires whole { IsWhole d.now }
     requires nesting { t.now.rows ≡ map row_of (elements d.now) }
     requires known { n < length (elements d.now) }
-    ensures found { IfSome result (IsFound d.now n) }
+    ensures found { IfSome result (IsElementView d.now n) }
     ensures alive { IfSome result (λ f. f.deleted ≡ false) }
     ensures part { IfSome result
         (λ f. spelling (flat (tree_at n (forest row_of (elements d.now)))) ≡ f.bytes.now) }
     ensures live { IfSome result (λ _. live_tree (elements d.now) n ≡ option_to_list (found_at (elements d.now) n)) }
-    ensures one { IfSome result (λ _. IsOnePart (elements d.now) n) }
-    ensures more { IsNone result → ¬ IsOnePart (elements d.now) n }
+    ensures lone { IfSome result (λ _. IsOnePart (elements d.now) n) }
+    ensures not_lone { IsNone result → ¬ IsOnePart (elements d.now) n }
 {
     if part_end(t, n) - n != 1 {
         return None;

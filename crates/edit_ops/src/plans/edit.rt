@@ -10,7 +10,7 @@ ghost use Rattle.edit_ops.specs.Applying.{apply, ChangesInPlace, IsEdit};
 ghost use Rattle.edit_ops.specs.Causes.{target_of, part_cause, causes_of, first_of};
 ghost use Rattle.edit_ops.specs.Copying.{tree_copy, AddsUnless};
 ghost use Rattle.edit_ops.specs.Planned.{IsPlan, IsRefused, PlansUnless};
-ghost use Rattle.edit_ops.specs.Written.{found, part_puts};
+ghost use Rattle.edit_ops.specs.Written.{lives_of, part_puts};
 
 use crate::asking::shift::is_shift;
 use crate::causes::edit::{append_cause, edit_cause, growth_cause};
@@ -58,7 +58,7 @@ pub fn plan(
 ) -> Result<Plan, EditFault>
     requires whole { IsWhole d.now }
     requires nesting { t.now.rows ≡ map row_of (elements d.now) }
-    requires room { length d.now.body.items + (length d.now.tail.items + pending) ≤ MOST_DESIGN }
+    requires bounded { length d.now.body.items + (length d.now.tail.items + pending) ≤ MOST_DESIGN }
     ensures planned { IfOk result
         (IsPlan d.now.dim (elements d.now) (length d.now.tail.items + pending) edit.now) }
     ensures kept { IfOk result (λ _. IsEdit edit.now) }
@@ -88,7 +88,7 @@ pub(crate) fn plan_behind(
 ) -> Result<(), EditFault>
     requires whole { IsWhole d.now }
     requires nesting { t.now.rows ≡ map row_of (elements d.now) }
-    requires room { length d.now.body.items + (length d.now.tail.items + pending) ≤ MOST_DESIGN }
+    requires bounded { length d.now.body.items + (length d.now.tail.items + pending) ≤ MOST_DESIGN }
     ensures planned { PlansUnless d.now.dim (elements d.now) (length d.now.tail.items + pending) edit.now result all.old all.new }
     ensures kept { IfOk result (λ _. IsEdit edit.now) }
     ensures known { IsErrOf result EditFault.Memory → IfSome (target_of edit.now) (λ n. n < length (elements d.now)) }
@@ -113,7 +113,7 @@ fn plan_part(
 ) -> Result<(), EditFault>
     requires whole { IsWhole d.now }
     requires nesting { t.now.rows ≡ map row_of (elements d.now) }
-    requires room { length d.now.body.items + (length d.now.tail.items + pending) ≤ MOST_DESIGN }
+    requires bounded { length d.now.body.items + (length d.now.tail.items + pending) ≤ MOST_DESIGN }
     requires target { target_of edit.now ≡ Some n }
     requires fits { IsEdit edit.now }
     ensures planned { PlansUnless d.now.dim (elements d.now) (length d.now.tail.items + pending) edit.now result all.old all.new }
@@ -143,9 +143,9 @@ fn plan_copy(
 ) -> Result<(), EditFault>
     requires whole { IsWhole d.now }
     requires nesting { t.now.rows ≡ map row_of (elements d.now) }
-    requires room { length d.now.body.items + (length d.now.tail.items + pending) ≤ MOST_DESIGN }
+    requires bounded { length d.now.body.items + (length d.now.tail.items + pending) ≤ MOST_DESIGN }
     requires known { n < length (elements d.now) }
-    requires above { found (elements d.now) numbers.old.above.items ≡ above_tree (elements d.now) n }
+    requires above { lives_of (elements d.now) numbers.old.above.items ≡ above_tree (elements d.now) n }
     ensures { AddsUnless (option_or (part_cause d.now.dim (elements d.now) n)
         (first_of (causes_of d.now.dim (elements d.now) (length d.now.tail.items + pending) (Edit.Copy n by.now))))
         (spelling (flat (tree_copy d.now.dim (elements d.now) by.now n))) result append.old append.new }
@@ -209,8 +209,8 @@ fn plan_found(
     requires in_place { ChangesInPlace edit.now }
     requires fits { IsEdit edit.now }
     requires unkept { part_cause d.now.dim (elements d.now) n ≡ None }
-    requires above { found (elements d.now) above.now ≡ above_tree (elements d.now) n }
-    requires live { found (elements d.now) live.now ≡ live_tree (elements d.now) n }
+    requires above { lives_of (elements d.now) above.now ≡ above_tree (elements d.now) n }
+    requires live { lives_of (elements d.now) live.now ≡ live_tree (elements d.now) n }
     ensures { AddsUnless (first_of (causes_of d.now.dim (elements d.now) 0 edit.now)) (part_puts d.now.dim (elements d.now) edit.now n)
         result patches.old patches.new }
 {
@@ -229,7 +229,7 @@ fn plan_append(
     all: &mut Plan,
 ) -> Result<(), EditFault>
     requires whole { IsWhole d.now }
-    requires room { length d.now.body.items + (length d.now.tail.items + pending) ≤ MOST_DESIGN }
+    requires bounded { length d.now.body.items + (length d.now.tail.items + pending) ≤ MOST_DESIGN }
     requires target { target_of edit.now ≡ None }
     requires fits { IsEdit edit.now }
     ensures planned { PlansUnless d.now.dim (elements d.now) (length d.now.tail.items + pending) edit.now result all.old all.new }

@@ -13,11 +13,11 @@ ghost use Rattle.range_code.specs.Plane.{is_on_plane};
 ghost use Rattle.dgn_drawing.specs.SpotNumbers.{wider};
 ghost use Rattle.edit_ops.specs.Causes.{part_cause};
 ghost use Rattle.edit_ops.specs.Trees.{found_at, above_tree, live_tree};
-ghost use Rattle.edit_ops.specs.Written.{found, above_puts, part_puts, wider_put, wider_puts, MayWiden};
+ghost use Rattle.edit_ops.specs.Written.{lives_of, above_puts, part_puts, wider_put, wider_puts, MayWiden};
 ghost use Rattle.edit_ops.specs.Copying.{IsStopped, AddsUnless};
 ghost use Rattle.edit_ops.specs.Putting.{MayBePut, leaving};
 
-use crate::{Cause, EditFault, Found, find, number_patch, push_live};
+use crate::{Cause, EditFault, ElementView, find, number_patch, push_live};
 use dgn_drawing::{Edit, MOST_DESIGN, Shift, moved_number, spots_in, stays_on_plane, value, wider};
 use dgn_layout::Spot;
 use dgn_words::range_long;
@@ -39,8 +39,8 @@ pub fn push_part(
     requires whole { IsWhole d.now }
     requires known { n < length (elements d.now) }
     requires unkept { part_cause d.now.dim (elements d.now) n ≡ None }
-    requires above { found (elements d.now) above.now ≡ above_tree (elements d.now) n }
-    requires live { found (elements d.now) live.now ≡ live_tree (elements d.now) n }
+    requires above { lives_of (elements d.now) above.now ≡ above_tree (elements d.now) n }
+    requires live { lives_of (elements d.now) live.now ≡ live_tree (elements d.now) n }
     requires widens { MayWiden edit.now (above_tree (elements d.now) n) }
     requires readable { AllByRecursion (λ v. MayBePut edit.now v.element) (live_tree (elements d.now) n) }
     ensures { AddsUnless (leaving d.now.dim edit.now (live_tree (elements d.now) n)) (part_puts d.now.dim (elements d.now) edit.now n)
@@ -61,9 +61,9 @@ fn push_above(
 ) -> Result<(), EditFault>
     requires whole { IsWhole d.now }
     requires head { IfSome (slice_get (elements d.now) n) (MayBePut edit.now) }
-    requires widens { MayWiden edit.now (found (elements d.now) above.now) }
+    requires widens { MayWiden edit.now (lives_of (elements d.now) above.now) }
     ensures put { OnOk result (patches.new ≡ patches.old
-        ++ above_puts d.now.dim edit.now (slice_get (elements d.now) n) (found (elements d.now) above.now)) }
+        ++ above_puts d.now.dim edit.now (slice_get (elements d.now) n) (lives_of (elements d.now) above.now)) }
     ensures refused { IfErr result
         (IsStopped (leaving d.now.dim edit.now (option_to_list (found_at (elements d.now) n)))) }
 {
@@ -91,9 +91,9 @@ fn push_all_wider(
     r: Box3,
 ) -> Result<(), AllocError>
     requires whole { IsWhole d.now }
-    requires spotted { AllByRecursion (λ v. IsTrue (has_spots (class_of v.element.kind))) (found (elements d.now) above.now) }
+    requires spotted { AllByRecursion (λ v. IsTrue (has_spots (class_of v.element.kind))) (lives_of (elements d.now) above.now) }
     ensures { OnOk result (patches.new ≡ patches.old
-        ++ flat_map (λ v. wider_puts d.now.dim r v.place (spell v.element)) (found (elements d.now) above.now)) }
+        ++ flat_map (λ v. wider_puts d.now.dim r v.place (spell v.element)) (lives_of (elements d.now) above.now)) }
 {
     'above: for m in above {
         push_wider(patches, d, *m, r)?;
@@ -104,7 +104,7 @@ fn push_all_wider(
 // The range of an element with the bytes b, moved by a displacement along the file's axes.
 fn moved_range(dim: u8, b: &[u8], by: &Shift) -> Box3
     requires dimension { IsDimension dim }
-    requires long { 36 ≤ length b.now }
+    requires long_enough { 36 ≤ length b.now }
     requires low { IsTrue (list_all is_on_plane (take dim (displaced (take dim by.now.by) (corner_at b.now 4)))) }
     requires high { IsTrue (list_all is_on_plane (take dim (displaced (take dim by.now.by) (corner_at b.now 16)))) }
     ensures { result ≡ record {
@@ -122,7 +122,7 @@ fn moved_range(dim: u8, b: &[u8], by: &Shift) -> Box3
 fn moved_corner(dim: u8, b: &[u8], at: u32, by: &Shift) -> [i32; 3]
     requires dimension { IsDimension dim }
     requires low { at ≤ 16 }
-    requires long { at + 12 ≤ length b.now }
+    requires long_enough { at + 12 ≤ length b.now }
     requires plane { IsTrue (list_all is_on_plane (take dim (displaced (take dim by.now.by) (corner_at b.now at)))) }
     ensures { result ≡ displaced (take dim by.now.by) (corner_at b.now at) }
 {
@@ -150,12 +150,17 @@ fn push_wider(patches: &mut PatchList, d: &Design, m: u32, r: Box3) -> Result<()
 }
 
 // Appends the numbers at the range spots of an element, made to hold a range too.
-fn push_range(patches: &mut PatchList, dim: u8, found: Found, r: Box3) -> Result<(), AllocError>
+fn push_range(
+    patches: &mut PatchList,
+    dim: u8,
+    found: ElementView,
+    r: Box3,
+) -> Result<(), AllocError>
     requires dimension { IsDimension dim }
     requires kind { found.kind < 128 }
     requires spotted { IsTrue (has_spots (class_of found.kind)) }
     requires holds { HoldsPoints dim found.kind found.bytes.now (length found.bytes.now) }
-    requires few { found.place + length found.bytes.now ≤ MOST_DESIGN }
+    requires bounded { found.place + length found.bytes.now ≤ MOST_DESIGN }
     ensures { OnOk result (patches.new ≡ patches.old ++ wider_puts dim r found.entry.place found.entry.bytes.now) }
 {
     'spots: for spot in spots_in(dim, found.kind, found.bytes) {
@@ -167,9 +172,9 @@ fn push_range(patches: &mut PatchList, dim: u8, found: Found, r: Box3) -> Result
 }
 
 // The number at a range spot, made to hold a range too.
-fn wider_patch(found: Found, spot: Spot, r: Box3) -> Patch
+fn wider_patch(found: ElementView, spot: Spot, r: Box3) -> Patch
     requires within { spot.at + 4 ≤ length found.bytes.now }
-    requires few { found.place + length found.bytes.now ≤ MOST_DESIGN }
+    requires bounded { found.place + length found.bytes.now ≤ MOST_DESIGN }
     ensures { put_of result ≡ wider_put r found.entry.place found.entry.bytes.now spot }
 {
     number_patch(found, spot, wider(spot, value(found.bytes, spot), r))

@@ -3,7 +3,7 @@
 ghost use Rattle.std.specs.Prelude.{◌≡◌, ◌≤◌, ◌<◌, vec_len, vec_capacity, length, OnOk};
 ghost use Rattle.elem_index.specs.Kinds.{kind_with, SaysTotal};
 ghost use Rattle.elem_index.specs.Offsets.{offset_of};
-ghost use Rattle.elem_index.specs.Design.{elements, kept_of, kinds_of, spare_of, IsWhole, IsFront, IsBehind, IsKeptAlso, SameText};
+ghost use Rattle.elem_index.specs.Design.{elements, kept_of, kinds_of, spare_of, IsWhole, HasGrown, HasShrunk, IsKeptAlso, SameText};
 
 use super::Design;
 use crate::beginning::size_said;
@@ -21,7 +21,7 @@ impl Design {
         ensures text { SameText self.old self.new }
 
         // Room that there was is never given back.
-        ensures more { spare_of self.old ≤ spare_of self.new }
+        ensures keeps_room { spare_of self.old ≤ spare_of self.new }
     {
         self.kept.reserve(n as usize)?;
         self.kinds.reserve(n as usize)
@@ -31,7 +31,7 @@ impl Design {
     /// offset, type, bit C and total of the new ones too. Body and tail have to open, and spare has to be enough for
     /// them. It takes no memory.
     pub fn grow(&mut self)
-        requires { IsFront self.old }
+        requires { HasGrown self.old }
         ensures whole { IsWhole self.new }
         ensures text { SameText self.old self.new }
     {
@@ -48,7 +48,7 @@ impl Design {
 
     // The byte of the body behind the elements whose offsets are kept: the last of them says its size.
     fn kept_end(&self) -> usize
-        requires { IsFront self.now }
+        requires { HasGrown self.now }
         ensures { result ≡ offset_of (elements self.now) (length (kept_of self.now)) }
     {
         let count = self.kept.len();
@@ -62,7 +62,7 @@ impl Design {
 
     // Keeps offset, byte and total of one more element, for which there is room.
     fn keep(&mut self, at: u32, byte: u8, total: Option<u16>)
-        requires room { vec_len self.old.kept < vec_capacity self.old.kept }
+        requires has_room { vec_len self.old.kept < vec_capacity self.old.kept }
         requires kinds_room { 0 < self.old.kinds.spare }
         requires says { SaysTotal byte total }
         ensures kept { IsKeptAlso self.old self.new at (kind_with byte total) }
@@ -81,7 +81,7 @@ impl Design {
     /// Makes the design whole where elements were cut off behind the first `count`, which are all that
     /// there are: forgets what is kept of the others. Body and tail have to open. It takes no memory.
     pub fn shrink(&mut self, count: u32)
-        requires { IsBehind count self.old }
+        requires { HasShrunk count self.old }
         ensures whole { IsWhole self.new }
         ensures text { SameText self.old self.new }
     {

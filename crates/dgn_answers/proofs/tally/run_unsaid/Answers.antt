@@ -5,7 +5,7 @@ use Rattle.dgn_import.specs.Seconds.{SecondValue}
 use Rattle.dgn_session.specs.State.{state_of}
 use Rattle.dgn_drawing.specs.declared.command.Command.{Command}
 use Rattle.dgn_answers.specs.Steps.{Step, step_of, steps_of}
-use Rattle.dgn_import.specs.Seconds.{waiting}
+use Rattle.dgn_import.specs.Seconds.{seconds_left}
 use Rattle.dgn_answers.proofs.Stepping.{next_step, none_left}
 use Rattle.dgn_answers.proofs.Counting.{refused_few}
 use Rattle.dgn_answers.proofs.TallySteps.{Tallied, tallied_more, tallied_count, tallied_trees, tallied_state}
@@ -15,12 +15,12 @@ use Rattle.dgn_answers.proofs.tally.run_unsaid.Goals as goal
 pub commands-preserved : goal.commands-preserved
 commands-preserved c =
     let command : Command = c.command-item.result in
-    let vs : List SecondValue = waiting c.commands.seconds.items in
-    let all : List Step = steps_of c.args.commands.now (waiting c.args.seconds.now.items) in
-    let more : List Step = steps_of (drop (c.commands.command-index + 1) c.args.commands.now) (waiting c.take_step.new.seconds.items) in
+    let vs : List SecondValue = seconds_left c.commands.seconds.items in
+    let all : List Step = steps_of c.args.commands.now (seconds_left c.args.seconds.now.items) in
+    let more : List Step = steps_of (drop (c.commands.command-index + 1) c.args.commands.now) (seconds_left c.take_step.new.seconds.items) in
     let step : Step = step_of command vs in
     let next =
-    next_step c.args.commands.now c.commands.command-index command vs (waiting c.take_step.new.seconds.items) c.commands-test.true c.command-item.is
+    next_step c.args.commands.now c.commands.command-index command vs (seconds_left c.take_step.new.seconds.items) c.commands-test.true c.command-item.is
     c.take_step.ensures.left in
     let done = subst (λ (left : List Step). Tallied all left c.commands.refused c.commands.trees.items (state_of c.args.session.now)
     (state_of c.commands.session)) next c.commands.invariant.done in
@@ -42,29 +42,29 @@ commands-preserved c =
 
 pub returns-clause-refused : goal.returns-clause-refused
 returns-clause-refused c =
-    let vs : List SecondValue = waiting c.commands.seconds.items in
-    tallied_count (steps_of c.args.commands.now (waiting c.args.seconds.now.items)) (steps_of (drop c.commands.command-index c.args.commands.now) vs)
+    let vs : List SecondValue = seconds_left c.commands.seconds.items in
+    tallied_count (steps_of c.args.commands.now (seconds_left c.args.seconds.now.items)) (steps_of (drop c.commands.command-index c.args.commands.now) vs)
     c.commands.refused c.commands.trees.items (state_of c.args.session.now) (state_of c.commands.session) c.commands.invariant.done
     (none_left c.args.commands.now c.commands.command-index vs (drop_all c.commands.command-index c.args.commands.now c.commands-test.false))
 
 pub returns-clause-trees : goal.returns-clause-trees
 returns-clause-trees c =
-    let vs : List SecondValue = waiting c.commands.seconds.items in
-    tallied_trees (steps_of c.args.commands.now (waiting c.args.seconds.now.items)) (steps_of (drop c.commands.command-index c.args.commands.now) vs)
+    let vs : List SecondValue = seconds_left c.commands.seconds.items in
+    tallied_trees (steps_of c.args.commands.now (seconds_left c.args.seconds.now.items)) (steps_of (drop c.commands.command-index c.args.commands.now) vs)
     c.commands.refused c.commands.trees.items (state_of c.args.session.now) (state_of c.commands.session) c.commands.invariant.done
     (none_left c.args.commands.now c.commands.command-index vs (drop_all c.commands.command-index c.args.commands.now c.commands-test.false))
 
 pub returns-clause-state : goal.returns-clause-state
 returns-clause-state c =
-    let vs : List SecondValue = waiting c.commands.seconds.items in
-    tallied_state (steps_of c.args.commands.now (waiting c.args.seconds.now.items)) (steps_of (drop c.commands.command-index c.args.commands.now) vs)
+    let vs : List SecondValue = seconds_left c.commands.seconds.items in
+    tallied_state (steps_of c.args.commands.now (seconds_left c.args.seconds.now.items)) (steps_of (drop c.commands.command-index c.args.commands.now) vs)
     c.commands.refused c.commands.trees.items (state_of c.args.session.now) (state_of c.commands.session) c.commands.invariant.done
     (none_left c.args.commands.now c.commands.command-index vs (drop_all c.commands.command-index c.args.commands.now c.commands-test.false))
 
 pub returns-clause-logged : goal.returns-clause-logged
 returns-clause-logged c =
-    let vs : List SecondValue = waiting c.commands.seconds.items in
-    logs_all (steps_of c.args.commands.now (waiting c.args.seconds.now.items)) (steps_of (drop c.commands.command-index c.args.commands.now) vs)
+    let vs : List SecondValue = seconds_left c.commands.seconds.items in
+    logs_all (steps_of c.args.commands.now (seconds_left c.args.seconds.now.items)) (steps_of (drop c.commands.command-index c.args.commands.now) vs)
     c.args.session.now c.commands.session c.commands.invariant.logged
     (none_left c.args.commands.now c.commands.command-index vs (drop_all c.commands.command-index c.args.commands.now c.commands-test.false))
 

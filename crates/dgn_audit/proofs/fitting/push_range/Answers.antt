@@ -16,8 +16,8 @@ push_spots-requires-clause-holds c =
     kind_holds c.args.d.now c.requires.whole c.args.m c.in-Some-element.bytes.now c.in-Some-element.ensures.bytes c.head.result c.head.ensures
     c.requires.spotted
 
-pub push_spots-requires-clause-few : goal.push_spots-requires-clause-few
-push_spots-requires-clause-few c =
+pub push_spots-requires-clause-bounded : goal.push_spots-requires-clause-bounded
+push_spots-requires-clause-bounded c =
     (found_here c.args.d.now c.requires.whole c.args.m c.in-Some-element.bytes.now c.in-Some-element.ensures.bytes c.head.result c.head.ensures
     (record { place = c.in-Some.place; kind = c.head.result.kind; deleted = c.head.result.deleted; bytes = c.in-Some-element.bytes })
     c.in-Some.ensures.place refl refl refl).within

@@ -3,7 +3,7 @@ use Rattle.std.specs.Prelude.{Option, option_map, unwrap_or}
 use Rattle.elem_index.specs.Design.{elements}
 use Rattle.dgn_drawing.specs.Numbering.{Mark}
 use Rattle.level_view.proofs.Places.{mark-rows}
-use Rattle.dgn_audit.specs.Seats.{bounds_of}
+use Rattle.dgn_audit.specs.NestedElements.{bounds_of}
 use Rattle.dgn_audit.proofs.reading.bounds.Goals as goal
 
 pub returns : goal.returns

@@ -8,13 +8,13 @@ pub returns-in_err-count : goal.returns-in_err-count
 returns-in_err-count g c =
     let stopped = err_from_is_err_and c.from_residual.result c.from_residual.ensures.1 in
     let before = c.pieces.invariant in
-    let told = said_part stopped.0 c.args.bytes.now before.done c.pieces.rest.now _ _ before.split (c.in_err-count.ensures.told ∙ before.told) in
+    let told = said_part stopped.0 c.args.bytes.now before.done c.pieces.rest.now _ _ before.split (c.in_err-count.ensures.changes ∙ before.changes) in
     rw stopped.1 (record {
       cause = search rules;
       other = c.in_err-count.ensures.other ∙ before.reads;
-      told = told;
-      stays = λ willing. c.in_err-count.ensures.stays (before.stays willing);
-      able = search rules;
+      changes = told;
+      stays_willing = λ willing. c.in_err-count.ensures.stays_willing (before.stays_willing willing);
+      never_fails = search rules;
     })
 
 pub pieces-preserved : goal.pieces-preserved
@@ -26,8 +26,8 @@ pieces-preserved g c =
     record {
       done = before.done ++ take count rest;
       split = rw c.split_at.ensures.back (moved c.args.bytes.now before.done rest count before.split);
-      told = said.told ∙ ap (option_map (spoken (take count rest))) before.told ∙ spoken-append before.done (take count rest) _;
+      changes = said.changes ∙ ap (option_map (spoken (take count rest))) before.changes ∙ spoken-append before.done (take count rest) _;
       writes = said.cause ∙ before.writes;
       reads = said.other ∙ before.reads;
-      stays = λ willing. said.stays (before.stays willing);
+      stays_willing = λ willing. said.stays_willing (before.stays_willing willing);
     }

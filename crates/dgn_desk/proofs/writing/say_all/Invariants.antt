@@ -8,10 +8,10 @@ invariant-pieces g l =
     record {
       done : List ℕ;
       split : l.bytes ≡ done ++ l.rest;
-      told : g.D.Desk.content l.desk ≡ option_map (spoken done) (g.D.Desk.content l.fn.desk);
+      changes : g.D.Desk.content l.desk ≡ option_map (spoken done) (g.D.Desk.content l.fn.desk);
       writes : g.D.Desk.write_faults l.desk ≡ g.D.Desk.write_faults l.fn.desk;
       reads : g.D.Desk.read_faults l.desk ≡ g.D.Desk.read_faults l.fn.desk;
-      stays : StaysWilling (g.D.Desk.willing l.fn.desk) (g.D.Desk.willing l.desk);
+      stays_willing : StaysWilling (g.D.Desk.willing l.fn.desk) (g.D.Desk.willing l.desk);
     }
 
 abbrev pub decreases-pieces : goal.decreases-pieces

@@ -6,9 +6,9 @@ pub returns : goal.returns
 returns g c = record {
   cause = search rules;
   other = search rules;
-  told = filed_all _ c.args.name.now c.args.body.now (c.args.tail.now ++ c.args.filling.now) _ _
-      (c.write_both.ensures.told c.args.name.now c.args.body.now (g.D.Desk.content c.args.desk.now)
-      (c.in_ok-write_more.ensures.told c.args.name.now [] (g.D.Desk.content c.args.desk.now) c.in_ok-begin_write.ensures.told));
-  stays = search rules;
-  able = search rules;
+  changes = filed_all _ c.args.name.now c.args.body.now (c.args.tail.now ++ c.args.filling.now) _ _
+      (c.write_both.ensures.changes c.args.name.now c.args.body.now (g.D.Desk.content c.args.desk.now)
+      (c.in_ok-write_more.ensures.changes c.args.name.now [] (g.D.Desk.content c.args.desk.now) c.in_ok-begin_write.ensures.changes));
+  stays_willing = search rules;
+  never_fails = search rules;
 }

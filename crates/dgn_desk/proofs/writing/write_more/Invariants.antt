@@ -8,11 +8,11 @@ invariant-pieces g l =
     record {
       done : List ℕ;
       split : l.bytes ≡ done ++ l.rest;
-      told : (name so_far : List ℕ) (c : Option Content) → g.D.Desk.content l.fn.desk ≡ option_map (filed name so_far) c
+      changes : (name so_far : List ℕ) (c : Option Content) → g.D.Desk.content l.fn.desk ≡ option_map (filed name so_far) c
           → g.D.Desk.content l.desk ≡ option_map (filed name (so_far ++ done)) c;
       writes : g.D.Desk.write_faults l.desk ≡ g.D.Desk.write_faults l.fn.desk;
       reads : g.D.Desk.read_faults l.desk ≡ g.D.Desk.read_faults l.fn.desk;
-      stays : StaysWilling (g.D.Desk.willing l.fn.desk) (g.D.Desk.willing l.desk);
+      stays_willing : StaysWilling (g.D.Desk.willing l.fn.desk) (g.D.Desk.willing l.desk);
       target : HasTarget (g.D.Desk.content l.fn.desk) → HasTarget (g.D.Desk.content l.desk);
     }
 

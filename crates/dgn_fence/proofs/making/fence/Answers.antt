@@ -4,5 +4,5 @@ use Rattle.dgn_fence.proofs.making.fence.Goals as goal
 pub of-requires-clause-most : goal.of-requires-clause-most
 of-requires-clause-most c = search rules
 
-pub returns-in-Err-clause-many : goal.returns-in-Err-clause-many
-returns-in-Err-clause-many c = search rules
+pub returns-in-Err-clause-too_many : goal.returns-in-Err-clause-too_many
+returns-in-Err-clause-too_many c = search rules

@@ -3,7 +3,7 @@ use Rattle.elem_head.specs.declared.types.Head.{Head}
 use Rattle.elem_head.specs.Head.{kind_of}
 use Rattle.dgn_layout.specs.Classes.{class_of}
 use Rattle.body_vertex.specs.Points.{points_of}
-use Rattle.dgn_fence.specs.Segments.{flat}
+use Rattle.dgn_fence.specs.Segments.{plane_point}
 use Rattle.dgn_fence.specs.Outlines.{path_outline, range_outline}
 use Rattle.dgn_fence.proofs.ElementOutlines.{path_drawn, range_drawn, none_drawn, shared_drawn}
 use Rattle.dgn_fence.proofs.outline.read_outline.Goals as goal
@@ -14,7 +14,7 @@ returns-then-kind-eq-SHARED_CELL c = shared_drawn c.args.dim c.args.b.now (sym (
 pub returns-in-Vertices : goal.returns-in-Vertices
 returns-in-Vertices c =
     let kind : c.head-kind.result.kind ≡ kind_of c.args.b.now = ap (λ (h : Head). h.kind) c.head-kind.ensures in
-    c.points_outline.ensures ∙ ap (λ (k : ℕ). path_outline (map flat (points_of c.args.dim k c.args.b.now))) kind
+    c.points_outline.ensures ∙ ap (λ (k : ℕ). path_outline (map plane_point (points_of c.args.dim k c.args.b.now))) kind
     ∙ path_drawn c.args.dim c.args.b.now c.class.result (c.class.ensures ∙ ap class_of kind) (λ is. c.if-kind-eq-SHARED_CELL.false (kind ∙ is)) c.in-Vertices.is
 
 pub returns-in-Words : goal.returns-in-Words

@@ -5,5 +5,5 @@ use Rattle.dgn_import.proofs.second.read_second.Goals as goal
 
 pub returns-in_ok-nest-in-Ok-clause-value : goal.returns-in_ok-nest-in-Ok-clause-value
 returns-in_ok-nest-in-Ok-clause-value c =
-    sym (ap as_second c.in-Ok.ensures.told
+    sym (ap as_second c.in-Ok.ensures.opening
     ∙ ap (λ (b : List ℕ). Drawing c.in-Ok.design.dim b c.in-Ok.design.tail.items) (body_is c.in-Ok.design c.in-Ok.ensures.whole))

@@ -6,8 +6,8 @@ use Rattle.elem_index.specs.Design.{elements}
 use Rattle.elem_index.proofs.Places.{few_elements}
 use Rattle.dgn_session.proofs.commits.follow.Goals as goal
 
-pub nest_appended-requires-clause-few : goal.nest_appended-requires-clause-few
-nest_appended-requires-clause-few c =
+pub nest_appended-requires-clause-rows_bounded : goal.nest_appended-requires-clause-rows_bounded
+nest_appended-requires-clause-rows_bounded c =
     omega (
       arith,
       few_elements c.args.design.now c.requires.kept.whole,

@@ -37,8 +37,8 @@ shrink-requires c =
     can_shrink c.args.design.now c.args.nest.now c.args.log.now c.requires.kept c.args.len c.requires.last c.offsets.result.now c.count_below-count.result
     c.offsets.ensures c.count_below-count.ensures c.undo.new.self c.undo.new.buf.items (undone at) (uncut at) refl refl refl refl refl
 
-pub shrink-requires-2-clause-some : goal.shrink-requires-2-clause-some
-shrink-requires-2-clause-some c =
+pub shrink-requires-2-clause-positive : goal.shrink-requires-2-clause-positive
+shrink-requires-2-clause-positive c =
     some_left c.args.design.now c.args.nest.now c.args.log.now c.requires.kept c.args.len c.requires.last c.offsets.result.now c.count_below-count.result
     c.offsets.ensures c.count_below-count.ensures
 

@@ -53,7 +53,8 @@ returns g c =
     let input = c.args.input.now in
     let bytes = c.in-Ok.bytes.items in
     let end = c.of-in-Err-count_elements.result in
-    let tells = subst (λ (b : List ℕ). TellsFault (opening b) c.in-Err-count_elements.fault) c.deref.ensures.value c.in-Err-count_elements.ensures.told in
+    let tells = subst (λ (b : List ℕ). TellsFault (opening b) c.in-Err-count_elements.fault) c.deref.ensures.value
+    c.in-Err-count_elements.ensures.first_fault in
     let opens : Files → Reading Opened = λ _. at_once (drawing_opened (opening bytes)) in
     in_order input end _ _ (run_then_ends (λ files. design_in files input) behind_bytes bytes end _ _ _ c.in-Ok.ensures.read
     (run_ends_first opens (λ _. behind_drawing) end _ _

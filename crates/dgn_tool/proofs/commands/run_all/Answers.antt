@@ -4,7 +4,7 @@ use Rattle.std.proofs.lemmas.Result.{err_from_is_err_and}
 use Rattle.dgn_desk.specs.Seen.{seen}
 use Rattle.dgn_session.specs.State.{state_of}
 use Rattle.dgn_answers.specs.Steps.{steps_of}
-use Rattle.dgn_import.specs.Seconds.{waiting}
+use Rattle.dgn_import.specs.Seconds.{seconds_left}
 use Rattle.dgn_answers.proofs.Stepping.{none_left}
 use Rattle.dgn_tool.proofs.CommandsInTurn.{Ran, is_next, ran_none, ran_more, ran_front, ran_part, ran_all, ran_said, ran_state}
 use Rattle.dgn_answers.proofs.Counting.{refused_few}
@@ -12,7 +12,7 @@ use Rattle.dgn_tool.proofs.commands.run_all.Goals as goal
 
 pub commands-init : goal.commands-init
 commands-init g c = record {
-  ran = ran_none (steps_of c.args.commands.now (waiting c.args.seconds.now.items)) (state_of c.args.session.now) (seen g.D.Desk c.args.desk.now);
+  ran = ran_none (steps_of c.args.commands.now (seconds_left c.args.seconds.now.items)) (state_of c.args.session.now) (seen g.D.Desk c.args.desk.now);
   tail = refl;
   sound = c.requires;
   most = search rules;
@@ -22,12 +22,13 @@ pub commands-preserved : goal.commands-preserved
 commands-preserved g c =
     let did = c.in-Ok.ensures.answered in
     let next =
-    is_next _ c.args.commands.now c.commands.command-index c.command-item.result (waiting c.commands.seconds.items) (waiting c.take_step.new.seconds.items)
+    is_next _ c.args.commands.now c.commands.command-index c.command-item.result (seconds_left c.commands.seconds.items)
+    (seconds_left c.take_step.new.seconds.items)
     _ _ _ _ _ c.commands-test.true c.command-item.is c.take_step.ensures.left c.commands.invariant.ran
     c.deref.result.now c.take_step.new.out.items c.clear.new.self.items c.deref.ensures.value did.text c.clear.ensures.items in
     record {
-      ran = subst (λ (n : ℕ). Ran (steps_of c.args.commands.now (waiting c.args.seconds.now.items))
-          (steps_of (drop (c.commands.command-index + 1) c.args.commands.now) (waiting c.take_step.new.seconds.items)) (c.commands.refused + n)
+      ran = subst (λ (n : ℕ). Ran (steps_of c.args.commands.now (seconds_left c.args.seconds.now.items))
+          (steps_of (drop (c.commands.command-index + 1) c.args.commands.now) (seconds_left c.take_step.new.seconds.items)) (c.commands.refused + n)
           (state_of c.args.session.now) (state_of c.take_step.new.s) (seen g.D.Desk c.args.desk.now) (seen g.D.Desk c.say_all.new.desk))
           (sym c.from-refused.ensures)
           (ran_more _ _ _ c.commands.refused c.in-Ok.answered.refused _ _ _ (state_of c.take_step.new.s) _ _ (seen g.D.Desk c.say_all.new.desk)
@@ -41,19 +42,19 @@ commands-preserved g c =
 pub returns-clause-refused : goal.returns-clause-refused
 returns-clause-refused g c =
     ran_all _ _ _ _ _ _ _ c.commands.invariant.ran
-    (none_left c.args.commands.now c.commands.command-index (waiting c.commands.seconds.items)
+    (none_left c.args.commands.now c.commands.command-index (seconds_left c.commands.seconds.items)
     (drop_all c.commands.command-index c.args.commands.now c.commands-test.false))
 
 pub returns-clause-said : goal.returns-clause-said
 returns-clause-said g c =
     ran_said _ _ _ _ _ _ _ c.commands.invariant.ran
-    (none_left c.args.commands.now c.commands.command-index (waiting c.commands.seconds.items)
+    (none_left c.args.commands.now c.commands.command-index (seconds_left c.commands.seconds.items)
     (drop_all c.commands.command-index c.args.commands.now c.commands-test.false))
 
 pub returns-clause-state : goal.returns-clause-state
 returns-clause-state g c =
     ran_state _ _ _ _ _ _ _ c.commands.invariant.ran
-    (none_left c.args.commands.now c.commands.command-index (waiting c.commands.seconds.items)
+    (none_left c.args.commands.now c.commands.command-index (seconds_left c.commands.seconds.items)
     (drop_all c.commands.command-index c.args.commands.now c.commands-test.false))
 
 pub returns-in_default-clause-said : goal.returns-in_default-clause-said
@@ -63,7 +64,8 @@ pub returns-in_err-say_all-clause-said : goal.returns-in_err-say_all-clause-said
 returns-in_err-say_all-clause-said g c =
     let p = err_from_is_err_and c.from_residual.result c.from_residual.ensures.1 in
     let next =
-    is_next _ c.args.commands.now c.commands.command-index c.command-item.result (waiting c.commands.seconds.items) (waiting c.take_step.new.seconds.items)
+    is_next _ c.args.commands.now c.commands.command-index c.command-item.result (seconds_left c.commands.seconds.items)
+    (seconds_left c.take_step.new.seconds.items)
     _ _ _ _ _ c.commands-test.true c.command-item.is c.take_step.ensures.left c.commands.invariant.ran
     c.deref.result.now c.take_step.new.out.items c.clear.new.self.items c.deref.ensures.value c.in-Ok.ensures.answered.text c.clear.ensures.items in
     rw (p.1, p.2) (ran_part _ _ _ c.commands.refused c.in_err-say_all.field-0.0 _ _ _ _ _ (seen g.D.Desk c.say_all.new.desk) next c.in_err-say_all.ensures)

@@ -3,14 +3,14 @@ use Rattle.dgn_drawing.specs.Spelling.{spelling}
 use Rattle.dgn_session.specs.State.{state_of}
 use Rattle.dgn_tool.specs.Filling.{file_made}
 use Rattle.dgn_answers.specs.Steps.{steps_of}
-use Rattle.dgn_import.specs.Seconds.{waiting}
+use Rattle.dgn_import.specs.Seconds.{seconds_left}
 use Rattle.dgn_tool.proofs.TextsThenFiles.{begun_with, made_so, edited, edit_unfiled, edit_unsaid}
 use Rattle.dgn_tool.proofs.edit.finish.Goals as goal
 
 pub returns-in_err-refused : goal.returns-in_err-refused
 returns-in_err-refused g c =
     let p = err_from_is_err_and c.from_residual.result c.from_residual.ensures.1 in
-    rw (p.1, p.2) (edit_unsaid (state_of c.args.session.now) c.args.session.now.tail (steps_of c.args.commands.now (waiting c.args.seconds.now.items))
+    rw (p.1, p.2) (edit_unsaid (state_of c.args.session.now) c.args.session.now.tail (steps_of c.args.commands.now (seconds_left c.args.seconds.now.items))
     c.args.output.now c.in_err-refused.field-0.0 c.in_err-refused.ensures.said)
 
 pub returns-in_err-write_drawing : goal.returns-in_err-write_drawing
@@ -18,7 +18,7 @@ returns-in_err-write_drawing g c =
     let p = err_from_is_err_and c.from_residual-in_err-write_drawing.result c.from_residual-in_err-write_drawing.ensures.1 in
     let s = state_of c.args.session.now in
     let t = c.args.session.now.tail in
-    let cs = steps_of c.args.commands.now (waiting c.args.seconds.now.items) in
+    let cs = steps_of c.args.commands.now (seconds_left c.args.seconds.now.items) in
     let ran = c.in_ok-refused.ensures in
     let begun = begun_with c.args.session.now.dim c.args.session.now.body c.design.result.now c.len-before.result c.design.ensures.whole
     c.design.ensures.dim c.design.ensures.body c.len-before.ensures in
@@ -31,7 +31,7 @@ pub returns : goal.returns
 returns g c =
     let s = state_of c.args.session.now in
     let t = c.args.session.now.tail in
-    let cs = steps_of c.args.commands.now (waiting c.args.seconds.now.items) in
+    let cs = steps_of c.args.commands.now (seconds_left c.args.seconds.now.items) in
     let ran = c.in_ok-refused.ensures in
     let begun = begun_with c.args.session.now.dim c.args.session.now.body c.design.result.now c.len-before.result c.design.ensures.whole
     c.design.ensures.dim c.design.ensures.body c.len-before.ensures in

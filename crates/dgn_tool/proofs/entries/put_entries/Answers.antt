@@ -17,7 +17,7 @@ entries-preserved c =
     let here = subst (λ (left : List PatchEntry). put_from c.args.tail (c.entries.number + 1) c.entries.body.items (all_packed left) ≡ whole)
     split c.entries.invariant.left in
     record {
-      few = c.in_ok-put_entry.ensures.few;
+      few = c.in_ok-put_entry.ensures.bounded;
       counted = ap (λ (k : ℕ). k + 1) c.entries.invariant.counted;
       left = sym (goes_behind c.args.tail (c.entries.number + 1) c.entries.body.items c.put_entry.new.body.items (packed_of e)
           (all_packed (drop (i + 1) es)) c.in_ok-put_entry.ensures.put) ∙ here;

@@ -43,8 +43,8 @@ returns-in-Ok-clause-put c =
     ) in
     goes_on c.args.tail c.args.number c.args.body.now.items e [] so few ∙ ap Made (sym c.in-Ok.ensures.ok)
 
-pub returns-in-Ok-clause-few : goal.returns-in-Ok-clause-few
-returns-in-Ok-clause-few c =
+pub returns-in-Ok-clause-bounded : goal.returns-in-Ok-clause-bounded
+returns-in-Ok-clause-bounded c =
     let e = packed_of c.args.entry.now in
     let so : Stands c.args.body.now.items e = subst (λ (b : List ℕ). Stands b e) c.deref.ensures.value (c.if-not-stands.ensures.0 refl) in
     omega (

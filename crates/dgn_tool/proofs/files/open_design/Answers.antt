@@ -26,11 +26,11 @@ returns-in-Ok-clause-read g c =
     let bytes = c.in_ok-bytes.bytes.items in
     let d = opened_of c.in-Ok.design in
     then_comes (λ files. design_in files c.args.input.now) behind bytes (Ok d) _ _ _ c.in_ok-bytes.ensures.read
-    (gives_so (λ files. behind files bytes) d _ (λ _. ap (λ (r : Result Opened Fault). at_once (drawing_opened r)) c.in-Ok.ensures.told))
+    (gives_so (λ files. behind files bytes) d _ (λ _. ap (λ (r : Result Opened Fault). at_once (drawing_opened r)) c.in-Ok.ensures.opening))
 
 pub returns-in-Err-clause-read : goal.returns-in-Err-clause-read
 returns-in-Err-clause-read g c =
     let bytes = c.in_ok-bytes.bytes.items in
     then_comes (λ files. design_in files c.args.input.now) behind bytes (Err c.of.result) _ _ _ c.in_ok-bytes.ensures.read
     (subst (λ (e : End). ComesTo (λ files. behind files bytes) (Err e) (seen g.D.Desk c.read_input.new.desk) (seen g.D.Desk c.end_bad_design.new.desk))
-    (sym c.of.ensures) (c.end_bad_design.ensures (opening bytes) c.in-Err.ensures.told))
+    (sym c.of.ensures) (c.end_bad_design.ensures (opening bytes) c.in-Err.ensures.opening))

@@ -3,7 +3,7 @@ use Rattle.std.specs.Prelude.{codes}
 use Rattle.std.proofs.lemmas.Result.{err_from_is_err_and}
 use Rattle.dgn_desk.specs.Content.{Files}
 use Rattle.dgn_drawing.specs.declared.command.Command.{Command}
-use Rattle.edit_script.specs.Script.{commands_of, Tells}
+use Rattle.edit_script.specs.Script.{commands_of, TellsOfScript}
 use Rattle.edit_script.specs.declared.fault.ScriptFault.{ScriptFault}
 use Rattle.edit_script.specs.declared.fault.ScriptFault.TheVariants as faults
 use Rattle.edit_script.specs.declared.limits.TheConstants.{MOST_SCRIPT}
@@ -50,7 +50,7 @@ returns-in-Err-Line g c =
     let text = c.in_ok-text.text.items in
     let number = c.in-Err-Line.number in
     let told : commands_of c.deref.result.now ≡ Err (faults.Line number) =
-    subst (Tells c.deref.result.now) c.in-Err-Line.field-0-is c.in-Err-Line.ensures.fault in
+    subst (TellsOfScript c.deref.result.now) c.in-Err-Line.field-0-is c.in-Err-Line.ensures.fault in
     then_comes (text_in c.args.script.now) behind text (Err c.of.result) _ _ _ c.in_ok-text.ensures.read
     (comes_so (λ files. behind files text) (ended statuses.BadScript (numbered (codes "bad script line ") number)) c.end_numbered.result c.of.result _ _
     (λ files. read_so files text (Err (faults.Line number)) (ap commands_of (sym c.deref.ensures.value) ∙ told)) c.of.ensures c.end_numbered.ensures)

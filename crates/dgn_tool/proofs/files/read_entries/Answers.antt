@@ -36,8 +36,8 @@ returns-in_err-bytes-clause-read g c =
     let p = err_from_is_err_and c.from_residual.result c.from_residual.ensures.1 in
     rw (p.1, p.2) (ends_first (patch_in c.args.patch.now) behind c.in_err-bytes.field-0.0 _ _ c.in_err-bytes.ensures.read)
 
-pub returns-in-Ok-clause-few : goal.returns-in-Ok-clause-few
-returns-in-Ok-clause-few g c = few_read c.in-Ok.entries.items c.in-Ok.ensures.found.entries
+pub returns-in-Ok-clause-bounded : goal.returns-in-Ok-clause-bounded
+returns-in-Ok-clause-bounded g c = few_read c.in-Ok.entries.items c.in-Ok.ensures.found.entries
 
 pub returns-in-Ok-clause-read : goal.returns-in-Ok-clause-read
 returns-in-Ok-clause-read g c =

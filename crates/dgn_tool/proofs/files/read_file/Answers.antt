@@ -18,7 +18,7 @@ returns-in-Ok-clause-read g c =
     let line = c.args.line.now in
     let bytes : IsBytes c.in-Ok.bytes.items = subst IsBytes c.deref.ensures.value c.are_bytes.ensures in
     record {
-      reads = record { told = read.told; calm = read.cause; quiet = read.other; stays = read.stays };
+      reads = record { changes = read.changes; calm = read.cause; quiet = read.other; stays_willing = read.stays_willing };
       gives = where_told (λ k. c.in-Ok.bytes.items ≡ bytes_of k.files name)
           (λ k. ((file_in k.files name limit line).answer ≡ Ok c.in-Ok.bytes.items) × AreInBytes k.files (file_in k.files name limit line).sources)
           _ read.whole
@@ -35,7 +35,7 @@ returns-in-Err-TooLong-clause-read g c =
     let limit = c.args.limit in
     let line = c.args.line.now in
     let reads : OnlyReads (seen g.D.Desk c.args.desk.now) (seen g.D.Desk c.read_all.new.desk) =
-    record { told = read.told; calm = read.cause; quiet = read.other; stays = read.stays } in
+    record { changes = read.changes; calm = read.cause; quiet = read.other; stays_willing = read.stays_willing } in
     let rest : Files → Reading (List ℕ) = λ _. at_once (Err (ended statuses.TooLong line)) in
     continues (λ files. file_in files name limit line) rest (Err c.of.result) _ _ _ reads
     (where_told _ (λ k. Goes k.files (file_in k.files name limit line) (rest k.files)) _ (read.long refl)
@@ -54,9 +54,9 @@ returns-in-Err-Fault-clause-read g c =
     record {
       rose = read.cause.1;
       quiet = read.other;
-      stays = read.stays;
-      only = read.told;
-      lacks = λ willing there. read.able willing (where_told (λ k. AreThere k.files (file_in k.files name c.args.limit c.args.line.now).sources)
+      stays_willing = read.stays_willing;
+      only = read.changes;
+      lacks = λ willing there. read.never_fails willing (where_told (λ k. AreThere k.files (file_in k.files name c.args.limit c.args.line.now).sources)
           (λ k. IsThere k.files (record { name = name; limit = c.args.limit })) _ there (λ k all. all.0));
     }
 
@@ -64,4 +64,4 @@ pub returns-in-Err-Memory-clause-read : goal.returns-in-Err-Memory-clause-read
 returns-in-Err-Memory-clause-read g c =
     let read = rw c.in-Err-Memory.field-0-is at c.in-Err-Memory.ensures in
     wants_more (λ files. file_in files c.args.name.now c.args.limit c.args.line.now) _ _
-    (record { told = read.told; calm = read.cause; quiet = read.other; stays = read.stays })
+    (record { changes = read.changes; calm = read.cause; quiet = read.other; stays_willing = read.stays_willing })

@@ -6,7 +6,7 @@ use Rattle.dgn_drawing.specs.declared.command.Command.{Command}
 use Rattle.elem_index.specs.Answers.{opened_of}
 use Rattle.elem_index.specs.Opened.{Opened}
 use Rattle.dgn_answers.specs.Steps.{steps_of}
-use Rattle.dgn_import.specs.Seconds.{SecondValue, waiting}
+use Rattle.dgn_import.specs.Seconds.{SecondValue, seconds_left}
 use Rattle.dgn_tool.specs.Ends.{ComesTo, IsRead}
 use Rattle.dgn_tool.specs.Inputs.{Inputs, drawing_in, commands_in, seconds_in}
 use Rattle.dgn_tool.specs.Readings.{Reading, at_once, ◌>>=◌}
@@ -58,7 +58,7 @@ returns-clause-read g c =
     let script = c.args.script.now in
     let d = opened_of c.in_ok-design.design in
     let cs = c.in_ok-commands.commands.items in
-    let vs = waiting c.in_ok-seconds.seconds.items in
+    let vs = seconds_left c.in_ok-seconds.seconds.items in
     let i : Inputs = record { drawing = d; steps = steps_of cs vs } in
     let read = subst (λ (ks : List Command). IsRead (λ files. seconds_in files ks) vs (seen g.D.Desk c.read_commands.new.desk)
     (seen g.D.Desk c.read_seconds.new.desk)) c.deref.ensures.value c.in_ok-seconds.ensures.read in

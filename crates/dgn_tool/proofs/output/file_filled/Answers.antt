@@ -12,5 +12,5 @@ returns g c =
     _ c.file_and_say.result _ _
     (ap (filed_then_said statuses.Done c.args.text.now c.args.output.now)
     (sym (filled_so c.args.before c.filling_len-zero_count.result (length c.args.body.now)
-    c.args.body.now c.args.tail.now c.args.tail.now _ refl refl c.filling_len-zero_count.ensures.few c.filling_len-zero_count.ensures.exact refl)))
+    c.args.body.now c.args.tail.now c.args.tail.now _ refl refl c.filling_len-zero_count.ensures.bounded c.filling_len-zero_count.ensures.exact refl)))
     c.file_and_say.ensures

@@ -8,5 +8,5 @@ pub returns : goal.returns
 returns g c =
     subst (λ (b : List ℕ). DeskWrites g.D.Desk c.write_file.result (FilesAll c.write_file.result c.args.output.now b) c.args.desk.now c.write_file.new.desk)
     (filled_so c.args.before c.filling_len-count.result (length c.args.body.now)
-    c.args.body.now c.args.tail.now c.args.tail.now _ refl refl c.filling_len-count.ensures.few c.filling_len-count.ensures.exact refl)
+    c.args.body.now c.args.tail.now c.args.tail.now _ refl refl c.filling_len-count.ensures.bounded c.filling_len-count.ensures.exact refl)
     c.write_file.ensures

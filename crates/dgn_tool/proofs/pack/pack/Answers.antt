@@ -2,7 +2,7 @@ use Rattle.std.proofs.Common.{List, Ok, subst}
 use Rattle.dgn_drawing.specs.declared.command.Command.{Command}
 use Rattle.elem_index.specs.Answers.{opened_of}
 use Rattle.dgn_answers.specs.Steps.{steps_of}
-use Rattle.dgn_import.specs.Seconds.{waiting}
+use Rattle.dgn_import.specs.Seconds.{seconds_left}
 use Rattle.dgn_tool.specs.Ends.{DeskComes}
 use Rattle.dgn_tool.specs.Inputs.{inputs_in}
 use Rattle.dgn_tool.specs.Packing.{packed}
@@ -14,7 +14,7 @@ pub returns-in-Ok : goal.returns-in-Ok
 returns-in-Ok g c =
     let read = c.in-Ok.field-0 in
     let d = opened_of read.design in
-    let vs = waiting read.seconds.items in
+    let vs = seconds_left read.seconds.items in
     let name = c.args.patch.now in
     run_comes (λ files. inputs_in files c.args.input.now c.args.script.now) (λ i. packed i.drawing i.steps name)
     (record { drawing = d; steps = steps_of read.commands.items vs }) c.pack_commands.result c.of.result _ _ _ c.in-Ok.ensures.read c.of.ensures

@@ -4,7 +4,7 @@ use Rattle.std.proofs.lemmas.List.{drop_more, drop_all}
 use Rattle.std.proofs.lemmas.Result.{err_from_is_err_and}
 use Rattle.dgn_desk.specs.Seen.{Seen, seen}
 use Rattle.dgn_import.specs.declared.second.Second.{Second}
-use Rattle.dgn_import.specs.Seconds.{SecondValue, value_of, IsSound}
+use Rattle.dgn_import.specs.Seconds.{SecondValue, value_of, IsOpened}
 use Rattle.dgn_drawing.specs.declared.command.Command.{Command}
 use Rattle.dgn_tool.specs.Ends.{ComesTo}
 use Rattle.dgn_tool.specs.Inputs.{seconds_behind}
@@ -30,7 +30,7 @@ pub commands-init : goal.commands-init
 commands-init g c = record {
   read = λ result new comes. subst (λ (l : List Second). ComesTo (λ files. seconds_behind files (map value_of l) (names_in c.args.commands.now)) result
       (seen g.D.Desk c.args.desk.now) new) c.new-seconds.ensures.items comes;
-  sound = subst (AllByRecursion IsSound) (sym c.new-seconds.ensures.items) tt;
+  sound = subst (AllByRecursion IsOpened) (sym c.new-seconds.ensures.items) tt;
 }
 
 pub commands-preserved : goal.commands-preserved

@@ -1,7 +1,7 @@
 use Rattle.std.proofs.Common.{List, Result, drop, map}
 use Rattle.std.specs.List.{AllByRecursion}
 use Rattle.dgn_desk.specs.Seen.{Seen, seen}
-use Rattle.dgn_import.specs.Seconds.{SecondValue, value_of, IsSound}
+use Rattle.dgn_import.specs.Seconds.{SecondValue, value_of, IsOpened}
 use Rattle.dgn_tool.specs.Ends.{ComesTo}
 use Rattle.dgn_tool.specs.Inputs.{seconds_behind, seconds_in}
 use Rattle.dgn_tool.specs.SecondFiles.{names_in}
@@ -14,5 +14,5 @@ invariant-commands g l = record {
   read : (result : Result (List SecondValue) End) (new : Seen)
       → ComesTo (λ files. seconds_behind files (map value_of l.seconds.items) (names_in (drop l.command-index l.commands))) result (seen g.D.Desk l.desk) new
       → ComesTo (λ files. seconds_in files l.commands) result (seen g.D.Desk l.fn.desk) new;
-  sound : AllByRecursion IsSound l.seconds.items;
+  sound : AllByRecursion IsOpened l.seconds.items;
 }

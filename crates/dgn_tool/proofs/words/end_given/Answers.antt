@@ -16,5 +16,5 @@ returns-in-Ok-clause-words g c =
       bytes = e.bytes;
       never_fewer = e.never_fewer;
       stays_willing = e.stays_willing;
-      stays = e.stays;
+      as_asked = e.as_asked;
     })

@@ -15,12 +15,14 @@ err_so (Err e) so is = so e is
 
 pub returns-clause-words : goal.returns-clause-words
 returns-clause-words g c =
-    ok_exits c.args.given (λ words. request_of (map string_bytes words.items)) c.new-buffered.ensures.seen (ap (seen g.D.Desk) c.into_inner.ensures) c.flushed-status.ensures.writes refl
+    ok_exits c.args.given (λ words. request_of (map string_bytes words.items)) c.new-buffered.ensures.seen (ap (seen g.D.Desk) c.into_inner.ensures)
+    c.flushed-status.ensures.writes refl
     c.exit_code.ensures c.end_given-ended.ensures.words
 
 pub returns-clause-none : goal.returns-clause-none
 returns-clause-none g c =
-    err_exits c.args.given (λ error. ¬ (error_kind error ≡ OutOfMemory)) (request_of []) c.new-buffered.ensures.seen (ap (seen g.D.Desk) c.into_inner.ensures) c.flushed-status.ensures.writes refl
+    err_exits c.args.given (λ error. ¬ (error_kind error ≡ OutOfMemory)) (request_of []) c.new-buffered.ensures.seen
+    (ap (seen g.D.Desk) c.into_inner.ensures) c.flushed-status.ensures.writes refl
     c.exit_code.ensures c.end_given-ended.ensures.none
 
 pub returns-clause-memory : goal.returns-clause-memory

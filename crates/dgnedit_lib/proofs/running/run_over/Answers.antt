@@ -14,7 +14,13 @@ returns-in-Some-clause-outcome c = λ read memory.
     (ap (λ e. record { text_length = e.text_length; file_length = c.put_in-in-Some.result; status = e.status; file_written = true }) c.with_text-ended.ensures
     ∙ ap (λ n. record { text_length = n; file_length = c.put_in-in-Some.result; status = number_of c.run-status.result; file_written = true })
     (c.put_in.ensures.count ∙ ap length c.said.ensures)
-    ∙ ap (λ n. record { text_length = length (all_said c.run-status.new.desk.content); file_length = n; status = number_of c.run-status.result; file_written = true })
+    ∙ ap (λ n. record {
+      text_length = length (all_said c.run-status.new.desk.content);
+      file_length = n;
+      status = number_of c.run-status.result;
+      file_written
+          = true;
+    })
     c.put_in-in-Some.ensures.count)
     (c.put_in.ensures.put ∙ ap (λ t. put_in t c.args.text.now) c.said.ensures) c.put_in-in-Some.ensures.put
 

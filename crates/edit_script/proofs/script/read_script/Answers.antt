@@ -23,7 +23,7 @@ lines-preserved c =
                 ≡ commands_of c.args.bytes.now) count
                 (passes c.lines.commands.items c.lines.number c.lines.imports c.in-Some.line.now _ _ _ c.in-Some.ensures.first says c.lines.invariant.reads));
             fits = omega (arith, c.in-Some.ensures.shorter, c.lines.invariant.fits);
-            few = omega (arith, c.lines.invariant.few, c.imports_with-with_this.ensures.few);
+            few = omega (arith, c.lines.invariant.few, c.imports_with-with_this.ensures.bounded);
           }
       | in-Asks+in_ok-map_err-in-Asks w ↦
           let pushed : c.match-limited.commands.items ≡ c.lines.commands.items ++ w.in-Asks.command ∷ [] = grind (arith, common_steps) in
@@ -36,6 +36,6 @@ lines-preserved c =
                 (keeps c.lines.commands.items c.lines.number c.lines.imports w.in-Asks.command c.in-Some.line.now _ _ _ c.in-Some.ensures.first says
                 c.lines.invariant.reads));
             fits = omega (arith, c.in-Some.ensures.shorter, c.lines.invariant.fits);
-            few = omega (arith, c.lines.invariant.few, c.imports_with-with_this.ensures.few);
+            few = omega (arith, c.lines.invariant.few, c.imports_with-with_this.ensures.bounded);
           }
     ]

@@ -8,14 +8,14 @@ use Rattle.elem_index.proofs.Places.{run_whole, run_opens}
 use Rattle.elem_index.proofs.design.read_design.Goals as goal
 use Rattle.dgn_drawing.specs.declared.limits.TheConstants.{MOST_DESIGN}
 
-pub returns-then-not-begins_with_tcb-clause-told : goal.returns-then-not-begins_with_tcb-clause-told
-returns-then-not-begins_with_tcb-clause-told c =
+pub returns-then-not-begins_with_tcb-clause-opening : goal.returns-then-not-begins_with_tcb-clause-opening
+returns-then-not-begins_with_tcb-clause-opening c =
     opening-other c.args.bytes.items (ap is_tcb (sym c.deref.ensures.value) ∙ sym c.begins_with_tcb.ensures ∙ c.if-not-begins_with_tcb.true)
 
-pub returns-in_err-kept-clause-told : goal.returns-in_err-kept-clause-told
-returns-in_err-kept-clause-told c =
+pub returns-in_err-kept-clause-opening : goal.returns-in_err-kept-clause-opening
+returns-in_err-kept-clause-opening c =
     let p = err_from_is_err_and c.from_residual.result c.from_residual.ensures.1 in
-    rw (p.1, p.2) (subst (λ (f : List ℕ). TellsFault (opening f) c.in_err-kept.field-0.0) c.deref-3.ensures.value c.in_err-kept.ensures.told)
+    rw (p.1, p.2) (subst (λ (f : List ℕ). TellsFault (opening f) c.in_err-kept.field-0.0) c.deref-3.ensures.value c.in_err-kept.ensures.first_fault)
 
 pub returns-in-Ok-clause-whole : goal.returns-in-Ok-clause-whole
 returns-in-Ok-clause-whole c =
@@ -24,8 +24,8 @@ returns-in-Ok-clause-whole c =
     (subst (λ (f : List ℕ). IsRun f c.in_ok-kept.kept.items c.in_ok-kept.kinds.items c.in_ok-kept.end) c.deref-3.ensures.value c.in_ok-kept.ensures.opens)
     few (c.dimension-dim.ensures ∙ ap dimension c.deref-2.ensures.value) c.in-Ok.ensures.items c.in-Ok.ensures.tail
 
-pub returns-in-Ok-clause-told : goal.returns-in-Ok-clause-told
-returns-in-Ok-clause-told c =
+pub returns-in-Ok-clause-opening : goal.returns-in-Ok-clause-opening
+returns-in-Ok-clause-opening c =
     let few : length c.args.bytes.items ≤ MOST_DESIGN = omega (arith, ap (length {A = ℕ}) c.deref.ensures.value, c.deref.ensures.len, c.requires) in
     run_opens (record {
       dim = c.dimension-dim.result;

@@ -11,8 +11,8 @@ returns-in_err-next_place-clause-fault c =
     rw (p.1, p.2) (faulty_here c.args.f.now bytes c.requires.tcb c.elements.invariant.1.kept c.elements.invariant.1.kinds c.elements.walk.at
     c.elements.invariant.1.going c.in_err-next_place.field-0.0 c.in_err-next_place.ensures.fault)
 
-pub returns-in_err-next_place-clause-told : goal.returns-in_err-next_place-clause-told
-returns-in_err-next_place-clause-told c =
+pub returns-in_err-next_place-clause-first_fault : goal.returns-in_err-next_place-clause-first_fault
+returns-in_err-next_place-clause-first_fault c =
     let p = err_from_is_err_and c.from_residual.result c.from_residual.ensures.1 in
     let bytes = are_bytes c.args.f.now (λ i. omega (arith, c.type_inv.f i)) in
     rw (p.1, p.2) (fault_here c.args.f.now bytes c.requires.tcb c.elements.invariant.1.kept c.elements.invariant.1.kinds c.elements.walk.at
@@ -21,7 +21,7 @@ returns-in_err-next_place-clause-told c =
 pub overflow_add-count : goal.overflow_add-count
 overflow_add-count c =
     let small : 4 * c.elements.count ≤ length c.args.f.now = counted_small c.args.f.now c.elements.count c.elements.walk.at c.elements.invariant.1 in
-    omega (arith, c.requires.few)
+    omega (arith, c.requires.bounded)
 
 pub elements-preserved : goal.elements-preserved
 elements-preserved c =

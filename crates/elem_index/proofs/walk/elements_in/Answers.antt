@@ -16,8 +16,8 @@ returns-in_err-at-clause-fault c =
     rw (p.1, p.2) (faulty_here c.args.f.now bytes c.requires.tcb c.elements.kept.items c.elements.kinds.items c.elements.walk.at c.elements.invariant.1
     c.in_err-at.field-0.0 c.in_err-at.ensures.fault)
 
-pub returns-in_err-at-clause-told : goal.returns-in_err-at-clause-told
-returns-in_err-at-clause-told c =
+pub returns-in_err-at-clause-first_fault : goal.returns-in_err-at-clause-first_fault
+returns-in_err-at-clause-first_fault c =
     let p = err_from_is_err_and c.from_residual.result c.from_residual.ensures.1 in
     let bytes = are_bytes c.args.f.now (λ i. omega (arith, c.type_inv.f i)) in
     rw (p.1, p.2) (fault_here c.args.f.now bytes c.requires.tcb c.elements.kept.items c.elements.kinds.items c.elements.walk.at c.elements.invariant.1

@@ -1,6 +1,6 @@
 use Rattle.std.proofs.Common.{◌≡◌, List, ℕ, Some, ap, sym, ◌∙◌}
 use Rattle.dgn_drawing.specs.declared.mask.Mask.{Mask}
-use Rattle.dgn_drawing.specs.Faults.{IsSoundIn}
+use Rattle.dgn_drawing.specs.Faults.{HasNoFaultIn}
 use Rattle.std.specs.Prelude.{option_map, slice_get}
 use Rattle.dgn_drawing.specs.Reading.{element_at}
 use Rattle.dgn_drawing.specs.Spelling.{spell}
@@ -16,7 +16,7 @@ returns-in-Some-Leaf-clause-bytes c =
 
 pub returns-in-Some-Leaf-clause-sound : goal.returns-in-Some-Leaf-clause-sound
 returns-in-Some-Leaf-clause-sound c =
-    if_mapped _ _ c.element.result (IsSoundIn c.args.d.now.dim) c.element.ensures.bytes (λ b is. sound_here c.args.d.now c.requires.whole c.args.n b is)
+    if_mapped _ _ c.element.result (HasNoFaultIn c.args.d.now.dim) c.element.ensures.bytes (λ b is. sound_here c.args.d.now c.requires.whole c.args.n b is)
 
 pub returns-in-Some-Leaf-clause-shown : goal.returns-in-Some-Leaf-clause-shown
 returns-in-Some-Leaf-clause-shown c =

@@ -2,8 +2,8 @@ use Rattle.dgn_drawing.specs.Nesting.{itself}
 use Rattle.nest_tree.proofs.NestingSteps.{nest_cons, nest_nil, flat-forest}
 use Rattle.nest_tree.proofs.laws.lists_are_read.Goals as goal
 
-pub returns-clause-some : goal.returns-clause-some
-returns-clause-some c = λ scope h r. nest_cons itself scope h r
+pub returns-clause-lists : goal.returns-clause-lists
+returns-clause-lists c = λ scope h r. nest_cons itself scope h r
 
 pub returns-clause-none : goal.returns-clause-none
 returns-clause-none c = λ scope. nest_nil itself scope

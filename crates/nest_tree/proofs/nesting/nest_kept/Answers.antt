@@ -20,8 +20,8 @@ taken kinds first b n front says is =
     ∙ ap (λ (l : List ℕ). cond {A = ℕ} (is_counted (class_of (get_or l 0 0 % 128))) 1 0) front
     ∙ ap (λ (k : ℕ). cond {A = ℕ} (is_counted (class_of (k % 128))) 1 0) (get_or-take 1 kinds 0 0 (omega arith))
 
-pub nest_source-requires-clause-few : goal.nest_source-requires-clause-few
-nest_source-requires-clause-few c =
+pub nest_source-requires-clause-bounded : goal.nest_source-requires-clause-bounded
+nest_source-requires-clause-bounded c =
     let few = c.requires.kept.few in
     omega (
       arith,

@@ -2,26 +2,26 @@ use Rattle.std.proofs.Common.{ap, sym, ◌<◌, ◌≤◌, ℕ, subst, arith}
 use Rattle.std.specs.Prelude.{Option, IfSome}
 use Rattle.nest_tree.specs.declared.open_list.OpenList.{OpenList}
 use Rattle.nest_tree.specs.Places.{ArePlaces, Going, parent_in}
-use Rattle.nest_tree.proofs.OpenLists.{length-links}
+use Rattle.nest_tree.proofs.OpenLists.{length-entries}
 use Rattle.nest_tree.proofs.HeadersApart.{parent_reached, around_reached}
 use Rattle.nest_tree.proofs.ListStacks.{leaves, never_ends}
 use Rattle.nest_tree.proofs.open_list.list_at.Goals as goal
 
 pub list_around-list-requires-clause-places : goal.list_around-list-requires-clause-places
 list_around-list-requires-clause-places c =
-    let long = length-links c.args.seen.now.list c.args.at c.args.ends.now c.args.links.now.items c.requires.places in
-    subst (λ (n : ℕ). ArePlaces c.args.seen.now.list n c.args.ends.now c.args.links.now.items) (sym long) c.requires.places
+    let long = length-entries c.args.seen.now.list c.args.at c.args.ends.now c.args.entries.now.items c.requires.places in
+    subst (λ (n : ℕ). ArePlaces c.args.seen.now.list n c.args.ends.now c.args.entries.now.items) (sym long) c.requires.places
 
 pub list_around-list-requires-clause-known : goal.list_around-list-requires-clause-known
 list_around-list-requires-clause-known c =
-    let long = length-links c.args.seen.now.list c.args.at c.args.ends.now c.args.links.now.items c.requires.places in
+    let long = length-entries c.args.seen.now.list c.args.at c.args.ends.now c.args.entries.now.items c.requires.places in
     let left = leaves c.args.seen.now.list c.args.at c.loop-list.list c.in-Some.header c.requires.within c.loop-list-test.true c.loop-list.invariant.0
     c.in-Some.is in
     omega (arith, left.before)
 
 pub list_around-list-requires-clause-above : goal.list_around-list-requires-clause-above
 list_around-list-requires-clause-above c =
-    let long = length-links c.args.seen.now.list c.args.at c.args.ends.now c.args.links.now.items c.requires.places in
+    let long = length-entries c.args.seen.now.list c.args.at c.args.ends.now c.args.entries.now.items c.requires.places in
     let left = leaves c.args.seen.now.list c.args.at c.loop-list.list c.in-Some.header c.requires.within c.loop-list-test.true c.loop-list.invariant.0
     c.in-Some.is in
     subst (λ (n : ℕ). IfSome (parent_in c.args.seen.now.list c.in-Some.header) (λ p. p < n)) (sym long) left.above

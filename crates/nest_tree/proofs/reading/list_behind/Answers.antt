@@ -9,12 +9,12 @@ returns-then-shape-eq0-clause-going c =
 pub overflow_add-result-2 : goal.overflow_add-result-2
 overflow_add-result-2 c =
     omega
-    (arith, end_fits c.args._seen.now.list c.args.at c.args.around c.requires.going c.requires.inside c.args.shape c.requires.shape c.requires.few)
+    (arith, end_fits c.args._seen.now.list c.args.at c.args.around c.requires.going c.requires.inside c.args.shape c.requires.shape c.requires.bounded)
 
 pub overflow_cast-result-2 : goal.overflow_cast-result-2
 overflow_cast-result-2 c =
     omega
-    (arith, end_fits c.args._seen.now.list c.args.at c.args.around c.requires.going c.requires.inside c.args.shape c.requires.shape c.requires.few)
+    (arith, end_fits c.args._seen.now.list c.args.at c.args.around c.requires.going c.requires.inside c.args.shape c.requires.shape c.requires.bounded)
 
 pub overflow_add-result-3 : goal.overflow_add-result-3
 overflow_add-result-3 c =
@@ -23,7 +23,7 @@ overflow_add-result-3 c =
       going_deep c.args._seen.now.list c.args.at c.args.around c.requires.going,
       going_ends c.args._seen.now.list c.args.at c.args.around c.requires.going,
       c.requires.inside,
-      c.requires.few,
+      c.requires.bounded,
     )
 
 pub returns-clause-going : goal.returns-clause-going

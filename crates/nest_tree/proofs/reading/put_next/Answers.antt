@@ -1,7 +1,7 @@
 use Rattle.std.proofs.Common.{◌≡◌, ◌∙◌, ◌+◌, ◌-◌, ap, sym, subst, arith, ℕ, Bool}
 use Rattle.std.specs.Prelude.{Some, option_map}
 use Rattle.dgn_drawing.specs.declared.row.Row.{Row}
-use Rattle.nest_tree.specs.Sources.{rows_of, IsAhead}
+use Rattle.nest_tree.specs.Sources.{rows_of, IsScan}
 use Rattle.nest_tree.proofs.ListStacks.{going_ends}
 use Rattle.nest_tree.proofs.OpenLists.{between, shaped}
 use Rattle.nest_tree.proofs.RowsRead.{inside_rows, row_at}
@@ -15,7 +15,7 @@ cbit-cbit-requires-clause-known c =
 pub shape_at-shape-requires-clause-between : goal.shape_at-shape-requires-clause-between
 shape_at-shape-requires-clause-between c =
     between c.args.seen.now.list (rows_of c.args.source.now) c.args.first c.requires.rows c.args.at c.args.around c.requires.going c.requires.inside
-    c.requires.few c.requires.begun
+    c.requires.bounded c.requires.begun
 
 pub put_element-requires-clause-row : goal.put_element-requires-clause-row
 put_element-requires-clause-row c =
@@ -28,15 +28,15 @@ put_element-requires-clause-row c =
 pub put_element-requires-clause-shape : goal.put_element-requires-clause-shape
 put_element-requires-clause-shape c =
     shaped c.args.seen.now.list (rows_of c.args.source.now) c.args.first c.requires.rows c.args.at c.args.around c.requires.going c.requires.inside
-    c.requires.few c.requires.begun c.shape_at-shape.result c.shape_at-shape.ensures.shape
+    c.requires.bounded c.requires.begun c.shape_at-shape.result c.shape_at-shape.ensures.shape
 
 pub list_behind-requires-clause-shape : goal.list_behind-requires-clause-shape
 list_behind-requires-clause-shape c =
     shaped c.args.seen.now.list (rows_of c.args.source.now) c.args.first c.requires.rows c.args.at c.args.around c.requires.going c.requires.inside
-    c.requires.few c.requires.begun c.shape_at-shape.result c.shape_at-shape.ensures.shape
+    c.requires.bounded c.requires.begun c.shape_at-shape.result c.shape_at-shape.ensures.shape
 
-pub returns-clause-ahead : goal.returns-clause-ahead
-returns-clause-ahead c =
+pub returns-clause-scan : goal.returns-clause-scan
+returns-clause-scan c =
     let begun = c.requires.begun in
     let next : c.args.at + 1 - c.args.first ≡ c.args.at - c.args.first + 1 = omega arith in
-    subst (λ (k : ℕ). IsAhead (rows_of c.args.source.now) k c.shape_at-shape.new.ahead) (sym next) c.shape_at-shape.ensures.ahead
+    subst (λ (k : ℕ). IsScan (rows_of c.args.source.now) k c.shape_at-shape.new.scan) (sym next) c.shape_at-shape.ensures.scan

@@ -6,12 +6,12 @@ use Rattle.nest_tree.specs.Depths.{IsWordTotal}
 use Rattle.dgn_drawing.specs.Nesting.{Whole, itself, nest}
 use Rattle.dgn_drawing.specs.Numbering.{marks}
 use Rattle.nest_tree.specs.Places.{marks_in, Going}
-use Rattle.nest_tree.specs.declared.ahead.Ahead.{Ahead}
+use Rattle.nest_tree.specs.declared.scan.Scan.{Scan}
 use Rattle.nest_tree.specs.Shapes.{IsRow}
-use Rattle.nest_tree.specs.Sources.{rows_of, IsAhead, AreLeaves}
+use Rattle.nest_tree.specs.Sources.{rows_of, IsScan, AreLeaves}
 use Rattle.nest_tree.specs.declared.open_list.OpenList.{OpenList}
 use Rattle.nest_tree.proofs.HeadersApart.{NotBefore, reached}
-use Rattle.nest_tree.proofs.LeavesRead.{leaves_of, ahead_past}
+use Rattle.nest_tree.proofs.LeavesRead.{leaves_of, scan_past}
 use Rattle.nest_tree.proofs.ListStacks.{going_ends}
 use Rattle.nest_tree.proofs.RowDepths.{near_apart, near_list}
 use Rattle.nest_tree.proofs.RowsRead.{length-read}
@@ -56,14 +56,14 @@ near_read list rows kept len first at f are is same apart each words from going 
     omega (arith, near_list list at f going inside kept (omega arith) (omega arith) near)
 
 -- what is known ahead of the leaves is known behind them
-ahead_read : (list rows : List Row) (kept len first at run : ℕ) (f : OpenList) (a : Ahead) (roots orphans : Bool) → rows ≡ drop kept list →
+scan_read : (list rows : List Row) (kept len first at run : ℕ) (f : OpenList) (a : Scan) (roots orphans : Bool) → rows ≡ drop kept list →
     first ≡ len → len ≡ kept
-    → kept ≤ length list → first ≤ at → Going list at f → IsAhead rows (at - first) a → at - first + run ≤ f.end - first
-    → AreLeaves roots orphans rows (at - first) (at - first + run) → IsAhead rows (at + run - first) a
-ahead_read list rows kept len first at run f a roots orphans are is same within from going ahead inside leaves =
+    → kept ≤ length list → first ≤ at → Going list at f → IsScan rows (at - first) a → at - first + run ≤ f.end - first
+    → AreLeaves roots orphans rows (at - first) (at - first + run) → IsScan rows (at + run - first) a
+scan_read list rows kept len first at run f a roots orphans are is same within from going scan inside leaves =
     let most = known list rows kept len first f.end are is same within (going_ends list at f going) in
     let place : at - first + run ≡ at + run - first = omega arith in
-    subst (λ (k : ℕ). IsAhead rows k a) place (ahead_past run rows (at - first) a roots orphans ahead leaves (omega arith))
+    subst (λ (k : ℕ). IsScan rows k a) place (scan_past run rows (at - first) a roots orphans scan leaves (omega arith))
 
 pub leaf_run-leaves-requires-clause-known : goal.leaf_run-leaves-requires-clause-known
 leaf_run-leaves-requires-clause-known c =
@@ -87,7 +87,7 @@ put_leaves-requires-clause-leaves c =
     (c.elements.at + c.leaf_run-leaves.result) (omega arith) (omega arith))
 
 pub put_leaves-requires-clause-begun : goal.put_leaves-requires-clause-begun
-put_leaves-requires-clause-begun c = omega (arith, c.elements.invariant.from, c.len-first.ensures, c.args.ends.now.ok.0, c.requires.some)
+put_leaves-requires-clause-begun c = omega (arith, c.elements.invariant.from, c.len-first.ensures, c.args.ends.now.ok.0, c.requires.nonempty)
 
 pub put_leaves-requires-clause-roots : goal.put_leaves-requires-clause-roots
 put_leaves-requires-clause-roots c = λ orphans. elim c.if-roots.branch [
@@ -95,8 +95,8 @@ put_leaves-requires-clause-roots c = λ orphans. elim c.if-roots.branch [
   | else-roots w ↦ absurd (both_ways c.if-roots.orphans (w.orphans-is ∙ w.if-roots.false) orphans)
 ]
 
-pub put_next-list-requires-clause-ahead : goal.put_next-list-requires-clause-ahead
-put_next-list-requires-clause-ahead c = c.elements.invariant.ahead
+pub put_next-list-requires-clause-scan : goal.put_next-list-requires-clause-scan
+put_next-list-requires-clause-scan c = c.elements.invariant.scan
 
 pub put_next-list-requires-clause-near : goal.put_next-list-requires-clause-near
 put_next-list-requires-clause-near c =
@@ -110,9 +110,9 @@ elements-preserved c =
       from = omega arith;
       read = c.put_leaves.ensures.read;
       going = c.put_leaves.ensures.going;
-      room = c.put_leaves.ensures.room;
-      ahead = ahead_read _ _ _ _ _ _ _ _ _ _ _ c.requires.rows c.len-first.ensures c.args.ends.now.ok.0 c.requires.read.places.within
-          c.elements.invariant.from c.list_at-list.ensures.going c.elements.invariant.ahead c.leaf_run-leaves.ensures.within
+      room = c.put_leaves.ensures.keeps_room;
+      scan = scan_read _ _ _ _ _ _ _ _ _ _ _ c.requires.rows c.len-first.ensures c.args.ends.now.ok.0 c.requires.read.places.within
+          c.elements.invariant.from c.list_at-list.ensures.going c.elements.invariant.scan c.leaf_run-leaves.ensures.within
           c.leaf_run-leaves.ensures.leaves;
       header = c.list_at-list.ensures.header;
     }

@@ -18,7 +18,7 @@ pub push_reserved-requires-in-loop-i : goal.push_reserved-requires-in-loop-i
 push_reserved-requires-in-loop-i c =
     omega (
       arith,
-      c.requires.room,
+      c.requires.has_room,
       c.loop-i.invariant.1,
       c.loop-i.sums.ok.0,
       length-summed c.args.rows.now c.loop-i.sums.items c.loop-i.sum c.loop-i.i c.loop-i.invariant.0,

@@ -6,13 +6,14 @@ use Rattle.patch_bytes.proofs.writes.exchange.Goals as goal
 -- behind the old bytes stand the zeros that were there first
 pub returns-clause-rest : goal.returns-clause-rest
 returns-clause-rest g c =
-    zeros_behind c.copy_from_slice.new.self c.args.p.len g.row.LEN (omega (arith, length-take {A = ℕ}, c.copy_from_slice.ensures.len)) (sym c.requires.long)
+    zeros_behind c.copy_from_slice.new.self c.args.p.len g.row.LEN (omega (arith, length-take {A = ℕ}, c.copy_from_slice.ensures.len))
+    (sym c.requires.same_length)
 
 pub returns-clause-written : goal.returns-clause-written
 returns-clause-written g c =
     put_mid-lay c.args.buf.now (take c.args.p.len c.args.p.bytes) c.copy_from_slice-2.new.self c.args.p.at _
     (c.copy_from_slice-2.ensures.after ∙ ap (take g.row.LEN) (four_named c.args.p.bytes (omega arith))
-    ∙ ap (λ n. take n c.args.p.bytes) (sym c.requires.long))
+    ∙ ap (λ n. take n c.args.p.bytes) (sym c.requires.same_length))
     (omega (arith, length-take {A = ℕ}))
 
 pub returns-clause-old : goal.returns-clause-old

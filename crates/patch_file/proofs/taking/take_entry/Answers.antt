@@ -18,7 +18,8 @@ pub invariant_of-result : goal.invariant_of-result
 invariant_of-result c =
     let e = c.args.e.now in
     let b = c.args.body.now in
-    let are : c.in_ok-fields.fields ≡ map (exchanged c.args.body.now) e.patches = c.in_ok-fields.ensures.are ∙ ap (map (exchanged b)) c.as_slice.ensures in
+    let are : c.in_ok-fields.fields ≡ map (exchanged c.args.body.now) e.patches = c.in_ok-fields.ensures.exchanges
+    ∙ ap (map (exchanged b)) c.as_slice.ensures in
     record {
       rules = subst (AllKeepRules 0 e.len) (sym are)
           (taken_rules b 0 e.len e.patches c.requires.rising (subst (AllByRecursion IsSized) are c.in_ok-fields.ensures.sized));

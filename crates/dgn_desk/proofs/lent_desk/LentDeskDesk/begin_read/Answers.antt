@@ -8,8 +8,8 @@ pub returns-in_err-self-inside-in-Some-clause-absent : goal.returns-in_err-self-
 returns-in_err-self-inside-in-Some-clause-absent c = λ none.
     absurd (let e = sym (get_written _ _ _ _ c.in-Some.ensures) ∙ ap (λ d. maps.get d.content.files c.args.name.now) c.self.view_is ∙ none in cc)
 
-pub returns-in_ok-self-inside-in-Some-clause-told : goal.returns-in_ok-self-inside-in-Some-clause-told
-returns-in_ok-self-inside-in-Some-clause-told c =
+pub returns-in_ok-self-inside-in-Some-clause-changes : goal.returns-in_ok-self-inside-in-Some-clause-changes
+returns-in_ok-self-inside-in-Some-clause-changes c =
     opened_over c.self.inside.written c.self.inside.lent.now c.args.name.now _ [] _ _ _
     (ap (λ o. unwrap_or o []) (get_written _ _ _ _ c.in-Some.ensures) ∙ sym (append-nil _ ∙ c.in_ok-self-inside-in-Some.ensures.items))
     ∙ ap (λ d. Some (opened c.args.name.now d.content)) c.self.view_is
@@ -18,8 +18,8 @@ pub returns-in_ok-self-inside-in-Some-clause-absent : goal.returns-in_ok-self-in
 returns-in_ok-self-inside-in-Some-clause-absent c = λ none.
     absurd (let e = sym (get_written _ _ _ _ c.in-Some.ensures) ∙ ap (λ d. maps.get d.content.files c.args.name.now) c.self.view_is ∙ none in cc)
 
-pub returns-in-Some-find-clause-told : goal.returns-in-Some-find-clause-told
-returns-in-Some-find-clause-told c =
+pub returns-in-Some-find-clause-changes : goal.returns-in-Some-find-clause-changes
+returns-in-Some-find-clause-changes c =
     opened_over c.self.inside.written c.self.inside.lent.now c.args.name.now _ [] _ _ _
     (ap (λ o. unwrap_or o []) (get_lent _ _ _ c.in-None.ensures ∙ ap (maps.get _) (sym c.as_bytes.ensures.value) ∙ sym c.in-Some-find.ensures)
     ∙ sym (ap (λ xs. xs ++ c.in-Some-find.bytes.now) c.new.ensures.items))
@@ -32,7 +32,7 @@ returns-in-Some-find-clause-absent c = λ none.
     ∙ ap (λ d. maps.get d.content.files c.args.name.now) c.self.view_is
     ∙ none in cc)
 
-pub returns-in-None-find-clause-able : goal.returns-in-None-find-clause-able
-returns-in-None-find-clause-able c = λ there.
+pub returns-in-None-find-clause-never_fails : goal.returns-in-None-find-clause-never_fails
+returns-in-None-find-clause-never_fails c = λ there.
     absurd (none_there _ (sym (ap (λ d. maps.get d.content.files c.args.name.now) c.self.view_is)
     ∙ get_lent _ _ _ c.in-None.ensures ∙ ap (maps.get _) (sym c.as_bytes.ensures.value) ∙ sym c.in-None-find.ensures) there)

@@ -3,17 +3,17 @@ use Rattle.dgn_desk.specs.declared.act.Act.TheVariants.{Say}
 use Rattle.dgn_desk.proofs.Numbered.{stays_ahead, unfailing}
 use Rattle.dgn_desk.proofs.mem_desk.MemDeskDesk.say.Goals as goal
 
-pub returns-clause-stays : goal.returns-clause-stays
-returns-clause-stays c =
+pub returns-clause-stays_willing : goal.returns-clause-stays_willing
+returns-clause-stays_willing c =
     stays_ahead _ _ _ _ Say (ap (λ d. d.fails) c.self.view_is)
     (c.push_reserved-2.ensures.items ∙ ap (λ acts. acts ++ Say ∷ []) (c.reserve.ensures.items ∙ ap (λ d. d.acts) c.self.view_is))
 
-pub returns-then-is_listed-clause-stays : goal.returns-then-is_listed-clause-stays
-returns-then-is_listed-clause-stays c =
+pub returns-then-is_listed-clause-stays_willing : goal.returns-then-is_listed-clause-stays_willing
+returns-then-is_listed-clause-stays_willing c =
     stays_ahead _ _ _ _ Say (ap (λ d. d.fails) c.self.view_is)
     (c.push_reserved.ensures.items ∙ ap (λ acts. acts ++ Say ∷ []) (c.reserve.ensures.items ∙ ap (λ d. d.acts) c.self.view_is))
 
-pub returns-then-is_listed-clause-able : goal.returns-then-is_listed-clause-able
-returns-then-is_listed-clause-able c =
+pub returns-then-is_listed-clause-never_fails : goal.returns-then-is_listed-clause-never_fails
+returns-then-is_listed-clause-never_fails c =
     λ willing. absurd (unfailing c.args.self.now _ _ (ap (λ d. d.fails) c.self.view_is) (c.reserve.ensures.items ∙ ap (λ d. d.acts) c.self.view_is) willing
     (sym c.is_listed.ensures ∙ c.if-is_listed.true))

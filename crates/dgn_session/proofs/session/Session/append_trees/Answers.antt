@@ -2,7 +2,7 @@ use Rattle.std.proofs.Common.{◌≡◌, ◌+◌, length, sym, ◌∙◌, subst}
 use Rattle.std.specs.Prelude.{None}
 use Rattle.edit_ops.specs.Causes.{too_long}
 use Rattle.dgn_session.specs.State.{SessionValue}
-use Rattle.dgn_session.specs.Laws.{IsSound}
+use Rattle.dgn_session.specs.Laws.{IsSessionValue}
 use Rattle.dgn_session.proofs.AppendedTrees.{IsImported, trees_sound, trees_made}
 use Rattle.dgn_session.proofs.session.Session.append_trees.Goals as goal
 use Rattle.dgn_session.proofs.session.Session.append_trees.Goals.{In_ok-carry_out}
@@ -10,14 +10,14 @@ use Rattle.dgn_session.proofs.session.Session.append_trees.Goals.{In_ok-carry_ou
 -- what the session comes to
 imported : (c : goal.In_ok-carry_out) → IsImported c.args.bytes.now c.args.self.now c.carry_out.new.self
 imported c =
-    trees_made c.args.self.now (subst IsSound c.self.view_is c.self.invariant.back) c.args.bytes.now c.requires.trees
+    trees_made c.args.self.now (subst IsSessionValue c.self.view_is c.self.invariant.back) c.args.bytes.now c.requires.trees
     (subst (λ (v : SessionValue). too_long (length v.body + length v.tail + length c.args.bytes.now) ≡ None) c.self.view_is
     (sym c.growth_cause.ensures ∙ c.in_default.is)) c.new-patches.result c.new-patches.ensures
     c.carry_out.new.self c.in_ok-carry_out.ensures.carried
 
 pub carry_out-requires : goal.carry_out-requires
 carry_out-requires c =
-    trees_sound c.args.self.now (subst IsSound c.self.view_is c.self.invariant.back) c.args.bytes.now c.requires.trees
+    trees_sound c.args.self.now (subst IsSessionValue c.self.view_is c.self.invariant.back) c.args.bytes.now c.requires.trees
     (subst (λ (v : SessionValue). too_long (length v.body + length v.tail + length c.args.bytes.now) ≡ None) c.self.view_is
     (sym c.growth_cause.ensures ∙ c.in_default.is)) c.new-patches.result c.new-patches.ensures
 

@@ -3,8 +3,8 @@ use Rattle.std.specs.Result.{IfErr, IsErrAnd}
 use Rattle.elem_index.specs.Design.{elements}
 use Rattle.edit_ops.specs.Applying.{apply}
 use Rattle.edit_ops.specs.Planned.{IsRefused}
-use Rattle.dgn_session.specs.State.{SessionValue, state_of, applied}
-use Rattle.dgn_session.specs.Laws.{IsSound}
+use Rattle.dgn_session.specs.State.{SessionValue, state_of, edit_applied}
+use Rattle.dgn_session.specs.Laws.{IsSessionValue}
 use Rattle.dgn_session.specs.SessionParts.{plan_of}
 use Rattle.dgn_session.proofs.EditCarriedOut.{IsEdited, plan_seen, edit_sound, edit_made}
 use Rattle.dgn_session.proofs.session.Session.edit.Goals as goal
@@ -21,7 +21,7 @@ none_more n = omega arith
 -- what the session comes to
 edited : (c : goal.In_ok-carry_out) → IsEdited c.args.e.now c.args.self.now c.carry_out.new.self
 edited c =
-    edit_made c.args.self.now (subst IsSound c.self.view_is c.self.invariant.back) c.args.e.now
+    edit_made c.args.self.now (subst IsSessionValue c.self.view_is c.self.invariant.back) c.args.e.now
     (plan_of c.in_ok-plan.plan.patches c.as_slice.result.now) c.in_ok-plan.ensures.kept
     (plan_seen c.self.inside.design c.self.inside.log c.self.inside.mask c.self.inside.fence c.args.self.now c.self.view_is c.args.e.now
     c.in_ok-plan.plan c.as_slice.result.now c.as_slice.ensures c.in_ok-plan.ensures.planned) c.carry_out.new.self c.in_ok-carry_out.ensures.carried
@@ -29,7 +29,7 @@ edited c =
 pub returns-in_err-plan-clause-refused : goal.returns-in_err-plan-clause-refused
 returns-in_err-plan-clause-refused c =
     let d = c.self.inside.design in
-    subst (λ (v : SessionValue). IfErr c.from_residual.result (IsRefused (applied c.args.e.now (state_of v)))) c.self.view_is
+    subst (λ (v : SessionValue). IfErr c.from_residual.result (IsRefused (edit_applied c.args.e.now (state_of v)))) c.self.view_is
     (handed_on c.from_residual.result c.in_err-plan.field-0.0 (IsRefused (apply d.dim (elements d) (length d.tail.items) c.args.e.now))
     c.from_residual.ensures.1
     (subst (λ (n : ℕ). IsRefused (apply d.dim (elements d) n c.args.e.now) c.in_err-plan.field-0.0) (none_more (length d.tail.items))
@@ -37,7 +37,7 @@ returns-in_err-plan-clause-refused c =
 
 pub carry_out-requires : goal.carry_out-requires
 carry_out-requires c =
-    edit_sound c.args.self.now (subst IsSound c.self.view_is c.self.invariant.back) c.args.e.now
+    edit_sound c.args.self.now (subst IsSessionValue c.self.view_is c.self.invariant.back) c.args.e.now
     (plan_of c.in_ok-plan.plan.patches c.as_slice.result.now) c.in_ok-plan.ensures.kept
     (plan_seen c.self.inside.design c.self.inside.log c.self.inside.mask c.self.inside.fence c.args.self.now c.self.view_is c.args.e.now
     c.in_ok-plan.plan c.as_slice.result.now c.as_slice.ensures c.in_ok-plan.ensures.planned)

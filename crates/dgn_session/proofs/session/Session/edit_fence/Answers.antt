@@ -5,7 +5,7 @@ use Rattle.elem_index.specs.Design.{elements}
 use Rattle.elem_index.proofs.Places.{few_elements}
 use Rattle.level_view.proofs.TakenRoots.{chosen_few}
 use Rattle.dgn_session.specs.State.{SessionValue, state_of, selection}
-use Rattle.dgn_session.specs.Laws.{IsSound}
+use Rattle.dgn_session.specs.Laws.{IsSessionValue}
 use Rattle.dgn_session.specs.SessionParts.{plan_of}
 use Rattle.dgn_session.proofs.FenceEditCarriedOut.{IsFenceEdited, plan_seen, roots_seen, fence_sound, fence_made}
 use Rattle.dgn_session.proofs.session.Session.edit_fence.Goals as goal
@@ -15,7 +15,7 @@ use Rattle.dgn_session.proofs.session.Session.edit_fence.Goals.{In_ok-carry_out}
 edited : (c : goal.In_ok-carry_out) → IsFenceEdited c.args.e.now c.args.self.now c.carry_out.new.self
     (selection c.args.mode (state_of c.args.self.now))
 edited c =
-    fence_made c.args.self.now (subst IsSound c.self.view_is c.self.invariant.back) c.in-Some.fence c.args.mode
+    fence_made c.args.self.now (subst IsSessionValue c.self.view_is c.self.invariant.back) c.in-Some.fence c.args.mode
     (sym (ap (λ (v : SessionValue). v.fence) c.self.view_is) ∙ c.in-Some.is) c.deref.result.now
     (roots_seen c.self.inside.design c.self.inside.log c.self.inside.mask c.self.inside.fence c.args.self.now c.self.view_is c.args.mode
     c.in-Some.fence c.deref.result.now (c.deref.ensures.value ∙ c.in_ok-roots.ensures))
@@ -26,7 +26,7 @@ edited c =
 
 pub carry_out-requires : goal.carry_out-requires
 carry_out-requires c =
-    fence_sound c.args.self.now (subst IsSound c.self.view_is c.self.invariant.back) c.in-Some.fence c.args.mode
+    fence_sound c.args.self.now (subst IsSessionValue c.self.view_is c.self.invariant.back) c.in-Some.fence c.args.mode
     (sym (ap (λ (v : SessionValue). v.fence) c.self.view_is) ∙ c.in-Some.is) c.deref.result.now
     (roots_seen c.self.inside.design c.self.inside.log c.self.inside.mask c.self.inside.fence c.args.self.now c.self.view_is c.args.mode
     c.in-Some.fence c.deref.result.now (c.deref.ensures.value ∙ c.in_ok-roots.ensures))

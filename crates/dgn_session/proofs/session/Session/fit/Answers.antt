@@ -1,7 +1,7 @@
 use Rattle.std.proofs.Common.{subst}
 use Rattle.dgn_audit.specs.Planned.{IsFitPlan}
 use Rattle.dgn_session.specs.State.{SessionValue, state_of}
-use Rattle.dgn_session.specs.Laws.{IsSound}
+use Rattle.dgn_session.specs.Laws.{IsSessionValue}
 use Rattle.dgn_session.proofs.FitCarriedOut.{IsFitted, fit_sound, fit_made}
 use Rattle.dgn_session.proofs.session.Session.fit.Goals as goal
 use Rattle.dgn_session.proofs.session.Session.fit.Goals.{In_ok-carry_out}
@@ -9,13 +9,13 @@ use Rattle.dgn_session.proofs.session.Session.fit.Goals.{In_ok-carry_out}
 -- what the session comes to
 fitted : (c : goal.In_ok-carry_out) → IsFitted c.args.n c.args.self.now c.carry_out.new.self
 fitted c =
-    fit_made c.args.self.now (subst IsSound c.self.view_is c.self.invariant.back) c.args.n c.in_ok-patches.patches
+    fit_made c.args.self.now (subst IsSessionValue c.self.view_is c.self.invariant.back) c.args.n c.in_ok-patches.patches
     (subst (λ (v : SessionValue). IsFitPlan v.dim (state_of v).top c.args.n c.in_ok-patches.patches) c.self.view_is c.in_ok-patches.ensures.planned)
     c.carry_out.new.self c.in_ok-carry_out.ensures.carried
 
 pub carry_out-requires : goal.carry_out-requires
 carry_out-requires c =
-    fit_sound c.args.self.now (subst IsSound c.self.view_is c.self.invariant.back) c.args.n c.in_ok-patches.patches
+    fit_sound c.args.self.now (subst IsSessionValue c.self.view_is c.self.invariant.back) c.args.n c.in_ok-patches.patches
     (subst (λ (v : SessionValue). IsFitPlan v.dim (state_of v).top c.args.n c.in_ok-patches.patches) c.self.view_is c.in_ok-patches.ensures.planned)
 
 pub returns-clause-done : goal.returns-clause-done

@@ -26,8 +26,8 @@ returns-else-stays_on_plane c =
     sym (plane_cause c.args.d.now.dim c.args.test.now c.in-Leaves.by c.args.m _ found.element false c.in-Leaves.is found.there
     (sym same ∙ sym c.stays_on_plane.ensures ∙ c.if-stays_on_plane.false))
 
-pub locked_at-requires-clause-long : goal.locked_at-requires-clause-long
-locked_at-requires-clause-long c =
+pub locked_at-requires-clause-long_enough : goal.locked_at-requires-clause-long_enough
+locked_at-requires-clause-long_enough c =
     let found = c.in_ok-found.ensures.found in
     λ loud. long_found c.args.d.now c.requires.whole c.args.m c.in_ok-found.found found (sym (ap (λ (k : ℕ). is_silent (class_of k)) found.kind) ∙ loud)
 

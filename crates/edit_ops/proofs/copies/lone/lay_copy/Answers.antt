@@ -13,7 +13,7 @@ pub returns-clause-copied : goal.returns-clause-copied
 returns-clause-copied c all =
     c.free_first.ensures
     ∙ alone_copied c.args.d.now c.requires.whole c.args.n c.args.found c.requires.found c.requires.live c.args.by.now c.requires.movable c.requires.fits
-    c.requires.part (sym c.lay_sums-stays.ensures.stays ∙ all)
+    c.requires.part (sym c.lay_sums-stays.ensures.on_plane ∙ all)
     c.lay_sums-stays.new.copy
     (λ a long.
     ap (λ (z : List ℕ). write (a ++ z)

@@ -18,7 +18,7 @@ spots-init c =
     let begun : spots_left c.into_iter-spot-iterator.result ≡ spots_of c.args.dim c.args.found.kind c.args.found.bytes.now =
     ap (λ (s : Spots). spots_left s) c.into_iter-spot-iterator.ensures.into_iter_gives ∙ c.spots_in-spot-items.ensures in
     record {
-      long = c.requires.long;
+      long = c.requires.same_length;
       lie = subst (LieIn (length c.args.found.bytes.now)) (sym begun)
           (lie_in c.args.dim c.args.found.kind c.args.found.bytes.now c.requires.dimension c.requires.holds);
       same = ap (λ (ss : List Spot). list_all (λ s. is_on_plane (sum_at c.args.by.now c.args.found.bytes.now s)) ss) begun;
@@ -33,7 +33,7 @@ spots-preserved c =
       lie = (subst (LieIn (length c.args.found.bytes.now)) c.in-Some.ensures.steps c.spots.invariant.lie).1;
       same =
           stays_next (λ s. is_on_plane (sum_at c.args.by.now c.args.found.bytes.now s)) c.in-Some.spot (spots_left c.next.new.self)
-          (sym c.put_sum.ensures.stays ∙ c.if-not-put_sum.false)
+          (sym c.put_sum.ensures.on_plane ∙ c.if-not-put_sum.false)
           ∙ ap (λ (ss : List Spot). list_all (λ s. is_on_plane (sum_at c.args.by.now c.args.found.bytes.now s)) ss) (sym c.in-Some.ensures.steps)
           ∙ c.spots.invariant.same;
       give = λ a long.

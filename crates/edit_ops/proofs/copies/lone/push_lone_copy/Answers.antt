@@ -12,10 +12,10 @@ pub returns-then-not-lay_copy-clause-copied : goal.returns-then-not-lay_copy-cla
 returns-then-not-lay_copy-clause-copied c =
     copy_leaves_plane c.args.d.now c.requires.whole c.args.n c.args.found c.requires.found c.requires.live c.args.by.now
     (sym (c.unmovable.ensures ∙ ap (unmovable c.args.n) c.class.ensures) ∙ c.in_default.is)
-    ∙ ap (off_plane c.args.n) (sym c.lay_copy.ensures.stays ∙ c.if-not-lay_copy.true)
+    ∙ ap (off_plane c.args.n) (sym c.lay_copy.ensures.on_plane ∙ c.if-not-lay_copy.true)
 
 pub returns-clause-accepted : goal.returns-clause-accepted
 returns-clause-accepted c =
     copy_leaves_plane c.args.d.now c.requires.whole c.args.n c.args.found c.requires.found c.requires.live c.args.by.now
     (sym (c.unmovable.ensures ∙ ap (unmovable c.args.n) c.class.ensures) ∙ c.in_default.is)
-    ∙ ap (off_plane c.args.n) (sym c.lay_copy.ensures.stays ∙ c.if-not-lay_copy.false)
+    ∙ ap (off_plane c.args.n) (sym c.lay_copy.ensures.on_plane ∙ c.if-not-lay_copy.false)

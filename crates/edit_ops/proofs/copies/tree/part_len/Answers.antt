@@ -22,8 +22,8 @@ returns-clause-exact c =
     (end_said (elements c.args.d.now) c.args.t.now.rows c.args.n c.part_end.result c.requires.nesting c.part_end.ensures) in
     omega arith
 
-pub returns-clause-few : goal.returns-clause-few
-returns-clause-few c =
+pub returns-clause-bounded : goal.returns-clause-bounded
+returns-clause-bounded c =
     let inside = part_inside (elements c.args.d.now) c.args.n c.requires.known c.part_end.result
     (end_said (elements c.args.d.now) c.args.t.now.rows c.args.n c.part_end.result c.requires.nesting c.part_end.ensures) in
     let few = c.requires.whole.is_open.few in

@@ -6,7 +6,7 @@ use Rattle.dgn_drawing.specs.Nesting.{itself}
 use Rattle.dgn_drawing.specs.Numbering.{headers_of}
 use Rattle.nest_tree.proofs.HeaderChains.{climbs, ends_climb, headers_by_rows}
 use Rattle.elem_index.specs.Design.{elements}
-use Rattle.edit_ops.specs.Written.{found}
+use Rattle.edit_ops.specs.Written.{lives_of}
 use Rattle.edit_ops.proofs.HeadersFound.{found_above}
 use Rattle.edit_ops.proofs.parts.above.put_numbers_above.Goals as goal
 
@@ -33,7 +33,7 @@ pub returns : goal.returns
 returns c =
     let none = ends_climb itself c.args.t.now.rows c.up.i c.in_default.ensures in
     record {
-      found = ap (found (elements c.args._d.now))
+      found = ap (lives_of (elements c.args._d.now))
           (c.reverse.ensures.items ∙ ap (λ (l : List ℕ). l ++ reverse c.up.above.items) (sym none) ∙ c.up.invariant.1
           ∙ ap (λ (rows : List Row). headers_of itself rows c.args.n) c.requires.nesting
           ∙ headers_by_rows row_of (elements c.args._d.now) c.args.n)

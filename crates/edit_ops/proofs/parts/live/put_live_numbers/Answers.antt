@@ -3,7 +3,7 @@ use Rattle.std.proofs.lemmas.List.{length-map}
 use Rattle.dgn_drawing.specs.declared.row.Row.{Row}
 use Rattle.dgn_drawing.specs.Rows.{row_of}
 use Rattle.elem_index.specs.Design.{elements}
-use Rattle.edit_ops.specs.Written.{found}
+use Rattle.edit_ops.specs.Written.{lives_of}
 use Rattle.edit_ops.proofs.LiveWalk.{IsLeft, all_left, all_numbers, next_known, enters, passes, goes_on, end_said}
 use Rattle.edit_ops.proofs.LiveFound.{found_tree}
 use Rattle.edit_ops.proofs.parts.live.put_live_numbers.Goals as goal
@@ -20,7 +20,8 @@ is_deleted-requires-clause-known c =
 
 pub part_end-i-requires : goal.part_end-i-requires
 part_end-i-requires c =
-    let known = next_known (elements c.args.d.now) c.args.n c.part_end-end.result c.elements.i c.elements.live.items c.elements.invariant c.elements-test.true in
+    let known = next_known (elements c.args.d.now) c.args.n c.part_end-end.result c.elements.i c.elements.live.items c.elements.invariant
+    c.elements-test.true in
     omega (arith, ap (length {A = Row}) c.requires.nesting, length-map (elements c.args.d.now) row_of)
 
 pub elements-smaller-then-is_deleted : goal.elements-smaller-then-is_deleted
@@ -53,4 +54,4 @@ pub returns-clause-found : goal.returns-clause-found
 returns-clause-found c =
     let numbers = all_numbers (elements c.args.d.now)
     c.args.n c.part_end-end.result c.elements.i c.elements.live.items c.elements.invariant c.elements-test.false in
-    ap (found (elements c.args.d.now)) numbers ∙ found_tree (elements c.args.d.now) c.args.n c.requires.known
+    ap (lives_of (elements c.args.d.now)) numbers ∙ found_tree (elements c.args.d.now) c.args.n c.requires.known

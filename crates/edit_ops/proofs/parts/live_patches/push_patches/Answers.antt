@@ -25,15 +25,15 @@ push_moved-requires-in-Copy-clause-holds c =
     (readable_of c.args.edit.now (elements c.args.d.now) c.args.m found.element found.there c.requires.readable) in
     holds_found c.args.d.now c.requires.whole c.args.m c.in-Some.found found readable
 
-pub look_patch-requires-clause-long : goal.look_patch-requires-clause-long
-look_patch-requires-clause-long c =
+pub look_patch-requires-clause-long_enough : goal.look_patch-requires-clause-long_enough
+look_patch-requires-clause-long_enough c =
     let found = c.in-Some.ensures.found in
     let ready = subst (λ (e : Edit). MayBePut e found.element) c.in-Sym.is
     (readable_of c.args.edit.now (elements c.args.d.now) c.args.m found.element found.there c.requires.readable) in
     long_found c.args.d.now c.requires.whole c.args.m c.in-Some.found found ready
 
-pub mark_patch-requires-clause-long : goal.mark_patch-requires-clause-long
-mark_patch-requires-clause-long c = four_found c.args.d.now c.requires.whole c.args.m c.in-Some.found c.in-Some.ensures.found
+pub mark_patch-requires-clause-long_enough : goal.mark_patch-requires-clause-long_enough
+mark_patch-requires-clause-long_enough c = four_found c.args.d.now c.requires.whole c.args.m c.in-Some.found c.in-Some.ensures.found
 
 pub returns-in-Move : goal.returns-in-Move
 returns-in-Move c =

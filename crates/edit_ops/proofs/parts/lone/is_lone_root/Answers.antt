@@ -28,7 +28,7 @@ returns-in-Some-clause-exact c =
     let es = elements c.args.d.now in
     let rows = c.args.t.now.rows in (
       (λ _. record {
-        part = c.in-Some.ensures.one;
+        part = c.in-Some.ensures.lone;
         root =
             ap (option_map (λ (m : Mark). m.parent)) (mark_by_rows es c.args.n)
             ∙ ap (λ (rs : List Row). parent_of itself rs c.args.n) (sym c.requires.nesting)

@@ -16,27 +16,29 @@ pub returns-clause-part : goal.returns-clause-part
 returns-clause-part c =
     let found = c.in_ok-found.ensures.found in
     alone_bytes (elements c.args.d.now) c.args.n c.requires.known c.part_end.result
-    (end_said (elements c.args.d.now) c.args.t.now.rows c.args.n c.part_end.result c.requires.nesting c.part_end.ensures) (omega arith) found.element found.there
+    (end_said (elements c.args.d.now) c.args.t.now.rows c.args.n c.part_end.result c.requires.nesting c.part_end.ensures) (omega arith) found.element
+    found.there
     ∙ sym found.bytes
 
 pub returns-clause-live : goal.returns-clause-live
 returns-clause-live c =
     let found = c.in_ok-found.ensures.found in
     alone_live (elements c.args.d.now) c.args.n c.requires.known c.part_end.result
-    (end_said (elements c.args.d.now) c.args.t.now.rows c.args.n c.part_end.result c.requires.nesting c.part_end.ensures) (omega arith) found.element found.there
+    (end_said (elements c.args.d.now) c.args.t.now.rows c.args.n c.part_end.result c.requires.nesting c.part_end.ensures) (omega arith) found.element
+    found.there
     (sym found.deleted ∙ c.if-found.false)
 
 -- an element of several has a longer span
-pub returns-then-part_end-n-ne1-clause-more : goal.returns-then-part_end-n-ne1-clause-more
-returns-then-part_end-n-ne1-clause-more c = λ _ part.
+pub returns-then-part_end-n-ne1-clause-not_lone : goal.returns-then-part_end-n-ne1-clause-not_lone
+returns-then-part_end-n-ne1-clause-not_lone c = λ _ part.
     let next : c.part_end.result ≡ c.args.n + 1 =
     same_end c.args.n c.part_end.result (c.args.n + 1)
     (sym (span_by (elements c.args.d.now) c.args.n c.part_end.result
     (end_said (elements c.args.d.now) c.args.t.now.rows c.args.n c.part_end.result c.requires.nesting c.part_end.ensures)) ∙ part.one) in
     omega arith
 
-pub returns-clause-one : goal.returns-clause-one
-returns-clause-one c =
+pub returns-clause-lone : goal.returns-clause-lone
+returns-clause-lone c =
     let found = c.in_ok-found.ensures.found in
     let next : c.part_end.result ≡ c.args.n + 1 = omega arith in
     record {

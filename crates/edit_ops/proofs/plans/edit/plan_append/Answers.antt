@@ -1,7 +1,7 @@
 use Rattle.std.proofs.Common.{◌+◌, ℕ, List, [], ◌++◌, length, refl, sym, ap, ◌∙◌}
 use Rattle.dgn_drawing.specs.declared.edit.Edit.{Edit}
 use Rattle.dgn_drawing.specs.Spelling.{spell}
-use Rattle.dgn_drawing.specs.NewElements.{made}
+use Rattle.dgn_drawing.specs.NewElements.{element_made}
 use Rattle.elem_index.specs.Design.{elements}
 use Rattle.edit_ops.specs.Causes.{causes_of, first_of}
 use Rattle.edit_ops.proofs.PlanBehind.{appends_behind}
@@ -12,7 +12,7 @@ pub returns-clause-planned : goal.returns-clause-planned
 returns-clause-planned c =
     let d = c.args.d.now in
     let rest = length c.args.d.now.tail.items + c.args.pending in
-    let bytes = spell (made c.in-Append.new) in
+    let bytes = spell (element_made c.in-Append.new) in
     appends_behind d.dim (elements d) rest c.args.edit.now c.args.all.now (record { patches = c.args.all.now.patches; append = c.push_all.new.self }) bytes
     (made_plan d.dim (elements d) rest c.args.edit.now c.in-Append.new (record { patches = []; append = bytes }) c.in-Append.is
     (ap (λ (x : Edit). first_of (causes_of d.dim (elements d) rest x)) c.in-Append.is ∙ sym c.append_cause.ensures ∙ c.in_default-append_cause.is)

@@ -7,7 +7,7 @@ use Rattle.edit_ops.specs.declared.causes.cause.Cause.{Cause}
 use Rattle.edit_ops.specs.Trees.{Live, live_tree}
 use Rattle.edit_ops.specs.Causes.{other_axes, first_cause, part_cause}
 use Rattle.edit_ops.specs.Copying.{copy_cause}
-use Rattle.edit_ops.specs.Written.{found}
+use Rattle.edit_ops.specs.Written.{lives_of}
 use Rattle.edit_ops.proofs.CopyLength.{long_copy, short_copy}
 use Rattle.edit_ops.proofs.LeavingElements.{adds_same, adds_of}
 use Rattle.edit_ops.proofs.plans.edit.plan_copy.Goals as goal
@@ -21,10 +21,11 @@ returns-in-Some-growth_cause c =
     ∙ ap (option_or (part_cause d.dim es c.args.n)) (sym c.other_axes.ensures)
     ∙ ap (λ (o : Option Cause). option_or o c.other_axes.result) (sym c.part_cause.ensures)
     ∙ sym c.or-first.ensures ∙ c.in_default.is in
-    let are : found es c.deref-in-Some-growth_cause.result.now ≡ live_tree es c.args.n =
-    ap (found es) c.deref-in-Some-growth_cause.ensures.value ∙ c.in_ok-put_live_numbers.ensures.found in
+    let are : lives_of es c.deref-in-Some-growth_cause.result.now ≡ live_tree es c.args.n =
+    ap (lives_of es) c.deref-in-Some-growth_cause.ensures.value ∙ c.in_ok-put_live_numbers.ensures.found in
     let itself : c.move_cause.result ≡ copy_cause d.dim es c.args.by.now c.args.n =
-    c.move_cause.ensures ∙ ap (λ (vs : List Live). option_or (first_cause d.dim tests.Moves vs) (first_cause d.dim (tests.Leaves c.args.by.now) vs)) are in
+    c.move_cause.ensures ∙ ap (λ (vs : List Live). option_or (first_cause d.dim tests.Moves vs) (first_cause d.dim (tests.StaysOnPlane c.args.by.now) vs))
+    are in
     long_copy d c.requires.whole c.args.n c.args.pending c.part_len.result c.args.by.now free c.part_len.ensures.exact c.move_cause.result
     c.in-Some-growth_cause.long itself
     (sym c.growth_cause.ensures ∙ c.in-Some-growth_cause.is)

@@ -10,7 +10,7 @@ use Rattle.dgn_drawing.specs.declared.edit.Edit.{Edit}
 use Rattle.dgn_drawing.specs.Element.{Element}
 use Rattle.edit_ops.specs.Causes.{off_plane}
 use Rattle.edit_ops.specs.Trees.{found_at}
-use Rattle.edit_ops.specs.Written.{found, above_puts}
+use Rattle.edit_ops.specs.Written.{lives_of, above_puts}
 use Rattle.edit_ops.proofs.WiderRanges.{above_none, above_still, holds_of, long_spots, corners_stay, above_moved, all_wider}
 use Rattle.edit_ops.specs.Putting.{MayBePut, leaving}
 use Rattle.edit_ops.proofs.ElementAnswers.{holds_found, stays_found}
@@ -20,14 +20,14 @@ use Rattle.edit_ops.proofs.plans.patches.push_above.Goals as goal
 pub returns-in_default-clause-put : goal.returns-in_default-clause-put
 returns-in_default-clause-put c =
     let head : Option Element = slice_get (elements c.args.d.now) c.args.n in
-    let puts = above_still c.args.d.now.dim c.args.edit.now head (found (elements c.args.d.now) c.args.above.now) c.in_default.not-Move in
+    let puts = above_still c.args.d.now.dim c.args.edit.now head (lives_of (elements c.args.d.now) c.args.above.now) c.in_default.not-Move in
     sym (ap (λ (ps : List Put). c.args.patches.now ++ ps) puts ∙ append-nil c.args.patches.now)
 
 pub returns-in_default-find-clause-put : goal.returns-in_default-find-clause-put
 returns-in_default-find-clause-put c =
     let missing : slice_get (elements c.args.d.now) c.args.n ≡ None = c.in_default-find.ensures.none in
-    let puts = ap (λ (o : Option Element). above_puts c.args.d.now.dim c.args.edit.now o (found (elements c.args.d.now) c.args.above.now)) missing
-    ∙ above_none c.args.d.now.dim c.args.edit.now (found (elements c.args.d.now) c.args.above.now) in
+    let puts = ap (λ (o : Option Element). above_puts c.args.d.now.dim c.args.edit.now o (lives_of (elements c.args.d.now) c.args.above.now)) missing
+    ∙ above_none c.args.d.now.dim c.args.edit.now (lives_of (elements c.args.d.now) c.args.above.now) in
     sym (ap (λ (ps : List Put). c.args.patches.now ++ ps) puts ∙ append-nil c.args.patches.now)
 
 pub stays_on_plane-requires-clause-holds : goal.stays_on_plane-requires-clause-holds
@@ -67,9 +67,9 @@ returns-clause-put c =
     let spots = subst (λ (e : Edit). MayBePut e head.element) c.in-Move.is
     (holds_of (MayBePut c.args.edit.now) (slice_get (elements c.args.d.now) c.args.n) head.element head.there c.requires.head) in
     let puts = above_moved c.args.d.now c.requires.whole c.args.n c.in-Some.head head c.in-Move.n c.in-Move.by
-    (found (elements c.args.d.now) c.args.above.now) spots in
+    (lives_of (elements c.args.d.now) c.args.above.now) spots in
     c.in_ok-push_all_wider.ensures
-    ∙ ap (λ (r : Box3). c.args.patches.now ++ all_wider c.args.d.now.dim r (found (elements c.args.d.now) c.args.above.now)) c.moved_range.ensures
+    ∙ ap (λ (r : Box3). c.args.patches.now ++ all_wider c.args.d.now.dim r (lives_of (elements c.args.d.now) c.args.above.now)) c.moved_range.ensures
     ∙ ap (λ (ps : List Put). c.args.patches.now ++ ps) (sym puts)
     ∙ ap (λ (e : Edit). c.args.patches.now
-    ++ above_puts c.args.d.now.dim e (slice_get (elements c.args.d.now) c.args.n) (found (elements c.args.d.now) c.args.above.now)) (sym c.in-Move.is)
+    ++ above_puts c.args.d.now.dim e (slice_get (elements c.args.d.now) c.args.n) (lives_of (elements c.args.d.now) c.args.above.now)) (sym c.in-Move.is)

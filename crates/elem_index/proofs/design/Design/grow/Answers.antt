@@ -40,8 +40,8 @@ total_said-total-requires-clause-total c = λ counted.
     (counted_here c.elements.self c.elements.at c.elements.invariant.0 before
     (ap (λ (b : List ℕ). is_counted (class_of (kind_of b))) (sym rest) ∙ counted))
 
-pub keep-requires-clause-room : goal.keep-requires-clause-room
-keep-requires-clause-room c =
+pub keep-requires-clause-has_room : goal.keep-requires-clause-has_room
+keep-requires-clause-has_room c =
     room_here c.elements.self c.elements.at c.elements.invariant.0 (omega (arith, c.elements-test.true, c.len.ensures, c.elements.self.body.ok.0))
 
 pub keep-requires-clause-kinds_room : goal.keep-requires-clause-kinds_room

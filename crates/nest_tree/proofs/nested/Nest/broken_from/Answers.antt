@@ -9,7 +9,7 @@ pub returns : goal.returns
 returns c =
     let kept : c.deref.result.now ≡ broken_in c.self.inside.seen.list = c.deref.ensures.value ∙ c.self.invariant.are_broken in
     let same : c.deref-2.result.now ≡ c.deref.result.now = c.deref-2.ensures.value ∙ sym c.deref.ensures.value in
-    c.entry.ensures ∙ ap (λ (l : List ℕ). slice_get l c.partition_point-below.result) same
+    c.item_at.ensures ∙ ap (λ (l : List ℕ). slice_get l c.partition_point-below.result) same
     ∙ found_at_point c.self.inside.seen.list c.args.n c.partition_point-below.result c.deref.result.now kept
     (c.partition_point-below.ensures.partitioned (λ m. nat_lt m c.args.n) (always_returns_same _ _ _ (λ a r f k. search (rules, of_calls))))
     ∙ ap (λ (t : Nested). first_at c.args.n (broken_in t.rows)) c.self.view_is

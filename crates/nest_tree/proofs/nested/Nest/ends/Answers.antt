@@ -1,7 +1,7 @@
 use Rattle.std.proofs.Common.{◌∙◌, ap, map}
 use Rattle.nest_tree.specs.Nested.{Nested}
 use Rattle.nest_tree.specs.Places.{marks_in, end_of_mark}
-use Rattle.nest_tree.proofs.FirstLinks.{all_marks}
+use Rattle.nest_tree.proofs.FirstEntries.{all_marks}
 use Rattle.nest_tree.proofs.nested.Nest.ends.Goals as goal
 
 pub returns : goal.returns

@@ -13,11 +13,11 @@ pub returns-clause-steps : goal.returns-clause-steps
 returns-clause-steps c =
     let l = c.args.self.now in
     let link = c.first_link-link in
-    slice-next l.at l.bytes.now link.result link.ensures.some link.ensures.within link.ensures.link
+    slice-next l.at l.bytes.now link.result link.ensures.nonempty link.ensures.within link.ensures.link
 
 pub returns-clause-goes : goal.returns-clause-goes
 returns-clause-goes c =
     let l = c.args.self.now in
     let link = c.first_link-link in
-    let given = slice-next l.at l.bytes.now link.result link.ensures.some link.ensures.within link.ensures.link in
+    let given = slice-next l.at l.bytes.now link.result link.ensures.nonempty link.ensures.within link.ensures.link in
     record { on = λ f. (search rules, search rules, omega (arith, ap length given)); keeps = search rules; rests = λ f. search rules }

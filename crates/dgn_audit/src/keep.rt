@@ -1,8 +1,0 @@
-// Which of the live elements with a hull are kept.
-#[derive(Clone, Copy)]
-pub(crate) enum Keep {
-    // Those that can be fitted.
-    Fitted,
-    // Those whose stored range differs from the hull.
-    Differing,
-}

@@ -1,0 +1,17 @@
+use Rattle.std.specs.List.{AllByRecursion}
+use Rattle.nest_tree.specs.Depths.{IsWordTotal}
+use Rattle.std.proofs.Common.{subst, ◌∙◌, ap}
+use Rattle.std.specs.Prelude.{slice_get, option_map}
+use Rattle.nest_tree.specs.Nested.{Nested}
+use Rattle.nest_tree.specs.Places.{marks_in, entry_of}
+use Rattle.nest_tree.proofs.FirstEntries.{entries_kept}
+use Rattle.nest_tree.proofs.nested.Nest.entry.Goals as goal
+
+pub returns-clause-entry : goal.returns-clause-entry
+returns-clause-entry c =
+    c.get.ensures ∙ entries_kept c.self.inside.seen.list c.self.inside.ends.items c.self.inside.entries.items c.self.inside.broken.items c.self.invariant
+    c.args.n
+    ∙ ap (λ (t : Nested). option_map entry_of (slice_get (marks_in t.rows) c.args.n)) c.self.view_is
+
+pub returns-clause-words : goal.returns-clause-words
+returns-clause-words c = subst (λ (t : Nested). AllByRecursion IsWordTotal t.rows) c.self.view_is c.self.invariant.words
