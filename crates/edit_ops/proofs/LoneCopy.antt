@@ -47,7 +47,7 @@ module _ (d : Design) (whole : IsWhole d) (n : ℕ) (f : ElementView) (found : I
 
   -- what refuses it
   copy_alone : copy_cause d.dim (elements d) by n ≡ option_or (unmovable n (class_of f.kind))
-  (cause_in d.dim (tests.StaysOnPlane by) n (slice_get (elements d) n))
+      (cause_in d.dim (tests.StaysOnPlane by) n (slice_get (elements d) n))
   copy_alone =
       ap (λ (l : List Live). option_or (first_cause d.dim tests.Moves l) (first_cause d.dim (tests.StaysOnPlane by) l)) one
       ∙ ap (λ (c : Option Cause). option_or c (first_cause d.dim (tests.StaysOnPlane by) (option_to_list (found_at es n))))

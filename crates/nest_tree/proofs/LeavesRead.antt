@@ -15,7 +15,7 @@ use Rattle.nest_tree.specs.declared.scan.Scan.{Scan}
 use Rattle.nest_tree.specs.declared.open_list.OpenList.{OpenList}
 use Rattle.nest_tree.specs.NestEntries.{NestEntry}
 use Rattle.nest_tree.specs.Places.{ArePlaces, Going, broken_by_entry}
-use Rattle.nest_tree.specs.Read.{AreRead}
+use Rattle.nest_tree.specs.Read.{AreRead, orphans_from}
 use Rattle.nest_tree.specs.Passing.{passing}
 use Rattle.nest_tree.specs.Shapes.{code_shape, shape_in, rows_between}
 use Rattle.nest_tree.specs.Sources.{no_row, AreLeaves, IsScan}
@@ -48,11 +48,6 @@ told n depth None cbit true some same roots =
 told n depth None cbit false some same roots = ap (λ (b : Bool). not (n == 0) && true && b) (same refl) ∙ last_false (not (n == 0))
 told n depth (Some p) cbit true some same roots = absurd (let e : false ≡ true = roots refl in cc)
 told n depth (Some p) cbit false some same roots = mid_false (not (n == 0)) cbit
-
--- the numbers of those that are broken
-abbrev pub orphans_from : Bool → ℕ → ℕ → List ℕ
-orphans_from true at n = range_with_len at n
-orphans_from false at n = []
 
 none_more : (orphans : Bool) (at : ℕ) (broken : List ℕ) → broken ++ orphans_from orphans at 0 ≡ broken
 none_more true at broken = append-nil broken

@@ -5,6 +5,7 @@ pub mod Sources
 pub mod Places
 pub mod Passing
 pub mod Read
+pub mod Pass
 pub mod Nested
 pub mod Stepped
 pub mod Depths

@@ -1,5 +1,6 @@
 -- How far the elements are read, and for how many more there is room.
-use Rattle.std.specs.Prelude.{ℕ, ◌≡◌, ◌≤◌, List}
+use Rattle.std.specs.Prelude.{ℕ, ◌≡◌, ◌≤◌, Bool, true, false, List, []}
+use Rattle.std.specs.List.{range_with_len}
 use Rattle.dgn_drawing.specs.declared.row.Row.{Row}
 use Rattle.dgn_drawing.specs.Nesting.{itself}
 use Rattle.dgn_drawing.specs.Numbering.{is_broken}
@@ -17,3 +18,8 @@ pub record HaveRoom (more ends entries broken : ℕ) : Type 0 where
   pub for_ends : more ≤ ends
   pub for_entries : more ≤ entries
   pub for_broken : more ≤ broken
+
+-- the numbers of so many elements from number `at` on, if they are broken
+abbrev pub orphans_from : Bool → ℕ → ℕ → List ℕ
+orphans_from true at n = range_with_len at n
+orphans_from false at n = []

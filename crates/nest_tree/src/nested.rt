@@ -10,9 +10,9 @@ ghost use Rattle.nest_tree.specs.Passing.{broken_in, first_at, if_below};
 ghost use Rattle.nest_tree.specs.Nested.{Nested, nested_of, IsNest};
 
 use crate::broken::cut_broken;
-use crate::entry_list::EntryList;
 use crate::knot::Knot;
 use crate::nest_entry::NestEntry;
+use crate::placed::Placed;
 use crate::reading::read_on;
 use crate::seen::{SeenRows, Step};
 use crate::source::Source;
@@ -32,21 +32,17 @@ pub struct Nest {
     // Room for the sums of the rows that are being read. It holds nothing between calls, and what they took of it is given
     // back where they were very many.
     pub(crate) sums: Vec<u64>,
-    // For each element the number behind the last one below it.
-    pub(crate) ends: Vec<u32>,
-    // What else is kept of each element.
-    pub(crate) entries: EntryList,
-    // The numbers of all broken elements.
-    pub(crate) broken: Vec<u32>,
+    // What is kept of each element.
+    pub(crate) placed: Placed,
 }
 
 impl Model for Nest {
     ghost Value = { Nested };
 
-    ghost view = { λ s. nested_of s.seen.list (vec_capacity s.sums - 1) (vec_capacity s.ends - vec_len s.ends) s.entries.spare
-        (vec_capacity s.broken - vec_len s.broken) };
+    ghost view = { λ s. nested_of s.seen.list (vec_capacity s.sums - 1) (vec_capacity s.placed.ends - vec_len s.placed.ends)
+        s.placed.entries.spare (vec_capacity s.placed.broken - vec_len s.placed.broken) };
 
-    ghost invariant = { λ s. IsNest s.seen.list s.ends.items s.entries.items s.broken.items };
+    ghost invariant = { λ s. IsNest s.seen.list s.placed.ends.items s.placed.entries.items s.placed.broken.items };
 }
 
 // What stands at place `n` of a list.
@@ -78,9 +74,9 @@ impl Nest {
     {
         let more = n as usize;
         self.sums.reserve(more + 1)?;
-        self.entries.reserve(more)?;
-        self.broken.reserve(more)?;
-        self.ends.reserve(more)
+        self.placed.entries.reserve(more)?;
+        self.placed.broken.reserve(more)?;
+        self.placed.ends.reserve(more)
     }
 
     /// Adds the elements with these rows behind the others, of which they nest apart, since the first of
@@ -98,13 +94,7 @@ impl Nest {
         }
         let seen = self.seen.then(&Step::Behind(rows));
         set_sums(rows, &mut self.sums);
-        read_on(
-            &seen,
-            &Source::Listed(rows, &self.sums),
-            &mut self.ends,
-            &mut self.entries,
-            &mut self.broken,
-        );
+        read_on(&seen, &Source::Listed(rows, &self.sums), &mut self.placed);
         self.sums.clear();
         self.sums.shrink_to(KEPT_SUMS);
         self.seen = seen;
@@ -119,16 +109,16 @@ impl Nest {
     {
         let kept = count as usize;
         self.seen = self.seen.then(&Step::First(count));
-        self.ends.truncate(kept);
-        self.entries.truncate(count);
-        cut_broken(&mut self.broken, count);
+        self.placed.ends.truncate(kept);
+        self.placed.entries.truncate(count);
+        cut_broken(&mut self.placed.broken, count);
     }
 
     /// For each element, in the order of the file, the number behind the last element below it.
     pub fn ends(&self) -> &[u32]
         ensures { result.now ≡ map end_of_mark (marks_in self.now.rows) }
     {
-        &self.ends
+        &self.placed.ends
     }
 
     // What is kept of element `n`, where there is one.
@@ -136,14 +126,14 @@ impl Nest {
         ensures entry { result ≡ option_map entry_of (slice_get (marks_in self.now.rows) n) }
         ensures words { AllByRecursion IsWordTotal self.now.rows }
     {
-        self.entries.get(n)
+        self.placed.entries.get(n)
     }
 
     // The number behind the last element below element `n`, where there is one.
     fn end(&self, n: u32) -> Option<u32>
         ensures { result ≡ option_map end_of_mark (slice_get (marks_in self.now.rows) n) }
     {
-        item_at(&self.ends, n as usize)
+        item_at(&self.placed.ends, n as usize)
     }
 
     /// The span of element `n`: its number, and the number behind the last element below it. None
@@ -203,12 +193,12 @@ impl Nest {
     fn broken_from(&self, n: u32) -> Option<u32>
         ensures { result ≡ first_at n (broken_in self.now.rows) }
     {
-        let below = self.broken.partition_point(
+        let below = self.placed.broken.partition_point(
             |m: &u32| -> bool
                 ensures { result ≡ nat_lt m.now n }
             { *m < n },
         );
-        item_at(&self.broken, below)
+        item_at(&self.placed.broken, below)
     }
 
     /// The least broken number in the span of element `n`, where there is one. Broken are the loose

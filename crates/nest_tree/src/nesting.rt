@@ -11,6 +11,7 @@ use crate::entry_list::EntryList;
 use crate::knot::Knot;
 use crate::nest_entry::NestEntry;
 use crate::nested::Nest;
+use crate::placed::Placed;
 use crate::reading::read_on;
 use crate::seen::{SeenRows, Step};
 use crate::source::Source;
@@ -76,15 +77,18 @@ fn nest_source(alloc: Global, seen: SeenRows, source: &Source<'_>) -> Result<Nes
     let count = 1 + source.len();
     let mut ends = Vec::with_capacity(alloc, count)?;
     let mut entries = EntryList::with_capacity(alloc, count)?;
-    let mut broken = Vec::with_capacity(alloc, count)?;
+    let broken = Vec::with_capacity(alloc, count)?;
     ends.push_reserved(1);
     entries.push(NestEntry::new(None, 0, Knot::Leaf));
-    read_on(&seen, source, &mut ends, &mut entries, &mut broken);
-    Ok(Nest {
-        seen,
-        sums: Vec::new(alloc),
+    let mut placed = Placed {
         ends,
         entries,
         broken,
+    };
+    read_on(&seen, source, &mut placed);
+    Ok(Nest {
+        seen,
+        sums: Vec::new(alloc),
+        placed,
     })
 }

@@ -21,5 +21,5 @@ invariant_of-result c = record {
   few = c.requires.bounded;
   words = c.requires.words;
   places = c.read_on.ensures.places;
-  are_broken = all_listed c.args.seen.list c.read_on.new.broken.items c.read_on.ensures.are_broken;
+  are_broken = all_listed c.args.seen.list c.read_on.new.kept.broken.items c.read_on.ensures.are_broken;
 }

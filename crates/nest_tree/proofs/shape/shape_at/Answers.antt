@@ -28,10 +28,6 @@ scan_stays rows at end between a known none =
       marked = λ k from before. known.marked k (omega arith) before;
     }
 
-pub members-members-requires-clause-counts : goal.members-members-requires-clause-counts
-members-members-requires-clause-counts c = (ap (λ (k : ℕ). is_counted (class_of k)) (sym c.kind-kind.ensures.kind) ∙ sym
-    c.is_counted.ensures ∙ c.if-is_counted.true)
-
 pub returns-else-is_parts-clause-shape : goal.returns-else-is_parts-clause-shape
 returns-else-is_parts-clause-shape c =
     c.header.ensures ∙ ap (λ o. code_shape (group_or_loose o)) c.members-members.ensures.members

@@ -11,19 +11,6 @@ loop-i-init c = (
   tt,
 )
 
-pub overflow_add-sum : goal.overflow_add-sum
-overflow_add-sum c = let light = c.loop-i.invariant.0.light in omega arith
-
-pub push_reserved-requires-in-loop-i : goal.push_reserved-requires-in-loop-i
-push_reserved-requires-in-loop-i c =
-    omega (
-      arith,
-      c.requires.has_room,
-      c.loop-i.invariant.1,
-      c.loop-i.sums.ok.0,
-      length-summed c.args.rows.now c.loop-i.sums.items c.loop-i.sum c.loop-i.i c.loop-i.invariant.0,
-    )
-
 pub loop-i-preserved : goal.loop-i-preserved
 loop-i-preserved c =
     let more = summed_more c.args.rows.now c.loop-i.sums.items c.loop-i.sum c.loop-i.i c.size-sum.result no_row c.loop-i.invariant.0 c.loop-i-test.true
@@ -36,9 +23,3 @@ loop-i-preserved c =
 
 pub returns-clause-sums : goal.returns-clause-sums
 returns-clause-sums c = summed_all c.args.rows.now c.loop-i.sums.items c.loop-i.sum c.loop-i.i c.loop-i.invariant.0 (omega arith)
-
-pub returns-clause-light : goal.returns-clause-light
-returns-clause-light c = summed_light c.args.rows.now c.loop-i.sums.items c.loop-i.sum c.loop-i.i c.loop-i.invariant.0 (omega arith)
-
-pub returns-clause-words : goal.returns-clause-words
-returns-clause-words c = all_rows IsWordTotal c.args.rows.now c.loop-i.i (omega arith) c.loop-i.invariant.2

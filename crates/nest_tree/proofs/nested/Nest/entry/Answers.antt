@@ -9,9 +9,7 @@ use Rattle.nest_tree.proofs.nested.Nest.entry.Goals as goal
 
 pub returns-clause-entry : goal.returns-clause-entry
 returns-clause-entry c =
-    c.get.ensures ∙ entries_kept c.self.inside.seen.list c.self.inside.ends.items c.self.inside.entries.items c.self.inside.broken.items c.self.invariant
+    c.get.ensures ∙ entries_kept c.self.inside.seen.list c.self.inside.placed.ends.items c.self.inside.placed.entries.items
+    c.self.inside.placed.broken.items c.self.invariant
     c.args.n
     ∙ ap (λ (t : Nested). option_map entry_of (slice_get (marks_in t.rows) c.args.n)) c.self.view_is
-
-pub returns-clause-words : goal.returns-clause-words
-returns-clause-words c = subst (λ (t : Nested). AllByRecursion IsWordTotal t.rows) c.self.view_is c.self.invariant.words

@@ -5,9 +5,6 @@ use Rattle.nest_tree.proofs.KeptRows.{kind_kept}
 use Rattle.nest_tree.proofs.SourceRows.{as_kept, few_rows, kept_inside}
 use Rattle.nest_tree.proofs.source.Source.kind.Goals as goal
 
-pub offset_bounds-rows-i : goal.offset_bounds-rows-i
-offset_bounds-rows-i c = let known = c.requires.known in omega (arith, few_rows c.args.self.now c.requires.source)
-
 pub bounds-kinds-i : goal.bounds-kinds-i
 bounds-kinds-i c =
     (kept_inside c.args.self.now c.in-Kept.field-0 c.in-Kept.kinds c.in-Kept.field-2 c.in-Kept.field-3 c.args.i c.in-Kept.is c.requires.source

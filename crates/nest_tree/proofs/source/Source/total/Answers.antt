@@ -8,9 +8,6 @@ use Rattle.nest_tree.proofs.KeptRows.{kind_kept, total_kept, few_counted, counte
 use Rattle.nest_tree.proofs.SourceRows.{as_kept, few_rows, kept_length}
 use Rattle.nest_tree.proofs.source.Source.total.Goals as goal
 
-pub offset_bounds-rows-i : goal.offset_bounds-rows-i
-offset_bounds-rows-i c = let known = c.requires.known in omega (arith, few_rows c.args.self.now c.requires.source)
-
 pub offset_bounds-totals-counted : goal.offset_bounds-totals-counted
 offset_bounds-totals-counted c =
     omega (arith, few_rows c.args.self.now c.requires.source, c.requires.before, counted_most (rows_of c.args.self.now) c.args.i)

@@ -2,7 +2,7 @@ use Rattle.std.proofs.Common.{◌≡◌, ℕ, ◌-◌, ◌+◌, ◌++◌, suc, l
 use Rattle.std.proofs.lemmas.List.{length_push}
 use Rattle.std.specs.List.{range_with_len}
 use Rattle.nest_tree.proofs.NumbersPushed.{put_number}
-use Rattle.nest_tree.proofs.reading.push_numbers.Goals as goal
+use Rattle.nest_tree.proofs.leaves.push_numbers.Goals as goal
 
 pub loop-number-preserved : goal.loop-number-preserved
 loop-number-preserved c =

@@ -4,8 +4,8 @@ use mathlib.Core.Bool.{beq, not}
 use Rattle.dgn_layout.specs.Classes.{class_of}
 use Rattle.dgn_drawing.specs.Nesting.{is_header}
 use Rattle.nest_tree.specs.Sources.{no_row, rows_of}
-use Rattle.nest_tree.proofs.reading.leaf_run.Goals as goal
-use Rattle.nest_tree.proofs.reading.leaf_run.Goals.{then-roots, else-roots}
+use Rattle.nest_tree.proofs.leaves.leaf_run.Goals as goal
+use Rattle.nest_tree.proofs.leaves.leaf_run.Goals.{then-roots, else-roots}
 
 same_bit : (a b differ : Bool) → differ ≡ not (beq a b) → differ ≡ false → a ≡ b
 same_bit true true differ is none = refl
