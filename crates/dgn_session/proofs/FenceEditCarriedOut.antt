@@ -1,6 +1,6 @@
 -- What a session comes to when the plan of an edit of all that a fence chooses is carried out on it.
-use Rattle.std.proofs.Common.{◌≡◌, ℕ, List, [], ◌∷◌, ◌++◌, length, reverse, Option, sym, ap, ◌∙◌, subst, arith}
-use Rattle.std.specs.Prelude.{Some, IfSome, option_map}
+use Rattle.std.proofs.Common.{◌≡◌, ℕ, List, [], ◌∷◌, ◌++◌, length, reverse, Option, refl, sym, ap, ◌∙◌, subst, arith}
+use Rattle.std.specs.Prelude.{Some, option_map}
 use Rattle.plane_geom.specs.declared.pt.Pt.{Pt}
 use Rattle.undo_log.specs.LogState.{LogState}
 use Rattle.dgn_drawing.specs.declared.fence_edit.FenceEdit.{FenceEdit}
@@ -17,8 +17,6 @@ use Rattle.edit_ops.specs.declared.types.plan.Plan.{Plan}
 use Rattle.edit_ops.specs.Applying.{Done}
 use Rattle.edit_ops.specs.Fenced.{apply_all, fenced_fields, AreRoots, IsFenceEdit}
 use Rattle.edit_ops.specs.Planned.{IsFencePlan}
-use Rattle.edit_ops.specs.FenceLaws.{ChangesFencedFields}
-use Rattle.edit_ops.proofs.FenceLaws.{fenced_changes}
 use Rattle.dgn_session.specs.State.{SessionValue, state_of, selection, push_if_made, fence_entry, value_with}
 use Rattle.dgn_session.specs.Laws.{IsSessionValue}
 use Rattle.dgn_session.specs.Kept.{OpensAt}
@@ -46,12 +44,12 @@ roots_seen d l mask fence old view mode corners ns are =
     subst (λ (v : SessionValue). ns ≡ selected v.dim v.mask corners mode (state_of v).top) view are
 
 -- a session before and after an edit of what is chosen, where it is done
-pub record IsFenceEdited (e : FenceEdit) (old new : SessionValue) (chosen : Option (List ℕ)) : Type 0 where
+pub record IsFenceEdited (e : FenceEdit) (old new : SessionValue) (ns : List ℕ) (chosen : Option (List ℕ)) : Type 0 where
   pub done : state_of new ≡ push_if_made (option_map (apply_all old.dim (state_of old).top (length old.tail) e) chosen) (state_of old)
   pub accepted : option_map (apply_all old.dim (state_of old).top (length old.tail) e) chosen ≡ Some (Done (state_of new).top)
   pub value : Some new ≡ option_map (λ (ns : List ℕ). value_with (spelling (state_of new).top)
       (old.entries ++ fence_entry old.dim (state_of old).top e ns ∷ []) old) chosen
-  pub changed : IfSome chosen (λ (ns : List ℕ). ChangesFencedFields old.dim (state_of old).top e ns (state_of new).top)
+  pub count : Some (length ns) ≡ option_map (length {A = ℕ}) chosen
 
 module _ (old : SessionValue) (sound : IsSessionValue old) (corners : List Pt) (mode : Mode) (is : old.fence ≡ Some corners) (ns : List ℕ)
     (are : ns ≡ selected old.dim old.mask corners mode (state_of old).top) (e : FenceEdit) (p : Plan) (fits : IsFenceEdit e)
@@ -81,15 +79,14 @@ module _ (old : SessionValue) (sound : IsSessionValue old) (corners : List Pt) (
   chosen = ap (option_map (λ (f : List Pt). selected old.dim old.mask f mode (state_of old).top)) is ∙ ap Some (sym are)
 
   -- and where it is, the session is edited
-  pub fence_made : (new : SessionValue) → new ≡ value_after p.patches p.append old → IsFenceEdited e old new (selection mode (state_of old))
+  pub fence_made : (new : SessionValue) → new ≡ value_after p.patches p.append old → IsFenceEdited e old new ns (selection mode (state_of old))
   fence_made new carried =
       let has =
       has_made old (fenced_fields old.dim (state_of old).top e ns) plan.made p planned
       (apply_all old.dim (state_of old).top (length old.tail) e ns) plan.done new carried in
-      subst (IsFenceEdited e old new) (sym chosen) (record {
+      subst (IsFenceEdited e old new ns) (sym chosen) (record {
         done = has.done;
         accepted = ap Some has.accepted;
         value = ap Some has.value;
-        changed = fenced_changes (old.body ++ old.tail) old.dim (state_of old).top old.tail (length old.tail) e ns (state_of new).top fits roots
-            opens.opens has.accepted;
+        count = refl;
       })

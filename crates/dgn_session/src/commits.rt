@@ -1,13 +1,13 @@
-// A change is carried out.
+// A change is carried out, once there is memory for it.
 
 ghost use Rattle.std.specs.Prelude.{◌≡◌, ◌≤◌, [], ◌∷◌, ◌++◌, length, OnOk, OnErr};
 ghost use Rattle.patch_bytes.specs.Puts.{write};
 ghost use Rattle.undo_log.specs.Entries.{entry_of};
+ghost use Rattle.elem_index.specs.Design.{IsWhole};
 ghost use Rattle.dgn_session.specs.Kept.{IsKept};
-ghost use Rattle.dgn_session.specs.CarryingOut.{IsSpelling, ExtendsRows, IsFollowed, IsSoundChange};
+ghost use Rattle.dgn_session.specs.CarryingOut.{IsSpelling, ExtendsRows, IsFollowed, IsSoundChange, HasRoom};
 
 use crate::appended::nest_appended;
-use crate::room::make_room;
 use dgn_drawing::MOST_DESIGN;
 use elem_index::Design;
 use nest_tree::types::Nest;
@@ -71,4 +71,24 @@ fn follow(
 {
     let count = nest_appended(alloc, nest, append)?;
     make_room(design, log, append.len(), count)
+}
+
+// Makes room for one more entry, for so many more bytes of the body, and for what is kept of so many more elements.
+// Whatever it answers, all else stays.
+pub(crate) fn make_room(
+    design: &mut Design,
+    log: &mut Log,
+    bytes: usize,
+    count: u32,
+) -> Result<(), AllocError>
+    requires { IsWhole design.old }
+    ensures whole { IsWhole design.new }
+    ensures dim { design.new.dim ≡ design.old.dim }
+    ensures body { design.new.body.items ≡ design.old.body.items }
+    ensures tail { design.new.tail.items ≡ design.old.tail.items }
+    ensures entries { log.new.entries ≡ log.old.entries }
+    ensures has_room { OnOk result (HasRoom bytes count design.new log.new) }
+{
+    log.reserve(&mut design.body, bytes)?;
+    design.reserve_index(count)
 }

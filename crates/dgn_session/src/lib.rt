@@ -14,7 +14,6 @@ mod importing;
 pub mod laws;
 mod nothing;
 mod ranges;
-mod room;
 mod select_fault;
 mod selecting;
 mod session;

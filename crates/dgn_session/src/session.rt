@@ -1,18 +1,16 @@
-ghost use Rattle.std.specs.Prelude.{◌≡◌, ◌↔◌, [], ◌∷◌, ◌++◌, length, map, option_map, Some, None, Err, IfOk, IfErr, IfSome, IsErr, OnOk, OnErr};
+ghost use Rattle.std.specs.Prelude.{◌≡◌, ◌↔◌, [], ◌∷◌, ◌++◌, length, map, option_map, Some, None, Err, IfOk, IfErr, IsErr, OnOk, OnErr};
 ghost use Rattle.undo_log.specs.Entries.{IsUndone};
 ghost use Rattle.dgn_drawing.specs.Rows.{row_of};
 ghost use Rattle.dgn_drawing.specs.Spelling.{spelling};
 ghost use Rattle.dgn_drawing.specs.Shown.{shown};
 ghost use Rattle.elem_index.specs.Design.{elements, IsWhole};
 ghost use Rattle.edit_ops.specs.Applying.{Done, IsEdit};
-ghost use Rattle.edit_ops.specs.Fenced.{IsFenceEdit};
-ghost use Rattle.edit_ops.specs.FenceLaws.{ChangesFencedFields};
 ghost use Rattle.edit_ops.specs.Laws.{ChangesItsFields};
 ghost use Rattle.edit_ops.specs.Planned.{IsRefused};
 ghost use Rattle.dgn_session.specs.State.{SessionValue, state_of, first_state, edit_applied, after_edit};
 ghost use Rattle.dgn_session.specs.State.{after_undo, with_mask, entry, value_with, value_with_mask};
-ghost use Rattle.dgn_session.specs.State.{selection, fence_applied, after_fence_edit, with_fence, fence_entry, value_with_fence};
-ghost use Rattle.dgn_session.specs.Answers.{IsFenceRefused};
+ghost use Rattle.dgn_session.specs.State.{selection, fence_applied, with_fence, fence_entry, value_with_fence};
+ghost use Rattle.dgn_session.specs.Answers.{IsDoneToAll, IsFenceRefused};
 ghost use Rattle.dgn_session.specs.Kept.{IsKept};
 ghost use Rattle.dgn_session.specs.SessionParts.{value_of, first_value};
 ghost use Rattle.dgn_session.specs.Laws.{IsSessionValue};
@@ -110,17 +108,11 @@ impl Session {
     /// before it append count too. Memory comes where there is no memory for it. The session is then as before: all
     /// memory is taken before the first byte is written.
     pub fn edit_fence(&mut self, mode: Mode, e: &FenceEdit) -> Result<u32, FenceEditFault>
-        ensures done { OnOk result (state_of self.new ≡ after_fence_edit mode e.now (state_of self.old)) }
-        ensures accepted { OnOk result
-            (fence_applied mode e.now (state_of self.old) ≡ Some (Done (state_of self.new).top)) }
-        ensures count { IfOk result (λ count. Some count ≡ option_map length (selection mode (state_of self.old))) }
+        ensures done { IfOk result (λ count. IsDoneToAll mode e.now count (state_of self.old) (state_of self.new)) }
         ensures value { OnOk result (Some self.new ≡ option_map
             (λ ns. value_with (spelling (state_of self.new).top)
             (self.old.entries ++ fence_entry self.old.dim (state_of self.old).top e.now ns ∷ []) self.old)
             (selection mode (state_of self.old))) }
-        ensures within { OnOk result (IsFenceEdit e.now) }
-        ensures changed { OnOk result (IfSome (selection mode (state_of self.old))
-            (λ ns. ChangesFencedFields self.old.dim (state_of self.old).top e.now ns (state_of self.new).top)) }
         ensures no_fence { (result ≡ Err FenceEditFault.NoFence) ↔ (self.old.fence ≡ None) }
         ensures refused { IfErr result (IsFenceRefused (fence_applied mode e.now (state_of self.old))) }
         ensures kept { OnErr result (self.new ≡ self.old) }

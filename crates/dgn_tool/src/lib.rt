@@ -6,7 +6,6 @@
 mod apply;
 mod check;
 mod commands;
-mod drawing;
 mod edit;
 mod end;
 mod ending;

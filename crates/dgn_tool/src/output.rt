@@ -3,6 +3,8 @@
 ghost use Rattle.std.specs.Prelude.{◌≡◌, ◌+◌, ◌<◌, ◌≤◌, ◌++◌, length, if◌then◌else◌};
 ghost use Rattle.dgn_desk.specs.Desk.{FilesAll};
 ghost use Rattle.dgn_desk.specs.Seen.{DeskWrites};
+ghost use Rattle.dgn_drawing.specs.Spelling.{spelling};
+ghost use Rattle.dgn_session.specs.State.{state_of};
 ghost use Rattle.dgn_tool.specs.Ended.{filed_then_said};
 ghost use Rattle.dgn_tool.specs.Ends.{DeskComes, status_said};
 ghost use Rattle.dgn_tool.specs.Filling.{is_blocks, left_in_block, file_made};
@@ -12,6 +14,7 @@ use crate::status::Status;
 use crate::texts::end_with;
 use dgn_desk::{Desk, Stop, write_file};
 use dgn_drawing::MOST_DESIGN;
+use dgn_session::Session;
 
 // How many bytes a block has.
 const BLOCK: usize = 512;
@@ -95,4 +98,20 @@ pub fn file_filled<D: Desk>(
         text,
         Ending::Done,
     )
+}
+
+// Writes the drawing of a session, whose elements had `before` bytes when it was opened, and what fills its last block.
+pub(crate) fn write_drawing<D: Desk>(
+    desk: &mut D,
+    output: &str,
+    before: usize,
+    session: &Session,
+) -> Result<(), Stop>
+    requires { before ≤ MOST_DESIGN }
+    ensures { DeskWrites D.Desk result
+        (FilesAll result output.now (file_made before session.now.tail (spelling (state_of session.now).top)))
+        desk.old desk.new }
+{
+    let design = session.design();
+    write_filled(desk, output, before, &design.body, &design.tail)
 }

@@ -1,4 +1,4 @@
-use Rattle.std.proofs.Common.{ℕ, length, sym, ap, ◌∙◌, subst, arith}
+use Rattle.std.proofs.Common.{ℕ, ◌≡◌, Some, length, sym, ap, ◌∙◌, subst, arith}
 use Rattle.dgn_drawing.specs.Shown.{tree_shown}
 use Rattle.dgn_fence.specs.Taken.{takes}
 use Rattle.elem_index.specs.Design.{elements}
@@ -12,7 +12,7 @@ use Rattle.dgn_session.proofs.session.Session.edit_fence.Goals as goal
 use Rattle.dgn_session.proofs.session.Session.edit_fence.Goals.{In_ok-carry_out}
 
 -- what the session comes to
-edited : (c : goal.In_ok-carry_out) → IsFenceEdited c.args.e.now c.args.self.now c.carry_out.new.self
+edited : (c : goal.In_ok-carry_out) → IsFenceEdited c.args.e.now c.args.self.now c.carry_out.new.self c.deref.result.now
     (selection c.args.mode (state_of c.args.self.now))
 edited c =
     fence_made c.args.self.now (subst IsSessionValue c.self.view_is c.self.invariant.back) c.in-Some.fence c.args.mode
@@ -46,13 +46,10 @@ overflow_cast-result c =
     )
 
 pub returns-clause-done : goal.returns-clause-done
-returns-clause-done c = (edited (goal.at.returns-clause-done c).In_ok-carry_out).done
-
-pub returns-clause-accepted : goal.returns-clause-accepted
-returns-clause-accepted c = (edited (goal.at.returns-clause-accepted c).In_ok-carry_out).accepted
+returns-clause-done c =
+    let so = edited (goal.at.returns-clause-done c).In_ok-carry_out in
+    let count : c.len.result ≡ length c.deref.result.now = omega (arith, c.len.ensures, c.in_ok-roots.roots.ok.0, ap (length {A = ℕ}) c.deref.ensures.value) in
+    record { accepted = so.accepted; state = so.done; count_is = ap (λ (n : ℕ). Some n) count ∙ so.count }
 
 pub returns-clause-value : goal.returns-clause-value
 returns-clause-value c = (edited (goal.at.returns-clause-value c).In_ok-carry_out).value
-
-pub returns-clause-changed : goal.returns-clause-changed
-returns-clause-changed c = (edited (goal.at.returns-clause-changed c).In_ok-carry_out).changed

@@ -5,7 +5,7 @@ use Rattle.dgn_drawing.specs.Spelling.{spelling}
 use Rattle.dgn_session.specs.State.{state_of}
 use Rattle.dgn_tool.specs.Filling.{file_made}
 use Rattle.dgn_import.proofs.SpelledBodies.{spelled_with}
-use Rattle.dgn_tool.proofs.drawing.write_drawing.Goals as goal
+use Rattle.dgn_tool.proofs.output.write_drawing.Goals as goal
 
 pub returns : goal.returns
 returns g c =
