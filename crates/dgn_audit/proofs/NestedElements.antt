@@ -62,7 +62,7 @@ module _ (es : List Element) (rows : List Row) (are : rows ≡ map row_of es) (n
 
   pub nested_knot : knot ≡ code_knot nested_mark.knot
   nested_knot = some_same knot (code_knot nested_mark.knot) (known
-  ∙ ap (λ (o : Option Mark). option_map code_knot (option_map (λ (m : Mark). m.knot) o)) by_rows)
+      ∙ ap (λ (o : Option Mark). option_map code_knot (option_map (λ (m : Mark). m.knot) o)) by_rows)
 
 -- the elements of a part lie between its root's number and its end
 module _ (d : Design) (whole : IsWhole d) (n : ℕ) (s : NestedElement) (is : IsNestedElement d n s) where
@@ -84,7 +84,7 @@ module _ (d : Design) (whole : IsWhole d) (n : ℕ) (s : NestedElement) (is : Is
 
   -- the hull that is read is that of its tree
   hull_is : (members : Option Box3) → hull_read d.dim s.knot s.view.kind s.view.bytes.now members
-  ≡ hull_in d.dim is.mark.knot is.view.element.kind is.view.element.body members
+      ≡ hull_in d.dim is.mark.knot is.view.element.kind is.view.element.body members
   hull_is members =
       ap (λ (k : code.Knot). hull_read d.dim k s.view.kind s.view.bytes.now members) is.knot
       ∙ ap (λ (k : ℕ). hull_read d.dim (code_knot is.mark.knot) k s.view.bytes.now members) is.view.kind
@@ -95,13 +95,13 @@ module _ (d : Design) (whole : IsWhole d) (n : ℕ) (s : NestedElement) (is : Is
     -- an element of which a hull is read has its display header
     loud : is_silent (class_of s.view.kind) ≡ false
     loud = hull_loud d.dim is.mark.knot s.view.kind s.view.bytes.now members hull (some
-    ∙ ap (λ (k : code.Knot). hull_read d.dim k s.view.kind s.view.bytes.now members) is.knot)
+        ∙ ap (λ (k : code.Knot). hull_read d.dim k s.view.kind s.view.bytes.now members) is.knot)
 
     pub hull_long : 36 ≤ length s.view.bytes.now
     hull_long = nested_long loud
 
     finding_is : (keep : Reported) → finding_read keep d.dim s.knot n s.view.kind s.view.bytes.now hull
-    ≡ finding_as keep d.dim is.mark.knot n is.view.element (Some hull)
+        ≡ finding_as keep d.dim is.mark.knot n is.view.element (Some hull)
     finding_is keep =
         ap (λ (k : code.Knot). finding_read keep d.dim k n s.view.kind s.view.bytes.now hull) is.knot
         ∙ ap (λ (k : ℕ). finding_read keep d.dim (code_knot is.mark.knot) n k s.view.bytes.now hull) is.view.kind
@@ -167,7 +167,7 @@ module _ (d : Design) (whole : IsWhole d) (n : ℕ) (s : NestedElement) (is : Is
 
       -- one with a hull adds it to its header's box, and is told of
       pub hull_is_read : (hull : Box3) (boxes : List OpenBox) (noted : List Finding) → Some hull
-      ≡ hull_read d.dim s.knot s.view.kind s.view.bytes.now (box_for n os)
+          ≡ hull_read d.dim s.knot s.view.kind s.view.bytes.now (box_for n os)
           → boxes ≡ with_hulls s.parent (Some hull) (without n os) → noted ≡ finding_read keep d.dim s.knot n s.view.kind s.view.bytes.now hull ++ fs
           → record { open_boxes = boxes; noted = noted }
           ≡ read_marked keep d.dim n (mark_of row_of (elements d) n) (slice_get (elements d) n) (record { open_boxes = os; noted = fs })

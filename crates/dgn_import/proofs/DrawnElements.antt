@@ -5,11 +5,11 @@ use Rattle.std.proofs.lemmas.Bool.{and_left}
 use Rattle.dgn_layout.specs.Classes.{class_of, is_silent}
 use Rattle.elem_index.specs.declared.design.Design.{Design}
 use Rattle.elem_index.specs.Design.{elements}
-use Rattle.edit_ops.specs.declared.asking.found.Found.{Found}
-use Rattle.edit_ops.specs.Found.{IsFound}
+use Rattle.edit_ops.specs.declared.asking.element_view.ElementView.{ElementView}
+use Rattle.edit_ops.specs.ElementViews.{IsElementView}
 use Rattle.dgn_import.specs.Gathering.{is_drawn}
 
-module _ (d : Design) (n : ℕ) (f : Found) (found : IsFound d n f) (silent : Bool) (is : silent ≡ is_silent (class_of f.kind)) where
+module _ (d : Design) (n : ℕ) (f : ElementView) (found : IsElementView d n f) (silent : Bool) (is : silent ≡ is_silent (class_of f.kind)) where
   drawn_is : is_drawn (slice_get (elements d) n) ≡ (not silent && not f.deleted)
   drawn_is =
       ap is_drawn found.there

@@ -64,8 +64,8 @@ module _ (old : SessionValue) (fields : List Field) (made : List Element) (p : P
       pushed_state old (write old.body p.patches ++ p.append) (entry_of old.body p.patches) made
       (entry_leads old.dim old.tail old.body fields made p planned) are
 
-  value_after : after ≡ value_with (spelling (state_of after).top) (old.entries ++ entry_with (state_of old).top fields ∷ []) old
-  value_after =
+  value_is : after ≡ value_with (spelling (state_of after).top) (old.entries ++ entry_with (state_of old).top fields ∷ []) old
+  value_is =
       ap (λ (body : List ℕ). value_with body (old.entries ++ entry_of old.body p.patches ∷ []) old)
       (text_is old.dim old.tail old.body fields made p planned ∙ ap spelling (sym are))
       ∙ ap (λ (e : Entry). value_with (spelling (state_of after).top) (old.entries ++ e ∷ []) old)
@@ -75,5 +75,5 @@ module _ (old : SessionValue) (fields : List Field) (made : List Element) (p : P
   has_made a done new is = subst (HasMade a fields old) (sym is) (record {
     accepted = done ∙ ap Done (sym are);
     done = done_after ∙ sym (ap (λ (x : Applied). push_made x (state_of old)) done);
-    value = value_after;
+    value = value_is;
   })

@@ -240,7 +240,7 @@ Exits request old new number = (status : Status) × (number ≡ number_of status
 exits : (request : Option Request) {started old run told new last : Seen} {held : List ℕ} {ended status : Status} {number : ℕ} → started ≡ old
     → last ≡ new → Flushed run told new held ended status → number ≡ number_of status → IsSettled old.content → Runs request started run ended
     → Exits request old last number
-exits request {started = started} {old = old} {run = run} {changes = told} {new = new} {last = last} {held = held} {ended = ended} {status = status} begun left
+exits request {started = started} {old = old} {run = run} {told = told} {new = new} {last = last} {held = held} {ended = ended} {status = status} begun left
     f numbered settled r =
     let own : Runs request old run ended = subst (λ s. Runs request s run ended) begun r in
     let writes : Writes f.flush (λ was now. now ≡ was) run (record new { content = with_held held new.content }) =

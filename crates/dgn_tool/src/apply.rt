@@ -51,7 +51,7 @@ fn apply_entries<D: Desk>(
     output: &str,
 ) -> Result<Ending, Stop>
     requires bounded { length body.items + length tail.now ≤ MOST_DESIGN }
-    requires bounded { length entries.now < 2 ^ 32 }
+    requires counted { length entries.now < 2 ^ 32 }
     ensures { DeskComes D.Desk (entries_outcome body.items tail.now (all_packed entries.now) output.now)
         desk.old desk.new result }
 {

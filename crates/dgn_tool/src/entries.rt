@@ -32,7 +32,7 @@ pub(crate) fn put_entries(
     tail: usize,
     entries: &[PatchEntry],
 ) -> Result<(), PutEnd>
-    requires bounded { length entries.now < 2 ^ 32 }
+    requires counted { length entries.now < 2 ^ 32 }
     requires bounded { length body.old.items + tail ≤ MOST_DESIGN }
     ensures put { Puts result (put_from tail 1 body.old.items (all_packed entries.now)) body.new.items }
     ensures bounded { OnOk result (length body.new.items + tail ≤ MOST_DESIGN) }

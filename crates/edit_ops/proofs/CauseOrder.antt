@@ -118,10 +118,10 @@ is_in_place (edit.Delete m) n named other = tt
 is_in_place (edit.Append new) n named other = let x = named in cc
 
 -- what was added unless a later cause stood makes the plan of a part's edit, or refuses it
-pub planned_unless : {A : Type 0} {added old new : List A} (dim : ℕ) (es : List Element) (rest : ℕ) (e : Edit) (n : ℕ) {o : Option Cause}
+pub planned_unless : {A : Type 0} (added old new : List A) (dim : ℕ) (es : List Element) (rest : ℕ) (e : Edit) (n : ℕ) {o : Option Cause}
     (r : Result (Unit {0}) EditFault) (before after : Plan) → target_of e ≡ Some n → n < length es
     → option_or (part_cause dim es n) (first_of (causes_of dim es rest e)) ≡ o → AddsUnless o added r old new
     → (new ≡ old ++ added → o ≡ None → IsPlanBehind dim es rest e before after) → PlansUnless dim es rest e r before after
-planned_unless dim es rest e n (Ok x) before after named known is adds plan = plan adds.0 adds.1
-planned_unless dim es rest e n (Err (faults.Refused c)) before after named known is adds plan = later_refused dim es rest e n c named known (is ∙ adds)
-planned_unless dim es rest e n (Err faults.Memory) before after named known is adds plan = tt
+planned_unless added old new dim es rest e n (Ok x) before after named known is adds plan = plan adds.0 adds.1
+planned_unless added old new dim es rest e n (Err (faults.Refused c)) before after named known is adds plan = later_refused dim es rest e n c named known (is ∙ adds)
+planned_unless added old new dim es rest e n (Err faults.Memory) before after named known is adds plan = tt

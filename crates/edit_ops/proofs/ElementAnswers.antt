@@ -1,6 +1,6 @@
 -- What is read of an element says what stands against an edit of it, and what the edit puts into it.
 use Rattle.std.proofs.Common.{◌≡◌, ℕ, ◌+◌, ◌<◌, ◌≤◌, List, [], ◌∷◌, length, Bool, true, false, cond, Option, Some, None, refl, sym, ap, ◌∙◌}
-use Rattle.std.proofs.Common.{subst, arith}
+use Rattle.std.proofs.Common.{map, subst, arith}
 use Rattle.std.specs.Prelude.{◌&&◌, not, slice_get, option_map}
 use Rattle.std.specs.List.{AllByRecursion, list_all}
 use Rattle.std.specs.Option.{option_to_list}
@@ -34,7 +34,7 @@ use Rattle.edit_ops.specs.declared.asking.test.Test.TheVariants as tests
 use Rattle.edit_ops.specs.Trees.{Live, found_at}
 use Rattle.edit_ops.specs.Causes.{says_locked, is_locked}
 use Rattle.edit_ops.specs.Asking.{cause_in, MayBeAskedOf, locked_in}
-use Rattle.edit_ops.specs.Written.{live_puts, look_put, new_look}
+use Rattle.edit_ops.specs.Written.{sum_put, live_puts, look_put, new_look}
 use Rattle.edit_ops.specs.Putting.{MayBePut}
 use Rattle.edit_ops.specs.ElementViews.{IsElementView}
 use Rattle.edit_ops.proofs.ReadableElements.{IsShown, is_shown, shown_long, not_silent_form}

@@ -1,5 +1,5 @@
 -- Which of some live elements a move or a copy would have leave the design plane, one after the other.
-use Rattle.std.proofs.Common.{◌≡◌, ℕ, ◌+◌, ◌<◌, List, ◌++◌, length, drop, get_or, Bool, true, Option, None, Result, Ok, Err, refl, sym, ap, ◌∙◌}
+use Rattle.std.proofs.Common.{◌≡◌, ℕ, ◌+◌, ◌<◌, List, ◌++◌, length, drop, get_or, Bool, true, Option, None, Result, Ok, Err, refl, sym, ap, ◌∙◌, subst}
 use Rattle.std.specs.Prelude.{slice_get, OnOk, IfErr}
 use Rattle.std.specs.List.{AllByRecursion, list_all}
 use Rattle.std.specs.Option.{option_or, option_to_list}
@@ -86,10 +86,10 @@ leaving_found d whole m f found by spots =
     (sym (stays_found d whole m f found by spots))
 
 -- what was added, where nothing stood against it, or the cause
-pub adds_of : {A : Type 0} (cause : Option Cause) {added : List A} (r : Result (Unit {0}) EditFault) (old new : List A)
+pub adds_of : {A : Type 0} (cause : Option Cause) (added : List A) (r : Result (Unit {0}) EditFault) (old new : List A)
     → OnOk r (new ≡ old ++ added) → OnOk r (cause ≡ None) → IfErr r (IsStopped cause) → AddsUnless cause added r old new
-adds_of cause (Ok x) old new are free stopped = (are, free)
-adds_of cause (Err fault) old new are free stopped = stopped
+adds_of cause added (Ok x) old new are free stopped = (are, free)
+adds_of cause added (Err fault) old new are free stopped = stopped
 
 -- what is added unless a cause stands, by the same cause and the same that is added
 pub adds_same : {A : Type 0} {cause other : Option Cause} {added same : List A} (r : Result (Unit {0}) EditFault) (old new : List A)

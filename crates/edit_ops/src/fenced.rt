@@ -136,7 +136,7 @@ fn is_fence_edit(edit: &FenceEdit)
     match edit {
         FenceEdit::Move(by) | FenceEdit::Copy(by) => is_shift(by),
         FenceEdit::Sym(change) => {
-            let _ = change.color;
+            let _color = change.color;
         }
         FenceEdit::Delete => {}
     }

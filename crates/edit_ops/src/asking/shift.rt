@@ -7,7 +7,7 @@ use dgn_drawing::Shift;
 pub fn is_shift(by: &Shift)
     ensures { IsShift by.now }
 {
-    let _ = by.axes;
+    let _axes = by.axes;
 }
 
 /// A second value of the displacement `by`.

@@ -1,7 +1,7 @@
 // A copy of a part that is one live element by itself. Its bytes are copied once, and the sums are found once and laid
 // there: where one is off the plane, the copy is refused.
 
-ghost use Rattle.std.specs.Prelude.{ℕ, ◌≡◌, ◌+◌, ◌<◌, ◌≤◌, List, ◌++◌, length, map, None, IsTrue, OnErr};
+ghost use Rattle.std.specs.Prelude.{ℕ, ◌≡◌, ◌+◌, ◌<◌, ◌≤◌, List, ◌++◌, length, map, None, IsTrue, IfErr, OnOk, OnErr};
 ghost use Rattle.std.specs.List.{list_all};
 ghost use Rattle.std.specs.Option.{option_to_list};
 ghost use Rattle.range_code.specs.Plane.{is_on_plane};
@@ -16,7 +16,7 @@ ghost use Rattle.dgn_drawing.specs.WellFormed.{IsDimension};
 ghost use Rattle.elem_index.specs.Design.{elements, IsWhole};
 ghost use Rattle.patch_bytes.specs.Puts.{lay, write};
 ghost use Rattle.edit_ops.specs.Causes.{unmovable};
-ghost use Rattle.edit_ops.specs.Copying.{tree_copy, copy_cause, AddsUnless};
+ghost use Rattle.edit_ops.specs.Copying.{tree_copy, copy_cause, IsStopped};
 ghost use Rattle.edit_ops.specs.ElementViews.{IsElementView};
 ghost use Rattle.edit_ops.specs.Trees.{found_at, live_tree, tree_at};
 ghost use Rattle.edit_ops.specs.Written.{sum_put};
@@ -42,8 +42,10 @@ pub fn push_lone_copy(
     requires found { IsElementView d.now n found }
     requires part { spelling (flat (tree_at n (forest row_of (elements d.now)))) ≡ found.bytes.now }
     requires live { live_tree (elements d.now) n ≡ option_to_list (found_at (elements d.now) n) }
-    ensures copied { AddsUnless (copy_cause d.now.dim (elements d.now) by.now n)
-        (spelling (flat (tree_copy d.now.dim (elements d.now) by.now n))) result out.old.items out.new.items }
+    ensures copied { OnOk result
+        (out.new.items ≡ out.old.items ++ spelling (flat (tree_copy d.now.dim (elements d.now) by.now n))) }
+    ensures accepted { OnOk result (copy_cause d.now.dim (elements d.now) by.now n ≡ None) }
+    ensures refused { IfErr result (IsStopped (copy_cause d.now.dim (elements d.now) by.now n)) }
     ensures kept { OnErr result (out.new.items ≡ out.old.items) }
 {
     if let Some(cause) = unmovable(n, class(found.kind)) {

@@ -253,11 +253,11 @@ fn is_edit(edit: &Edit)
     match edit {
         Edit::Move { by, .. } | Edit::Copy { by, .. } => is_shift(by),
         Edit::Sym { change, .. } => {
-            let _ = change.color;
+            let _color = change.color;
         }
         Edit::Delete { .. } => {}
         Edit::Append(new) => {
-            let _ = new.level;
+            let _level = new.level;
         }
     }
 }

@@ -2,7 +2,7 @@ use Rattle.std.proofs.Common.{refl, ap}
 use Rattle.std.specs.Prelude.{not}
 use Rattle.elem_index.specs.Design.{elements}
 use Rattle.elem_index.specs.Offsets.{offset_of}
-use Rattle.edit_ops.specs.declared.asking.found.Found.{Found}
+use Rattle.edit_ops.specs.declared.asking.element_view.ElementView.{ElementView}
 use Rattle.edit_ops.proofs.DesignElements.{head_fits, found_here}
 use Rattle.dgn_import.proofs.DrawnElements.{drawn_seen, drawn_silent}
 use Rattle.dgn_import.proofs.taking.is_drawn.Goals as goal
@@ -12,7 +12,7 @@ head-head-requires c = head_fits c.args.d.now c.requires c.args.n c.in-Some.byte
 
 pub returns-then-not-is_silent : goal.returns-then-not-is_silent
 returns-then-not-is_silent c =
-    let f : Found = record {
+    let f : ElementView = record {
       place = offset_of (elements c.args.d.now) c.args.n;
       kind = c.head-head.result.kind;
       deleted =
@@ -25,7 +25,7 @@ returns-then-not-is_silent c =
 
 pub returns-else-not-is_silent : goal.returns-else-not-is_silent
 returns-else-not-is_silent c =
-    let f : Found = record {
+    let f : ElementView = record {
       place = offset_of (elements c.args.d.now) c.args.n;
       kind = c.head-head.result.kind;
       deleted =

@@ -17,8 +17,8 @@ use Rattle.dgn_tool.proofs.apply.apply.Goals as goal
 abbrev behind_input : List ℕ → List ℕ → Files → Opened → Reading Outcome
 behind_input patch output files d = entries_in files patch >>= λ es. at_once (Ok (patched d es output))
 
-pub apply_entries-requires-clause-bounded : goal.apply_entries-requires-clause-bounded
-apply_entries-requires-clause-bounded g c =
+pub apply_entries-requires-clause-counted : goal.apply_entries-requires-clause-counted
+apply_entries-requires-clause-counted g c =
     subst (λ (es : List PatchEntry). length es < 2 ^ 32) (sym c.deref-in-Ok-read_entries.ensures.value) c.in-Ok-read_entries.ensures.bounded
 
 pub returns-in-Err : goal.returns-in-Err

@@ -38,7 +38,7 @@ returns-in-Err-TooLong-clause-read g c =
     record { changes = read.changes; calm = read.cause; quiet = read.other; stays_willing = read.stays_willing } in
     let rest : Files → Reading (List ℕ) = λ _. at_once (Err (ended statuses.TooLong line)) in
     continues (λ files. file_in files name limit line) rest (Err c.of.result) _ _ _ reads
-    (where_told _ (λ k. Goes k.files (file_in k.files name limit line) (rest k.files)) _ (read.long refl)
+    (where_told _ (λ k. Goes k.files (file_in k.files name limit line) (rest k.files)) _ (read.too_long refl)
     (λ k long. record {
       before = record { name = name; limit = limit } ∷ [];
       sources = refl;

@@ -3,13 +3,13 @@ use Rattle.edit_ops.specs.Causes.{unmovable, off_plane}
 use Rattle.edit_ops.proofs.LoneCopy.{unmoved, copy_leaves_plane}
 use Rattle.edit_ops.proofs.copies.lone.push_lone_copy.Goals as goal
 
-pub returns-in-Some-clause-copied : goal.returns-in-Some-clause-copied
-returns-in-Some-clause-copied c =
+pub returns-in-Some-clause-refused : goal.returns-in-Some-clause-refused
+returns-in-Some-clause-refused c =
     unmoved c.args.d.now c.requires.whole c.args.n c.args.found c.requires.found c.requires.live c.args.by.now (Some c.in-Some.cause)
     (sym (c.unmovable.ensures ∙ ap (unmovable c.args.n) c.class.ensures) ∙ c.in-Some.is)
 
-pub returns-then-not-lay_copy-clause-copied : goal.returns-then-not-lay_copy-clause-copied
-returns-then-not-lay_copy-clause-copied c =
+pub returns-then-not-lay_copy-clause-refused : goal.returns-then-not-lay_copy-clause-refused
+returns-then-not-lay_copy-clause-refused c =
     copy_leaves_plane c.args.d.now c.requires.whole c.args.n c.args.found c.requires.found c.requires.live c.args.by.now
     (sym (c.unmovable.ensures ∙ ap (unmovable c.args.n) c.class.ensures) ∙ c.in_default.is)
     ∙ ap (off_plane c.args.n) (sym c.lay_copy.ensures.on_plane ∙ c.if-not-lay_copy.true)

@@ -1,15 +1,17 @@
 use Rattle.std.proofs.Common.{◌≡◌, List, Option, Some, None, sym, ap, ◌∙◌, subst}
 use Rattle.std.specs.Option.{option_or}
 use Rattle.dgn_drawing.specs.Values.{Displacement}
+use Rattle.dgn_drawing.specs.Spelling.{spelling}
+use Rattle.dgn_drawing.specs.Nesting.{flat}
 use Rattle.elem_index.specs.Design.{elements}
 use Rattle.edit_ops.specs.declared.asking.test.Test.TheVariants as tests
 use Rattle.edit_ops.specs.declared.causes.cause.Cause.{Cause}
 use Rattle.edit_ops.specs.Trees.{Live, live_tree}
 use Rattle.edit_ops.specs.Causes.{other_axes, first_cause, part_cause}
-use Rattle.edit_ops.specs.Copying.{copy_cause}
+use Rattle.edit_ops.specs.Copying.{copy_cause, tree_copy, AddsUnless}
 use Rattle.edit_ops.specs.Written.{lives_of}
 use Rattle.edit_ops.proofs.CopyLength.{long_copy, short_copy}
-use Rattle.edit_ops.proofs.LeavingElements.{adds_same, adds_of}
+use Rattle.edit_ops.proofs.LeavingElements.{adds_of}
 use Rattle.edit_ops.proofs.plans.edit.plan_copy.Goals as goal
 
 pub returns-in-Some-growth_cause : goal.returns-in-Some-growth_cause
@@ -42,6 +44,7 @@ returns c =
     ∙ sym c.or-first.ensures ∙ c.in_default.is in
     let all = short_copy d c.requires.whole c.args.n c.args.pending c.part_len.result c.args.by.now free c.part_len.ensures.exact
     (sym c.growth_cause.ensures ∙ c.in_default-growth_cause.is) in
-    adds_same c.copy_tree.result c.args.append.now c.copy_tree.new.out all refl
-    (adds_of (copy_cause d.dim es c.args.by.now c.args.n) c.copy_tree.result c.args.append.now c.copy_tree.new.out
+    let bytes = spelling (flat (tree_copy d.dim es c.args.by.now c.args.n)) in
+    subst (λ (o : Option Cause). AddsUnless o bytes c.copy_tree.result c.args.append.now c.copy_tree.new.out) (sym all)
+    (adds_of (copy_cause d.dim es c.args.by.now c.args.n) bytes c.copy_tree.result c.args.append.now c.copy_tree.new.out
     c.copy_tree.ensures.copied c.copy_tree.ensures.accepted c.copy_tree.ensures.refused)

@@ -35,7 +35,7 @@ returns-in-Copy c =
     let bytes = spelling (flat (tree_copy d.dim es c.in-Copy.by c.args.n)) in
     let after : Plan = record { patches = c.args.all.now.patches; append = c.plan_copy.new.append } in
     record {
-      planned = planned_unless d.dim es rest e c.args.n c.plan_copy.result c.args.all.now after c.requires.target known same c.plan_copy.ensures
+      planned = planned_unless bytes c.args.all.now.append c.plan_copy.new.append d.dim es rest e c.args.n c.plan_copy.result c.args.all.now after c.requires.target known same c.plan_copy.ensures
           (λ more free.
           appends_behind d.dim es rest e c.args.all.now after bytes
           (copied_plan d.dim es rest e c.args.n c.args.n c.in-Copy.by (record { patches = []; append = bytes }) c.requires.target named
@@ -60,7 +60,7 @@ returns c =
     let puts = part_puts d.dim es e c.args.n in
     let after : Plan = record { patches = c.plan_in_place.new.patches; append = c.args.all.now.append } in
     record {
-      planned = planned_unless d.dim es rest e c.args.n c.plan_in_place.result c.args.all.now after c.requires.target known same c.plan_in_place.ensures
+      planned = planned_unless puts c.args.all.now.patches c.plan_in_place.new.patches d.dim es rest e c.args.n c.plan_in_place.result c.args.all.now after c.requires.target known same c.plan_in_place.ensures
           (λ more free.
           writes_behind d.dim es rest e c.args.all.now after puts
           (changed_plan (d.body.items ++ d.tail.items) d.dim es d.tail.items rest e c.args.n (record { patches = puts; append = [] })

@@ -56,7 +56,7 @@ moved_range-requires c =
     ∙ sym c.stays_on_plane.ensures ∙ c.if-not-stays_on_plane.false) in
     record {
       dimension = axes_of c.args.d.now c.requires.whole;
-      long = long_spots c.args.d.now c.requires.whole c.args.n c.in-Some.head head spots;
+      long_enough = long_spots c.args.d.now c.requires.whole c.args.n c.in-Some.head head spots;
       low = stay.0;
       high = stay.1;
     }

@@ -18,7 +18,7 @@ push_range-requires c =
       kind = kind_found d c.requires.whole c.args.m c.in-Some.found found;
       spotted = ap (λ (k : ℕ). has_spots (class_of k)) found.kind ∙ spotted;
       holds = holds_found d c.requires.whole c.args.m c.in-Some.found found spotted;
-      few = found.within;
+      bounded = found.within;
     }
 
 pub returns : goal.returns
