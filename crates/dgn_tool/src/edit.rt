@@ -13,9 +13,10 @@ ghost use Rattle.dgn_tool.specs.Request.{Edit};
 ghost use Rattle.dgn_import.specs.Seconds.{seconds_left};
 
 use crate::commands::run_all;
+use crate::end::End;
+use crate::ending::Ending;
 use crate::inputs::{Inputs, read_inputs};
 use crate::output::write_drawing;
-use crate::{End, Ending};
 use dgn_desk::{Desk, Stop};
 use dgn_import::Second;
 use dgn_session::Session;

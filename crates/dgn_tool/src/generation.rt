@@ -8,7 +8,8 @@ ghost use Rattle.dgn_tool.specs.Ends.{DeskComes};
 ghost use Rattle.dgn_answers.specs.Steps.{after_all};
 ghost use Rattle.dgn_tool.specs.Generation.{fixed_commands, fixed_steps, sizes_of, counts_of, summary, generated_from, drawing_of, generation};
 
-use crate::{Ending, file_filled, filling_len};
+use crate::ending::Ending;
+use crate::output::{file_filled, filling_len};
 use dgn_answers::{Tally, run_unsaid};
 use dgn_desk::{Desk, Stop};
 use dgn_drawing::MOST_DESIGN;

@@ -10,7 +10,9 @@ ghost use Rattle.dgn_answers.specs.Steps.{steps_of};
 ghost use Rattle.dgn_tool.specs.Inputs.{Inputs as InputsValue, inputs_in};
 ghost use Rattle.dgn_import.specs.Seconds.{seconds_left};
 
-use crate::{End, open_design, read_commands, read_seconds};
+use crate::end::End;
+use crate::files::{open_design, read_commands};
+use crate::seconds::read_seconds;
 use dgn_desk::Desk;
 use dgn_import::Second;
 use edit_script::Command;

@@ -26,14 +26,7 @@ mod words;
 
 pub use dgn_answers::{answer, answer_import};
 pub use dgn_generator::generate;
-pub use end::End;
-pub use ending::Ending;
-pub use files::{open_design, read_commands};
-pub use output::{file_and_say, file_filled, filling_len, write_filled};
-pub use put_end::PutEnd;
-pub use request::{Request, read_words};
+pub use request::Request;
 pub use runs::run;
-pub use seconds::read_seconds;
 pub use status::Status;
-pub use texts::{end_numbered, end_with};
 pub use words::{run_flushed, run_given};

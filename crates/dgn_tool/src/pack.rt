@@ -18,8 +18,11 @@ ghost use Rattle.dgn_tool.specs.Outcome.{reading_of};
 ghost use Rattle.dgn_tool.specs.Request.{Pack};
 ghost use Rattle.dgn_import.specs.Seconds.{seconds_left};
 
+use crate::end::End;
+use crate::ending::Ending;
 use crate::inputs::{Inputs, read_inputs};
-use crate::{End, Ending, end_with, file_and_say};
+use crate::output::file_and_say;
+use crate::texts::end_with;
 use dgn_answers::run_unsaid;
 use dgn_desk::{Desk, Stop};
 use dgn_import::Second;

@@ -11,9 +11,11 @@ ghost use Rattle.dgn_tool.specs.Runs.{DeskRuns};
 use crate::apply::apply;
 use crate::check::check;
 use crate::edit::edit;
+use crate::end::End;
 use crate::generation::generate_file;
 use crate::pack::pack;
-use crate::{End, Request, Status, read_words};
+use crate::request::read_words;
+use crate::{Request, Status};
 use dgn_desk::{Desk, say_all};
 use std::alloc::Global;
 

@@ -10,8 +10,9 @@ ghost use Rattle.dgn_desk.specs.Seen.{DeskWrites};
 ghost use Rattle.dgn_tool.specs.Runs.{DeskRuns, DeskExits, IsSettled, flushed_status};
 ghost use Rattle.dgn_tool.specs.Status.{number_of};
 
+use crate::Status;
+use crate::end::End;
 use crate::runs::run;
-use crate::{End, Status};
 use dgn_desk::{BufferedDesk, Desk};
 use std::alloc::Global;
 use std::io;
