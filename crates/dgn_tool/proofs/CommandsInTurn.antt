@@ -8,8 +8,7 @@ use Rattle.dgn_desk.specs.Content.{Content, spoken}
 use Rattle.dgn_desk.specs.Desk.{SaysAll}
 use Rattle.dgn_desk.specs.Seen.{Seen, Writes}
 use Rattle.dgn_desk.specs.declared.stop.Stop.{Stop}
-use Rattle.dgn_desk.specs.declared.stop.Stop.TheVariants as stops
-use Rattle.dgn_desk.proofs.InTurn.{done_so, stopped_so, then_so}
+use Rattle.dgn_desk.proofs.InTurn.{stopped_so, then_so}
 use Rattle.dgn_desk.proofs.Telling.{spoken-append}
 use Rattle.dgn_session.specs.State.{State}
 use Rattle.dgn_import.specs.Seconds.{SecondValue}
@@ -40,16 +39,6 @@ sum_moved a b c = omega arith
 
 sum_zero : (a : ℕ) → a + 0 ≡ a
 sum_zero a = omega arith
-
--- none is yet
-pub ran_none : (all : List Step) (s : State) (old : Seen) → Ran all all 0 s s old old
-ran_none all s old = record {
-  done = [];
-  texts = refl;
-  said = record { cause = refl; other = refl; changes = unsaid old.content; stays_willing = λ willing. willing; never_fails = λ _. tt };
-  count = omega arith;
-  state = refl;
-}
 
 -- of the commands that are left one is the next, and its line is what it says
 pub record IsNext (all more : List Step) (c : Step) (refused : ℕ) (line : List ℕ) (from s : State) (old now : Seen) : Type 0 where
@@ -88,34 +77,6 @@ ran_more all left c refused was line from s new old now then next new_is says wa
           ∙ ap (λ (b : Bool). (refused + from_bool b) + refused_count left new) (sym was_is);
       state = ran.state ∙ ap (after_all left) (sym new_is);
     }
-
--- where no command is left, all is done
-pub ran_all : (all left : List Step) (refused : ℕ) (from s : State) (old now : Seen) → Ran all left refused from s old now → left ≡ []
-    → refused ≡ refused_count all from
-ran_all all left refused from s old now ran none =
-    sym (ran.count ∙ ap (λ (cs : List Step). refused + refused_count cs s) none ∙ sum_zero refused)
-
-pub ran_said : (all left : List Step) (refused : ℕ) (from s : State) (old now : Seen) → Ran all left refused from s old now → left ≡ []
-    → Writes {T = ℕ} (Ok refused) (SaysAs {T = ℕ} (Ok refused) (texts_of all from)) old now
-ran_said all left refused from s old now ran none =
-    let whole : texts_of all from ≡ ran.done = ran.texts ∙ ap (λ (cs : List Step). ran.done ++ texts_of cs s) none ∙ append-nil ran.done in
-    done_so tt refused ran.said (λ said. said ∙ ap (λ (t : List ℕ). option_map (spoken t) old.content) (sym whole))
-
-pub ran_state : (all left : List Step) (refused : ℕ) (from s : State) (old now : Seen) → Ran all left refused from s old now → left ≡ []
-    → s ≡ after_all all from
-ran_state all left refused from s old now ran none =
-    sym (ran.state ∙ ap (λ (cs : List Step). after_all cs s) none)
-
--- where there is no memory for the next, a front of the texts was said
-pub ran_front : (all left : List Step) (refused : ℕ) (from s : State) (old now : Seen) → Ran all left refused from s old now
-    → Writes {T = ℕ} (Err stops.Memory) (SaysAs {T = ℕ} (Err stops.Memory) (texts_of all from)) old now
-ran_front all left refused from s old now ran = record {
-  cause = ran.said.cause;
-  other = ran.said.other;
-  changes = (ran.done, (texts_of left s, ran.texts), ran.said.changes);
-  stays_willing = ran.said.stays_willing;
-  never_fails = λ _. tt;
-}
 
 -- and where the desk stops in the midst of its text, a front of that too
 pub ran_part : (all left : List Step) (c : Step) (refused : ℕ) (stop : Stop) (line : List ℕ) (from s : State) (old now then : Seen)

@@ -60,11 +60,6 @@ stepped true true k b b' rest e = absurd (cc)
 stepped true false k b b' rest e = let same : b ≡ b' = cc in ap rest same
 stepped false y k b b' rest e = absurd (cc)
 
-pub goes_behind : (tail k : ℕ) (b b' : List ℕ) (e : Packed) (es : List Packed) → put_from tail k b (e ∷ []) ≡ Made b'
-    → put_from tail k b (e ∷ es) ≡ put_from tail (k + 1) b' es
-goes_behind tail k b b' e es one =
-    stepped (does_stand b e) (nat_lt MOST_DESIGN (length (put_on b e) + tail)) k (put_on b e) b' (λ (x : List ℕ). put_from tail (k + 1) x es) one
-
 -- where one entry ends it, none behind it is put on
 ended : (x y : Bool) (k : ℕ) (b now : List ℕ) (rest : Patched) (end : PutEnd) → Puts (Err end) (cond (not x) (Differs k) (cond y Overruns (Made b))) now
     → Puts (Err end) (cond (not x) (Differs k) (cond y Overruns rest)) now
@@ -73,11 +68,6 @@ ended true false k b now rest (ends.Refused number) puts = absurd (let x = puts 
 ended true false k b now rest ends.TooLong puts = absurd (let x = puts in cc)
 ended true false k b now rest ends.Memory puts = tt
 ended false y k b now rest end puts = puts
-
-pub ends_there : (tail k : ℕ) (b now : List ℕ) (e : Packed) (es : List Packed) (end : PutEnd) → Puts (Err end) (put_from tail k b (e ∷ [])) now
-    → Puts (Err end) (put_from tail k b (e ∷ es)) now
-ends_there tail k b now e es end puts =
-    ended (does_stand b e) (nat_lt MOST_DESIGN (length (put_on b e) + tail)) k (put_on b e) now (put_from tail (k + 1) (put_on b e) es) end puts
 
 -- how long a body is with an entry on it
 pub length-put_on : (b : List ℕ) (e : PatchEntry) → Stands b (packed_of e) → length (put_on b (packed_of e)) ≡ length b + length e.append

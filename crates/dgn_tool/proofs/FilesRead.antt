@@ -1,22 +1,17 @@
 -- What a file that was read gives, and what its bytes say of the file.
-use Rattle.std.proofs.Common.{◌≡◌, ◌<◌, ◌≤◌, List, ℕ, length, nat_lt, true, false, vec_len, Vec, Result, Ok, Err, refl, sym, ap, ◌∙◌, subst, arith}
+use Rattle.std.proofs.Common.{◌≡◌, ◌<◌, ◌≤◌, List, ℕ, length, nat_lt, true, false, Result, Ok, Err, refl, sym, ap, ◌∙◌, subst, arith}
 use Rattle.std.specs.Prelude.{codes}
 use Rattle.std.proofs.lemmas.Bool.Decides.{nat_tests}
 use Rattle.dgn_desk.specs.Content.{Files, bytes_of}
 use Rattle.dgn_drawing.specs.Opening.{Fault}
-use Rattle.elem_index.specs.declared.open_fault.OpenFault.{OpenFault}
 use Rattle.elem_index.specs.Opened.{Opened, opening}
-use Rattle.elem_index.specs.Answers.{HasCount, TellsFault}
+use Rattle.elem_index.specs.Answers.{HasCount}
 use Rattle.dgn_listing.specs.NumberedLines.{numbered}
 use Rattle.dgn_tool.specs.Ended.{ended}
-use Rattle.dgn_tool.specs.Inputs.{FaultSays, drawing_opened}
+use Rattle.dgn_tool.specs.Inputs.{drawing_opened}
 use Rattle.dgn_tool.specs.Outcome.{checked}
 use Rattle.dgn_tool.specs.Readings.{file_in, at_once, ◌>>=◌}
 use Rattle.dgn_tool.specs.declared.status.Status.TheVariants as statuses
-
--- a `Vec` of at most n items is a list of at most n
-pub items_within : {X Z : Type 0} (v : Vec X Z) (n : ℕ) → vec_len v ≤ n → length v.items ≤ n
-items_within v n h = subst (λ k. k ≤ n) v.ok.0 h
 
 -- a file within its limit gives its bytes
 pub file_gives : (files : Files) (name : List ℕ) (limit : ℕ) (line bytes : List ℕ) → length bytes ≤ limit → bytes ≡ bytes_of files name
@@ -32,15 +27,6 @@ pub file_overruns : (files : Files) (name : List ℕ) (limit : ℕ) (line : List
 file_overruns files name limit line long =
     let test : nat_lt limit (length (bytes_of files name)) ≡ true = grind (arith, nat_tests) in
     rw test refl
-
--- a fault that is told ends the run with its line
-pub fault_ends : (found : Result Opened Fault) (fault : OpenFault) (line : List ℕ) → TellsFault found fault → FaultSays fault line
-    → drawing_opened found ≡ Err (ended statuses.BadDesign line)
-fault_ends found OpenFault.NotDesign line tells says = ap drawing_opened tells ∙ ap (λ (l : List ℕ). Err (ended statuses.BadDesign l)) (sym says)
-fault_ends found (OpenFault.Cut at) line tells says = ap drawing_opened tells ∙ ap (λ (l : List ℕ). Err (ended statuses.BadDesign l)) (sym says)
-fault_ends found (OpenFault.Short at) line tells says = ap drawing_opened tells ∙ ap (λ (l : List ℕ). Err (ended statuses.BadDesign l)) (sym says)
-fault_ends found (OpenFault.Attr at) line tells says = ap drawing_opened tells ∙ ap (λ (l : List ℕ). Err (ended statuses.BadDesign l)) (sym says)
-fault_ends found OpenFault.Memory line tells says = absurd says
 
 -- where IN opens, `check` says how many elements it has
 pub counts : (bytes : List ℕ) (count : ℕ) → HasCount bytes count

@@ -1,5 +1,5 @@
 -- What is taken off a session's log are the packed entries of the edits that are left.
-use Rattle.std.proofs.Common.{◌≡◌, ℕ, ◌+◌, ◌<◌, ◌≤◌, min, Bool, true, false, cond, nat_lt, codes, List, [], ◌∷◌, ◌++◌, length, map, reverse, refl, sym, ap}
+use Rattle.std.proofs.Common.{◌≡◌, ℕ, ◌+◌, ◌<◌, min, Bool, true, cond, nat_lt, codes, List, [], ◌∷◌, ◌++◌, length, map, reverse, refl, sym, ap}
 use Rattle.std.proofs.Common.{◌∙◌, subst, arith}
 use Rattle.std.proofs.lemmas.Bool.Decides.{nat_tests}
 use Rattle.std.proofs.lemmas.List.{append-nil, reverse-append, map-append, length-map}
@@ -106,25 +106,12 @@ filed_so entries refused patch file text status spelled said is =
     (ap (numbered (codes "entries ")) (length-map entries packed_of) ∙ sym said)
     ∙ ap (filed_then_said status text patch) (sym spelled ∙ sym (append-nil file))
 
--- the outcome of a patch file that isn't too long, and of one that is
-pub packed_short : (cs : List Step) (s : State) (es : List Packed) (refused : ℕ) (patch : List ℕ) → es ≡ packed_after cs s → refused ≡ refused_count cs s
-    → length (patch_spelling es) ≤ MOST_PATCH → filed_patch es refused patch ≡ packed_from s cs patch
-packed_short cs s es refused patch same count short =
-    let within : length (patch_spelling (packed_after cs s)) ≤ MOST_PATCH = subst (λ (ps : List Packed). length (patch_spelling ps) ≤ MOST_PATCH) same short in
-    let test : nat_lt MOST_PATCH (length (patch_spelling (packed_after cs s))) ≡ false = grind (arith, nat_tests) in
-    ap (λ (ps : List Packed). filed_patch ps refused patch) same ∙ ap (λ (n : ℕ). filed_patch (packed_after cs s) n patch) count
-    ∙ sym (ap (λ (b : Bool). cond b (ended statuses.TooLong (codes "too long patch\n")) (filed_patch (packed_after cs s) (refused_count cs s) patch)) test)
-
 pub packed_long : (cs : List Step) (s : State) (es : List Packed) (patch : List ℕ) → es ≡ packed_after cs s → MOST_PATCH < length (patch_spelling es)
     → ended statuses.TooLong (codes "too long patch\n") ≡ packed_from s cs patch
 packed_long cs s es patch same long =
     let over : MOST_PATCH < length (patch_spelling (packed_after cs s)) = subst (λ (ps : List Packed). MOST_PATCH < length (patch_spelling ps)) same long in
     let test : nat_lt MOST_PATCH (length (patch_spelling (packed_after cs s))) ≡ true = grind (arith, nat_tests) in
     sym (ap (λ (b : Bool). cond b (ended statuses.TooLong (codes "too long patch\n")) (filed_patch (packed_after cs s) (refused_count cs s) patch)) test)
-
--- what the greatest number of 64 bits caps
-pub within_cap : (n x : ℕ) → n ≡ min x 18446744073709551615 → n ≤ MOST_PATCH → x ≤ MOST_PATCH
-within_cap n x is le = omega arith
 
 pub beyond_cap : (n x : ℕ) → n ≡ min x 18446744073709551615 → MOST_PATCH < n → MOST_PATCH < x
 beyond_cap n x is lt = omega arith

@@ -1,20 +1,16 @@
 -- What `apply` comes to, by what was read of IN and PATCH and by what the entries made.
-use Rattle.std.proofs.Common.{◌≡◌, ◌<◌, ◌-◌, ◌^◌, List, ℕ, length, Err, refl, sym, ap, ◌∙◌, arith}
+use Rattle.std.proofs.Common.{◌≡◌, ◌-◌, List, ℕ, length, Err, refl, sym, ap, ◌∙◌, arith}
 use Rattle.std.specs.Prelude.{codes}
-use Rattle.std.proofs.lemmas.List.{length-map}
 use Rattle.elem_index.specs.declared.design.Design.{Design}
 use Rattle.elem_index.specs.Design.{IsWhole}
 use Rattle.elem_index.specs.Answers.{opened_of}
-use Rattle.patch_file.specs.declared.patch_entry.PatchEntry.{PatchEntry}
-use Rattle.patch_file.specs.PatchView.{packed_of, all_packed}
-use Rattle.patch_file.specs.Spelling.{Packed, AreEntries}
+use Rattle.patch_file.specs.Spelling.{Packed}
 use Rattle.patch_file.specs.Reading.{patch_of}
 use Rattle.patch_file.specs.BadPieces.{IsBadAt}
 use Rattle.patch_file.proofs.BadAgain.{patch_bad}
-use Rattle.dgn_tool.specs.Applied.{Patched, Made, put_from, patched_outcome, entries_outcome, patched}
+use Rattle.dgn_tool.specs.Applied.{Patched, put_from, patched_outcome, entries_outcome, patched}
 use Rattle.dgn_tool.specs.Inputs.{entries_read}
-use Rattle.dgn_tool.specs.Ended.{ended, filed_then_said}
-use Rattle.dgn_tool.specs.Filling.{file_made}
+use Rattle.dgn_tool.specs.Ended.{ended}
 use Rattle.dgn_listing.specs.NumberedLines.{numbered}
 use Rattle.dgn_tool.specs.declared.status.Status.TheVariants as statuses
 use Rattle.dgn_import.proofs.SpelledBodies.{spelled_with}
@@ -28,12 +24,6 @@ bad_ends text offset bad =
     ap (entries_read (length text)) (patch_bad text bad.left bad.bad)
     ∙ ap (λ (n : ℕ). Err (ended statuses.BadPatch (numbered (codes "bad patch at ") n))) at_offset
 
--- the entries that were read are few
-pub few_read : (es : List PatchEntry) → AreEntries (all_packed es) → length es < 2 ^ 32
-few_read es are =
-    let few = are.count in
-    omega (arith, length-map es packed_of)
-
 -- what entries come to on the drawing of a whole design
 pub patched_as : (d : Design) (es : List Packed) (output : List ℕ) → IsWhole d
     → patched (opened_of d) es output ≡ entries_outcome d.body.items d.tail.items es output
@@ -44,13 +34,3 @@ patched_as d es output whole =
 pub entries_made : (b tail output : List ℕ) (es : List Packed) (made : Patched) → put_from (length tail) 1 b es ≡ made
     → entries_outcome b tail es output ≡ patched_outcome (length b) tail (length es) made output
 entries_made b tail output es made is = ap (λ (p : Patched). patched_outcome (length b) tail (length es) p output) is
-
--- and where they made a body, by the text that is said
-pub applied_so : (before : ℕ) (b tail output : List ℕ) (entries : List PatchEntry) (made text : List ℕ) → before ≡ length b
-    → put_from (length tail) 1 b (all_packed entries) ≡ Made made → text ≡ numbered (codes "applied ") (length entries)
-    → entries_outcome b tail (all_packed entries) output ≡ filed_then_said statuses.Done text output (file_made before tail made)
-applied_so before b tail output entries made text is put said =
-    entries_made b tail output (all_packed entries) (Made made) put
-    ∙ ap (λ (n : ℕ). patched_outcome (length b) tail n (Made made) output) (length-map entries packed_of)
-    ∙ ap (λ (n : ℕ). patched_outcome n tail (length entries) (Made made) output) (sym is)
-    ∙ ap (λ (x : List ℕ). filed_then_said statuses.Done x output (file_made before tail made)) (sym said)

@@ -1,4 +1,4 @@
-use Rattle.std.proofs.Common.{◌≡◌, ◌<◌, ◌^◌, List, ℕ, length, Ok, ap, sym, subst, ◌∙◌}
+use Rattle.std.proofs.Common.{◌≡◌, List, ℕ, Ok, ap, sym, ◌∙◌}
 use Rattle.dgn_desk.specs.Content.{Files}
 use Rattle.elem_index.specs.Answers.{opened_of}
 use Rattle.elem_index.specs.Opened.{Opened}
@@ -16,10 +16,6 @@ use Rattle.dgn_tool.proofs.apply.apply.Goals as goal
 -- what is read behind IN
 abbrev behind_input : List ℕ → List ℕ → Files → Opened → Reading Outcome
 behind_input patch output files d = entries_in files patch >>= λ es. at_once (Ok (patched d es output))
-
-pub apply_entries-requires-clause-counted : goal.apply_entries-requires-clause-counted
-apply_entries-requires-clause-counted g c =
-    subst (λ (es : List PatchEntry). length es < 2 ^ 32) (sym c.deref-in-Ok-read_entries.ensures.value) c.in-Ok-read_entries.ensures.bounded
 
 pub returns-in-Err : goal.returns-in-Err
 returns-in-Err g c =

@@ -1,14 +1,14 @@
-use Rattle.std.proofs.Common.{◌≡◌, ◌∙◌, length, Err, ap, sym, subst}
+use Rattle.std.proofs.Common.{◌≡◌, length, Err, subst}
 use Rattle.std.specs.Prelude.{codes}
 use Rattle.std.proofs.lemmas.Result.{err_from_is_err_and}
 use Rattle.dgn_desk.specs.Seen.{seen}
 use Rattle.patch_file.specs.PatchView.{all_packed}
-use Rattle.dgn_tool.specs.Applied.{Made, Differs, Overruns, put_from, entries_outcome, Puts}
+use Rattle.dgn_tool.specs.Applied.{Differs, Overruns, put_from, entries_outcome, Puts}
 use Rattle.dgn_tool.specs.Ended.{ended}
 use Rattle.dgn_listing.specs.NumberedLines.{numbered}
 use Rattle.dgn_tool.specs.declared.status.Status.TheVariants as statuses
 use Rattle.dgn_tool.proofs.RunParts.{wants, named_so}
-use Rattle.dgn_tool.proofs.PatchOutcomes.{entries_made, applied_so}
+use Rattle.dgn_tool.proofs.PatchOutcomes.{entries_made}
 use Rattle.dgn_tool.proofs.apply.apply_entries.Goals as goal
 
 pub returns-in-Err-Refused : goal.returns-in-Err-Refused
@@ -42,14 +42,3 @@ returns-in_err-text-in-Ok g c =
     let p = err_from_is_err_and c.from_residual.result c.from_residual.ensures.1 in
     rw (p.1, p.2) (wants (entries_outcome c.args.body.items c.args.tail.now (all_packed c.args.entries.now) c.args.output.now)
     (seen g.D.Desk c.args.desk.now))
-
-pub returns-in-Ok : goal.returns-in-Ok
-returns-in-Ok g c =
-    let b = c.args.body.items in
-    let tail = c.args.tail.now in
-    let es = all_packed c.args.entries.now in
-    named_so (entries_outcome b tail es c.args.output.now) _ c.file_filled.result _ _
-    (applied_so c.len-before.result b tail c.args.output.now c.args.entries.now c.deref.result.now c.deref-in-Ok.result.now
-    (c.len-before.ensures ∙ c.args.body.ok.0) (c.in-Ok.ensures.put ∙ ap Made (sym c.deref.ensures.value))
-    (c.deref-in-Ok.ensures.value ∙ c.in_ok-text-in-Ok.ensures))
-    c.file_filled.ensures

@@ -1,22 +1,12 @@
-use Rattle.std.proofs.Common.{rules, ◌≤◌, ◌+◌, ℕ, drop, refl, ◌∙◌, sym, subst}
-use Rattle.std.proofs.lemmas.List.{drop_all}
+use Rattle.std.proofs.Common.{◌≤◌, ◌+◌, ℕ, drop, ◌∙◌, sym, subst}
 use Rattle.std.proofs.lemmas.Result.{err_from_is_err_and}
 use Rattle.dgn_desk.specs.Seen.{seen}
 use Rattle.dgn_session.specs.State.{state_of}
 use Rattle.dgn_answers.specs.Steps.{steps_of}
 use Rattle.dgn_import.specs.Seconds.{seconds_left}
-use Rattle.dgn_answers.proofs.Stepping.{none_left}
-use Rattle.dgn_tool.proofs.CommandsInTurn.{Ran, is_next, ran_none, ran_more, ran_front, ran_part, ran_all, ran_said, ran_state}
+use Rattle.dgn_tool.proofs.CommandsInTurn.{Ran, is_next, ran_more, ran_part}
 use Rattle.dgn_answers.proofs.Counting.{refused_few}
 use Rattle.dgn_tool.proofs.commands.run_all.Goals as goal
-
-pub commands-init : goal.commands-init
-commands-init g c = record {
-  ran = ran_none (steps_of c.args.commands.now (seconds_left c.args.seconds.now.items)) (state_of c.args.session.now) (seen g.D.Desk c.args.desk.now);
-  tail = refl;
-  sound = c.requires;
-  most = search rules;
-}
 
 pub commands-preserved : goal.commands-preserved
 commands-preserved g c =
@@ -39,27 +29,6 @@ commands-preserved g c =
           (refused_few c.commands.refused c.commands.command-index c.in-Ok.answered.refused c.commands.invariant.most);
     }
 
-pub returns-clause-refused : goal.returns-clause-refused
-returns-clause-refused g c =
-    ran_all _ _ _ _ _ _ _ c.commands.invariant.ran
-    (none_left c.args.commands.now c.commands.command-index (seconds_left c.commands.seconds.items)
-    (drop_all c.commands.command-index c.args.commands.now c.commands-test.false))
-
-pub returns-clause-said : goal.returns-clause-said
-returns-clause-said g c =
-    ran_said _ _ _ _ _ _ _ c.commands.invariant.ran
-    (none_left c.args.commands.now c.commands.command-index (seconds_left c.commands.seconds.items)
-    (drop_all c.commands.command-index c.args.commands.now c.commands-test.false))
-
-pub returns-clause-state : goal.returns-clause-state
-returns-clause-state g c =
-    ran_state _ _ _ _ _ _ _ c.commands.invariant.ran
-    (none_left c.args.commands.now c.commands.command-index (seconds_left c.commands.seconds.items)
-    (drop_all c.commands.command-index c.args.commands.now c.commands-test.false))
-
-pub returns-in_default-clause-said : goal.returns-in_default-clause-said
-returns-in_default-clause-said g c = ran_front _ _ _ _ _ _ _ c.commands.invariant.ran
-
 pub returns-in_err-say_all-clause-said : goal.returns-in_err-say_all-clause-said
 returns-in_err-say_all-clause-said g c =
     let p = err_from_is_err_and c.from_residual.result c.from_residual.ensures.1 in
@@ -69,10 +38,3 @@ returns-in_err-say_all-clause-said g c =
     _ _ _ _ _ c.commands-test.true c.command-item.is c.take_step.ensures.left c.commands.invariant.ran
     c.deref.result.now c.take_step.new.out.items c.clear.new.self.items c.deref.ensures.value c.in-Ok.ensures.answered.text c.clear.ensures.items in
     rw (p.1, p.2) (ran_part _ _ _ c.commands.refused c.in_err-say_all.field-0.0 _ _ _ _ _ (seen g.D.Desk c.say_all.new.desk) next c.in_err-say_all.ensures)
-
-pub overflow_add-refused : goal.overflow_add-refused
-overflow_add-refused g c =
-    let few = subst (λ (n : ℕ). c.commands.refused + n ≤ c.commands.command-index + 1) (sym c.from-refused.ensures)
-    (refused_few c.commands.refused c.commands.command-index c.in-Ok.answered.refused c.commands.invariant.most) in
-    let below = c.commands-test.true in
-    search rules

@@ -1,15 +1,13 @@
-use Rattle.std.proofs.Common.{List, ℕ, Result, Ok, Err, ap, sym, subst}
+use Rattle.std.proofs.Common.{List, ℕ, Err, sym, subst}
 use Rattle.std.proofs.lemmas.Result.{err_from_is_err_and}
 use Rattle.dgn_desk.specs.Content.{Files}
 use Rattle.dgn_desk.specs.Seen.{seen}
-use Rattle.dgn_drawing.specs.Opening.{Fault}
-use Rattle.elem_index.specs.Answers.{opened_of}
 use Rattle.elem_index.specs.Opened.{Opened, opening}
 use Rattle.dgn_tool.specs.Ends.{ComesTo}
 use Rattle.dgn_tool.specs.Inputs.{design_in, drawing_opened}
 use Rattle.dgn_tool.specs.Readings.{Reading, at_once}
 use Rattle.dgn_tool.specs.declared.end.End.{End}
-use Rattle.dgn_tool.proofs.ReadingsInTurn.{ends_first, then_comes, gives_so}
+use Rattle.dgn_tool.proofs.ReadingsInTurn.{ends_first, then_comes}
 use Rattle.dgn_tool.proofs.files.open_design.Goals as goal
 
 -- what is read behind the bytes of IN
@@ -20,13 +18,6 @@ pub returns-in_err-bytes-clause-read : goal.returns-in_err-bytes-clause-read
 returns-in_err-bytes-clause-read g c =
     let p = err_from_is_err_and c.from_residual.result c.from_residual.ensures.1 in
     rw (p.1, p.2) (ends_first (λ files. design_in files c.args.input.now) behind c.in_err-bytes.field-0.0 _ _ c.in_err-bytes.ensures.read)
-
-pub returns-in-Ok-clause-read : goal.returns-in-Ok-clause-read
-returns-in-Ok-clause-read g c =
-    let bytes = c.in_ok-bytes.bytes.items in
-    let d = opened_of c.in-Ok.design in
-    then_comes (λ files. design_in files c.args.input.now) behind bytes (Ok d) _ _ _ c.in_ok-bytes.ensures.read
-    (gives_so (λ files. behind files bytes) d _ (λ _. ap (λ (r : Result Opened Fault). at_once (drawing_opened r)) c.in-Ok.ensures.opening))
 
 pub returns-in-Err-clause-read : goal.returns-in-Err-clause-read
 returns-in-Err-clause-read g c =

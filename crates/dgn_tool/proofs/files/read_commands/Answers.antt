@@ -1,4 +1,4 @@
-use Rattle.std.proofs.Common.{◌≡◌, ◌≤◌, List, ℕ, length, Result, Ok, Err, ap, sym, subst, ◌∙◌}
+use Rattle.std.proofs.Common.{◌≡◌, List, ℕ, Result, Err, ap, sym, subst, ◌∙◌}
 use Rattle.std.specs.Prelude.{codes}
 use Rattle.std.proofs.lemmas.Result.{err_from_is_err_and}
 use Rattle.dgn_desk.specs.Content.{Files}
@@ -12,8 +12,7 @@ use Rattle.dgn_listing.specs.NumberedLines.{numbered}
 use Rattle.dgn_tool.specs.Inputs.{commands_read, commands_in}
 use Rattle.dgn_tool.specs.Readings.{Reading, at_once, file_in}
 use Rattle.dgn_tool.specs.declared.status.Status.TheVariants as statuses
-use Rattle.dgn_tool.proofs.FilesRead.{items_within}
-use Rattle.dgn_tool.proofs.ReadingsInTurn.{ends_first, then_comes, gives_so, comes_so, wants_more}
+use Rattle.dgn_tool.proofs.ReadingsInTurn.{ends_first, then_comes, comes_so, wants_more}
 use Rattle.dgn_tool.proofs.files.read_commands.Goals as goal
 
 -- the text of SCRIPT
@@ -29,21 +28,10 @@ read_so : (files : Files) (text : List ℕ) (found : Result (List Command) Scrip
     → behind files text ≡ at_once (commands_read found)
 read_so files text found is = ap (λ (r : Result (List Command) ScriptFault). at_once (commands_read r)) is
 
-pub read_script-requires : goal.read_script-requires
-read_script-requires g c =
-    subst (λ (b : List ℕ). length b ≤ MOST_SCRIPT) (sym c.deref.ensures.value) (items_within c.in_ok-text.text MOST_SCRIPT c.in_ok-text.ensures.within)
-
 pub returns-in_err-text : goal.returns-in_err-text
 returns-in_err-text g c =
     let p = err_from_is_err_and c.from_residual.result c.from_residual.ensures.1 in
     rw (p.1, p.2) (ends_first (text_in c.args.script.now) behind c.in_err-text.field-0.0 _ _ c.in_err-text.ensures.read)
-
-pub returns-in-Ok : goal.returns-in-Ok
-returns-in-Ok g c =
-    let text = c.in_ok-text.text.items in
-    let cs = c.in-Ok.commands.items in
-    then_comes (text_in c.args.script.now) behind text (Ok cs) _ _ _ c.in_ok-text.ensures.read
-    (gives_so (λ files. behind files text) cs _ (λ files. read_so files text (Ok cs) (ap commands_of (sym c.deref.ensures.value) ∙ c.in-Ok.ensures.commands)))
 
 pub returns-in-Err-Line : goal.returns-in-Err-Line
 returns-in-Err-Line g c =

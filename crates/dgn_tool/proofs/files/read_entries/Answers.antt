@@ -1,4 +1,4 @@
-use Rattle.std.proofs.Common.{◌≡◌, ◌≤◌, List, ℕ, length, Result, Ok, Err, ap, sym, subst, ◌∙◌}
+use Rattle.std.proofs.Common.{◌≡◌, List, ℕ, length, Result, Ok, Err, ap, sym, subst, ◌∙◌}
 use Rattle.std.specs.Prelude.{codes}
 use Rattle.std.proofs.lemmas.Result.{err_from_is_err_and}
 use Rattle.dgn_desk.specs.Content.{Files}
@@ -14,8 +14,7 @@ use Rattle.dgn_tool.specs.Ended.{Outcome, ended}
 use Rattle.dgn_tool.specs.Inputs.{entries_read, entries_in}
 use Rattle.dgn_tool.specs.Readings.{Reading, at_once, file_in}
 use Rattle.dgn_tool.specs.declared.status.Status.TheVariants as statuses
-use Rattle.dgn_tool.proofs.FilesRead.{items_within}
-use Rattle.dgn_tool.proofs.PatchOutcomes.{few_read, bad_ends}
+use Rattle.dgn_tool.proofs.PatchOutcomes.{bad_ends}
 use Rattle.dgn_tool.proofs.ReadingsInTurn.{ends_first, then_comes, gives_so, comes_so, wants_more}
 use Rattle.dgn_tool.proofs.files.read_entries.Goals as goal
 
@@ -27,17 +26,10 @@ patch_in patch files = file_in files patch MOST_PATCH (codes "too long patch\n")
 abbrev behind : Files → List ℕ → Reading (List Packed)
 behind files bytes = at_once (entries_read (length bytes) (patch_of bytes))
 
-pub read_patch-requires : goal.read_patch-requires
-read_patch-requires g c =
-    subst (λ (b : List ℕ). length b ≤ MOST_PATCH) (sym c.deref.ensures.value) (items_within c.in_ok-bytes.bytes MOST_PATCH c.in_ok-bytes.ensures.within)
-
 pub returns-in_err-bytes-clause-read : goal.returns-in_err-bytes-clause-read
 returns-in_err-bytes-clause-read g c =
     let p = err_from_is_err_and c.from_residual.result c.from_residual.ensures.1 in
     rw (p.1, p.2) (ends_first (patch_in c.args.patch.now) behind c.in_err-bytes.field-0.0 _ _ c.in_err-bytes.ensures.read)
-
-pub returns-in-Ok-clause-bounded : goal.returns-in-Ok-clause-bounded
-returns-in-Ok-clause-bounded g c = few_read c.in-Ok.entries.items c.in-Ok.ensures.found.entries
 
 pub returns-in-Ok-clause-read : goal.returns-in-Ok-clause-read
 returns-in-Ok-clause-read g c =

@@ -1,32 +1,13 @@
-use Rattle.std.proofs.Common.{◌≡◌, List, ℕ, [], ◌∷◌, Ok, Err, refl, subst, arith}
-use Rattle.dgn_desk.specs.Content.{Files, bytes_of}
+use Rattle.std.proofs.Common.{List, ℕ, [], ◌∷◌, Err, refl, arith}
+use Rattle.dgn_desk.specs.Content.{Files}
 use Rattle.dgn_desk.specs.Seen.{seen, OnlyReads}
-use Rattle.dgn_drawing.specs.WellFormed.{IsBytes}
 use Rattle.dgn_tool.specs.Ended.{ended}
-use Rattle.dgn_tool.specs.Readings.{Reading, file_in, at_once, IsThere, AreThere, AreInBytes}
+use Rattle.dgn_tool.specs.Readings.{Reading, file_in, at_once}
 use Rattle.dgn_tool.specs.declared.status.Status.TheVariants as statuses
-use Rattle.dgn_tool.proofs.FilesRead.{items_within, file_gives, file_overruns}
+use Rattle.dgn_tool.proofs.FilesRead.{file_overruns}
 use Rattle.dgn_tool.proofs.ReadingsInTurn.{Goes, continues, comes_so, wants_more}
 use Rattle.dgn_tool.proofs.ToldContents.{where_told}
 use Rattle.dgn_tool.proofs.files.read_file.Goals as goal
-
-pub returns-in-Ok-clause-read : goal.returns-in-Ok-clause-read
-returns-in-Ok-clause-read g c =
-    let read = c.in-Ok.ensures in
-    let name = c.args.name.now in
-    let limit = c.args.limit in
-    let line = c.args.line.now in
-    let bytes : IsBytes c.in-Ok.bytes.items = subst IsBytes c.deref.ensures.value c.are_bytes.ensures in
-    record {
-      reads = record { changes = read.changes; calm = read.cause; quiet = read.other; stays_willing = read.stays_willing };
-      gives = where_told (λ k. c.in-Ok.bytes.items ≡ bytes_of k.files name)
-          (λ k. ((file_in k.files name limit line).answer ≡ Ok c.in-Ok.bytes.items) × AreInBytes k.files (file_in k.files name limit line).sources)
-          _ read.whole
-          (λ k is. (
-            file_gives k.files name limit line c.in-Ok.bytes.items (items_within c.in-Ok.bytes limit read.within) is,
-            (λ few. subst IsBytes is bytes, tt),
-          ));
-    }
 
 pub returns-in-Err-TooLong-clause-read : goal.returns-in-Err-TooLong-clause-read
 returns-in-Err-TooLong-clause-read g c =
@@ -46,19 +27,6 @@ returns-in-Err-TooLong-clause-read g c =
       bytes = (λ few. absurd (omega (arith, long, few)), tt);
     }))
     (comes_so rest (ended statuses.TooLong line) c.end_with.result c.of.result _ _ (λ _. refl) c.of.ensures c.end_with.ensures)
-
-pub returns-in-Err-Fault-clause-read : goal.returns-in-Err-Fault-clause-read
-returns-in-Err-Fault-clause-read g c =
-    let read = rw c.in-Err-Fault.field-0-is at c.in-Err-Fault.ensures in
-    let name = c.args.name.now in
-    record {
-      rose = read.cause.1;
-      quiet = read.other;
-      stays_willing = read.stays_willing;
-      only = read.changes;
-      lacks = λ willing there. read.never_fails willing (where_told (λ k. AreThere k.files (file_in k.files name c.args.limit c.args.line.now).sources)
-          (λ k. IsThere k.files (record { name = name; limit = c.args.limit })) _ there (λ k all. all.0));
-    }
 
 pub returns-in-Err-Memory-clause-read : goal.returns-in-Err-Memory-clause-read
 returns-in-Err-Memory-clause-read g c =

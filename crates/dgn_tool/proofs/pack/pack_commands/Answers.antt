@@ -1,17 +1,14 @@
-use Rattle.std.proofs.Common.{◌≤◌, List, length, subst, sym, ap, ◌∙◌}
+use Rattle.std.proofs.Common.{sym, ap, ◌∙◌}
 use Rattle.std.proofs.lemmas.Result.{err_from_is_err_and}
 use Rattle.dgn_desk.specs.Seen.{seen}
 use Rattle.elem_index.specs.Answers.{opened_of}
-use Rattle.patch_file.specs.Spelling.{patch_spelling}
 use Rattle.patch_file.specs.PatchView.{all_packed}
-use Rattle.patch_file.specs.declared.patch_entry.PatchEntry.{PatchEntry}
-use Rattle.patch_file.specs.declared.limits.TheConstants.{MOST_PATCH}
 use Rattle.dgn_answers.specs.Steps.{steps_of}
 use Rattle.dgn_import.specs.Seconds.{seconds_left}
 use Rattle.dgn_answers.specs.Commands.{first_state}
 use Rattle.dgn_tool.specs.Packing.{packed}
 use Rattle.dgn_tool.proofs.RunParts.{wants, named_so}
-use Rattle.dgn_tool.proofs.PackedEntries.{packed_short, packed_long, within_cap, beyond_cap}
+use Rattle.dgn_tool.proofs.PackedEntries.{packed_long, beyond_cap}
 use Rattle.dgn_tool.proofs.pack.pack_commands.Goals as goal
 
 pub returns-in_err-did : goal.returns-in_err-did
@@ -28,14 +25,3 @@ returns-then-patch_len g c =
     (all_packed c.deref.result.now)
     c.args.patch.now entries (beyond_cap c.patch_len.result _ c.patch_len.ensures c.if-patch_len.true)))
     c.end_with.ensures
-
-pub returns : goal.returns
-returns g c =
-    let entries = ap all_packed c.deref-2.ensures.value ∙ c.in_ok-did.ensures.entries in
-    let short = within_cap c.patch_len.result _ c.patch_len.ensures c.if-patch_len.false in
-    named_so (packed (opened_of c.args.design) (steps_of c.args.commands.now (seconds_left c.args.seconds.now.items)) c.args.patch.now) _
-    c.file_entries.result _ _
-    (sym (packed_short (steps_of c.args.commands.now (seconds_left c.args.seconds.now.items)) (first_state (opened_of c.args.design))
-    (all_packed c.deref-2.result.now) c.in_ok-did.did.refused c.args.patch.now entries c.in_ok-did.ensures.refused
-    (subst (λ (b : List PatchEntry). length (patch_spelling (all_packed b)) ≤ MOST_PATCH) (c.deref.ensures.value ∙ sym c.deref-2.ensures.value) short)))
-    c.file_entries.ensures

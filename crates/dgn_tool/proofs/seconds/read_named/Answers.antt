@@ -1,12 +1,12 @@
-use Rattle.std.proofs.Common.{List, ℕ, Ok, ap, sym}
+use Rattle.std.proofs.Common.{List, ℕ, Ok}
 use Rattle.std.specs.Prelude.{codes}
 use Rattle.std.proofs.lemmas.Result.{err_from_is_err_and}
 use Rattle.dgn_desk.specs.Content.{Files}
 use Rattle.dgn_drawing.specs.declared.limits.TheConstants.{MOST_DESIGN}
-use Rattle.dgn_import.specs.Seconds.{SecondValue, value_of, second_of}
+use Rattle.dgn_import.specs.Seconds.{SecondValue, second_of}
 use Rattle.dgn_tool.specs.Inputs.{second_in}
 use Rattle.dgn_tool.specs.Readings.{Reading, at_once, file_in}
-use Rattle.dgn_tool.proofs.ReadingsInTurn.{ends_first, then_comes, gives_so, wants_more}
+use Rattle.dgn_tool.proofs.ReadingsInTurn.{ends_first, wants_more}
 use Rattle.dgn_tool.proofs.seconds.read_named.Goals as goal
 
 -- the bytes of the file
@@ -26,10 +26,3 @@ pub returns-in_err-second-clause-read : goal.returns-in_err-second-clause-read
 returns-in_err-second-clause-read g c =
     let p = err_from_is_err_and c.from_residual-in_err-second.result c.from_residual-in_err-second.ensures.1 in
     rw (p.1, p.2) (wants_more (λ files. second_in files c.args.name.now) _ _ c.in_ok-bytes.ensures.read.reads)
-
-pub returns-clause-read : goal.returns-clause-read
-returns-clause-read g c =
-    let bytes = c.in_ok-bytes.bytes.items in
-    let v = value_of c.in_ok-second.second in
-    then_comes (bytes_in c.args.name.now) behind bytes (Ok v) _ _ _ c.in_ok-bytes.ensures.read
-    (gives_so (λ files. behind files bytes) v _ (λ _. ap (λ (x : SecondValue). at_once (Ok x)) (sym c.in_ok-second.ensures.value)))

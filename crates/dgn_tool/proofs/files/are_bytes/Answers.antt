@@ -1,6 +1,0 @@
-use Rattle.std.proofs.Common.{◌<◌, ℕ, arith}
-use Rattle.std.proofs.lemmas.List.Elements.{All-from_get_or}
-use Rattle.dgn_tool.proofs.files.are_bytes.Goals as goal
-
-pub returns : goal.returns
-returns c = All-from_get_or (λ (x : ℕ). x < 256) c.args.bytes.now 0 (λ i within. omega (arith, c.type_inv.bytes i))
