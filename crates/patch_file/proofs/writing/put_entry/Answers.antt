@@ -1,6 +1,4 @@
-use Rattle.std.proofs.Common.{◌++◌, arith}
-use Rattle.std.specs.List.{flat_map}
-use Rattle.patch_file.specs.Spelling.{field_spelling}
+use Rattle.std.proofs.Common.{arith}
 use Rattle.patch_bytes.proofs.Fronts.{next, stopped, as_text}
 use Rattle.patch_file.proofs.SpellingsRead.{few_fields}
 use Rattle.patch_file.proofs.writing.put_entry.Goals as goal
@@ -11,11 +9,6 @@ overflow_cast-len c =
     let e = c.args.e.now in
     let few = few_fields 0 e.len e.fields (omega arith) e.rules in
     record { fits = omega arith }
-
-pub returns-in_err-put_head : goal.returns-in_err-put_head
-returns-in_err-put_head c =
-    let e = c.args.e.now in
-    as_text (stopped (flat_map field_spelling e.fields ++ e.append) c.in_err-put_head.ensures c.from_residual.ensures.0) (cc)
 
 pub returns-in_err-put_fields : goal.returns-in_err-put_fields
 returns-in_err-put_fields c =
