@@ -5,14 +5,14 @@ use Rattle.elem_head.specs.Head.{kind_of, level_of, symbology_of}
 use Rattle.range_code.specs.Ranges.{range_of}
 use Rattle.dgn_layout.specs.declared.types.Class.{Class}
 use Rattle.dgn_layout.specs.Classes.{class_of}
-use Rattle.body_vertex.specs.Points.{points_of, IsPathKind}
+use Rattle.body_vertex.specs.Points.{points_of}
 use Rattle.dgn_drawing.specs.declared.form.Form.{Form}
 use Rattle.dgn_drawing.specs.declared.types.item_body.ItemBody.{ItemBody}
 use Rattle.dgn_drawing.specs.Forms.{form_in, form_of}
 use Rattle.dgn_drawing.specs.Reading.{form_at, parts_at, element_at}
 use Rattle.dgn_drawing.specs.Faults.{is_shown}
 use Rattle.dgn_drawing.specs.Items.{in_space, item_body_of, item_of}
-use Rattle.dgn_drawing.proofs.ItemsShown.{path_kind, path_shown, text_shown, node_shown, cell_shown, header_shown, plain_shown, silent_item, shared_item}
+use Rattle.dgn_drawing.proofs.ItemsShown.{path_shown, text_shown, node_shown, cell_shown, header_shown, plain_shown, silent_item, shared_item}
 use Rattle.dgn_drawing.proofs.ItemsShown.{item_with, made_item}
 
 -- what is shown by the range alone, and what is a header
@@ -62,9 +62,6 @@ module _ (dim number depth : ℕ) (b : List ℕ) where
     one_of : (t : Bool) → form_at b ≡ cond t Form.Line Form.Points → (form_at b ≡ Form.Line) ⊎ (form_at b ≡ Form.Points)
     one_of true is = inl is
     one_of false is = inr is
-
-    pub is_path : c ≡ Class.Vertices → IsPathKind (kind_of b)
-    is_path is = path_kind (kind_of b) (form_at b) refl (one_of _ (form_by Class.Vertices is))
 
     pub path_item : c ≡ Class.Vertices → (kind_of b ≡ 34 → ⊥) → HasItem (ItemBody.Path (map in_space (points_of dim (kind_of b) b)))
     path_item is other = let form = one_of _ (form_by Class.Vertices is) in with_body (shown_path form) other _ (path_shown (form_at b) dim b form)

@@ -31,7 +31,6 @@ pub mod FreedRecords
 pub mod WorkedSpots
 pub mod MadeElements
 pub mod WorkedMade
-pub mod EndsAgree
 pub mod SpotSteps
 pub mod WrittenNumbers
 pub mod MadeBytes

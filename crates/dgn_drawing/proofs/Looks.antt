@@ -9,7 +9,7 @@ use Rattle.dgn_drawing.specs.Values.{LookChange, IsLook}
 use Rattle.dgn_drawing.specs.Element.{Display, Parts, Body, Silent, Shown, Element}
 use Rattle.dgn_drawing.specs.Spelling.{first_byte, second_byte, display_bytes, parts_bytes, body_bytes, spell, size_of}
 use Rattle.dgn_drawing.specs.WellFormed.{IsDisplay, HasBody, IsWellFormed}
-use Rattle.dgn_drawing.specs.Laws.{IsLookPut, LooksAreTwoBytes, SilentRecordsStay}
+use Rattle.dgn_drawing.specs.Laws.{IsLookPut, LooksAreTwoBytes}
 use Rattle.dgn_drawing.specs.declared.row.Row.{Row}
 use Rattle.dgn_drawing.specs.Rows.{total_of, row_of}
 use Rattle.dgn_drawing.specs.Changes.{look_changed, recoloured_body, recolour, look_bytes}
@@ -158,10 +158,3 @@ look_of dim change e d parts rest b fits good is =
 
 pub looks_put : LooksAreTwoBytes
 looks_put dim change e d parts rest fits good is = look_of dim change e d parts rest e.body fits good is
-
--- a body that is silent stays
-silent_of : (change : LookChange) (e : Element) (b : Body) (rest : List ℕ) → b ≡ Silent rest → recolour change (with_body e b) ≡ with_body e b
-silent_of change e b rest is = subst (λ (x : Body). recolour change (with_body e x) ≡ with_body e x) (sym is) refl
-
-pub silent_stays : SilentRecordsStay
-silent_stays change e rest is = silent_of change e e.body rest is

@@ -1,5 +1,5 @@
 -- The bytes of an element that is appended, as code joins them.
-use Rattle.std.proofs.Common.{◌≡◌, ℕ, ◌-◌, ◌/◌, ◌%◌, List, [], ◌∷◌, ◌++◌, length, take, map, ap, ◌∙◌, subst, sym, append_assoc, cond, ◌⊎◌, inl, inr, arith}
+use Rattle.std.proofs.Common.{◌≡◌, ℕ, ◌-◌, ◌/◌, ◌%◌, List, [], ◌∷◌, ◌++◌, length, take, map, ap, ◌∙◌, sym, append_assoc, cond, ◌⊎◌, inl, inr, arith}
 use Rattle.std.specs.Prelude.{ℤ, ◌==◌}
 use Rattle.std.specs.List.{flat_map}
 use Rattle.std.proofs.lemmas.List.{length-map, append-nil}
@@ -21,44 +21,27 @@ row_joined axes points old =
     ∙ ap (λ (n : ℕ). old ++ (word_bytes n ++ behind)) (sym (length-map points (take axes)))
     ∙ ap (λ (z : List ℕ). old ++ z) (sym (append-nil (word_bytes (length (map (take axes) points)) ++ behind)))
 
-pub row_pushed : (axes : ℕ) (shape : NewShape) (points seen : List (List ℤ)) (n : ℕ) (old mid all : List ℕ)
+pub row_pushed : (axes : ℕ) {shape : NewShape} {points seen : List (List ℤ)} {n : ℕ} (old : List ℕ) {mid all : List ℕ}
     → (shape ≡ shapes.Chain points) ⊎ (shape ≡ shapes.Shape points) → n ≡ length points → seen ≡ points → mid ≡ old ++ word_bytes n
     → all ≡ mid ++ flat_map point_bytes (map (take axes) seen) → all ≡ old ++ (parts_bytes (parts_made axes shape) ++ rest_made shape)
-row_pushed axes shape points seen n old mid all is count same two three =
-    let front : mid ≡ old ++ word_bytes (length points) = two ∙ ap (λ (k : ℕ). old ++ word_bytes k) count in
-    let joined : all ≡ old ++ (parts_bytes (Points (map (take axes) points)) ++ []) =
-    three ∙ ap (λ (ps : List (List ℤ)). mid ++ flat_map point_bytes (map (take axes) ps)) same
-    ∙ ap (λ (z : List ℕ). z ++ flat_map point_bytes (map (take axes) points)) front ∙ row_joined axes points old in
-    elim is [
-      | inl chain ↦ subst (λ (s : NewShape). all ≡ old ++ (parts_bytes (parts_made axes s) ++ rest_made s)) (sym chain) joined
-      | inr closed ↦ subst (λ (s : NewShape). all ≡ old ++ (parts_bytes (parts_made axes s) ++ rest_made s)) (sym closed) joined
-    ]
+row_pushed axes {points = points} old (inl chain) count same two three = rw chain (cc (row_joined axes points old))
+row_pushed axes {points = points} old (inr closed) count same two three = rw closed (cc (row_joined axes points old))
 
 -- a text's parts and what makes them even, appended
-text_joined : (old run point chars padding : List ℕ) (n : ℕ) → ((old ++ run) ++ point) ++ (n ∷ 0 ∷ (chars ++ padding)) ≡ old
-    ++ ((run ++ (point ++ (n ∷ 0 ∷ chars))) ++ padding)
-text_joined old run point chars padding n = simp append_assoc
+text_joined : (old run point chars : List ℕ) → ((old ++ run) ++ point) ++ (length chars ∷ 0 ∷ (chars ++ (cond (length chars % 2 == 0) [] (0 ∷ []))))
+    ≡ old ++ ((run ++ (point ++ (length chars ∷ 0 ∷ chars))) ++ (cond (length chars % 2 == 0) [] (0 ∷ [])))
+text_joined old run point chars = simp append_assoc
 
-pub text_pushed : (axes : ℕ) (shape : NewShape) (font just : ℕ) (text_length text_height length_seen height_seen : ℤ) (origin : List ℤ)
-    (chars seen old one two all : List ℕ)
+pub text_pushed : (axes : ℕ) {shape : NewShape} {font just : ℕ} {text_length text_height length_seen height_seen : ℤ} {origin : List ℤ} {chars seen : List ℕ}
+    (old : List ℕ) {one two all : List ℕ}
     → shape ≡ shapes.Text font just text_length text_height origin chars → length_seen ≡ text_length → height_seen ≡ text_height → seen ≡ chars
     → one ≡ old ++ run_made axes font just length_seen height_seen → two ≡ one ++ point_bytes (take axes origin)
     → all ≡ two ++ (length seen ∷ 0 ∷ (seen ++ (cond (length seen % 2 == 0) [] (0 ∷ [])))) → all ≡ old
     ++ (parts_bytes (parts_made axes shape) ++ rest_made shape)
 unfolding parts_bytes
-text_pushed axes shape font just text_length text_height length_seen height_seen origin chars seen old one two all
+text_pushed axes {font = font} {just = just} {text_length = wide} {text_height = high} {origin = origin} {chars = chars} old
     is same_length same_height same first second third =
-    let run : one ≡ old ++ run_made axes font just text_length text_height =
-    first ∙ ap (λ (v : ℤ). old ++ run_made axes font just v height_seen) same_length
-    ∙ ap (λ (v : ℤ). old ++ run_made axes font just text_length v) same_height in
-    let point : two ≡ (old ++ run_made axes font just text_length text_height) ++ point_bytes (take axes origin) =
-    second ∙ ap (λ (z : List ℕ). z ++ point_bytes (take axes origin)) run in
-    let padding : List ℕ = cond (length chars % 2 == 0) [] (0 ∷ []) in
-    let joined : all ≡ old ++ ((run_made axes font just text_length text_height ++ (point_bytes (take axes origin) ++ (length chars ∷ 0 ∷ chars))) ++ padding) =
-    third ∙ ap (λ (x : List ℕ). two ++ (length x ∷ 0 ∷ (x ++ (cond (length x % 2 == 0) [] (0 ∷ []))))) same
-    ∙ ap (λ (z : List ℕ). z ++ (length chars ∷ 0 ∷ (chars ++ padding))) point
-    ∙ text_joined old (run_made axes font just text_length text_height) (point_bytes (take axes origin)) chars padding (length chars) in
-    subst (λ (s : NewShape). all ≡ old ++ (parts_bytes (parts_made axes s) ++ rest_made s)) (sym is) joined
+    rw is (cc (text_joined old (run_made axes font just wide high) (point_bytes (take axes origin)) chars))
 
 -- three pieces are the spelling
 spell_joined : (new : NewElement) → IsNew new →
@@ -75,15 +58,9 @@ spell_joined new good =
     ∙ ap (λ (n : ℕ). first_byte (element_made new) ∷ second_byte (element_made new) ∷ (word_bytes n ++ behind)) words
 
 -- each appended to those before
-pub spell_pieces : (new : NewElement) → IsNew new → (axes : ℕ) (shape : NewShape) → axes ≡ new.axes → shape ≡ new.shape → (none head display all : List ℕ)
+pub spell_pieces : (new : NewElement) → IsNew new → {axes : ℕ} {shape : NewShape} → axes ≡ new.axes → shape ≡ new.shape → {none head display all : List ℕ}
     → none ≡ [] → head ≡ none ++ (first_byte (element_made new) ∷ second_byte (element_made new) ∷ word_bytes ((size_made new.axes new.shape - 4) / 2))
     → display ≡ head ++ display_bytes (display_made new) → all ≡ display ++ (parts_bytes (parts_made axes shape) ++ rest_made shape) → all
     ≡ spell (element_made new)
-spell_pieces new good axes shape same_axes same_shape none head display all one two three four =
-    let parts : List ℕ = parts_bytes (parts_made new.axes new.shape) ++ rest_made new.shape in
-    let first : List ℕ = first_byte (element_made new) ∷ second_byte (element_made new) ∷ word_bytes ((size_made new.axes new.shape - 4) / 2) in
-    let front : head ≡ first = two ∙ ap (λ (z : List ℕ). z ++ first) one in
-    let shown : display ≡ first ++ display_bytes (display_made new) = three ∙ ap (λ (z : List ℕ). z ++ display_bytes (display_made new)) front in
-    four ∙ ap (λ (n : ℕ). display ++ (parts_bytes (parts_made n shape) ++ rest_made shape)) same_axes
-    ∙ ap (λ (s : NewShape). display ++ (parts_bytes (parts_made new.axes s) ++ rest_made s)) same_shape
-    ∙ ap (λ (z : List ℕ). z ++ parts) shown ∙ spell_joined new good
+spell_pieces new good same_axes same_shape one two three four =
+    let front = rw one at two in cc (spell_joined new good)

@@ -8,14 +8,14 @@ use Rattle.dgn_words.specs.Numbers.{word_bytes, range_long_bytes}
 use Rattle.dgn_layout.specs.Spots.{range_spots}
 use Rattle.range_code.specs.declared.Box3.{Box3}
 use Rattle.range_code.specs.Ranges.{range_of, join_of, on_axis}
-use Rattle.patch_bytes.specs.Puts.{Put, lay, write}
+use Rattle.patch_bytes.specs.Puts.{lay, write}
 use Rattle.dgn_drawing.specs.Element.{Display, Parts, Body, Shown, Element}
 use Rattle.dgn_drawing.specs.Spelling.{first_byte, second_byte, display_bytes, parts_bytes, body_bytes, spell, size_of}
 use Rattle.dgn_drawing.specs.SpotNumbers.{widened_put, range_put, range_puts}
 use Rattle.dgn_drawing.specs.WellFormed.{IsDimension, IsCoordinate, IsPoint, IsDisplay, IsWellFormed}
 use Rattle.dgn_drawing.specs.Rows.{total_of, row_of}
 use Rattle.dgn_drawing.specs.Changes.{range_in, display_ranged, body_ranged, with_range, body_widened, widen}
-use Rattle.dgn_drawing.specs.Laws.{BodySits, IsWidenPut, WideningsAreWider}
+use Rattle.dgn_drawing.specs.Laws.{BodySits, WideningsAreWider}
 use Rattle.dgn_drawing.proofs.FieldPlaces.{all-sits}
 use Rattle.dgn_drawing.proofs.Places.{in_both}
 use Rattle.dgn_drawing.proofs.Displays.{length-display}
@@ -29,6 +29,9 @@ of_three P three (x ∷ []) long = absurd (omega arith)
 of_three P three (x ∷ y ∷ []) long = absurd (omega arith)
 of_three P three (x ∷ y ∷ z ∷ w ∷ more) long = absurd (omega arith)
 of_three P three (x ∷ y ∷ z ∷ []) long = three x y z
+
+is_three : (v : List ℤ) → length v ≡ 3 → v ≡ slice_index_or v 0 (pos 0) ∷ slice_index_or v 1 (pos 0) ∷ slice_index_or v 2 (pos 0) ∷ []
+is_three = of_three (λ v. v ≡ slice_index_or v 0 (pos 0) ∷ slice_index_or v 1 (pos 0) ∷ slice_index_or v 2 (pos 0) ∷ []) (λ x y z. refl)
 
 -- a box whose corners are points
 pub record IsBox (r : Box3) : Type 0 where
@@ -56,22 +59,10 @@ corners_put : (dim first second words : ℕ) (behind : List ℕ) (lo hi low high
     ≡ write (bytes_with first second words behind low high) (map (range_put (record { lo = lo; hi = hi }) 0) (range_spots dim))
 unfolding lay
 corners_put dim first second words behind lo hi low high axes lo_long hi_long low_long high_long =
-    of_three (λ v. bytes_with first second words behind (take dim v ++ drop dim low) (take dim hi ++ drop dim high)
-    ≡ write (bytes_with first second words behind low high) (map (range_put (record { lo = v; hi = hi }) 0) (range_spots dim)))
-    (λ x y z. of_three (λ v. bytes_with first second words behind (take dim (x ∷ y ∷ z ∷ []) ++ drop dim low) (take dim v ++ drop dim high)
-    ≡ write (bytes_with first second words behind low high) (map (range_put (record { lo = x ∷ y ∷ z ∷ []; hi = v }) 0) (range_spots dim)))
-    (λ u v w. of_three (λ l. bytes_with first second words behind (take dim (x ∷ y ∷ z ∷ []) ++ drop dim l) (take dim (u ∷ v ∷ w ∷ []) ++ drop dim high)
-    ≡ write (bytes_with first second words behind l high) (map (range_put (record { lo = x ∷ y ∷ z ∷ []; hi = u ∷ v ∷ w ∷ [] }) 0) (range_spots dim)))
-    (λ a b c. of_three (λ h. bytes_with first second words behind (take dim (x ∷ y ∷ z ∷ []) ++ drop dim (a ∷ b ∷ c ∷ []))
-    (take dim (u ∷ v ∷ w ∷ []) ++ drop dim h)
-    ≡ write (bytes_with first second words behind (a ∷ b ∷ c ∷ []) h)
-    (map (range_put (record { lo = x ∷ y ∷ z ∷ []; hi = u ∷ v ∷ w ∷ [] }) 0) (range_spots dim)))
-    (λ f g h. in_both (λ (k : ℕ). bytes_with first second words behind (take k (x ∷ y ∷ z ∷ []) ++ drop k (a ∷ b ∷ c ∷ []))
-    (take k (u ∷ v ∷ w ∷ []) ++ drop k (f ∷ g ∷ h ∷ []))
-    ≡ write (bytes_with first second words behind (a ∷ b ∷ c ∷ []) (f ∷ g ∷ h ∷ []))
-    (map (range_put (record { lo = x ∷ y ∷ z ∷ []; hi = u ∷ v ∷ w ∷ [] }) 0) (range_spots k)))
-    refl refl axes)
-    high high_long) low low_long) hi hi_long) lo lo_long
+    let a = is_three lo lo_long in let b = is_three hi hi_long in let c = is_three low low_long in let d = is_three high high_long in
+    in_both (λ (k : ℕ). bytes_with first second words behind (take k lo ++ drop k low) (take k hi ++ drop k high)
+    ≡ write (bytes_with first second words behind low high) (map (range_put (record { lo = lo; hi = hi }) 0) (range_spots k)))
+    (rw (a, b, c, d)) (rw (a, b, c, d)) axes
 
 -- what stands behind the corners
 abbrev behind_corners : Display → Parts → List ℕ → List ℕ

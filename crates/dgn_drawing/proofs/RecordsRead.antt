@@ -1,6 +1,6 @@
 -- A well formed record is read from its own spelling, which has neither fault. So records with one
 -- spelling are the same, and no spelling begins another one.
-use Rattle.std.proofs.Common.{◌≡◌, ℕ, ◌+◌, ◌/◌, ◌%◌, ◌<◌, ◌≤◌, List, [], ◌++◌, length, drop, refl, sym, ap, ◌∙◌, arith, Bool, true, false, length-append}
+use Rattle.std.proofs.Common.{◌≡◌, ℕ, ◌+◌, ◌/◌, ◌%◌, ◌<◌, List, [], ◌++◌, length, drop, refl, sym, ap, ◌∙◌, arith, Bool, true, false, length-append}
 use Rattle.std.proofs.lemmas.List.{append-nil, nil_from_length}
 use Rattle.std.proofs.lemmas.Bool.{le-ltb, or_from}
 use Rattle.std.proofs.lemmas.Bool.Decides.{nat_tests}
@@ -84,11 +84,6 @@ module _ (dim : ℕ) (b : List ℕ) (axes : IsDimension dim) where
       let size = length-append (display_bytes d) (parts_bytes parts ++ rest) in
       let size2 = length-append (parts_bytes parts) rest in
       record { same = cc; ends = omega arith }
-
-rest_behind : (body : Body) → length (rest_of body) ≤ length (body_bytes body)
-unfolding body_bytes
-rest_behind (Silent rest) = omega arith
-rest_behind (Shown d parts rest) = omega (arith, length-append (display_bytes d) (parts_bytes parts ++ rest), length-append (parts_bytes parts) rest)
 
 abbrev element_with : ℕ → Bool → Bool → ℕ → Bool → Body → Element
 element_with level bit6 cbit kind deleted body = record { level = level; bit6 = bit6; cbit = cbit; kind = kind; deleted = deleted; body = body }

@@ -1,4 +1,4 @@
-use Rattle.std.proofs.Common.{rules, append_assoc, to_z, of_z}
+use Rattle.std.proofs.Common.{rules, append_assoc}
 use Rattle.std.specs.Prelude.{FitsSigned}
 use Rattle.std.specs.Int.{w32}
 use Rattle.std.proofs.lemmas.Int.{to_z-of_z}
@@ -14,9 +14,7 @@ returns-in-Line c = search (rules, append_assoc)
 pub returns-in_ok-push_word-in-Chain : goal.returns-in_ok-push_word-in-Chain
 returns-in_ok-push_word-in-Chain c =
     on_ok_weaker c.push_points-in-Chain.result
-    (row_pushed c.args.axes c.args.shape.now c.in-Chain.points c.as_slice-in-Chain.result.now c.len.result c.args.bytes.now.items
-    c.push_word.new.bytes.items c.push_points-in-Chain.new.bytes.items
-    c.in-Chain.is c.len.ensures c.as_slice-in-Chain.ensures c.in_ok-push_word-in-Chain.ensures)
+    (row_pushed c.args.axes c.args.bytes.now.items c.in-Chain.is c.len.ensures c.as_slice-in-Chain.ensures c.in_ok-push_word-in-Chain.ensures)
     c.push_points-in-Chain.ensures
 
 pub returns-in_ok-push_point-in-Text : goal.returns-in_ok-push_point-in-Text
@@ -24,9 +22,6 @@ returns-in_ok-push_point-in-Text c =
     let length : FitsSigned w32 c.in-Text.length = search rules in
     let height : FitsSigned w32 c.in-Text.height = search rules in
     on_ok_weaker c.push_chars.result
-    (text_pushed c.args.axes c.args.shape.now c.in-Text.font c.in-Text.just c.in-Text.length c.in-Text.height
-    (to_z w32 (of_z w32 c.in-Text.length)) (to_z w32 (of_z w32 c.in-Text.height)) c.in-Text.origin c.in-Text.chars c.as_slice-in-Text.result.now
-    c.args.bytes.now.items c.push_run.new.bytes.items c.push_point.new.bytes.items c.push_chars.new.bytes.items
-    c.in-Text.is (to_z-of_z w32 c.in-Text.length length) (to_z-of_z w32 c.in-Text.height height)
+    (text_pushed c.args.axes c.args.bytes.now.items c.in-Text.is (to_z-of_z w32 c.in-Text.length length) (to_z-of_z w32 c.in-Text.height height)
     c.as_slice-in-Text.ensures c.in_ok-push_run-in-Text.ensures c.in_ok-push_point-in-Text.ensures)
     c.push_chars.ensures

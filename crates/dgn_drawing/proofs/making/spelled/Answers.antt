@@ -9,6 +9,5 @@ returns c =
     let axes : c.from.result ≡ c.args.new.now.axes = c.from.ensures ∙ ap (λ (n : NewElement). n.axes) c.new.view_is in
     let shape : c.new.inside.shape ≡ c.args.new.now.shape = ap (λ (n : NewElement). n.shape) c.new.view_is in
     c.from_vec.ensures
-    ∙ spell_pieces c.args.new.now good c.from.result c.new.inside.shape axes shape c.new-bytes.result.items c.push_head.new.bytes.items
-    c.push_display.new.bytes.items c.push_shape.new.bytes.items
-    c.new-bytes.ensures.items c.in_ok-push_head.ensures c.in_ok-push_display.ensures c.in_ok-push_shape.ensures
+    ∙ spell_pieces c.args.new.now good axes shape c.new-bytes.ensures.items c.in_ok-push_head.ensures c.in_ok-push_display.ensures
+    c.in_ok-push_shape.ensures
