@@ -1,5 +1,5 @@
 -- How a design becomes whole again: the walk that goes on from its last kept offset.
-use Rattle.std.proofs.Common.{◌≡◌, ℕ, suc, ◌+◌, ◌<◌, ◌≤◌, true, List, [], ◌∷◌, ◌++◌, length, take, drop, get_or, sym, ap, ◌∙◌, subst, arith, inl, inr}
+use Rattle.std.proofs.Common.{◌≡◌, ℕ, suc, ◌+◌, ◌<◌, ◌≤◌, true, List, [], ◌∷◌, ◌++◌, length, take, drop, sym, ap, ◌∙◌, subst, arith, inl, inr}
 use Rattle.std.proofs.Common.{length-append, length-drop}
 use Rattle.std.specs.Prelude.{vec_len, vec_capacity, slice_index_or}
 use Rattle.std.proofs.lemmas.List.{append-nil, take_all, take_more, length-take, get_or-take, get_or_default}
@@ -11,8 +11,7 @@ use Rattle.dgn_drawing.specs.Element.{Element}
 use Rattle.dgn_drawing.specs.Spelling.{spell, spelling, size_of}
 use Rattle.dgn_drawing.specs.WellFormed.{IsDimension, IsWellFormed}
 use Rattle.dgn_drawing.specs.Nesting.{is_counted}
-use Rattle.dgn_drawing.specs.Rows.{row_of}
-use Rattle.dgn_drawing.specs.Opening.{Opens, elements_of}
+use Rattle.dgn_drawing.specs.Opening.{elements_of}
 use Rattle.dgn_drawing.proofs.RecordsRead.{size_said-spell}
 use Rattle.dgn_drawing.proofs.FirstElements.{dimension_is, not_empty}
 use Rattle.dgn_drawing.proofs.Fronts.{body_spelled}
@@ -20,7 +19,7 @@ use Rattle.dgn_drawing.proofs.Offsets.{drop-offset}
 use Rattle.elem_index.specs.declared.design.Design.{Design}
 use Rattle.elem_index.specs.Offsets.{offset_of, offsets_of}
 use Rattle.elem_index.specs.Kinds.{Kind}
-use Rattle.elem_index.specs.Design.{kept_of, kind_of_row, kind_at, kinds_in, elements, IsOpen, IsWhole, HasGrown, IsKeptAlso, SameText}
+use Rattle.elem_index.specs.Design.{kept_of, kind_at, kinds_in, elements, IsOpen, IsWhole, HasGrown, IsKeptAlso, SameText}
 use Rattle.elem_index.proofs.KindBytes.{length-kinds_in, kinds_in-more, kinds_in-take, kind_at-spell, counted_long}
 use Rattle.elem_index.proofs.Places.{length-offsets, get_or-offsets, stands_at, offset_past, each_at, take_one_more}
 use Rattle.dgn_drawing.specs.declared.limits.TheConstants.{MOST_DESIGN}
@@ -31,9 +30,7 @@ offsets_more : (es : List Element) (kept : List ℕ) (at : ℕ) → length kept 
     → kept ++ at ∷ [] ≡ take (length kept + 1) (offsets_of es)
 offsets_more es kept at within first place =
     let inside : length kept < length (offsets_of es) = omega (arith, length-offsets es) in
-    ap (λ (x : List ℕ). x ++ at ∷ []) first
-    ∙ ap (λ (x : ℕ). take (length kept) (offsets_of es) ++ x ∷ []) (place ∙ sym (get_or-offsets es (length kept) within))
-    ∙ sym (take_more (offsets_of es) (length kept) 0 inside)
+    cc (get_or-offsets es (length kept) within, take_more (offsets_of es) (length kept) 0 inside)
 
 -- what is kept of the first elements is theirs, and the next one begins at the place
 pub record Left (d : Design) (at : ℕ) : Type 0 where
@@ -57,14 +54,9 @@ elements_same d e same = ap (λ (n : ℕ). elements_of n e.body.items) same.dim 
 -- and is open
 pub open_same : (d e : Design) → SameBytes d e → IsOpen d → IsOpen e
 open_same d e same is_open =
-    let es : elements d ≡ elements e = sym (elements_same d e same) in
     record {
       few = omega (arith, ap (length {A = ℕ}) same.body, ap (length {A = ℕ}) same.tail, is_open.few);
-      opens =
-          subst (λ (t : List ℕ). Opens (e.body.items ++ t) e.dim (elements e) t) (sym same.tail)
-          (subst (λ (xs : List Element). Opens (e.body.items ++ d.tail.items) e.dim xs d.tail.items) es
-          (subst (λ (n : ℕ). Opens (e.body.items ++ d.tail.items) n (elements d) d.tail.items) (sym same.dim)
-          (subst (λ (b : List ℕ). Opens (b ++ d.tail.items) d.dim (elements d) d.tail.items) (sym same.body) is_open.opens)));
+      opens = rw (same.tail, same.dim, same.body) is_open.opens;
     }
 
 -- at the offset of element n stands a head that says its size, of at least four bytes, all of them in the body, and
@@ -106,13 +98,15 @@ module _ (d : Design) (is_open : IsOpen d) where
         inside = omega (arith, standing.1.inside, ap (length {A = ℕ}) spelled);
         said = ap size_said bytes ∙ size_said-spell d.dim e axes good behind;
         kind =
-            sym (kinds_in-take (n + 1) (elements d)) ∙ ap kinds_in (take_one_more (elements d) n e standing.1.found)
-            ∙ kinds_in-more (take n (elements d)) e
-            ∙ ap (λ (l : List Kind). l ++ kind_of_row (row_of e) ∷ []) (kinds_in-take n (elements d))
-            ∙ ap (λ (k : Kind). take n (kinds_in (elements d)) ++ k ∷ []) (sym (ap kind_at bytes ∙ kind_at-spell d.dim e axes good behind));
-        counted = λ is.
-            subst (λ (b : List ℕ). 40 ≤ length b) (sym bytes)
-            (counted_long d.dim e axes good behind (ap (λ (b : List ℕ). is_counted (class_of (kind_of b))) (sym bytes) ∙ is));
+            rw (
+              bytes,
+              kind_at-spell d.dim e axes good behind,
+              ← kinds_in-take n (elements d),
+              ← kinds_in-more (take n (elements d)) e,
+              ← kinds_in-take (n + 1) (elements d),
+            )
+            (ap kinds_in (take_one_more (elements d) n e standing.1.found));
+        counted = rw bytes (counted_long d.dim e axes good behind);
       }
 
 -- no more is kept than there are elements
@@ -149,15 +143,13 @@ module _ (d : Design) (at : ℕ) (left : Left d at) where
 
   -- and a total, where its type counts its members
   pub counted_here : at < length d.body.items → is_counted (class_of (kind_of (drop at d.body.items))) ≡ true → 40 ≤ length (drop at d.body.items)
-  counted_here before =
-      subst (λ (k : ℕ). is_counted (class_of (kind_of (drop k d.body.items))) ≡ true → 40 ≤ length (drop k d.body.items)) (sym left.place)
-      (heads_at d left.front.is_open (length (kept_of d)) (more_left before)).counted
+  counted_here before = rw left.place (heads_at d left.front.is_open (length (kept_of d)) (more_left before)).counted
 
   -- and its end
   pub end_here : (size : ℕ) → at < length d.body.items → size ≡ size_said (drop at d.body.items) → at + size ≤ MOST_DESIGN
   end_here size before said =
       let h = heads_at d left.front.is_open (length (kept_of d)) (more_left before) in
-      let sized : size ≡ h.size = said ∙ ap (λ (k : ℕ). size_said (drop k d.body.items)) left.place ∙ h.said in
+      let sized : size ≡ h.size = cc (left.place, h.said) in
       omega (arith, left.place, sized, h.inside, left.front.is_open.few)
 
   -- whose offset is kept: the place behind it is that of the next
@@ -170,22 +162,17 @@ module _ (d : Design) (at : ℕ) (left : Left d at) where
       let h = heads_at d left.front.is_open n known in
       let es : elements e ≡ elements d = elements_same d e (same_bytes d e same) in
       let long : length (kept_of e) ≡ n + 1 = omega (arith, ap (length {A = ℕ}) also.kept, length-append (kept_of d) (at ∷ [])) in
-      let sized : size ≡ h.size = said ∙ ap (λ (k : ℕ). size_said (drop k d.body.items)) left.place ∙ h.said in
+      let sized : size ≡ h.size = cc (left.place, h.said) in
       let next : at + size ≡ offset_of (elements d) (n + 1) = omega (arith, left.place, sized, h.next) in
       let count = ap (length {A = Element}) es in
       record {
         front = record {
           is_open = open_same d e (same_bytes d e same) left.front.is_open;
-          first = also.kept ∙ offsets_more (elements d) (kept_of d) at known left.front.first left.place
-              ∙ ap (λ (k : ℕ). take k (offsets_of (elements d))) (sym long) ∙ ap (λ (xs : List Element). take (length (kept_of e)) (offsets_of xs)) (sym es);
-          kinds =
-              also.kinds ∙ ap (λ (l : List Kind). l ++ kind ∷ []) left.front.kinds ∙ ap (λ (k : Kind). take n (kinds_in (elements d)) ++ k ∷ []) kind_is
-              ∙ ap (λ (k : ℕ). take n (kinds_in (elements d)) ++ kind_at (drop k d.body.items) ∷ []) left.place
-              ∙ sym h.kind ∙ ap (λ (k : ℕ). take k (kinds_in (elements d))) (sym long)
-              ∙ ap (λ (xs : List Element). take (length (kept_of e)) (kinds_in xs)) (sym es);
+          first = rw (long, es) (also.kept ∙ offsets_more (elements d) (kept_of d) at known left.front.first left.place);
+          kinds = rw (long, es, h.kind, ← left.place, ← kind_is, ← left.front.kinds) also.kinds;
           room = omega (arith, count, long, known, left.front.room, also.room, also.kinds_room, d.kept.ok.0, e.kept.ok.0);
         };
-        place = next ∙ ap (offset_of (elements d)) (sym long) ∙ ap (λ (xs : List Element). offset_of xs (length (kept_of e))) (sym es);
+        place = rw (long, es) next;
       }
 
   -- at the end of the body no element is left
@@ -210,9 +197,13 @@ module _ (d : Design) (front : HasGrown d) (n last : ℕ) (long : length (kept_o
 
   last_place : last ≡ offset_of (elements d) n
   last_place =
-      is ∙ get_or_default (kept_of d) n last 0 (omega (arith, long)) ∙ ap (λ (l : List ℕ). get_or l n 0) front.first
-      ∙ get_or-take (length (kept_of d)) (offsets_of (elements d)) n 0 (omega (arith, long))
-      ∙ get_or-offsets (elements d) n (omega (arith, front_within d front, long))
+      cc (
+        is,
+        get_or_default (kept_of d) n last 0 (omega (arith, long)),
+        front.first,
+        get_or-take (length (kept_of d)) (offsets_of (elements d)) n 0 (omega (arith, long)),
+        get_or-offsets (elements d) n (omega (arith, front_within d front, long)),
+      )
 
   pub last_inside : last ≤ length d.body.items
   last_inside = omega (arith, last_place, last_heads.inside)

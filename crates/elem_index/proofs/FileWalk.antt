@@ -1,16 +1,12 @@
 -- How the walk through a file goes on and ends.
-use Rattle.std.proofs.Common.{◌≡◌, ℕ, ◌+◌, ◌*◌, ◌%◌, ◌<◌, take, map, length-append, ◌≤◌, List, [], ◌∷◌, ◌++◌, length, drop, get_or, refl, sym}
+use Rattle.std.proofs.Common.{◌≡◌, ℕ, ◌+◌, ◌*◌, ◌<◌, map, length-append, ◌≤◌, List, [], ◌∷◌, ◌++◌, length, drop, get_or, refl, sym}
 use Rattle.std.proofs.Common.{ap, ◌∙◌, subst, arith, true, false}
 use Rattle.std.specs.Prelude.{Option, Some, None}
 use Rattle.std.specs.Option.{is_some}
-use Rattle.std.proofs.lemmas.List.{get_or_default, length-take-le, get_or-take, length-map, take-append-drop}
+use Rattle.std.proofs.lemmas.List.{get_or_default, length-take-le, length-map, take-append-drop}
 use Rattle.std.proofs.lemmas.List.Elements.{All-drop}
-use Rattle.std.proofs.lemmas.Bool.Decides.{nat_tests}
-use Rattle.dgn_layout.specs.Classes.{class_of, is_silent}
-use Rattle.dgn_layout.specs.declared.types.Class.{Class}
+use Rattle.dgn_layout.specs.Classes.{class_of}
 use Rattle.elem_head.specs.Head.{kind_of, size_of as size_said}
-use Rattle.dgn_drawing.specs.Faults.{element_fault}
-use Rattle.dgn_drawing.proofs.BodyEnds.{silent_sound}
 use Rattle.std.proofs.lemmas.Bool.{both_ways}
 use Rattle.dgn_drawing.specs.Element.{Element}
 use Rattle.dgn_drawing.specs.Spelling.{spell, spelling, size_of}
@@ -18,7 +14,7 @@ use Rattle.dgn_drawing.specs.Rows.{row_of}
 use Rattle.dgn_drawing.specs.Nesting.{is_counted}
 use Rattle.dgn_drawing.specs.WellFormed.{IsBytes, IsWellFormed}
 use Rattle.dgn_drawing.specs.Reading.{element_at}
-use Rattle.dgn_drawing.specs.Opening.{NotDesign, Cut, Short, Attr, is_tcb, dimension, is_tail, Front, first_element, is_cut, StandsAt, HasFault}
+use Rattle.dgn_drawing.specs.Opening.{NotDesign, Cut, Short, Attr, is_tcb, dimension, is_tail, Front, first_element, StandsAt, HasFault}
 use Rattle.dgn_drawing.proofs.Fronts.{front_none, front_more, front_ends, four_each, first_good, first_spelled}
 use Rattle.dgn_drawing.proofs.FirstElements.{dimension_is}
 use Rattle.elem_index.specs.declared.open_fault.OpenFault.{OpenFault}
@@ -26,7 +22,7 @@ use Rattle.elem_index.specs.Offsets.{offsets_of}
 use Rattle.elem_index.specs.Kinds.{Kind}
 use Rattle.elem_index.specs.Design.{kind_of_row, kind_at, kinds_in}
 use Rattle.elem_index.proofs.KindBytes.{kinds_in-more, kind_at-spell, counted_long}
-use Rattle.elem_index.specs.Answers.{HasToldFault, TellsFault, BeginsSound, BeginsFaulty, BeginsBare, Steps, StandsSound, StandsFaulty, HasCount, IsRun}
+use Rattle.elem_index.specs.Answers.{HasToldFault, TellsFault, BeginsFaulty, Steps, StandsSound, StandsFaulty, HasCount, IsRun}
 use Rattle.elem_index.specs.Opened.{opening}
 use Rattle.dgn_drawing.proofs.Offsets.{length-offsets_from, offsets_from-more}
 use Rattle.elem_index.proofs.OpeningAnswers.{opening-opens, opening-fault}
@@ -75,10 +71,7 @@ module _ (f : List ℕ) (bytes : IsBytes f) (p q : ℕ) (stands : StandsSound f 
       ap kind_at hand_spelled ∙ kind_at-spell (dimension f) at_hand (dimension_is f) hand_good (drop (size_said (drop p f)) (drop p f))
 
   pub counted_here : is_counted (class_of (kind_of (drop p f))) ≡ true → 40 ≤ length (drop p f)
-  counted_here counted =
-      subst (λ (b : List ℕ). 40 ≤ length b) (sym hand_spelled)
-      (counted_long (dimension f) at_hand (dimension_is f) hand_good (drop (size_said (drop p f)) (drop p f))
-      (ap (λ (b : List ℕ). is_counted (class_of (kind_of b))) (sym hand_spelled) ∙ counted))
+  counted_here = rw hand_spelled (counted_long (dimension f) at_hand (dimension_is f) hand_good (drop (size_said (drop p f)) (drop p f)))
 
 -- a step that gives a place is over an element, and one that gives none is where the elements end
 pub steps_over : (f : List ℕ) (p q : ℕ) (at : Option ℕ) → is_some at ≡ true → Steps f p q at → StandsSound f p q
@@ -100,13 +93,9 @@ module _ (f : List ℕ) (bytes : IsBytes f) (tcb : is_tcb f ≡ true) (kept : Li
       let front = front_more f bytes tcb es p going.front stands.more begins.whole begins.sound in
       record {
         elements = es ++ element_at (dimension f) (first_element (drop p f)) ∷ [];
-        front = subst (λ (s : ℕ). Front f (es ++ element_at (dimension f) (first_element (drop p f)) ∷ []) s)
-            (ap (λ (s : ℕ). p + s) (sym begins.long) ∙ sym stands.ends) front;
-        offsets = ap (λ (x : List ℕ). x ++ at ∷ []) going.offsets ∙ ap (λ (k : ℕ). offsets_of es ++ k ∷ []) (step.0 ∙ sym place)
-            ∙ sym (offsets_from-more 0 es _);
-        bytes =
-            ap (λ (x : List Kind). x ++ kind_at (drop p f) ∷ []) going.bytes ∙ ap (λ (k : Kind). kinds_in es ++ k ∷ []) (first_kind f bytes p q stands)
-            ∙ sym (kinds_in-more es (element_at (dimension f) (first_element (drop p f))));
+        front = rw (stands.ends, begins.long) front;
+        offsets = rw (going.offsets, step.0, ← place) (sym (offsets_from-more 0 es _));
+        bytes = rw (going.bytes, first_kind f bytes p q stands) (sym (kinds_in-more es (element_at (dimension f) (first_element (drop p f)))));
       }
 
   -- at a tail the elements end
@@ -138,32 +127,6 @@ module _ (f : List ℕ) (bytes : IsBytes f) (tcb : is_tcb f ≡ true) (kept : Li
 
   pub fault_here : (x : OpenFault) → StandsFaulty f p x → TellsFault (opening f) x
   fault_here x stands = fault_given f bytes x (faulty_here x stands)
-
--- a silent class is the one that says so
-silent_class : (c : Class) → is_silent c ≡ true → c ≡ Class.Silent
-silent_class Class.Silent is = refl
-silent_class Class.Vertices is = absurd (let x = is in cc)
-silent_class Class.Words is = absurd (let x = is in cc)
-silent_class Class.Counted is = absurd (let x = is in cc)
-silent_class Class.Run is = absurd (let x = is in cc)
-silent_class Class.Floating is = absurd (let x = is in cc)
-silent_class Class.Boxed is = absurd (let x = is in cc)
-
--- an element of four bytes of which nothing is read is sound
-pub bare_sound : (dim : ℕ) (b : List ℕ) → BeginsBare b → BeginsSound dim b 4
-bare_sound dim b bare =
-    let said : size_said b ≡ 4 = omega (arith, bare.words) in
-    let long = bare.long in
-    let four : is_cut b ≡ false = grind (arith, nat_tests) in
-    let first : first_element b ≡ take 4 b = ap (λ (n : ℕ). take n b) said in
-    let first_long : length (take 4 b) ≡ 4 = length-take-le 4 b long in
-    let kind : kind_of (take 4 b) ≡ kind_of b = ap (λ (x : ℕ). x % 128) (get_or-take 4 b 1 0 (omega arith)) in
-    record {
-      whole = four;
-      sound = ap (element_fault dim) first
-          ∙ silent_sound dim (take 4 b) (ap class_of kind ∙ silent_class (class_of (kind_of b)) bare.silent) (omega (arith, first_long));
-      long = sym said;
-    }
 
 -- so many elements stand before the place
 pub record Counted (f : List ℕ) (count p : ℕ) : Type 0 where

@@ -85,12 +85,8 @@ module _ (dim : ℕ) (e : Element) (axes : IsDimension dim) (good : IsWellFormed
       let forty = long (counted_class (class_of (kind_of (spell e))) (ap (λ (k : ℕ). is_counted (class_of k)) (sym kind_before) ∙ counted)) in
       omega (arith, forty, length-append (spell e) behind)
 
-  abbrev kind_from : ℕ → ℕ → Kind
-  kind_from byte total = record { byte = byte; total = total }
-
   pub kind_at-spell : kind_at (spell e ++ behind) ≡ kind_of_row (row_of e)
   kind_at-spell =
-      ap (λ (k : ℕ). kind_from (kind_byte_at (spell e ++ behind)) (total_in (class_of k) (spell e ++ behind))) kind_before
-      ∙ ap (λ (byte : ℕ). kind_from byte (total_in (class_of (kind_of (spell e))) (spell e ++ behind))) byte_before
-      ∙ ap (kind_from (kind_byte_at (spell e))) (total_before (class_of (kind_of (spell e))) (spell e) behind long)
-      ∙ ap kind_of_row (row_at-spell dim e axes good)
+      let same : kind_at (spell e ++ behind) ≡ kind_at (spell e) =
+      cc (kind_before, byte_before, total_before (class_of (kind_of (spell e))) (spell e) behind long) in
+      same ∙ ap kind_of_row (row_at-spell dim e axes good)

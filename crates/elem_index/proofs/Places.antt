@@ -36,13 +36,10 @@ use Rattle.dgn_drawing.specs.declared.limits.TheConstants.{MOST_DESIGN}
 module _ (d : Design) (f : List ℕ) (p : ℕ) (run : IsRun f d.kept.items d.kinds.items p) (few : length f ≤ MOST_DESIGN) (axes : d.dim ≡ dimension f)
     (body : d.body.items ≡ take p f) (tail : d.tail.items ≡ drop p f) where
   both : f ≡ d.body.items ++ d.tail.items
-  both = sym (take-append-drop p f) ∙ ap (λ (x : List ℕ). x ++ drop p f) (sym body) ∙ ap (λ (x : List ℕ). d.body.items ++ x) (sym tail)
+  both = rw (body, tail) (sym (take-append-drop p f))
 
   opens_both : Opens (d.body.items ++ d.tail.items) d.dim run.elements d.tail.items
-  opens_both =
-      subst (λ (x : List ℕ). Opens x d.dim run.elements d.tail.items) both
-      (subst (λ (x : List ℕ). Opens f d.dim run.elements x) (sym tail)
-      (subst (λ (n : ℕ). Opens f n run.elements (drop p f)) (sym axes) run.opens))
+  opens_both = rw (body, tail, axes, take-append-drop p f) run.opens
 
   same_elements : elements d ≡ run.elements
   same_elements = opens_elements d.body.items d.tail.items d.dim run.elements opens_both
@@ -58,11 +55,7 @@ module _ (d : Design) (f : List ℕ) (p : ℕ) (run : IsRun f d.kept.items d.kin
   }
 
   pub run_opens : opening f ≡ Ok (opened_of d)
-  run_opens =
-      run.found
-      ∙ ap (λ (n : ℕ). Ok (record { dim = n; elements = run.elements; tail = drop p f })) (sym axes)
-      ∙ ap (λ (es : List Element). Ok (record { dim = d.dim; elements = es; tail = drop p f })) (sym same_elements)
-      ∙ ap (λ (t : List ℕ). Ok (record { dim = d.dim; elements = elements d; tail = t })) (sym tail)
+  run_opens = cc (run.found, same_elements)
 
 -- there are as many offsets as elements
 pub length-offsets : (es : List Element) → length (offsets_of es) ≡ length es
@@ -99,8 +92,7 @@ module _ (d : Design) (whole : IsWhole d) where
 
   -- the offset of each element is kept
   pub get_or-kept : (n : ℕ) → n < length (elements d) → get_or d.kept.items n 0 ≡ offset_of (elements d) n
-  get_or-kept n within =
-      ap (λ (l : List ℕ). get_or l n 0) whole.kept ∙ get_or-offsets (elements d) n within
+  get_or-kept n within = cc (get_or-offsets (elements d) n within)
 
 -- where element n stands among its spellings
 pub record Stands (es : List Element) (n : ℕ) (e : Element) : Type 0 where
@@ -178,11 +170,7 @@ module _ (d : Design) (whole : IsWhole d) (n : ℕ) (known : n < length (element
   size_is = omega (arith, standing.1.next)
 
   pub piece_is : (b : List ℕ) → b ≡ d.body.items → Some (take (end - start) (drop start b)) ≡ option_map spell (slice_get (elements d) n)
-  piece_is b same =
-      let bytes : take (end - start) (drop start b) ≡ spell standing.0 =
-      ap (λ (k : ℕ). take k (drop start b)) size_is ∙ ap (λ (k : ℕ). take (size_of standing.0) (drop k b)) begins
-      ∙ ap (λ (x : List ℕ). take (size_of standing.0) (drop (offset_of (elements d) n) x)) (same ∙ sym (body_is d whole)) ∙ standing.1.bytes in
-      ap Some bytes ∙ sym (ap (option_map spell) standing.1.found)
+  piece_is b same = cc (size_is, body_is d whole, standing.1.bytes, standing.1.found)
 
 -- the last element ends where the body does
 pub last_ends : (d : Design) → IsWhole d → (n : ℕ) → length (elements d) ≤ n + 1 → vec_len d.body ≡ offset_of (elements d) (n + 1)
@@ -198,8 +186,7 @@ taken None b is = absurd (let f = is in cc)
 taken (Some e) b is = (e, refl, cc)
 
 pub take_one_more : (es : List Element) (n : ℕ) (e : Element) → slice_get es n ≡ Some e → take (n + 1) es ≡ take n es ++ e ∷ []
-take_one_more es n e found =
-    take_more es n e (slice_get_within es n e found) ∙ ap (λ (x : Element). take n es ++ x ∷ []) (get_or_from_slice_get es n e e found)
+take_one_more es n e found = cc (take_more es n e (slice_get_within es n e found), get_or_from_slice_get es n e e found)
 
 pub is_false : (b : Bool) → not b ≡ true → IsFalse b
 is_false false is = refl

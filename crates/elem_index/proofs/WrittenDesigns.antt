@@ -9,7 +9,7 @@ use Rattle.dgn_drawing.specs.Opening.{offsets_from}
 use Rattle.dgn_drawing.proofs.Offsets.{take-offsets_from, sizes-rows}
 use Rattle.elem_index.specs.declared.design.Design.{Design}
 use Rattle.elem_index.specs.Offsets.{offsets_of}
-use Rattle.elem_index.specs.Design.{kept_of, kinds_of, spare_of, kind_of_row, kinds_in, elements, IsOpen, IsWhole, HasGrown, HasShrunk}
+use Rattle.elem_index.specs.Design.{kept_of, kinds_of, spare_of, kind_of_row, elements, IsOpen, IsWhole, HasGrown, HasShrunk}
 use Rattle.elem_index.proofs.KindBytes.{kinds_in-take, kinds_in-front}
 use Rattle.elem_index.proofs.Places.{length-offsets}
 
@@ -38,8 +38,8 @@ module _ (old new : Design) (whole : IsWhole old) (is_open : IsOpen new) (kept :
       let front : map row_of (elements old) ≡ take n (map row_of (elements new)) = sym rows ∙ sym (take-map row_of n (elements new)) in
       record {
         is_open = is_open;
-        first = is ∙ offsets-front (elements old) (elements new) rows ∙ ap (λ (k : ℕ). take k (offsets_of (elements new))) (sym long);
-        kinds = kinds ∙ whole.kinds ∙ kinds_in-front (elements old) (elements new) n front ∙ ap (λ (k : ℕ). take k (kinds_in (elements new))) (sym long);
+        first = rw long (is ∙ offsets-front (elements old) (elements new) rows);
+        kinds = rw long (kinds ∙ whole.kinds ∙ kinds_in-front (elements old) (elements new) n front);
         room = omega (arith, long, room);
       }
 

@@ -1,8 +1,6 @@
 use Rattle.std.proofs.Common.{◌∙◌, sym, ap, List, ℕ, subst, arith, length, ◌≤◌}
-use Rattle.std.proofs.lemmas.Result.{err_from_is_err_and}
 use Rattle.dgn_drawing.specs.Opening.{is_tcb, dimension}
-use Rattle.elem_index.specs.Opened.{opening}
-use Rattle.elem_index.specs.Answers.{IsRun, TellsFault}
+use Rattle.elem_index.specs.Answers.{IsRun}
 use Rattle.elem_index.proofs.OpeningAnswers.{opening-other}
 use Rattle.elem_index.proofs.Places.{run_whole, run_opens}
 use Rattle.elem_index.proofs.design.read_design.Goals as goal
@@ -11,11 +9,6 @@ use Rattle.dgn_drawing.specs.declared.limits.TheConstants.{MOST_DESIGN}
 pub returns-then-not-begins_with_tcb-clause-opening : goal.returns-then-not-begins_with_tcb-clause-opening
 returns-then-not-begins_with_tcb-clause-opening c =
     opening-other c.args.bytes.items (ap is_tcb (sym c.deref.ensures.value) ∙ sym c.begins_with_tcb.ensures ∙ c.if-not-begins_with_tcb.true)
-
-pub returns-in_err-kept-clause-opening : goal.returns-in_err-kept-clause-opening
-returns-in_err-kept-clause-opening c =
-    let p = err_from_is_err_and c.from_residual.result c.from_residual.ensures.1 in
-    rw (p.1, p.2) (subst (λ (f : List ℕ). TellsFault (opening f) c.in_err-kept.field-0.0) c.deref-3.ensures.value c.in_err-kept.ensures.first_fault)
 
 pub returns-in-Ok-clause-whole : goal.returns-in-Ok-clause-whole
 returns-in-Ok-clause-whole c =

@@ -1,15 +1,8 @@
 use Rattle.std.proofs.Common.{◌∙◌, ◌*◌, ◌≤◌, refl, sym, arith, length}
 use Rattle.std.proofs.lemmas.Result.{err_from_is_err_and}
-use Rattle.elem_index.proofs.FileWalk.{are_bytes, faulty_here, fault_here, steps_over, steps_end, going_more, run_ends, counted_start, counted_more}
+use Rattle.elem_index.proofs.FileWalk.{are_bytes, fault_here, steps_over, steps_end, going_more, run_ends, counted_start, counted_more}
 use Rattle.elem_index.proofs.FileWalk.{counted_small, count_ends}
 use Rattle.elem_index.proofs.walk.count_in.Goals as goal
-
-pub returns-in_err-next_place-clause-fault : goal.returns-in_err-next_place-clause-fault
-returns-in_err-next_place-clause-fault c =
-    let p = err_from_is_err_and c.from_residual.result c.from_residual.ensures.1 in
-    let bytes = are_bytes c.args.f.now (λ i. omega (arith, c.type_inv.f i)) in
-    rw (p.1, p.2) (faulty_here c.args.f.now bytes c.requires.tcb c.elements.invariant.1.kept c.elements.invariant.1.kinds c.elements.walk.at
-    c.elements.invariant.1.going c.in_err-next_place.field-0.0 c.in_err-next_place.ensures.fault)
 
 pub returns-in_err-next_place-clause-first_fault : goal.returns-in_err-next_place-clause-first_fault
 returns-in_err-next_place-clause-first_fault c =

@@ -6,15 +6,8 @@ use Rattle.dgn_drawing.specs.Nesting.{is_counted}
 use Rattle.elem_index.specs.Answers.{Steps}
 use Rattle.elem_index.specs.Kinds.{kind_with}
 use Rattle.elem_index.specs.Design.{kind_at}
-use Rattle.elem_index.proofs.FileWalk.{are_bytes, faulty_here, fault_here, counted_here, going_more, run_ends}
+use Rattle.elem_index.proofs.FileWalk.{are_bytes, fault_here, counted_here, going_more, run_ends}
 use Rattle.elem_index.proofs.walk.elements_in.Goals as goal
-
-pub returns-in_err-at-clause-fault : goal.returns-in_err-at-clause-fault
-returns-in_err-at-clause-fault c =
-    let p = err_from_is_err_and c.from_residual.result c.from_residual.ensures.1 in
-    let bytes = are_bytes c.args.f.now (λ i. omega (arith, c.type_inv.f i)) in
-    rw (p.1, p.2) (faulty_here c.args.f.now bytes c.requires.tcb c.elements.kept.items c.elements.kinds.items c.elements.walk.at c.elements.invariant.1
-    c.in_err-at.field-0.0 c.in_err-at.ensures.fault)
 
 pub returns-in_err-at-clause-first_fault : goal.returns-in_err-at-clause-first_fault
 returns-in_err-at-clause-first_fault c =

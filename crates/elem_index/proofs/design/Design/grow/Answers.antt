@@ -1,4 +1,4 @@
-use Rattle.std.proofs.Common.{◌≡◌, ◌≤◌, ◌<◌, ℕ, List, length, drop, refl, sym, ap, ◌∙◌, subst, arith}
+use Rattle.std.proofs.Common.{◌≡◌, ◌≤◌, ◌<◌, ℕ, List, length, drop, sym, ap, ◌∙◌, subst, arith}
 use Rattle.dgn_layout.specs.Classes.{class_of}
 use Rattle.elem_head.specs.Head.{size_of, kind_of}
 use Rattle.dgn_drawing.specs.Nesting.{is_counted}
@@ -6,9 +6,6 @@ use Rattle.elem_index.specs.Kinds.{kind_with}
 use Rattle.elem_index.specs.Design.{kind_at}
 use Rattle.elem_index.proofs.DesignGrowth.{room_here, kinds_room_here, head_here, counted_here, end_here, left_more, left_whole}
 use Rattle.elem_index.proofs.design.Design.grow.Goals as goal
-
-pub elements-init : goal.elements-init
-elements-init c = (record { front = c.requires; place = c.kept_end-at.ensures }, record { dim = refl; body = refl; tail = refl })
 
 pub size_said-size-requires : goal.size_said-size-requires
 size_said-size-requires c =
