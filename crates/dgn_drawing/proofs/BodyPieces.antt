@@ -74,18 +74,13 @@ bytes_range v = bytes_side true 0 v
 pub bytes_corner : (dim : ℕ) (v : List ℤ) → bytes_in (corner_pieces dim v) ≡ flat_map range_long_bytes v
 bytes_corner dim v =
     let behind : List ℕ = flat_map range_long_bytes (drop dim v) in
-    bytes_in-append (side_by_side true 0 (take dim v)) (Kept behind ∷ [])
-    ∙ ap (λ l. l ++ (behind ++ [])) (bytes_range (take dim v))
-    ∙ ap (λ l. flat_map range_long_bytes (take dim v) ++ l) (append-nil behind)
-    ∙ sym (flat_map-append range_long_bytes (take dim v) (drop dim v))
-    ∙ ap (flat_map range_long_bytes) (take-append-drop dim v)
+    rw (bytes_in-append (side_by_side true 0 (take dim v)) (Kept behind ∷ []), bytes_range (take dim v), append-nil behind)
+    (sym (flat_map-append range_long_bytes (take dim v) (drop dim v)) ∙ ap (flat_map range_long_bytes) (take-append-drop dim v))
 
 -- the bytes of points side by side
 bytes_points : (vs : List (List ℤ)) → bytes_in (points_pieces vs) ≡ flat_map point_bytes vs
 bytes_points [] = refl
-bytes_points (v ∷ vs) =
-    bytes_in-append (point_pieces v) (points_pieces vs)
-    ∙ ap (λ l. l ++ bytes_in (points_pieces vs)) (bytes_point v) ∙ ap (λ l. point_bytes v ++ l) (bytes_points vs)
+bytes_points (v ∷ vs) = rw (bytes_in-append (point_pieces v) (points_pieces vs), bytes_point v, bytes_points vs)
 
 -- the parts' bytes
 pub bytes_parts : (parts : Parts) → bytes_in (parts_pieces parts) ≡ parts_bytes parts
@@ -94,8 +89,7 @@ bytes_parts (Line points) = bytes_points points
 bytes_parts (Points points) = ap (λ l. word_bytes (length points) ++ l) (bytes_points points)
 bytes_parts (Text run origin spare chars) =
     let behind : List ℕ = length chars ∷ spare ∷ chars in
-    ap (λ l. run ++ l) (bytes_in-append (point_pieces origin) (Kept behind ∷ []) ∙ ap (λ l. l ++ (behind ++ [])) (bytes_point origin)
-    ∙ ap (λ l. point_bytes origin ++ l) (append-nil behind))
+    rw (bytes_in-append (point_pieces origin) (Kept behind ∷ []), bytes_point origin, append-nil behind)
 bytes_parts (Node total run origin) = ap (λ l. word_bytes total ++ (run ++ l)) (bytes_point origin)
 bytes_parts (Cell total name run origin) = ap (λ l. word_bytes total ++ (flat_map word_bytes name ++ (run ++ l))) (bytes_point origin)
 bytes_parts (Header total number) = refl
@@ -105,18 +99,17 @@ bytes_parts Plain = refl
 pub bytes_shown : (dim : ℕ) (d : Display) (parts : Parts) (rest : List ℕ) → bytes_in (shown_pieces dim d parts rest) ≡ body_bytes (Shown d parts rest)
 unfolding body_bytes display_bytes
 bytes_shown dim d parts rest =
-    let low : List ℕ = flat_map range_long_bytes d.low in
-    let high : List ℕ = flat_map range_long_bytes d.high in
-    let words : List ℕ = words_and_look d in
-    let behind : List Piece = Kept words ∷ (parts_pieces parts ++ Kept rest ∷ []) in
-    bytes_in-append (corner_pieces dim d.low) (corner_pieces dim d.high ++ behind)
-    ∙ ap (λ l. l ++ bytes_in (corner_pieces dim d.high ++ behind)) (bytes_corner dim d.low)
-    ∙ ap (λ l. low ++ l) (bytes_in-append (corner_pieces dim d.high) behind ∙ ap (λ l. l ++ bytes_in behind) (bytes_corner dim d.high))
-    ∙ ap (λ l. low ++ (high ++ (words ++ l)))
-    (bytes_in-append (parts_pieces parts) (Kept rest ∷ []) ∙ ap (λ l. l ++ (rest ++ [])) (bytes_parts parts)
-    ∙ ap (λ l. parts_bytes parts ++ l) (append-nil rest))
-    ∙ ap (λ l. low ++ l) (sym (append_assoc high words (parts_bytes parts ++ rest)))
-    ∙ sym (append_assoc low (high ++ words) (parts_bytes parts ++ rest))
+    let behind : List Piece = Kept (words_and_look d) ∷ (parts_pieces parts ++ Kept rest ∷ []) in
+    rw (
+      bytes_in-append (corner_pieces dim d.low) (corner_pieces dim d.high ++ behind),
+      bytes_corner dim d.low,
+      bytes_in-append (corner_pieces dim d.high) behind,
+      bytes_corner dim d.high,
+      bytes_in-append (parts_pieces parts) (Kept rest ∷ []),
+      bytes_parts parts,
+      append-nil rest,
+    )
+    (simp append_assoc)
 
 -- the numbers of numbers side by side
 values_side : (offset : Bool) (axis : ℕ) (v : List ℤ) → values_in (side_by_side offset axis v) ≡ v
@@ -132,9 +125,7 @@ values_corner dim v =
 -- the numbers of points side by side
 values_points : (vs : List (List ℤ)) → values_in (points_pieces vs) ≡ flat_map (λ p. p) vs
 values_points [] = refl
-values_points (v ∷ vs) =
-    values_in-append (point_pieces v) (points_pieces vs)
-    ∙ ap (λ l. l ++ values_in (points_pieces vs)) (values_side false 0 v) ∙ ap (λ l. v ++ l) (values_points vs)
+values_points (v ∷ vs) = rw (values_in-append (point_pieces v) (points_pieces vs), values_side false 0 v, values_points vs)
 
 -- the parts' numbers are those of their points
 values_parts : (parts : Parts) → values_in (parts_pieces parts) ≡ flat_map (λ p. p) (points_in parts)
@@ -151,11 +142,15 @@ values_parts Plain = refl
 pub values_shown : (dim : ℕ) (d : Display) (parts : Parts) (rest : List ℕ) → values_in (shown_pieces dim d parts rest) ≡ numbers_in dim (Shown d parts rest)
 values_shown dim d parts rest =
     let behind : List Piece = Kept (words_and_look d) ∷ (parts_pieces parts ++ Kept rest ∷ []) in
-    values_in-append (corner_pieces dim d.low) (corner_pieces dim d.high ++ behind)
-    ∙ ap (λ l. l ++ values_in (corner_pieces dim d.high ++ behind)) (values_corner dim d.low)
-    ∙ ap (λ l. take dim d.low ++ l) (values_in-append (corner_pieces dim d.high) behind ∙ ap (λ l. l ++ values_in behind) (values_corner dim d.high))
-    ∙ ap (λ l. take dim d.low ++ (take dim d.high ++ l))
-    (values_in-append (parts_pieces parts) (Kept rest ∷ []) ∙ append-nil (values_in (parts_pieces parts)) ∙ values_parts parts)
+    rw (
+      values_in-append (corner_pieces dim d.low) (corner_pieces dim d.high ++ behind),
+      values_corner dim d.low,
+      values_in-append (corner_pieces dim d.high) behind,
+      values_corner dim d.high,
+      values_in-append (parts_pieces parts) (Kept rest ∷ []),
+      append-nil (values_in (parts_pieces parts)),
+      values_parts parts,
+    )
 
 -- the spots of numbers side by side
 spots_side : (n : ℕ) (v : List ℤ) (offset : Bool) (axis p : ℕ) → length v ≡ n → spots_in p (side_by_side offset axis v) ≡ fields_from offset n axis p
@@ -359,14 +354,14 @@ spots_shown dim b d parts rest axes good count =
     let points : spots_in 28 behind ≡ points_spots table.count dim table.start =
     spots_in-append 36 _ (parts_pieces parts) (Kept rest ∷ []) refl ∙ append-nil (spots_in 36 (parts_pieces parts))
     ∙ spots_parts dim b parts axes good.1 count in
-    let whole : spots_in 4 (shown_pieces dim d parts rest) ≡ fields_from true dim 0 4
-    ++ (fields_from true dim 0 16 ++ points_spots table.count dim table.start) =
-    spots_in-append 4 16 (corner_pieces dim d.low) (corner_pieces dim d.high ++ behind) (omega arith)
-    ∙ ap (λ l. l ++ spots_in 16 (corner_pieces dim d.high ++ behind)) low
-    ∙ ap (λ l. fields_from true dim 0 4 ++ l)
-    (spots_in-append 16 28 (corner_pieces dim d.high) behind (omega arith) ∙ ap (λ l. l ++ spots_in 28 behind) high
-    ∙ ap (λ l. fields_from true dim 0 16 ++ l) points) in
-    append_assoc (fields_from true dim 0 4) (fields_from true dim 0 16) (points_spots table.count dim table.start) ∙ sym whole
+    rw (
+      spots_in-append 4 16 (corner_pieces dim d.low) (corner_pieces dim d.high ++ behind) (omega arith),
+      low,
+      spots_in-append 16 28 (corner_pieces dim d.high) behind (omega arith),
+      high,
+      points,
+    )
+    (append_assoc (fields_from true dim 0 4) (fields_from true dim 0 16) (points_spots table.count dim table.start))
 
 -- the number of points is read where it is spelled
 count_sits : (b : List ℕ) (dim : ℕ) (d : Display) (parts : Parts) (rest : List ℕ) → HasBody dim (Shown d parts rest)

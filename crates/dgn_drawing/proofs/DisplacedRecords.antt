@@ -1,5 +1,5 @@
 -- A displacement that keeps a record on the plane puts sums at its spots, and leaves it well formed.
-use Rattle.std.proofs.Common.{◌≡◌, ℕ, ◌+◌, ◌-◌, ◌*◌, ◌/◌, ◌≤◌, List, [], ◌∷◌, ◌++◌, length, take, drop, map, refl, sym, ap, ◌∙◌, subst, true, arith}
+use Rattle.std.proofs.Common.{◌≡◌, ℕ, ◌/◌, List, [], ◌∷◌, ◌++◌, length, take, drop, map, refl, sym, ap, ◌∙◌, true, arith}
 use Rattle.std.specs.Prelude.{ℤ}
 use Rattle.std.specs.List.{AllByRecursion, flat_map, list_all}
 use Rattle.std.proofs.lemmas.Bool.{and_parts}
@@ -10,16 +10,15 @@ use Rattle.dgn_layout.specs.Spots.{has_spots, spots_of}
 use Rattle.range_code.specs.Plane.{is_on_plane}
 use Rattle.range_code.specs.Ranges.{on_axis}
 use Rattle.patch_bytes.specs.Puts.{write}
-use Rattle.dgn_drawing.specs.declared.row.Row.{Row}
 use Rattle.dgn_drawing.specs.Values.{Displacement}
 use Rattle.dgn_drawing.specs.Element.{Parts, Line, Points, Text, Node, Cell, Header, Plain, Body, Silent, Shown, Element, form_of_body, rest_of}
-use Rattle.dgn_drawing.specs.Spelling.{first_byte, second_byte, body_bytes, spell, size_of, rest_start}
+use Rattle.dgn_drawing.specs.Spelling.{first_byte, second_byte, body_bytes, spell, size_of}
 use Rattle.dgn_drawing.specs.WellFormed.{IsDimension, IsCoordinate, IsPoint, HasParts, HasBody, HasAttributesInPlace, IsWellFormed}
 use Rattle.dgn_drawing.specs.SpotNumbers.{displaced_put}
 use Rattle.dgn_drawing.specs.Rows.{total_of, row_of}
 use Rattle.dgn_drawing.specs.Changes.{displaced, parts_displaced, points_in, numbers_in, body_displaced, shift, stays_on_plane}
 use Rattle.dgn_drawing.specs.Laws.{DisplacementsAreSums}
-use Rattle.dgn_drawing.proofs.Pieces.{Piece, bytes_of, bytes_in, read_in, moved, put_by, write_pieces, length-moved}
+use Rattle.dgn_drawing.proofs.Pieces.{bytes_of, bytes_in, read_in, put_by, write_pieces, length-moved}
 use Rattle.dgn_drawing.proofs.BodyPieces.{body_pieces, bytes_body}
 use Rattle.dgn_drawing.proofs.MovedPieces.{drop-displaced, length-displaced, moved-body}
 use Rattle.dgn_drawing.proofs.SpotValues.{each_of_both, of_each, each_behind, made_of_pieces}
@@ -61,18 +60,16 @@ attributes-displaced : (ds : List ℤ) (x e : Element) (body : Body) → size_of
     → HasAttributesInPlace x (body_displaced ds body)
 attributes-displaced ds x e (Silent rest) size same held = tt
 attributes-displaced ds x e (Shown d parts rest) size same held = λ says.
-    let two = held says in
-    let ends : rest_start x ≡ rest_start e = ap (λ (n : ℕ). n - length (rest_of x.body)) size ∙ ap (λ (r : List ℕ). size_of e - length r) same in
-    (subst (λ (n : ℕ). n ≤ 32 + 2 * d.index) (sym ends) two.0, subst (λ (n : ℕ). 32 + 2 * d.index ≤ n) (sym size) two.1)
+    let two = held says in (rw (size, same) two.0, rw size two.1)
 
 module _ (dim : ℕ) (by : List ℤ) where
   -- a corner that stays on the plane along the file's axes is one: along the others nothing is added
   corner_good : (v : List ℤ) → IsPoint 3 v → AllByRecursion IsCoordinate (take dim (displaced (take dim by) v)) → IsPoint 3 (displaced (take dim by) v)
   corner_good v good front = record {
     long = length-displaced (take dim by) v ∙ good.long;
-    on_plane = subst (AllByRecursion IsCoordinate) (take-append-drop dim (displaced (take dim by) v))
+    on_plane = rw (take-append-drop dim (displaced (take dim by) v)) at
         (each_of_both (take dim (displaced (take dim by) v)) (drop dim (displaced (take dim by) v)) front
-        (subst (AllByRecursion IsCoordinate) (sym (drop-displaced dim by v)) (each_behind dim v good.on_plane)));
+        (rw (drop-displaced dim by v) (each_behind dim v good.on_plane)));
   }
 
   -- a point whose displaced numbers lie on the plane is one
@@ -124,12 +121,8 @@ module _ (dim : ℕ) (by : List ℤ) where
   -- and has as many bytes
   length-displaced_body : (body : Body) → HasBody dim body → length (body_bytes (body_displaced (take dim by) body)) ≡ length (body_bytes body)
   length-displaced_body body good =
-      ap (length {A = ℕ}) (sym (bytes_body dim (body_displaced (take dim by) body)) ∙ ap bytes_in (sym (moved-body dim by body good)))
-      ∙ length-moved (on_axis by) (body_pieces dim body) ∙ ap (length {A = ℕ}) (bytes_body dim body)
-
--- a row of such a size and total
-row_with : ℕ → Element → ℕ → Row
-row_with n x total = record { size = n; kind = x.kind; cbit = x.cbit; total = total }
+      rw (← bytes_body dim (body_displaced (take dim by) body), ← moved-body dim by body good, ← bytes_body dim body)
+      (length-moved (on_axis by) (body_pieces dim body))
 
 -- the first four bytes, where so many words follow
 front : Element → ℕ → List ℕ
@@ -147,10 +140,7 @@ module _ (dim : ℕ) (by : Displacement) (e : Element) (axes : IsDimension dim) 
 
   -- a displacement keeps what the nesting looks at
   pub row-shift : row_of (shift dim by e) ≡ row_of e
-  unfolding row_with
-  row-shift =
-      ap (λ (n : ℕ). row_with n e (total_of (shift dim by e).body)) size-shift
-      ∙ ap (λ (n : ℕ). row_with (size_of e) e n) (total-displaced (take dim by.by) e.body)
+  row-shift = rw (size-shift, total-displaced (take dim by.by) e.body)
 
   -- a record that stays on the plane stays well formed
   pub shift_good : stays_on_plane dim by e ≡ true → IsWellFormed dim (shift dim by e)
@@ -169,9 +159,7 @@ module _ (dim : ℕ) (by : Displacement) (e : Element) (axes : IsDimension dim) 
   -- the first four bytes and the body behind them, in pieces
   spell-front : (x : Element) (words : ℕ) → length (body_bytes x.body) / 2 ≡ words → spell x ≡ front x words ++ bytes_in (body_pieces dim x.body)
   unfolding spell front
-  spell-front x words is =
-      ap (λ (n : ℕ). first_byte x ∷ second_byte x ∷ (word_bytes n ++ body_bytes x.body)) is
-      ∙ ap (λ (b : List ℕ). first_byte x ∷ second_byte x ∷ (word_bytes words ++ b)) (sym (bytes_body dim x.body))
+  spell-front x words is = rw (is, bytes_body dim x.body)
 
   -- what is put at the spots is put at the places of the pieces' numbers
   puts-pieces : has_spots (class_of e.kind) ≡ true
@@ -184,15 +172,14 @@ module _ (dim : ℕ) (by : Displacement) (e : Element) (axes : IsDimension dim) 
       → spell (shift dim by e) ≡ write (spell e) (map (displaced_put by (spell e)) (spots_of dim e.kind (spell e)))
   unfolding front
   spell-shift some =
-      let ps : List Piece = body_pieces dim e.body in
       let words : ℕ = length (body_bytes e.body) / 2 in
-      let old : spell e ≡ front e words ++ bytes_in ps = spell-front e words refl in
-      let new : spell (shift dim by e) ≡ front e words ++ bytes_in (moved (on_axis by.by) ps) =
-      spell-front (shift dim by e) words (ap (λ (n : ℕ). n / 2) size_bytes)
-      ∙ ap (λ (qs : List Piece). front e words ++ bytes_in qs) (sym (moved-body dim by.by e.body good.parts)) in
-      let puts = puts-pieces some in
-      new ∙ sym (write_pieces (on_axis by.by) ps (front e words) 4 refl)
-      ∙ ap (λ (b : List ℕ). write b (read_in (put_by (on_axis by.by)) 4 ps)) (sym old) ∙ ap (write (spell e)) (sym puts)
+      rw (
+        spell-front (shift dim by e) words (ap (λ (n : ℕ). n / 2) size_bytes),
+        ← moved-body dim by.by e.body good.parts,
+        puts-pieces some,
+        spell-front e words refl,
+      )
+      (sym (write_pieces (on_axis by.by) (body_pieces dim e.body) (front e words) 4 refl))
 
 -- the law on displacements
 pub shift_put : DisplacementsAreSums

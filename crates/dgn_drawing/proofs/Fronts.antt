@@ -149,8 +149,7 @@ module _ (f : List ℕ) (bytes : IsBytes f) (tcb : is_tcb f ≡ true) (es : List
       let size = length-drop p f in
       let before = front.within in
       record {
-        spelled = take_more_bytes f p (size_said (drop p f)) ∙ ap (λ z. z ++ first_element (drop p f)) front.spelled
-            ∙ ap (λ z. spelling es ++ z) (sym spelled ∙ sym (append-nil (spell e))) ∙ sym (flat_map-append spell es (e ∷ []));
+        spelled = rw (take_more_bytes f p (size_said (drop p f)), front.spelled, flat_map-append spell es (e ∷ []), append-nil (spell e), spelled);
         each = each_more (dimension f) es e front.each good;
         first = tcb_more es e front.first
             (λ none. first_tcb (dimension f) axes (drop p f) rest more uncut sound (rw (spelling-none es f p front.spelled front.within none) tcb));

@@ -3,8 +3,8 @@ use Rattle.std.proofs.Common.{◌≡◌, ℕ, zero, suc, ◌+◌, ◌≤◌, Lis
 use Rattle.std.specs.Prelude.{ℤ, pos, ◌+ℤ◌}
 use Rattle.std.specs.List.{AllByRecursion, flat_map}
 use Rattle.std.proofs.lemmas.Int.{ints}
-use Rattle.std.proofs.lemmas.List.{drop-drop, get_or-drop, length-map}
-use Rattle.dgn_words.specs.Numbers.{word_bytes, range_long_bytes}
+use Rattle.std.proofs.lemmas.List.{drop-drop, get_or-drop, length-map, length-take}
+use Rattle.dgn_words.specs.Numbers.{range_long_bytes}
 use Rattle.range_code.specs.Ranges.{on_axis}
 use Rattle.dgn_drawing.specs.Element.{Parts, Line, Points, Text, Node, Cell, Header, Plain, Body, Silent, Shown}
 use Rattle.dgn_drawing.specs.WellFormed.{IsPoint, HasParts, HasBody}
@@ -70,22 +70,17 @@ length-displaced ds [] = refl
 length-displaced [] (x ∷ xs) = refl
 length-displaced (d ∷ ds) (x ∷ xs) = omega (arith, length-displaced ds xs)
 
--- a front of n has at most n
-length-front : (n : ℕ) (xs : List ℤ) → length (take n xs) ≤ n
-length-front zero xs = omega arith
-length-front (suc n) [] = omega arith
-length-front (suc n) (x ∷ xs) = omega (arith, length-front n xs)
-
 module _ (dim : ℕ) (by : List ℤ) where
   -- a corner
   moved-corner : (v : List ℤ) → moved (on_axis by) (corner_pieces dim v) ≡ corner_pieces dim (displaced (take dim by) v)
   moved-corner v =
       let behind : List Piece = Kept (flat_map range_long_bytes (drop dim v)) ∷ [] in
-      moved-append (on_axis by) (side_by_side true 0 (take dim v)) behind
-      ∙ ap (λ l. l ++ behind) (moved-numbers dim by true (take dim v) (length-front dim v)
-      ∙ ap (side_by_side true 0) (sym (take-displaced dim (take dim by) v)))
-      ∙ ap (λ (xs : List ℤ). side_by_side true 0 (take dim (displaced (take dim by) v)) ++ Kept (flat_map range_long_bytes xs) ∷ [])
-      (sym (drop-displaced dim by v))
+      rw (
+        moved-append (on_axis by) (side_by_side true 0 (take dim v)) behind,
+        moved-numbers dim by true (take dim v) (omega (arith, length-take dim v)),
+        take-displaced dim (take dim by) v,
+        drop-displaced dim by v,
+      )
 
   -- a point
   moved-point : (v : List ℤ) → IsPoint dim v → moved (on_axis by) (point_pieces v) ≡ point_pieces (displaced (take dim by) v)
@@ -95,23 +90,17 @@ module _ (dim : ℕ) (by : List ℤ) where
   moved-points : (vs : List (List ℤ)) → AllByRecursion (IsPoint dim) vs
       → moved (on_axis by) (points_pieces vs) ≡ points_pieces (map (displaced (take dim by)) vs)
   moved-points [] good = refl
-  moved-points (v ∷ vs) good =
-      moved-append (on_axis by) (point_pieces v) (points_pieces vs)
-      ∙ ap (λ l. l ++ moved (on_axis by) (points_pieces vs)) (moved-point v good.0)
-      ∙ ap (λ l. point_pieces (displaced (take dim by) v) ++ l) (moved-points vs good.1)
+  moved-points (v ∷ vs) good = rw (moved-append (on_axis by) (point_pieces v) (points_pieces vs), moved-point v good.0, moved-points vs good.1)
 
   -- the parts of each type
   moved-parts : (parts : Parts) → HasParts dim parts → moved (on_axis by) (parts_pieces parts) ≡ parts_pieces (parts_displaced (take dim by) parts)
   moved-parts (Line points) good = moved-points points good.1
-  moved-parts (Points points) good =
-      ap (λ l. Kept (word_bytes (length points)) ∷ l) (moved-points points good.1)
-      ∙ ap (λ (n : ℕ). Kept (word_bytes n) ∷ points_pieces (map (displaced (take dim by)) points)) (sym (length-map points (displaced (take dim by))))
+  moved-parts (Points points) good = rw (moved-points points good.1, length-map points (displaced (take dim by)))
   moved-parts (Text run origin spare chars) good =
       let behind : List Piece = Kept (length chars ∷ spare ∷ chars) ∷ [] in
-      ap (λ l. Kept run ∷ l) (moved-append (on_axis by) (point_pieces origin) behind ∙ ap (λ l. l ++ behind) (moved-point origin good.point))
-  moved-parts (Node total run origin) good = ap (λ l. Kept (word_bytes total) ∷ Kept run ∷ l) (moved-point origin good.point)
-  moved-parts (Cell total name run origin) good =
-      ap (λ l. Kept (word_bytes total) ∷ Kept (flat_map word_bytes name) ∷ Kept run ∷ l) (moved-point origin good.point)
+      rw (moved-append (on_axis by) (point_pieces origin) behind, moved-point origin good.point)
+  moved-parts (Node total run origin) good = rw (moved-point origin good.point)
+  moved-parts (Cell total name run origin) good = rw (moved-point origin good.point)
   moved-parts (Header total number) good = refl
   moved-parts Plain good = refl
 
@@ -119,13 +108,12 @@ module _ (dim : ℕ) (by : List ℤ) where
   pub moved-body : (body : Body) → HasBody dim body → moved (on_axis by) (body_pieces dim body) ≡ body_pieces dim (body_displaced (take dim by) body)
   moved-body (Silent rest) good = refl
   moved-body (Shown d parts rest) good =
-      let words : List ℕ = words_and_look d in
-      let step : ℕ → ℤ = on_axis by in
-      let behind : List Piece = Kept words ∷ (parts_pieces parts ++ Kept rest ∷ []) in
-      let low : List ℤ = displaced (take dim by) d.low in
-      let high : List ℤ = displaced (take dim by) d.high in
-      moved-append step (corner_pieces dim d.low) (corner_pieces dim d.high ++ behind)
-      ∙ ap (λ l. l ++ moved step (corner_pieces dim d.high ++ behind)) (moved-corner d.low)
-      ∙ ap (λ l. corner_pieces dim low ++ l) (moved-append step (corner_pieces dim d.high) behind ∙ ap (λ l. l ++ moved step behind) (moved-corner d.high))
-      ∙ ap (λ l. corner_pieces dim low ++ (corner_pieces dim high ++ (Kept words ∷ l)))
-      (moved-append step (parts_pieces parts) (Kept rest ∷ []) ∙ ap (λ l. l ++ Kept rest ∷ []) (moved-parts parts good.1))
+      let behind : List Piece = Kept (words_and_look d) ∷ (parts_pieces parts ++ Kept rest ∷ []) in
+      rw (
+        moved-append (on_axis by) (corner_pieces dim d.low) (corner_pieces dim d.high ++ behind),
+        moved-corner d.low,
+        moved-append (on_axis by) (corner_pieces dim d.high) behind,
+        moved-corner d.high,
+        moved-append (on_axis by) (parts_pieces parts) (Kept rest ∷ []),
+        moved-parts parts good.1,
+      )

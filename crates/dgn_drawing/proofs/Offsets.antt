@@ -1,5 +1,5 @@
 -- Where elements begin: as many offsets as elements, each the bytes of the elements before it.
-use Rattle.std.proofs.Common.{◌≡◌, ℕ, zero, suc, ◌+◌, ◌<◌, List, [], ◌∷◌, ◌++◌, length, take, drop, map, get_or, refl, sym, ap, ◌∙◌, append_assoc, arith}
+use Rattle.std.proofs.Common.{◌≡◌, ℕ, zero, suc, ◌+◌, ◌<◌, List, [], ◌∷◌, ◌++◌, length, take, drop, map, get_or, refl, ap, ◌∙◌, append_assoc, arith}
 use Rattle.std.proofs.Common.{length-append}
 use Rattle.std.proofs.lemmas.List.{drop_at, drop-drop}
 use Rattle.dgn_drawing.specs.declared.row.Row.{Row}
@@ -46,8 +46,10 @@ drop-offset [] t n d within = absurd (omega arith)
 drop-offset (e ∷ es) t zero d within = append_assoc (spell e) (spelling es) t
 drop-offset (e ∷ es) t (suc n) d within =
     let size = length-append (spell e) (spelling (take n es)) in
-    ap (λ (k : ℕ). drop k ((spell e ++ spelling es) ++ t)) size
-    ∙ sym (drop-drop (length (spelling (take n es))) (size_of e) ((spell e ++ spelling es) ++ t))
-    ∙ ap (drop (length (spelling (take n es))))
-    (ap (drop (size_of e)) (append_assoc (spell e) (spelling es) t) ∙ drop_at (spell e) (spelling es ++ t) (size_of e) refl)
-    ∙ drop-offset es t n d (omega arith)
+    rw (
+      size,
+      ← drop-drop (length (spelling (take n es))) (size_of e) ((spell e ++ spelling es) ++ t),
+      append_assoc (spell e) (spelling es) t,
+      drop_at (spell e) (spelling es ++ t) (size_of e) refl,
+    )
+    (drop-offset es t n d (omega arith))

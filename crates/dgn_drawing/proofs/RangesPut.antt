@@ -73,12 +73,7 @@ shown_bytes : (e : Element) (d : Display) (parts : Parts) (rest : List ℕ) (wor
     ≡ bytes_with (first_byte e) (second_byte e) words (behind_corners d parts rest) d.low d.high
 unfolding spell body_bytes display_bytes
 shown_bytes e d parts rest words is =
-    let low : List ℕ = flat_map range_long_bytes d.low in
-    let high : List ℕ = flat_map range_long_bytes d.high in
-    ap (λ (n : ℕ). first_byte e ∷ second_byte e ∷ (word_bytes n ++ body_bytes (Shown d parts rest))) is
-    ∙ ap (λ (b : List ℕ). first_byte e ∷ second_byte e ∷ (word_bytes words ++ b))
-    (append_assoc low (high ++ words_and_look d) (parts_bytes parts ++ rest)
-    ∙ ap (λ (l : List ℕ). low ++ l) (append_assoc high (words_and_look d) (parts_bytes parts ++ rest)))
+    rw is (simp append_assoc)
 
 -- a record with another range: its spelling is the record's with the numbers of the range put at the range spots, and it
 -- is well formed, and nests as it did
