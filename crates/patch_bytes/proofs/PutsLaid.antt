@@ -32,10 +32,7 @@ length-write_back b (p ∷ ps) w =
 -- a front, a piece and the rest are the whole
 split : (b : List ℕ) (a k : ℕ) → take a b ++ take k (drop a b) ++ drop (a + k) b ≡ b
 split b a k =
-    append_assoc (take a b) (take k (drop a b)) (drop (a + k) b)
-    ∙ ap (λ r. take a b ++ (take k (drop a b) ++ r)) (sym (drop-drop k a b))
-    ∙ ap (λ r. take a b ++ r) (take-append-drop k (drop a b))
-    ∙ take-append-drop a b
+    rw (append_assoc (take a b) (take k (drop a b)) (drop (a + k) b), ← drop-drop k a b, take-append-drop k (drop a b)) (take-append-drop a b)
 
 -- o laid over x, which is as long, between t and d
 over : (t x o d : List ℕ) (n m : ℕ) → length t ≡ n → n + length x ≡ m → take n (t ++ x ++ d) ++ o ++ drop m (t ++ x ++ d) ≡ t ++ o ++ d
@@ -46,10 +43,7 @@ over t x o d n m e f =
 
 -- what stands between t and d
 mid : (t x d : List ℕ) (n m : ℕ) → length t ≡ n → m ≡ length x → take m (drop n (t ++ x ++ d)) ≡ x
-mid t x d n m e f =
-    ap (λ r. take m (drop n r)) (append_assoc t x d)
-    ∙ ap (λ r. take m r) (drop_at t (x ++ d) n e)
-    ∙ take_at x d m (sym f)
+mid t x d n m e f = rw (append_assoc t x d, drop_at t (x ++ d) n e) (take_at x d m (sym f))
 
 -- what stood there, laid again, gives the bytes before
 pub lay-old_of : (b : List ℕ) (p : Put) → IsWithin (length b) p → lay (lay b p) (old_of b p) ≡ b
@@ -130,8 +124,7 @@ old_of-lay b p q w a =
 
 olds_laid : (b : List ℕ) (p : Put) (ps : List Put) → IsWithin (length b) p → AllByRecursion (IsApart p) ps → map (old_of (lay b p)) ps ≡ map (old_of b) ps
 olds_laid b p [] w a = refl
-olds_laid b p (q ∷ qs) w a =
-    ap (λ o. o ∷ map (old_of (lay b p)) qs) (old_of-lay b p q w a.0) ∙ ap (λ l. old_of b q ∷ l) (olds_laid b p qs w a.1)
+olds_laid b p (q ∷ qs) w a = rw (old_of-lay b p q w a.0, olds_laid b p qs w a.1)
 
 -- where no byte is held twice, what stood there when its turn came stood there from the first
 pub olds_are : (b : List ℕ) (ps : List Put) → AreWithin (length b) ps → AreApart ps → olds b ps ≡ map (old_of b) ps
@@ -152,9 +145,8 @@ pub lay_front : (b more : List ℕ) (p : Put) → IsWithin (length b) p → lay 
 unfolding lay
 lay_front b more p w =
     let e = w.ends in
-    ap (λ t. t ++ p.bytes ++ drop (p.at + length p.bytes) (b ++ more)) (take-append-le p.at b more (omega arith))
-    ∙ ap (λ r. take p.at b ++ p.bytes ++ r) (drop-append-le (p.at + length p.bytes) b more e)
-    ∙ sym (append_assoc (take p.at b ++ p.bytes) (drop (p.at + length p.bytes) b) more)
+    rw (take-append-le p.at b more (omega arith), drop-append-le (p.at + length p.bytes) b more e)
+    (sym (append_assoc (take p.at b ++ p.bytes) (drop (p.at + length p.bytes) b) more))
 
 pub write_front : (b more : List ℕ) (ps : List Put) → AreWithin (length b) ps → write (b ++ more) ps ≡ write b ps ++ more
 write_front b more [] w = refl
@@ -173,17 +165,11 @@ within-map_old_of b (p ∷ ps) n w = (within-old_of b p n w.0, within-map_old_of
 -- a write to a part of a slice is a put laid
 pub put_mid-lay : (b x y : List ℕ) (a k : ℕ) → y ≡ x → k ≡ length x → put_mid a k b y ≡ lay b (record { at = a; bytes = x })
 unfolding lay
-put_mid-lay b x y a k e l =
-    ap (λ z. take a b ++ (z ++ drop k (drop a b))) e
-    ∙ ap (λ n. take a b ++ (x ++ n)) (drop-drop k a b ∙ ap (λ n. drop (a + n) b) l)
-    ∙ sym (append_assoc (take a b) x (drop (a + length x) b))
+put_mid-lay b x y a k e l = rw (e, l, drop-drop (length x) a b) (sym (append_assoc (take a b) x (drop (a + length x) b)))
 
 -- l bytes and then zeros, four in all, are zeros from l on
 pub zeros_behind : (x : List ℕ) (l n : ℕ) → length x ≡ l → n ≡ l → drop l (x ++ drop n (0 ∷ 0 ∷ 0 ∷ 0 ∷ [])) ≡ replicate (4 - l) 0
-zeros_behind x l n e f =
-    drop_at x (drop n (0 ∷ 0 ∷ 0 ∷ 0 ∷ [])) l e
-    ∙ ap (λ m. drop m (0 ∷ 0 ∷ 0 ∷ 0 ∷ [])) f
-    ∙ drop-replicate l 4 0
+zeros_behind x l n e f = rw (drop_at x (drop n (0 ∷ 0 ∷ 0 ∷ 0 ∷ [])) l e, f) (drop-replicate l 4 0)
 
 -- the first l of some bytes x and more, where x are the first n of y
 pub old_bytes : (x more y : List ℕ) (n l m : ℕ) → x ≡ take n y → length x ≡ l → n ≡ m → take l (x ++ more) ≡ take m y

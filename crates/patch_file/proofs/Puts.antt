@@ -20,9 +20,7 @@ apart_from p q a = record { none = λ k held also. a.none k also held }
 -- what stands at a place hangs on the place and on how many bytes are asked for
 same_place : (b : List ℕ) (p q : Put) → p.at ≡ q.at → length p.bytes ≡ length q.bytes → old_of b p ≡ old_of b q
 unfolding old_of
-same_place b p q e f =
-    let made : ℕ → ℕ → Put = λ at n. record { at = at; bytes = take n (drop at b) } in
-    ap (λ (at : ℕ). made at (length p.bytes)) e ∙ ap (λ (n : ℕ). made q.at n) f
+same_place b p q e f = rw (e, f)
 
 at-old_of : (b : List ℕ) (p : Put) → p.at ≡ (old_of b p).at
 unfolding old_of
@@ -82,23 +80,18 @@ written_again b (p ∷ ps) w a =
     let same : length b ≡ length (write_back b ps) = sym (length-write_back b ps w.1) in
     let w' : IsWithin (length c) p = subst (λ n. IsWithin n p) same w.0 in
     let old : old_of b p ≡ old_of c p = sym (old_of-write_back b p ps w.1 a.0) in
-    ap (λ (q : Put). write (lay (lay c p) q) (map (old_of b) ps)) old
-    ∙ ap (λ (d : List ℕ). write d (map (old_of b) ps)) (lay-old_of c p w')
-    ∙ written_again b ps w.1 a.1
+    rw (old, lay-old_of c p w') (written_again b ps w.1 a.1)
 
 -- what stands in a front part stands in the whole
 pub old_of-append : (b more : List ℕ) (p : Put) → IsWithin (length b) p → old_of (b ++ more) p ≡ old_of b p
 unfolding old_of
 old_of-append b more p w =
     let e = w.ends in
-    let made : List ℕ → Put = λ x. record { at = p.at; bytes = x } in
-    ap made (ap (take (length p.bytes)) (drop-append-le p.at b more (omega arith))
-    ∙ take-append-le (length p.bytes) (drop p.at b) more (omega (arith, length-drop p.at b)))
+    rw (drop-append-le p.at b more (omega arith), take-append-le (length p.bytes) (drop p.at b) more (omega (arith, length-drop p.at b)))
 
 olds-append : (b more : List ℕ) (ps : List Put) → AreWithin (length b) ps → map (old_of (b ++ more)) ps ≡ map (old_of b) ps
 olds-append b more [] w = refl
-olds-append b more (p ∷ ps) w =
-    ap (λ (q : Put). q ∷ map (old_of (b ++ more)) ps) (old_of-append b more p w.0) ∙ ap (λ (qs : List Put). old_of b p ∷ qs) (olds-append b more ps w.1)
+olds-append b more (p ∷ ps) w = rw (old_of-append b more p w.0, olds-append b more ps w.1)
 
 -- the new bytes of what is exchanged are those that stand there
 news_are : (b : List ℕ) (ps : List Put) → map new_of (map (exchanged b) ps) ≡ map (old_of b) ps
@@ -147,8 +140,7 @@ edits_are : (b d : List ℕ) (ps : List Put) → AreWithin (length b) ps → All
 edits_are b d [] w there = refl
 edits_are b d (p ∷ ps) w there =
     let same : old_of d (old_of b p) ≡ p = sym (same_place d p (old_of b p) (at-old_of b p) (long-old_of b p w.0)) ∙ there.0 in
-    ap (λ (x : Exchange). x ∷ map (exchanged d) (map (old_of b) ps)) (one_edit b d p same)
-    ∙ ap (λ (xs : List Exchange). exchange_made b p ∷ xs) (edits_are b d ps w.1 there.1)
+    rw (one_edit b d p same, edits_are b d ps w.1 there.1)
 
 pub taken_is_the_edit : (b : List ℕ) (c : Change) → MayCommit b c
     → taken_of (changed b c) (entry_of b c.patches) ≡ record { len = length b; fields = map (exchange_made b) c.patches; append = c.append }
@@ -159,9 +151,7 @@ taken_is_the_edit b c may =
     let within : AreWithin (length (write b ps)) ps = subst (λ k. AreWithin k ps) (sym n) may.within in
     let there : AllByRecursion (λ p. old_of (write b ps ++ c.append) p ≡ p) ps =
     moved (write b ps) (write b ps ++ c.append) ps (apart_there (write b ps) c.append ps within) (written_there b ps may.within may.apart) in
-    let made : List Exchange → List ℕ → Packed = λ fs xs. record { len = length b; fields = fs; append = xs } in
-    ap (λ (fs : List Exchange). made fs (drop (length b) (write b ps ++ c.append))) (edits_are b (write b ps ++ c.append) ps may.within there)
-    ∙ ap (made (map (exchange_made b) ps)) append
+    rw (edits_are b (write b ps ++ c.append) ps may.within there, append)
 
 -- what is taken off keeps the rules
 pub taken_rules : (b : List ℕ) (n m : ℕ) (ps : List Put) → Span n ps m → AllByRecursion IsSized (map (exchanged b) ps) → AllKeepRules n m (map (exchanged b) ps)

@@ -69,26 +69,20 @@ field_takes from len bytes x fits e =
     let place = number_takes (length bytes) bytes p.place fits p.number in
     let byte : p.place.1 ≡ p.count.0 ∷ p.count.1 = byte_takes (length bytes) p.place.1 p.count p.byte in
     let x' = p.exchange in
-    let was : p.count.0 ∷ p.count.1 ≡ length x.0.was ∷ ((x.0.was ++ x.0.put) ++ x.1) =
-    ap (λ (k : ℕ). k ∷ p.count.1) (sym x'.long) ∙ ap (λ (t : List ℕ). length x.0.was ∷ t) x'.parts in
+    let was : p.count.0 ∷ p.count.1 ≡ length x.0.was ∷ ((x.0.was ++ x.0.put) ++ x.1) = rw (x'.long, x'.parts) refl in
     let rest : Takes p.place.1 (length x.0.was ∷ (x.0.was ++ x.0.put)) x.1 =
     taken p.place.1 (length x.0.was ∷ (x.0.was ++ x.0.put)) x.1 place.0.fits (byte ∙ was) in
-    let whole : Takes bytes (number p.place.0 ++ (length x.0.was ∷ (x.0.was ++ x.0.put))) x.1 =
-    Takes-then bytes (number p.place.0) p.place.1 (length x.0.was ∷ (x.0.was ++ x.0.put)) x.1 place.0 rest in
-    subst (λ (k : ℕ). Takes bytes (number k ++ (length x.0.was ∷ (x.0.was ++ x.0.put))) x.1) (sym x'.place) whole
+    rw x'.place (Takes-then bytes (number p.place.0) p.place.1 (length x.0.was ∷ (x.0.was ++ x.0.put)) x.1 place.0 rest)
 
 pub fields_take : (from len n : ℕ) (bytes : List ℕ) (x : List Exchange × List ℕ) → IsBytes bytes → fields_at from len n bytes ≡ Ok x
     → Takes bytes (flat_map field_spelling x.0) x.1 × (length x.0 ≡ n)
-fields_take from len zero bytes x fits e =
-    subst (λ (y : List Exchange × List ℕ). Takes bytes (flat_map field_spelling y.0) y.1 × (length y.0 ≡ 0)) (sym (fields_none from len bytes x e))
-    (taken bytes [] bytes fits refl, refl)
+fields_take from len zero bytes x fits e = rw (fields_none from len bytes x e) (taken bytes [] bytes fits refl, refl)
 fields_take from len (suc n) bytes x fits e =
     let p = fields_parts from len n bytes x e in
     let first = field_takes from len bytes p.first fits p.one in
     let second = fields_take (p.first.0.at + length p.first.0.was) len n p.first.1 p.others first.fits p.more in
     let both = Takes-then bytes (field_spelling p.first.0) p.first.1 (flat_map field_spelling p.others.0) p.others.1 first second.0 in
-    subst (λ (y : List Exchange × List ℕ). Takes bytes (flat_map field_spelling y.0) y.1 × (length y.0 ≡ suc n)) (sym p.both)
-    (rw flat_map-cons both, ap suc second.1)
+    rw p.both (rw flat_map-cons both, ap suc second.1)
 
 pub head_takes : (bytes : List ℕ) (x : (ℕ × ℕ × ℕ) × List ℕ) → IsBytes bytes → head_at bytes ≡ Ok x → Takes bytes (head_spelling x.0.0 x.0.1 x.0.2) x.1
     × (x.0.0 < 2 ^ 32) × (x.0.1 < 2 ^ 32) × (x.0.2 < 2 ^ 32)
@@ -105,8 +99,7 @@ head_takes bytes x fits e =
     let e12 = Takes-then a.0.1 (number b.0.0) b.0.1 (number c.0.0) c.0.1 t1.0 t2.0 in
     let e02 = Takes-then bytes (number a.0.0) a.0.1 (number b.0.0 ++ number c.0.0) c.0.1 t0.0 e12 in
     let made : (ℕ × ℕ × ℕ) × List ℕ = ((a.0.0, b.0.0, c.0.0), c.0.1) in
-    subst (λ (y : (ℕ × ℕ × ℕ) × List ℕ). Takes bytes (head_spelling y.0.0 y.0.1 y.0.2) y.1 × (y.0.0 < 2 ^ 32) × (y.0.1 < 2 ^ 32) × (y.0.2 < 2 ^ 32))
-    (ok_is made x c.2) (e02, t0.1, t1.1, t2.1)
+    rw (← ok_is made x c.2) (e02, t0.1, t1.1, t2.1)
 
 pub entry_takes : (bytes : List ℕ) (x : Packed × List ℕ) → IsBytes bytes → entry_at bytes ≡ Ok x → Takes bytes (entry_spelling x.0) x.1 × IsEntry x.0
 unfolding entry_at
@@ -123,22 +116,16 @@ entry_takes bytes x fits e =
     let t2 = part_takes (length b.0.1) a.0.0.2 b.0.1 c.0 t1.0.fits c.1 in
     let e12 = Takes-then a.0.1 (flat_map field_spelling b.0.0) b.0.1 c.0.0 c.0.1 t1.0 t2.0 in
     let e02 = Takes-then bytes (head_spelling a.0.0.0 a.0.0.1 a.0.0.2) a.0.1 (flat_map field_spelling b.0.0 ++ c.0.0) c.0.1 t0.0 e12 in
-    let counted : Takes bytes (head_spelling a.0.0.0 (length b.0.0) a.0.0.2 ++ (flat_map field_spelling b.0.0 ++ c.0.0)) c.0.1 =
-    subst (λ (k : ℕ). Takes bytes (head_spelling a.0.0.0 k a.0.0.2 ++ (flat_map field_spelling b.0.0 ++ c.0.0)) c.0.1) (sym t1.1) e02 in
-    let whole : Takes bytes (head_spelling a.0.0.0 (length b.0.0) (length c.0.0) ++ (flat_map field_spelling b.0.0 ++ c.0.0)) c.0.1 =
-    subst (λ (k : ℕ). Takes bytes (head_spelling a.0.0.0 (length b.0.0) k ++ (flat_map field_spelling b.0.0 ++ c.0.0)) c.0.1) (sym t2.1) counted in
-    let small : length c.0.0 < 2 ^ 32 = subst (λ (k : ℕ). k < 2 ^ 32) (sym t2.1) t0.3 in
+    let whole : Takes bytes (head_spelling a.0.0.0 (length b.0.0) (length c.0.0) ++ (flat_map field_spelling b.0.0 ++ c.0.0)) c.0.1 = rw (t1.1, t2.1) e02 in
     let made : Packed × List ℕ = (record { len = a.0.0.0; fields = b.0.0; append = c.0.0 }, c.0.1) in
-    subst (λ (y : Packed × List ℕ). Takes bytes (entry_spelling y.0) y.1 × IsEntry y.0) (ok_is made x c.2)
-    (whole, record { len = t0.1; append = small; rules = fields_rules 0 a.0.0.0 a.0.0.1 a.0.1 b.0 b.1 })
+    rw (← ok_is made x c.2) (whole, record { len = t0.1; append = rw t2.1 t0.3; rules = fields_rules 0 a.0.0.0 a.0.0.1 a.0.1 b.0 b.1 })
 
 pub entries_take : (n : ℕ) (bytes : List ℕ) (x : List Packed × List ℕ) → IsBytes bytes → entries_at n bytes ≡ Ok x
     → Takes bytes (flat_map entry_spelling x.0) x.1 × (length x.0 ≡ n) × AllByRecursion IsEntry x.0
 unfolding entries_at
 entries_take zero bytes x fits e =
     let made : List Packed × List ℕ = ([], bytes) in
-    subst (λ (y : List Packed × List ℕ). Takes bytes (flat_map entry_spelling y.0) y.1 × (length y.0 ≡ 0) × AllByRecursion IsEntry y.0) (ok_is made x e)
-    (taken bytes [] bytes fits refl, refl, tt)
+    rw (← ok_is made x e) (taken bytes [] bytes fits refl, refl, tt)
 entries_take (suc n) bytes x fits e =
     let a = bind_ok (entry_at bytes) (λ first. entries_at n first.1 >>= λ others. Ok (first.0 ∷ others.0, others.1)) x e in
     let b = bind_ok (entries_at n a.0.1) (λ others. Ok (a.0.0 ∷ others.0, others.1)) x a.2 in
@@ -146,8 +133,7 @@ entries_take (suc n) bytes x fits e =
     let second = entries_take n a.0.1 b.0 first.0.fits b.1 in
     let both = Takes-then bytes (entry_spelling a.0.0) a.0.1 (flat_map entry_spelling b.0.0) b.0.1 first.0 second.0 in
     let made : List Packed × List ℕ = (a.0.0 ∷ b.0.0, b.0.1) in
-    subst (λ (y : List Packed × List ℕ). Takes bytes (flat_map entry_spelling y.0) y.1 × (length y.0 ≡ suc n) × AllByRecursion IsEntry y.0)
-    (ok_is made x b.2) (rw flat_map-cons both, ap suc second.1, (first.1, second.2))
+    rw (← ok_is made x b.2) (rw flat_map-cons both, ap suc second.1, (first.1, second.2))
 
 pub mark_takes : (bytes rest : List ℕ) → IsBytes bytes → mark_at bytes ≡ Ok rest → Takes bytes mark rest
 mark_takes bytes rest fits e =
@@ -170,7 +156,5 @@ patch_takes bytes es fits e =
     let e12 = Takes-then m.0 (number a.0.0) a.0.1 (flat_map entry_spelling b.0.0) b.0.1 t1.0 t2.0 in
     let both = (Takes-then bytes mark m.0 (number a.0.0 ++ flat_map entry_spelling b.0.0) b.0.1 t0 e12).parts in
     let text : List ℕ = mark ++ (number a.0.0 ++ flat_map entry_spelling b.0.0) in
-    let whole : bytes ≡ patch_spelling b.0.0 =
-    both ∙ ap (λ (r : List ℕ). text ++ r) nothing ∙ append-nil text ∙ ap (λ (k : ℕ). mark ++ (number k ++ flat_map entry_spelling b.0.0)) (sym t2.1) in
-    subst (λ (v : List Packed). AreEntries v × (bytes ≡ patch_spelling v)) (ok_is b.0.0 es g.1)
-    (record { count = subst (λ (k : ℕ). k < 2 ^ 32) (sym t2.1) t1.1; each = t2.2 }, whole)
+    let whole : bytes ≡ patch_spelling b.0.0 = rw t2.1 (both ∙ ap (λ (r : List ℕ). text ++ r) nothing ∙ append-nil text) in
+    rw (← ok_is b.0.0 es g.1) (record { count = rw t2.1 t1.1; each = t2.2 }, whole)
