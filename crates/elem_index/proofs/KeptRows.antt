@@ -1,5 +1,5 @@
 -- What is kept of an element of a whole design says its row, but for a total.
-use Rattle.std.proofs.Common.{◌≡◌, ℕ, ◌+◌, ◌-◌, ◌%◌, ◌<◌, Bool, List, [], ◌∷◌, ◌++◌, length, take, map, get_or, refl, sym, ap, ◌∙◌, subst, arith}
+use Rattle.std.proofs.Common.{◌≡◌, ℕ, ◌+◌, ◌-◌, ◌%◌, ◌<◌, Bool, List, [], ◌∷◌, ◌++◌, length, take, map, get_or, refl, sym, ap, ◌∙◌, arith}
 use Rattle.std.proofs.Common.{true, false}
 use Rattle.std.specs.Prelude.{slice_get, leb, not, Option, Some, None, option_map, IfSome, slice_index_or}
 use Rattle.std.proofs.lemmas.List.{map-append, get_or_default}
@@ -134,13 +134,11 @@ pub counted_there : (es : List Element) (n : ℕ) (row : Row) → option_map bar
     → is_counted (class_of row.kind) ≡ true → IfSome (slice_get es n) IsCounted
 counted_there es n row is counts =
     let this = of_said bare_row row (slice_get es n) is in
-    subst (λ (r : Option Element). IfSome r IsCounted) (sym this.1)
-    (ap (λ (r : Row). is_counted (class_of r.kind)) (sym this.2) ∙ counts)
+    rw this.1 (rw this.2 at counts)
 
 -- what is said there is one more of them
 module _ (said : Element → Row) (es : List Element) (n : ℕ) (row : Row) (is : option_map said (slice_get es n) ≡ Some row) where
   pub said_more : map said (take (n + 1) es) ≡ map said (take n es) ++ row ∷ []
   said_more =
       let this = of_said said row (slice_get es n) is in
-      ap (map said) (take_one_more es n this.0 this.1) ∙ map-append said (take n es) (this.0 ∷ [])
-      ∙ ap (λ (r : Row). map said (take n es) ++ r ∷ []) (sym this.2)
+      rw (take_one_more es n this.0 this.1) (cc (map-append said (take n es) (this.0 ∷ []), this.2))

@@ -80,11 +80,11 @@ kinds_by-append [] ys [] more long = refl
 kinds_by-append [] ys (total ∷ totals) more long = absurd (omega (arith, long))
 kinds_by-append (x ∷ xs) ys totals more long =
     let t : Bool = has_total x in
-    let kind : ℕ → Kind = λ total. record { byte = x; total = total } in
-    ap (λ (total : ℕ). kind total ∷ kinds_by (xs ++ ys) (drop (bit 1 t) (totals ++ more))) (first_total (total_count xs) t totals more long)
-    ∙ ap (λ (l : List ℕ). kind (cond t (get_or totals 0 0) 0) ∷ kinds_by (xs ++ ys) l) (first_behind (total_count xs) t totals more long)
-    ∙ ap (λ (l : List Kind). kind (cond t (get_or totals 0 0) 0) ∷ l)
-    (kinds_by-append xs ys (drop (bit 1 t) totals) more (first_left (total_count xs) t totals long))
+    rw (
+      first_total (total_count xs) t totals more long,
+      first_behind (total_count xs) t totals more long,
+      kinds_by-append xs ys (drop (bit 1 t) totals) more (first_left (total_count xs) t totals long),
+    )
 
 -- one more that counts no members
 pub kinds_by-more : (bytes totals : List ℕ) (byte : ℕ) → length totals ≡ total_count bytes → has_total byte ≡ false

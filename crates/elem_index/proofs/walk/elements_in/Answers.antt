@@ -1,8 +1,5 @@
-use Rattle.std.proofs.Common.{◌≡◌, ℕ, List, ◌≤◌, length, ◌∙◌, ◌++◌, ◌∷◌, [], drop, ap, sym, arith, subst}
+use Rattle.std.proofs.Common.{◌≡◌, ℕ, ◌∙◌, ◌++◌, ◌∷◌, [], drop, ap, arith, subst}
 use Rattle.std.proofs.lemmas.Result.{err_from_is_err_and}
-use Rattle.dgn_layout.specs.Classes.{class_of}
-use Rattle.elem_head.specs.Head.{kind_of}
-use Rattle.dgn_drawing.specs.Nesting.{is_counted}
 use Rattle.elem_index.specs.Answers.{Steps}
 use Rattle.elem_index.specs.Kinds.{kind_with}
 use Rattle.elem_index.specs.Design.{kind_at}
@@ -17,14 +14,12 @@ returns-in_err-at-clause-first_fault c =
     c.in_err-at.field-0.0 c.in_err-at.ensures.fault)
 
 pub total_said-requires-clause-total : goal.total_said-requires-clause-total
-total_said-requires-clause-total c = λ counted.
+total_said-requires-clause-total c =
     let bytes = are_bytes c.args.f.now (λ i. omega (arith, c.type_inv.f i)) in
     let step = subst (Steps c.args.f.now c.elements.walk.at c.next_place.new.self.at) c.in-Some.is c.in_ok-at.ensures.step in
     let rest : c.split_at.result.1.now ≡ drop c.elements.walk.at c.args.f.now =
     c.split_at.ensures.back ∙ ap (λ (k : ℕ). drop k c.args.f.now) step.0 in
-    subst (λ (b : List ℕ). 40 ≤ length b) (sym rest)
-    (counted_here c.args.f.now bytes c.elements.walk.at c.next_place.new.self.at step.1
-    (ap (λ (b : List ℕ). is_counted (class_of (kind_of b))) (sym rest) ∙ counted))
+    rw rest (counted_here c.args.f.now bytes c.elements.walk.at c.next_place.new.self.at step.1)
 
 pub elements-preserved : goal.elements-preserved
 elements-preserved c =

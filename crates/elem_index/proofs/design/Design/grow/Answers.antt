@@ -1,7 +1,5 @@
-use Rattle.std.proofs.Common.{◌≡◌, ◌≤◌, ◌<◌, ℕ, List, length, drop, sym, ap, ◌∙◌, subst, arith}
-use Rattle.dgn_layout.specs.Classes.{class_of}
-use Rattle.elem_head.specs.Head.{size_of, kind_of}
-use Rattle.dgn_drawing.specs.Nesting.{is_counted}
+use Rattle.std.proofs.Common.{◌≡◌, ◌≤◌, ◌<◌, ℕ, length, drop, ap, ◌∙◌, arith}
+use Rattle.elem_head.specs.Head.{size_of}
 use Rattle.elem_index.specs.Kinds.{kind_with}
 use Rattle.elem_index.specs.Design.{kind_at}
 use Rattle.elem_index.proofs.DesignGrowth.{room_here, kinds_room_here, head_here, counted_here, end_here, left_more, left_whole}
@@ -29,13 +27,11 @@ total_said-total-requires-clause-head c =
     omega (arith, head_here c.elements.self c.elements.at c.elements.invariant.0 before, long)
 
 pub total_said-total-requires-clause-total : goal.total_said-total-requires-clause-total
-total_said-total-requires-clause-total c = λ counted.
+total_said-total-requires-clause-total c =
     let before : c.elements.at < length c.elements.self.body.items = omega (arith, c.elements-test.true, c.len.ensures, c.elements.self.body.ok.0) in
     let rest : c.split_at.result.1.now ≡ drop c.elements.at c.elements.self.body.items =
     c.split_at.ensures.back ∙ ap (drop c.elements.at) c.deref.ensures.value in
-    subst (λ (b : List ℕ). 40 ≤ length b) (sym rest)
-    (counted_here c.elements.self c.elements.at c.elements.invariant.0 before
-    (ap (λ (b : List ℕ). is_counted (class_of (kind_of b))) (sym rest) ∙ counted))
+    rw rest (counted_here c.elements.self c.elements.at c.elements.invariant.0 before)
 
 pub keep-requires-clause-has_room : goal.keep-requires-clause-has_room
 keep-requires-clause-has_room c =

@@ -5,19 +5,19 @@ use Rattle.elem_index.proofs.KindLists.{length-kinds_by, count_first, length-fir
 use Rattle.elem_index.proofs.kind_list.KindList.truncate.Goals as goal
 
 -- of the totals are left as many as the bytes that are left have
-left_of : (bytes value back totals : List ℕ) (count cut len : ℕ) → length totals ≡ total_count bytes → count ≤ length bytes
+left_of : (bytes totals : List ℕ) (count : ℕ) {value back : List ℕ} {cut len : ℕ} → length totals ≡ total_count bytes → count ≤ length bytes
     → cut ≡ total_count back → back ≡ drop count value → value ≡ bytes → len ≡ length totals
     → (cut ≤ len) × (len - cut + total_count (drop count bytes) ≡ length totals)
-left_of bytes value back totals count cut len long within counted behind same many =
+left_of bytes totals count long within counted behind same many =
     let all = count_first bytes totals count long within in
     let are = counted ∙ ap total_count (behind ∙ ap (drop count) same) in
     (omega arith, omega arith)
 
 pub overflow_sub-totals : goal.overflow_sub-totals
 overflow_sub-totals c =
-    (left_of c.self.inside.kinds.items c.deref.result.now c.split_at.result.1.now c.self.inside.totals.items c.args.count c.count_totals.result
-    c.len-then-count-len.result c.self.invariant (omega (arith, c.if-count-len.true, c.len.ensures, c.self.inside.kinds.ok.0)) c.count_totals.ensures
-    c.split_at.ensures.back c.deref.ensures.value (c.len-then-count-len.ensures ∙ c.self.inside.totals.ok.0)).0
+    (left_of c.self.inside.kinds.items c.self.inside.totals.items c.args.count c.self.invariant
+    (omega (arith, c.if-count-len.true, c.len.ensures, c.self.inside.kinds.ok.0)) c.count_totals.ensures c.split_at.ensures.back c.deref.ensures.value
+    (c.len-then-count-len.ensures ∙ c.self.inside.totals.ok.0)).0
 
 pub invariant_of-self : goal.invariant_of-self
 invariant_of-self c =
@@ -25,16 +25,14 @@ invariant_of-self c =
     rw (c.truncate-then-count-len.ensures.items, c.truncate.ensures.items)
     (length-first_totals c.self.inside.kinds.items c.self.inside.totals.items c.args.count c.self.invariant within
     (c.len-then-count-len.result - c.count_totals.result)
-    (left_of c.self.inside.kinds.items c.deref.result.now c.split_at.result.1.now c.self.inside.totals.items c.args.count c.count_totals.result
-    c.len-then-count-len.result c.self.invariant within c.count_totals.ensures c.split_at.ensures.back c.deref.ensures.value
-    (c.len-then-count-len.ensures ∙ c.self.inside.totals.ok.0)).1)
+    (left_of c.self.inside.kinds.items c.self.inside.totals.items c.args.count c.self.invariant within c.count_totals.ensures c.split_at.ensures.back
+    c.deref.ensures.value (c.len-then-count-len.ensures ∙ c.self.inside.totals.ok.0)).1)
 
 pub returns-then-count-len : goal.returns-then-count-len
 returns-then-count-len c =
     let within : c.args.count ≤ length c.self.inside.kinds.items = omega (arith, c.if-count-len.true, c.len.ensures, c.self.inside.kinds.ok.0) in
-    let left = left_of c.self.inside.kinds.items c.deref.result.now c.split_at.result.1.now c.self.inside.totals.items c.args.count
-    c.count_totals.result c.len-then-count-len.result c.self.invariant within c.count_totals.ensures c.split_at.ensures.back c.deref.ensures.value
-    (c.len-then-count-len.ensures ∙ c.self.inside.totals.ok.0) in
+    let left = left_of c.self.inside.kinds.items c.self.inside.totals.items c.args.count c.self.invariant within c.count_totals.ensures
+    c.split_at.ensures.back c.deref.ensures.value (c.len-then-count-len.ensures ∙ c.self.inside.totals.ok.0) in
     rw (c.truncate-then-count-len.ensures.items, c.truncate.ensures.items)
     (kinds_by-take c.self.inside.kinds.items c.self.inside.totals.items c.args.count c.self.invariant within
     (c.len-then-count-len.result - c.count_totals.result) left.1 ∙ ap (λ (kinds : Kinds). take c.args.count kinds.items) c.self.view_is)
