@@ -1,10 +1,10 @@
 -- A change of the look is two bytes of the element, and leaves it well formed.
-use Rattle.std.proofs.Common.{◌≡◌, ℕ, ◌+◌, ◌-◌, ◌*◌, ◌/◌, ◌<◌, ◌≤◌, List, ◌∷◌, ◌++◌, length, take, drop, Option, Some, None, refl, sym, ap, subst, ◌∙◌}
+use Rattle.std.proofs.Common.{◌≡◌, ℕ, ◌+◌, ◌-◌, ◌*◌, ◌/◌, ◌<◌, ◌≤◌, List, ◌∷◌, ◌++◌, length, Option, Some, None, refl, sym, ap, subst, ◌∙◌}
 use Rattle.std.proofs.Common.{append_assoc, arith, length-append}
 use Rattle.std.specs.Prelude.{unwrap_or, IfSome}
 use Rattle.std.specs.List.{flat_map}
-use Rattle.std.proofs.lemmas.List.{take_at, drop_at}
 use Rattle.dgn_words.specs.Numbers.{word_bytes, range_long_bytes, put}
+use Rattle.patch_bytes.specs.Puts.{lay}
 use Rattle.dgn_drawing.specs.Values.{LookChange, IsLook}
 use Rattle.dgn_drawing.specs.Element.{Display, Parts, Body, Silent, Shown, Element}
 use Rattle.dgn_drawing.specs.Spelling.{first_byte, second_byte, display_bytes, parts_bytes, body_bytes, spell, size_of}
@@ -13,6 +13,7 @@ use Rattle.dgn_drawing.specs.Laws.{IsLookPut, LooksAreTwoBytes}
 use Rattle.dgn_drawing.specs.declared.row.Row.{Row}
 use Rattle.dgn_drawing.specs.Rows.{total_of, row_of}
 use Rattle.dgn_drawing.specs.Changes.{look_changed, recoloured_body, recolour, look_bytes}
+use Rattle.dgn_drawing.proofs.Pieces.{lay-over}
 use Rattle.dgn_drawing.proofs.Displays.{length-display}
 
 -- what is given or was there before is in its range
@@ -47,15 +48,6 @@ length-before_look : (d : Display) → IsDisplay d → length (before_look d) �
 length-before_look d good =
     omega (arith, length-append (before_look d) (look_bytes d), ap (length {A = ℕ}) (display_bytes-split d), length-display d good)
 
--- a piece that is put over another of its length
-put-over : (front x behind y : List ℕ) (p : ℕ) → length front ≡ p → length x ≡ length y → put (front ++ (x ++ behind)) p y ≡ front ++ (y ++ behind)
-put-over front x behind y p at same =
-    let before : take p (front ++ (x ++ behind)) ≡ front = take_at front (x ++ behind) p at in
-    let whole : front ++ (x ++ behind) ≡ (front ++ x) ++ behind = sym (append_assoc front x behind) in
-    let long : length (front ++ x) ≡ p + length y = omega (arith, length-append front x) in
-    let after : drop (p + length y) (front ++ (x ++ behind)) ≡ behind = ap (drop (p + length y)) whole ∙ drop_at (front ++ x) behind (p + length y) long in
-    rw (before, after, append_assoc) refl
-
 -- the element with this body
 abbrev pub with_body : Element → Body → Element
 with_body e b = record e { body = b }
@@ -83,13 +75,13 @@ same_body_length change d parts rest fits good =
 -- another look is two bytes at 34
 pub spell-look : (change : LookChange) (e : Element) (d : Display) (parts : Parts) (rest : List ℕ) → IsLook change → IsDisplay d
     → spell (recolour change (with_body e (Shown d parts rest))) ≡ put (spell (with_body e (Shown d parts rest))) 34 (look_bytes (look_changed change d))
-unfolding front spell before_look
+unfolding front spell before_look lay
 spell-look change e d parts rest fits good =
     let words : ℕ = length (body_bytes (Shown d parts rest)) / 2 in
     let same : length (body_bytes (Shown (look_changed change d) parts rest)) / 2 ≡ words = ap (λ n. n / 2) (same_body_length change d parts rest fits good) in
     let old = spell-shown e d parts rest words refl in
     let new = spell-shown e (look_changed change d) parts rest words same in
-    let over = put-over (front e words d) (look_bytes d) (parts_bytes parts ++ rest) (look_bytes (look_changed change d)) 34 (length-front e words d good)
+    let over = lay-over (front e words d) (look_bytes d) (parts_bytes parts ++ rest) (look_bytes (look_changed change d)) 34 (length-front e words d good)
     refl in
     new ∙ sym over ∙ ap (λ b. put b 34 (look_bytes (look_changed change d))) (sym old)
 

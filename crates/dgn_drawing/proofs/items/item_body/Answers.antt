@@ -1,5 +1,4 @@
-use Rattle.std.proofs.Common.{ℕ, sym, ap, ◌∙◌, arith, inl, inr, map, subst, ◌≡◌}
-use Rattle.std.specs.Prelude.{IfOk}
+use Rattle.std.proofs.Common.{ℕ, sym, ap, ◌∙◌, arith, inl, inr, map}
 use Rattle.body_vertex.specs.Points.{points_of, points_end}
 use Rattle.dgn_drawing.specs.declared.types.item_body.ItemBody.{ItemBody}
 use Rattle.dgn_drawing.specs.Forms.{form_of}
@@ -43,9 +42,7 @@ returns-in_ok-points-in-Line g c =
     ap ItemBody.Path c.in_ok-points-in-Line.ensures ∙ same ∙ sym shown
 
 pub returns-in-Text : goal.returns-in-Text
-returns-in-Text g c =
-    let shown = text_shown c.args.form g.row.DIM c.args.b.now c.in-Text.is in
-    subst (λ (v : ItemBody). IfOk c.text_body.result (λ body. body ≡ v)) (sym shown) c.text_body.ensures
+returns-in-Text g c = rw (text_shown c.args.form g.row.DIM c.args.b.now c.in-Text.is) c.text_body.ensures
 
 pub returns-in-Node : goal.returns-in-Node
 returns-in-Node g c = c.node_body.ensures ∙ sym (node_shown c.args.form g.row.DIM c.args.b.now c.in-Node.is)
