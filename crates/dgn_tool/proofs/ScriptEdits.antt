@@ -1,8 +1,9 @@
 -- The commands that a script reads to hold what their types keep.
 use Rattle.std.proofs.Common.{ℕ, zero, suc, ◌+◌, ◌-◌, ◌<◌, ◌==◌, ◌&&◌, ◌||◌, Bool, List, [], ◌∷◌, length, take, drop, nat_le, slice_index, Option, Some}
-use Rattle.std.proofs.Common.{None, IfSome, option_map, Result, Ok, Err, IfOk, subst, ℤ, if◌then◌else◌}
+use Rattle.std.proofs.Common.{None, IfSome, option_map, Result, Ok, Err, IfOk, subst, ℤ}
 use Rattle.std.specs.Prelude.{All}
 use Rattle.std.specs.List.{slice_split, onto_first, position_or_len}
+use Rattle.std.specs.Option.{option_and_then}
 use Rattle.std.proofs.lemmas.Bool.{cond_both}
 use Rattle.std.proofs.lemmas.Option.{IfSome_then}
 use Rattle.std.proofs.lemmas.List.Elements.{All-nil, All-cons, All-head, All-tail, All-take, All-drop, All-weaker, All-map}
@@ -18,6 +19,8 @@ use Rattle.dgn_drawing.specs.NewElements.{ArePoints, IsShapeFor}
 use Rattle.edit_ops.specs.Fenced.{IsFenceEdit}
 use Rattle.dgn_drawing.specs.declared.command.Command.{Command}
 use Rattle.dgn_drawing.specs.declared.command.Command.TheVariants as command
+use Rattle.edit_script.specs.declared.command_name.CommandName.{CommandName}
+use Rattle.edit_script.specs.declared.command_name.CommandName.TheVariants as names
 use Rattle.edit_script.specs.declared.fault.ScriptFault.{ScriptFault}
 use Rattle.edit_script.specs.declared.reading.Reading.{Reading}
 use Rattle.edit_script.specs.declared.reading.Reading.TheVariants.{Nothing, Asks, Bad}
@@ -36,8 +39,8 @@ use Rattle.edit_script.specs.Edits.{copy_of, copy_command, one_element, delete_c
 use Rattle.edit_script.specs.Fences.{corner_named, fence_command, mode_named, select_command, fenced, fmove_command, fcopy_command, fsym_command}
 use Rattle.edit_script.specs.Fences.{fdelete_command}
 use Rattle.edit_script.specs.Imports.{is_name, given_shift, import_command, is_import, limited, imports_with}
-use Rattle.edit_script.specs.Grammar.{alone, asking, range_reading, fence_reading, listing_reading, other_reading, reading_of, is_blank_line, is_comment}
-use Rattle.edit_script.specs.Grammar.{command_of}
+use Rattle.edit_script.specs.CommandNames.{name_of}
+use Rattle.edit_script.specs.Grammar.{alone, asking, command_named, reading_of, is_blank_line, is_comment, command_of}
 use Rattle.edit_script.specs.Script.{with_line, commands_from}
 use Rattle.dgn_tool.specs.Laws.{IsEditIn}
 use Rattle.dgn_tool.specs.ScriptLaws.{ScriptsHoldEdits, UntouchedByScripts}
@@ -258,50 +261,41 @@ asking_so (Some c) h = record { holds = h }
 none_said : SaysEdit Bad
 none_said = record { holds = tt }
 
--- it has this name, or goes on so
-either : (test : Bool) (o : Option Command) {other : Reading} → HoldsEdit o → SaysEdit other → SaysEdit (if test then asking o else other)
-either test o {other} h k = cond_both test (asking o) other SaysEdit (λ passes. asking_so o h) (λ fails. k)
+-- the command of each name holds it
+named_holds : (name : CommandName) (rest : List ℕ) → IsBytes rest → HoldsEdit (command_named name rest)
+named_holds names.Line rest are = line_holds (words_of rest)
+named_holds names.String rest are = string_holds (words_of rest)
+named_holds names.Shape rest are = shape_holds (words_of rest)
+named_holds names.Text rest are = text_holds rest are
+named_holds names.Fence rest are = fence_holds (words_of rest)
+named_holds names.Import rest are = import_holds (words_of rest)
+named_holds names.Color rest are = color_holds (words_of rest)
+named_holds names.Move rest are = move_holds (words_of rest)
+named_holds names.Copy rest are = copy_holds (words_of rest)
+named_holds names.Sym rest are = sym_holds (words_of rest)
+named_holds names.Delete rest are = delete_holds (words_of rest)
+named_holds names.Undo rest are = alone_holds command.Undo (words_of rest) tt
+named_holds names.Levels rest are = plain (λ mask. command.Levels (record { 0 = mask })) (mask_named (words_of rest)) (λ mask. tt)
+named_holds names.Show rest are = alone_holds command.Show (words_of rest) tt
+named_holds names.Tree rest are = plain command.Tree (one_element (words_of rest)) (λ n. tt)
+named_holds names.Elements rest are = alone_holds command.Elements (words_of rest) tt
+named_holds names.Refs rest are = alone_holds command.Refs (words_of rest) tt
+named_holds names.Links rest are = plain command.Links (one_element (words_of rest)) (λ n. tt)
+named_holds names.Select rest are = select_holds (words_of rest)
+named_holds names.NoFence rest are = alone_holds command.NoFence (words_of rest) tt
+named_holds names.FenceMove rest are = fmove_holds (words_of rest)
+named_holds names.FenceCopy rest are = fcopy_holds (words_of rest)
+named_holds names.FenceSym rest are = fsym_holds (words_of rest)
+named_holds names.FenceDelete rest are = fdelete_holds (words_of rest)
+named_holds names.Audit rest are = alone_holds command.Audit (words_of rest) tt
+named_holds names.Fit rest are = plain command.Fit (one_element (words_of rest)) (λ n. tt)
 
-range_says : (name rest : List ℕ) → SaysEdit (range_reading name rest)
-range_says name rest =
-    either _ _ (alone_holds command.Audit (words_of rest) tt)
-    (either _ _ (plain command.Fit (one_element (words_of rest)) (λ n. tt)) none_said)
+found_holds : (found : Option CommandName) (rest : List ℕ) → IsBytes rest → HoldsEdit (option_and_then (λ name. command_named name rest) found)
+found_holds None rest are = tt
+found_holds (Some name) rest are = named_holds name rest are
 
-fence_says : (name rest : List ℕ) → SaysEdit (fence_reading name rest)
-fence_says name rest =
-    either _ _ (alone_holds command.NoFence (words_of rest) tt)
-    (either _ _ (fmove_holds (words_of rest))
-    (either _ _ (fcopy_holds (words_of rest))
-    (either _ _ (fsym_holds (words_of rest))
-    (either _ _ (fdelete_holds (words_of rest)) (range_says name rest)))))
-
-listing_says : (name rest : List ℕ) → SaysEdit (listing_reading name rest)
-listing_says name rest =
-    either _ _ (alone_holds command.Show (words_of rest) tt)
-    (either _ _ (plain command.Tree (one_element (words_of rest)) (λ n. tt))
-    (either _ _ (alone_holds command.Elements (words_of rest) tt)
-    (either _ _ (alone_holds command.Refs (words_of rest) tt)
-    (either _ _ (plain command.Links (one_element (words_of rest)) (λ n. tt))
-    (either _ _ (select_holds (words_of rest)) (fence_says name rest))))))
-
-other_says : (name rest : List ℕ) → SaysEdit (other_reading name rest)
-other_says name rest =
-    either _ _ (color_holds (words_of rest))
-    (either _ _ (move_holds (words_of rest))
-    (either _ _ (copy_holds (words_of rest))
-    (either _ _ (sym_holds (words_of rest))
-    (either _ _ (delete_holds (words_of rest))
-    (either _ _ (alone_holds command.Undo (words_of rest) tt)
-    (either _ _ (plain (λ mask. command.Levels (record { 0 = mask })) (mask_named (words_of rest)) (λ mask. tt)) (listing_says name rest)))))))
-
-reading_says : (name rest : List ℕ) → IsBytes rest → SaysEdit (reading_of name rest)
-reading_says name rest are =
-    either _ _ (line_holds (words_of rest))
-    (either _ _ (string_holds (words_of rest))
-    (either _ _ (shape_holds (words_of rest))
-    (either _ _ (text_holds rest are)
-    (either _ _ (fence_holds (words_of rest))
-    (either _ _ (import_holds (words_of rest)) (other_says name rest))))))
+reading_says : (word rest : List ℕ) → IsBytes rest → SaysEdit (reading_of word rest)
+reading_says word rest are = asking_so (option_and_then (λ name. command_named name rest) (name_of word)) (found_holds (name_of word) rest are)
 
 line_says : (line : List ℕ) → IsBytes line → SaysEdit (command_of line)
 line_says line are =

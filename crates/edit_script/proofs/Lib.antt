@@ -1,7 +1,6 @@
 mod Commas
 mod NamedValues
 mod FirstFault
-mod CommandLines
 mod Masks
 mod Numerals
 mod TextPieces

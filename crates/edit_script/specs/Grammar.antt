@@ -1,11 +1,14 @@
--- The grammar of a line of a script: a comment or a line of blanks says nothing, and any other line goes
--- by its first word. A further command is a further case of one of the readings, beside a definition of its own.
-use Rattle.std.specs.Prelude.{ℕ, ◌==◌, Bool, ◌||◌, if◌then◌else◌, List, [], length, slice_index, codes, Option, Some, None, option_map}
-use Rattle.std.specs.Str.{bytes_eq}
+-- The grammar of a line of a script: a comment or a line of blanks says nothing, and any other line goes by its first
+-- word. A further command is a further case of `command_named`, beside a definition of its own.
+use Rattle.std.specs.Prelude.{ℕ, ◌==◌, Bool, ◌||◌, if◌then◌else◌, List, [], length, slice_index, Option, Some, None, option_map}
+use Rattle.std.specs.Option.{option_and_then}
 use Rattle.dgn_drawing.specs.declared.command.Command.{Command}
 use Rattle.dgn_drawing.specs.declared.command.Command.TheVariants as command
+use Rattle.edit_script.specs.declared.command_name.CommandName.{CommandName}
+use Rattle.edit_script.specs.declared.command_name.CommandName.TheVariants as names
 use Rattle.edit_script.specs.declared.reading.Reading.{Reading}
 use Rattle.edit_script.specs.declared.reading.Reading.TheVariants.{Nothing, Asks, Bad}
+use Rattle.edit_script.specs.CommandNames.{name_of}
 use Rattle.edit_script.specs.Words.{from_word, first_word, behind_word, words_of}
 use Rattle.edit_script.specs.Levels.{mask_named}
 use Rattle.edit_script.specs.Appends.{line_command, string_command, shape_command, text_command}
@@ -22,63 +25,43 @@ alone c _ = None
 abbrev pub levels_command : List (List ℕ) → Option Command
 levels_command words = option_map (λ mask. command.Levels (record { 0 = mask })) (mask_named words)
 
--- a line whose name is known says its command, or is bad
+-- a line says its command, or is bad
 abbrev pub asking : Option Command → Reading
 asking (Some c) = Asks c
 asking None = Bad
 
--- what a line says that begins with one of the words that are left, and goes on with these bytes: it asks for the stored
--- ranges or writes them, or is bad
-abbrev pub range_reading : List ℕ → List ℕ → Reading
-range_reading name rest =
-    if bytes_eq name (codes "audit") then asking (alone command.Audit (words_of rest))
-    else if bytes_eq name (codes "fit") then asking (option_map command.Fit (one_element (words_of rest)))
-    else Bad
-
--- the same of a word that names no listing: it does something with a fence, or goes on so
-abbrev pub fence_reading : List ℕ → List ℕ → Reading
-fence_reading name rest =
-    if bytes_eq name (codes "nofence") then asking (alone command.NoFence (words_of rest))
-    else if bytes_eq name (codes "fmove") then asking (fmove_command (words_of rest))
-    else if bytes_eq name (codes "fcopy") then asking (fcopy_command (words_of rest))
-    else if bytes_eq name (codes "fsym") then asking (fsym_command (words_of rest))
-    else if bytes_eq name (codes "fdelete") then asking (fdelete_command (words_of rest))
-    else range_reading name rest
-
--- the same of a word that names no edit of one element: it asks for a listing, or goes on so
-abbrev pub listing_reading : List ℕ → List ℕ → Reading
-listing_reading name rest =
-    if bytes_eq name (codes "show") then asking (alone command.Show (words_of rest))
-    else if bytes_eq name (codes "tree") then asking (option_map command.Tree (one_element (words_of rest)))
-    else if bytes_eq name (codes "elements") then asking (alone command.Elements (words_of rest))
-    else if bytes_eq name (codes "refs") then asking (alone command.Refs (words_of rest))
-    else if bytes_eq name (codes "links") then asking (option_map command.Links (one_element (words_of rest)))
-    else if bytes_eq name (codes "select") then asking (select_command (words_of rest))
-    else fence_reading name rest
-
--- what a line says that begins with this word, which is no name of an append and not `fence` or `import`, and goes on
--- with these bytes
-abbrev pub other_reading : List ℕ → List ℕ → Reading
-other_reading name rest =
-    if bytes_eq name (codes "color") then asking (color_command (words_of rest))
-    else if bytes_eq name (codes "move") then asking (move_command (words_of rest))
-    else if bytes_eq name (codes "copy") then asking (copy_command (words_of rest))
-    else if bytes_eq name (codes "sym") then asking (sym_command (words_of rest))
-    else if bytes_eq name (codes "delete") then asking (delete_command (words_of rest))
-    else if bytes_eq name (codes "undo") then asking (alone command.Undo (words_of rest))
-    else if bytes_eq name (codes "levels") then asking (levels_command (words_of rest))
-    else listing_reading name rest
+-- the command that a word begins, by the bytes behind the word
+abbrev pub command_named : CommandName → List ℕ → Option Command
+command_named names.Line rest = line_command (words_of rest)
+command_named names.String rest = string_command (words_of rest)
+command_named names.Shape rest = shape_command (words_of rest)
+command_named names.Text rest = text_command rest
+command_named names.Fence rest = fence_command (words_of rest)
+command_named names.Import rest = import_command (words_of rest)
+command_named names.Color rest = color_command (words_of rest)
+command_named names.Move rest = move_command (words_of rest)
+command_named names.Copy rest = copy_command (words_of rest)
+command_named names.Sym rest = sym_command (words_of rest)
+command_named names.Delete rest = delete_command (words_of rest)
+command_named names.Undo rest = alone command.Undo (words_of rest)
+command_named names.Levels rest = levels_command (words_of rest)
+command_named names.Show rest = alone command.Show (words_of rest)
+command_named names.Tree rest = option_map command.Tree (one_element (words_of rest))
+command_named names.Elements rest = alone command.Elements (words_of rest)
+command_named names.Refs rest = alone command.Refs (words_of rest)
+command_named names.Links rest = option_map command.Links (one_element (words_of rest))
+command_named names.Select rest = select_command (words_of rest)
+command_named names.NoFence rest = alone command.NoFence (words_of rest)
+command_named names.FenceMove rest = fmove_command (words_of rest)
+command_named names.FenceCopy rest = fcopy_command (words_of rest)
+command_named names.FenceSym rest = fsym_command (words_of rest)
+command_named names.FenceDelete rest = fdelete_command (words_of rest)
+command_named names.Audit rest = alone command.Audit (words_of rest)
+command_named names.Fit rest = option_map command.Fit (one_element (words_of rest))
 
 -- what a line says that begins with this word and goes on with these bytes
 abbrev pub reading_of : List ℕ → List ℕ → Reading
-reading_of name rest =
-    if bytes_eq name (codes "line") then asking (line_command (words_of rest))
-    else if bytes_eq name (codes "string") then asking (string_command (words_of rest))
-    else if bytes_eq name (codes "shape") then asking (shape_command (words_of rest))
-    else if bytes_eq name (codes "text") then asking (text_command rest)
-    else if bytes_eq name (codes "fence") then asking (fence_command (words_of rest))
-    else if bytes_eq name (codes "import") then asking (import_command (words_of rest))
-    else other_reading name rest
+reading_of word rest = asking (option_and_then (λ name. command_named name rest) (name_of word))
 
 -- an empty line, or one of blanks alone
 abbrev pub is_blank_line : List ℕ → Bool

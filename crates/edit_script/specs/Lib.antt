@@ -7,6 +7,7 @@ pub mod Appends
 pub mod Edits
 pub mod Fences
 pub mod Imports
+pub mod CommandNames
 pub mod Grammar
 pub mod Script
 pub mod Laws

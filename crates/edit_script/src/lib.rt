@@ -6,6 +6,7 @@
 #![tactic(auto)]
 
 mod appends;
+mod command_name;
 mod edits;
 mod fault;
 mod fences;
