@@ -1,7 +1,7 @@
 -- What is kept of the first elements where others, which nest apart from them, stand behind.
 use Rattle.std.proofs.Common.{◌≡◌, ℕ, zero, suc, ◌+◌, ◌≤◌, ◌<◌, List, [], ◌∷◌, ◌++◌, length, take, drop, map, refl, sym, ap, ◌∙◌, subst, arith}
 use Rattle.std.proofs.Common.{length-append, inl, inr}
-use Rattle.std.specs.Prelude.{None, Option, slice_get, min, nat_lt}
+use Rattle.std.specs.Prelude.{None, Option, slice_get, nat_lt}
 use Rattle.std.specs.List.Sorted.{IsPartitionedBy}
 use Rattle.std.specs.List.{AllByRecursion}
 use Rattle.std.proofs.lemmas.List.{take_at, drop_at, take_all, take-map, take-append-drop, length-take}
@@ -21,10 +21,6 @@ use Rattle.nest_tree.proofs.BrokenList.{parted}
 use Rattle.nest_tree.proofs.NumbersApart.{numbered_behind}
 use Rattle.nest_tree.proofs.FirstEntries.{all_marks}
 use Rattle.nest_tree.proofs.BrokenNumbers.{passing_same, below_first, below_all}
-
--- each list has as much room as the one with the least
-pub least_room : (n a b c d : ℕ) → n ≤ min (min a b) (min c d) → (n ≤ a) × (n ≤ b) × (n ≤ c) × (n ≤ d)
-least_room n a b c d most = (omega arith, omega arith, omega arith, omega arith)
 
 all_front : {A : Type 0} (P : A → Type 0) (n : ℕ) (l : List A) → AllByRecursion P l → AllByRecursion P (take n l)
 all_front P zero l each = tt

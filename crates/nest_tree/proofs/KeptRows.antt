@@ -1,22 +1,19 @@
 -- The rows of elements by what is kept of each.
-use Rattle.std.proofs.Common.{◌≡◌, ℕ, zero, suc, ◌+◌, ◌-◌, ◌%◌, ◌≤◌, ◌<◌, List, [], ◌∷◌, ◌++◌, length, take, drop, get_or, refl, sym, ap, ◌∙◌, subst, arith}
+use Rattle.std.proofs.Common.{◌≡◌, ℕ, zero, suc, ◌+◌, ◌-◌, ◌%◌, ◌≤◌, ◌<◌, List, [], ◌∷◌, ◌++◌, length, take, drop, get_or, refl, ap, ◌∙◌, arith}
 use Rattle.std.proofs.Common.{true, false, Bool, cond}
 use Rattle.std.specs.Prelude.{leb}
 use Rattle.std.specs.List.{AllByRecursion}
-use Rattle.std.proofs.lemmas.List.{get_or-drop, length-drop}
+use Rattle.std.proofs.lemmas.List.{get_or-drop}
 use Rattle.std.proofs.lemmas.Bool.{cond-true}
 use Rattle.dgn_layout.specs.Classes.{class_of}
 use Rattle.dgn_drawing.specs.declared.row.Row.{Row}
 use Rattle.dgn_drawing.specs.Nesting.{is_counted}
 use Rattle.nest_tree.specs.Depths.{IsWordTotal}
 use Rattle.nest_tree.specs.Shapes.{IsRow}
-use Rattle.nest_tree.specs.Kept.{next_place, counts, kept_rows, counted_in, AreKept}
+use Rattle.nest_tree.specs.Kept.{next_place, counts, kept_rows, counted_in}
 use Rattle.nest_tree.specs.Sources.{no_row, places_from}
 
--- the total that the first element takes, and those that it leaves
-abbrev pub first_total : ℕ → List ℕ → ℕ
-first_total k ts = cond (counts k) (get_or ts 0 0) 0
-
+-- the totals that the first element leaves
 abbrev pub totals_behind : ℕ → List ℕ → List ℕ
 totals_behind k ts = cond (counts k) (drop 1 ts) ts
 
@@ -140,25 +137,3 @@ pub kept_behind : (ps ks ts : List ℕ) (end n : ℕ) → length ks ≡ length p
 kept_behind [] ks ts end n same is = refl
 kept_behind (p ∷ ps) [] ts end n same is = absurd (omega arith)
 kept_behind (p ∷ ps) (k ∷ ks) ts end n same is = ap (λ (l : List ℕ). kept_rows ps ks l end) (taken (counts k) ts n is)
-
-pub are_behind : (ps ks ts : List ℕ) (end n : ℕ) → n ≡ cond (counts (get_or ks 0 0)) 1 0 → AreKept ps ks ts end
-    → AreKept (drop 1 ps) (drop 1 ks) (drop n ts) end
-are_behind [] [] ts end n is kept = record {
-  few = omega arith;
-  each = refl;
-  counted = let many = kept.counted in omega (arith, length-drop n ts);
-  rows = tt;
-}
-are_behind [] (k ∷ ks) ts end n is kept = absurd (let each = kept.each in omega arith)
-are_behind (p ∷ ps) [] ts end n is kept = absurd (let each = kept.each in omega arith)
-are_behind (p ∷ ps) (k ∷ ks) ts end n is kept =
-    let few = kept.few in
-    let each = kept.each in
-    let many = kept.counted in
-    let same = taken (counts k) ts n is in
-    record {
-      few = omega arith;
-      each = omega arith;
-      counted = omega (arith, is, length-drop n ts, ap (λ (l : List ℕ). counted_in (kept_rows ps ks l end)) same);
-      rows = subst (λ (l : List ℕ). AllByRecursion IsRow (kept_rows ps ks l end)) (sym same) kept.rows.1;
-    }

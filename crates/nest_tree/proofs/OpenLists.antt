@@ -1,6 +1,6 @@
 -- What is kept of the first elements tells the lists that they stand in, and grows by one place at a time.
 use Rattle.std.proofs.Common.{◌≡◌, ℕ, ◌+◌, ◌-◌, ◌≤◌, ◌<◌, List, [], ◌∷◌, ◌++◌, length, take, drop, map, get_or, sym, ap, ◌∙◌, arith}
-use Rattle.std.specs.Prelude.{Option, Some, None}
+use Rattle.std.specs.Prelude.{Option, None}
 use Rattle.std.proofs.lemmas.List.{get_or-map, get_or-take, length-map, length-take, map_push, append-nil, take_rest, drop-drop, length-drop}
 use Rattle.dgn_drawing.specs.declared.row.Row.{Row}
 use Rattle.dgn_drawing.specs.Nesting as nesting
@@ -11,7 +11,7 @@ use Rattle.nest_tree.specs.NestEntries.{NestEntry}
 use Rattle.nest_tree.specs.declared.shape.Shape as code
 use Rattle.nest_tree.specs.declared.open_list.OpenList.{OpenList}
 use Rattle.nest_tree.specs.Shapes.{code_knot, code_shape, shape_in, rows_between, IsBetween}
-use Rattle.nest_tree.specs.Places.{marks_in, entry_of, ArePlaces, end_in, parent_in, depth_in, knot_in, kind_in, scope_below, list_in, resume, Going}
+use Rattle.nest_tree.specs.Places.{marks_in, entry_of, ArePlaces, end_in, parent_in, depth_in, knot_in, kind_in, list_in, resume, Going}
 use Rattle.nest_tree.specs.Sources.{no_row}
 use Rattle.nest_tree.proofs.ListStacks.{length-marks_in, take_marks, end_read, entry_read, going_ends, mark_read}
 
@@ -97,19 +97,8 @@ module _ (rows : List Row) (at : ℕ) (f : OpenList) (going : Going rows at f) (
 abbrev pub no_entry : NestEntry
 no_entry = record { parent = None; depth = 0; knot = Knot.Leaf }
 
--- the list below a header, by what is kept of it
+-- the parent and the depth of an element, by what is kept of it
 module _ (rows : List Row) (n : ℕ) (ends : List ℕ) (entries : List NestEntry) (places : ArePlaces rows n ends entries) (i : ℕ) (before : i < n) where
-  pub list_below_is : (depth : ℕ)
-      → record { scope = scope_below (get_or entries i no_entry).knot (get_or rows i no_row).kind; end = get_or ends i 0; depth = depth; parent = Some i }
-      ≡ list_in rows (Some i) depth
-  list_below_is depth =
-      let within = places.within in
-      ap (λ (x : NestEntry). record { scope = scope_below x.knot (get_or rows i no_row).kind; end = get_or ends i 0; depth = depth; parent = Some i })
-      (entry_at rows n ends entries places i no_entry before)
-      ∙ ap (λ (k : ℕ). record { scope = scope_below (knot_in rows i) k; end = get_or ends i 0; depth = depth; parent = Some i }) (kind_at rows i (omega arith))
-      ∙ ap (λ (k : ℕ). record { scope = scope_below (knot_in rows i) (kind_in rows i); end = k; depth = depth; parent = Some i })
-      (end_at rows n ends entries places i 0 before)
-
   pub parent_is : (get_or entries i no_entry).parent ≡ parent_in rows i
   parent_is = ap (λ (x : NestEntry). x.parent) (entry_at rows n ends entries places i no_entry before)
 

@@ -91,10 +91,6 @@ bytes-more (r ∷ rows) (suc i) d within =
     let e : suc i + 1 ≡ suc (i + 1) = omega arith in
     ap (λ (k : ℕ). bytes_of itself (take k (r ∷ rows))) e ∙ omega (arith, bytes-more rows i d (omega arith))
 
-pub length-summed : (rows : List Row) (sums : List ℕ) (sum i : ℕ) → Summed rows sums sum i → length sums ≡ i + 1
-length-summed rows sums sum i s =
-    let within = s.within in ap (length {A = ℕ}) s.are ∙ omega (arith, length-take (i + 1) (places_from 0 rows), length-places 0 rows)
-
 -- before the first row they are one sum
 first_sum : (rows : List Row) → 0 ∷ [] ≡ take 1 (places_from 0 rows)
 unfolding places_from
@@ -127,13 +123,6 @@ summed_more rows sums sum i w d s within is small =
 
 pub summed_all : (rows : List Row) (sums : List ℕ) (sum i : ℕ) → Summed rows sums sum i → length rows ≤ i → sums ≡ places_from 0 rows
 summed_all rows sums sum i s past = s.are ∙ take_all (i + 1) (places_from 0 rows) (omega (arith, length-places 0 rows))
-
-pub summed_light : (rows : List Row) (sums : List ℕ) (sum i : ℕ) → Summed rows sums sum i → length rows ≤ i
-    → bytes_of itself rows ≤ 4294967295 * length rows
-summed_light rows sums sum i s past =
-    let within = s.within in
-    let light = s.light in
-    omega (arith, s.sum_is, ap (bytes_of itself) (take_all i rows past))
 
 -- those of a list that rises from one number on, before another one
 module _ (l : List ℕ) (first last wanted : ℕ) (known : last ≤ length l) (list : List ℕ) (is : list ≡ take (last - first) (drop first l)) where

@@ -22,9 +22,6 @@ module _ (rows : List Row) (at end : ℕ) (between : IsBetween rows at end) (d :
     here : shape_in scope (rows_between rows at end) ≡ shape itself (defined_scope scope) (get_or rows at d) (rows_behind rows at end)
     here = ap (shape_in scope) first
 
-    pub part_shape : is_parts (defined_scope scope) ≡ true → leaf ≡ shape_in scope (rows_between rows at end)
-    part_shape part = sym (here ∙ cond-true (is_parts (defined_scope scope)) _ _ part)
-
     module _ (whole : is_parts (defined_scope scope) ≡ false) where
       not_part : shape_in scope (rows_between rows at end)
           ≡ cond (is_counted (class_of (get_or rows at d).kind)) (group_or_loose (member_count itself (get_or rows at d) (rows_behind rows at end)))

@@ -1,7 +1,7 @@
 use Rattle.std.proofs.Common.{arith}
 use Rattle.nest_tree.specs.Depths.{IsWordTotal}
 use Rattle.nest_tree.specs.Sources.{no_row}
-use Rattle.nest_tree.proofs.RowPlaces.{all_more, all_rows, length-summed, summed_first, summed_more, summed_all, summed_light}
+use Rattle.nest_tree.proofs.RowPlaces.{all_more, summed_first, summed_more, summed_all}
 use Rattle.nest_tree.proofs.sums.set_sums.Goals as goal
 
 pub loop-i-init : goal.loop-i-init

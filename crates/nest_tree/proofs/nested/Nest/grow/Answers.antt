@@ -1,9 +1,8 @@
-use Rattle.std.proofs.Common.{refl, ◌≡◌, ◌≤◌, ◌++◌, ◌==◌, Bool, false, ◌∙◌, ◌-◌, ◌+◌, ◌<◌, ap, sym, subst, arith, List, length, vec_len, vec_capacity, ℕ}
+use Rattle.std.proofs.Common.{refl, ◌≡◌, ◌++◌, ◌+◌, ◌<◌, ap, arith, List, length, ℕ}
 use Rattle.std.proofs.lemmas.List.{length-append}
-use Rattle.std.proofs.lemmas.Bool.Decides.{nat_tests}
 use Rattle.dgn_drawing.specs.declared.row.Row.{Row}
 use Rattle.nest_tree.specs.Nested.{Nested}
-use Rattle.nest_tree.proofs.GrownNestings.{marks_behind, least_room, grown_new, grown_words, grown_places, grown_apart, grown_broken}
+use Rattle.nest_tree.proofs.GrownNestings.{marks_behind, grown_new, grown_words, grown_places, grown_apart, grown_broken}
 use Rattle.nest_tree.proofs.BrokenList.{all_listed}
 use Rattle.nest_tree.proofs.OpenLists.{length-ends}
 use Rattle.nest_tree.proofs.nested.Nest.grow.Goals as goal

@@ -4,7 +4,7 @@ use Rattle.nest_tree.specs.Pass.{all_rows}
 use Rattle.nest_tree.specs.Places.{ArePlaces}
 use Rattle.nest_tree.proofs.HeadersApart.{parent_small}
 use Rattle.nest_tree.proofs.ListStacks.{end_fits, known_entry, going_ends}
-use Rattle.nest_tree.proofs.OpenLists.{length-entries, one_more}
+use Rattle.nest_tree.proofs.OpenLists.{one_more}
 use Rattle.nest_tree.proofs.pass.Pass.place_next.Goals as goal
 
 pub overflow_add-end-2 : goal.overflow_add-end-2

@@ -10,7 +10,6 @@ use Rattle.nest_tree.specs.Read.{orphans_from}
 use Rattle.nest_tree.specs.Sources.{rows_of, IsScan}
 use Rattle.nest_tree.proofs.HeadersApart.{parent_small}
 use Rattle.nest_tree.proofs.ListStacks.{going_ends}
-use Rattle.nest_tree.proofs.OpenLists.{length-entries}
 use Rattle.nest_tree.proofs.RowsRead.{length-read}
 use Rattle.nest_tree.proofs.LeavesRead.{leaves_kept, leaves_past, leaves_of, scan_past}
 use Rattle.nest_tree.proofs.pass.Pass.put_leaves.Goals as goal

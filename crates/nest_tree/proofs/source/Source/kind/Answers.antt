@@ -1,8 +1,8 @@
-use Rattle.std.proofs.Common.{◌∙◌, ap, sym, get_or, arith}
+use Rattle.std.proofs.Common.{◌∙◌, ap, sym, get_or}
 use Rattle.nest_tree.specs.declared.source.Source.{Source}
 use Rattle.nest_tree.specs.Sources.{no_row, rows_of}
 use Rattle.nest_tree.proofs.KeptRows.{kind_kept}
-use Rattle.nest_tree.proofs.SourceRows.{as_kept, few_rows, kept_inside}
+use Rattle.nest_tree.proofs.SourceRows.{as_kept, kept_inside}
 use Rattle.nest_tree.proofs.source.Source.kind.Goals as goal
 
 pub bounds-kinds-i : goal.bounds-kinds-i
