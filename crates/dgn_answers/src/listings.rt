@@ -33,9 +33,9 @@ pub(crate) fn answer_tree(
 ) -> Result<Answered, AllocError>
     ensures { Answers result (answer_of (state_of s.now) (Command.Tree n)) s.now s.now out.old.items out.new.items }
 {
-    let design = s.design();
-    if n < design.count() {
-        write_tree(alloc, out, design, s.nesting(), n)?;
+    let drawing = s.drawing();
+    if n < drawing.count() {
+        write_tree(alloc, out, &drawing, n)?;
         Ok(Answered::DONE)
     } else {
         write_cause(alloc, out, &Cause::Unknown(n))?;
@@ -51,7 +51,7 @@ pub(crate) fn answer_elements(
 ) -> Result<Answered, AllocError>
     ensures { Answers result (answer_of (state_of s.now) Command.Elements) s.now s.now out.old.items out.new.items }
 {
-    write_elements(alloc, out, s.design())?;
+    write_elements(alloc, out, &s.drawing())?;
     Ok(Answered::DONE)
 }
 
@@ -63,7 +63,7 @@ pub(crate) fn answer_refs(
 ) -> Result<Answered, AllocError>
     ensures { Answers result (answer_of (state_of s.now) Command.Refs) s.now s.now out.old.items out.new.items }
 {
-    write_refs(alloc, out, s.design())?;
+    write_refs(alloc, out, &s.drawing())?;
     Ok(Answered::DONE)
 }
 
@@ -76,7 +76,7 @@ pub(crate) fn answer_links(
 ) -> Result<Answered, AllocError>
     ensures { Answers result (answer_of (state_of s.now) (Command.Links n)) s.now s.now out.old.items out.new.items }
 {
-    match s.design().element(n) {
+    match s.drawing().element(n) {
         Some(bytes) => {
             write_links(alloc, out, bytes)?;
             Ok(Answered::DONE)

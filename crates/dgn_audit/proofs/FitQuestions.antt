@@ -1,7 +1,7 @@
 -- What is asked of an element before a fit, by its bytes.
 use Rattle.std.proofs.Common.{◌≡◌, ℕ, ◌≤◌, List, [], ◌∷◌, ◌++◌, length, map, reverse, Option, Some, None, Result, Ok, Err, Bool, true, false, cond, refl}
 use Rattle.std.proofs.Common.{sym, ap, ◌∙◌, subst}
-use Rattle.std.specs.Prelude.{slice_get, option_map, IfSome, IfOk, IfErr}
+use Rattle.std.specs.Prelude.{slice_get, option_map, IfSome, IfOk}
 use Rattle.elem_head.specs.declared.types.Head.{Head}
 use Rattle.elem_head.specs.Head.{head_of, properties_of}
 use Rattle.dgn_layout.specs.Classes.{class_of, is_silent}
@@ -13,26 +13,15 @@ use Rattle.dgn_drawing.proofs.SpotValues.{holds_points}
 use Rattle.elem_index.specs.declared.design.Design.{Design}
 use Rattle.elem_index.specs.Design.{elements, IsWhole}
 use Rattle.elem_index.proofs.Places.{each_at}
-use Rattle.edit_ops.specs.Causes.{says_locked, is_locked, broken, deleted}
+use Rattle.edit_ops.specs.Causes.{says_locked, is_locked, deleted}
 use Rattle.elem_index.proofs.Places.{axes_of}
 use Rattle.edit_ops.proofs.WiderRanges.{holds_of, spots_loud}
-use Rattle.edit_ops.specs.declared.causes.cause.Cause.{Cause}
 use Rattle.edit_ops.specs.declared.causes.cause.Cause.TheVariants as causes
-use Rattle.edit_ops.specs.Applying.{applied_unless}
-use Rattle.dgn_audit.specs.Fitting.{against, lock_cause, first_locked, tree_cause, fit_root, fitted_forest, apply_fit}
-use Rattle.dgn_audit.specs.Findings.{fitted_in}
-use Rattle.dgn_audit.specs.Planned.{IsCause, IsFitRefused}
-use Rattle.dgn_audit.specs.declared.fit_fault.FitFault.{FitFault}
+use Rattle.dgn_audit.specs.Fitting.{against, lock_cause}
 use Rattle.dgn_audit.specs.declared.fit_fault.FitFault.TheVariants as faults
-use Rattle.dgn_drawing.specs.declared.row.Row.{Row}
-use Rattle.dgn_drawing.specs.Rows.{row_of}
-use Rattle.dgn_drawing.specs.Nesting.{itself, flat}
-use Rattle.dgn_drawing.specs.Numbering.{root_of, first_broken_of}
-use Rattle.std.specs.Option.{option_or}
 use Rattle.std.specs.List.{AllByRecursion}
 use Rattle.std.proofs.lemmas.List.{reverse-append}
 use Rattle.dgn_audit.specs.declared.finding.Finding.{Finding}
-use Rattle.edit_ops.proofs.RootRows.{first_broken_by_rows}
 use Rattle.dgn_drawing.proofs.FieldPlaces.{all-sits}
 use Rattle.dgn_audit.proofs.ElementHulls.{loud_long, loud_locked}
 
@@ -87,47 +76,10 @@ module _ (d : Design) (whole : IsWhole d) (n : ℕ) (b : List ℕ) (is : Some b 
     pub locked_is : (t : Bool) → t ≡ says_locked (properties_of b) → cond t (Some (causes.Locked n)) None ≡ against lock_cause n (slice_get (elements d) n)
     locked_is t asked = ap (λ (x : Bool). cond x (Some (causes.Locked n)) None) (asked ∙ lock_is) ∙ ap (against lock_cause n) (sym there.1)
 
--- the least broken number of the tree of a root, by the rows of all elements
-pub broken_said : (es : List Element) (rows : List Row) (root : ℕ) (o : Option Cause) → rows ≡ map row_of es
-    → o ≡ broken (first_broken_of itself rows root) → o ≡ broken (first_broken_of row_of es root)
-broken_said es rows root o are is =
-    is ∙ ap (λ (r : List Row). broken (first_broken_of itself r root)) are ∙ ap broken (sym (first_broken_by_rows es root))
-
-module _ (dim : ℕ) (es : List Element) (root : ℕ) where
-  -- the first cause against a fit of the tree of a root
-  pub cause_broken : (c : Cause) → Some c ≡ broken (first_broken_of row_of es root) → tree_cause dim es root ≡ Some c
-  cause_broken c is = ap (λ (o : Option Cause). option_or o (option_or (against deleted root (slice_get es root)) (first_locked es (fitted_in dim es root))))
-      (sym is)
-
-  module _ (whole : None ≡ broken (first_broken_of row_of es root)) where
-    later : tree_cause dim es root ≡ option_or (against deleted root (slice_get es root)) (first_locked es (fitted_in dim es root))
-    later = ap (λ (o : Option Cause). option_or o (option_or (against deleted root (slice_get es root)) (first_locked es (fitted_in dim es root)))) (sym whole)
-
-    pub cause_deleted : (c : Cause) → Some c ≡ against deleted root (slice_get es root) → tree_cause dim es root ≡ Some c
-    cause_deleted c is = later ∙ ap (λ (o : Option Cause). option_or o (first_locked es (fitted_in dim es root))) (sym is)
-
-    pub cause_locked : None ≡ against deleted root (slice_get es root) → tree_cause dim es root ≡ first_locked es (fitted_in dim es root)
-    cause_locked is = later ∙ ap (λ (o : Option Cause). option_or o (first_locked es (fitted_in dim es root))) (sym is)
-
 -- what an answer gives, in other words
 pub ok_as : {V E : Type 0} (r : Result V E) (P Q : V → Type 0) → IfOk r P → ((v : V) → P v → Q v) → IfOk r Q
 ok_as (Ok v) P Q p step = step v p
 ok_as (Err e) P Q p step = tt
-
-pub err_as : {V E : Type 0} (r : Result V E) (P Q : E → Type 0) → IfErr r P → ((e : E) → P e → Q e) → IfErr r Q
-err_as (Ok v) P Q p step = tt
-err_as (Err e) P Q p step = step e p
-
--- the same cause
-pub same_cause : (a b : Option Cause) (fault : FitFault) → a ≡ b → IsCause a fault → IsCause b fault
-same_cause a b (faults.Refused cause) same is = sym same ∙ is
-same_cause a b faults.Memory same is = tt
-
-pub refused_cause : (dim : ℕ) (es : List Element) (n root : ℕ) (fault : FitFault) → Some root ≡ root_of row_of es n → IsCause (tree_cause dim es root) fault
-    → IsFitRefused (apply_fit dim es n) fault
-refused_cause dim es n root (faults.Refused cause) at is =
-    ap (fit_root dim es n) (sym at) ∙ ap (λ (c : Option Cause). applied_unless c (flat (fitted_forest dim es root))) is
-refused_cause dim es n root faults.Memory at is = tt
 
 -- what holds of each of some read from the last on holds of the last
 pub last_each : (P : Finding → Type 0) (all front : List Finding) (last : Finding) → all ≡ front ++ last ∷ [] → AllByRecursion P (reverse all) → P last

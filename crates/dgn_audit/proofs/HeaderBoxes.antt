@@ -1,8 +1,7 @@
 -- Boxes of headers while elements are read back: each header's is the first when its members have been read.
-use Rattle.std.proofs.Common.{◌≡◌, ℕ, ◌+◌, ◌<◌, ◌≤◌, List, [], ◌∷◌, ◌++◌, length, reverse, Option, Some, None, Bool, true, false, cond, refl, ap, ◌∙◌, arith}
+use Rattle.std.proofs.Common.{◌≡◌, ℕ, ◌+◌, ◌<◌, ◌≤◌, List, [], ◌∷◌, ◌++◌, Option, Some, None, Bool, true, false, cond, refl, ap, ◌∙◌, arith}
 use Rattle.std.specs.Prelude.{◌==◌, nat_lt}
 use Rattle.std.specs.List.{AllByRecursion}
-use Rattle.std.proofs.lemmas.List.{length-reverse}
 use Rattle.std.proofs.lemmas.Bool.{cond-true, cond-false, eq-eqb, ne_eqb, lt-ltb, le-ltb}
 use Rattle.range_code.specs.declared.Box3.{Box3}
 use Rattle.range_code.specs.Ranges.{join_of}
@@ -99,36 +98,3 @@ passed end [] [] low high = refl
 passed end [] (f ∷ fs) low high = cond-false (nat_lt f.number end) (past end fs) (f ∷ fs) (le-ltb f.number end high.0)
 passed end (f ∷ fs) ys low high =
     cond-true (nat_lt f.number end) (past end (fs ++ ys)) (f ∷ (fs ++ ys)) (lt-ltb f.number end low.0) ∙ passed end fs ys low.1 high
-
--- a header's box that was taken away and made wider, or its first one, is put before the others
-wider_box : (p : ℕ) (hull held : Box3) (os : List OpenBox) → Some held ≡ box_for p os
-    → record { header = p; hull = join_of hull held } ∷ without p os ≡ with_hull p hull os
-wider_box p hull held [] is = absurd (let x = is in cc)
-wider_box p hull held (o ∷ os) is = by_same (o.header == p) is
-  where
-    by_same : (t : Bool) → Some held ≡ cond t (Some o.hull) None
-        → opened p (join_of hull held) ∷ cond t os (o ∷ os) ≡ cond t (opened p (join_of hull o.hull) ∷ os) (opened p hull ∷ o ∷ os)
-    by_same true some = let same : held ≡ o.hull = (let x = some in cc) in ap (λ (h : Box3). opened p (join_of hull h) ∷ os) same
-    by_same false some = absurd (let x = some in cc)
-
-first_box : (p : ℕ) (hull : Box3) (os : List OpenBox) → None ≡ box_for p os → record { header = p; hull = hull } ∷ without p os ≡ with_hull p hull os
-first_box p hull [] is = refl
-first_box p hull (o ∷ os) is = by_same (o.header == p) is
-  where
-    by_same : (t : Bool) → None ≡ cond t (Some o.hull) None
-        → opened p hull ∷ cond t os (o ∷ os) ≡ cond t (opened p (join_of hull o.hull) ∷ os) (opened p hull ∷ o ∷ os)
-    by_same true none = absurd (let x = none in cc)
-    by_same false none = refl
-
-pub widened : (p : ℕ) (hull made : Box3) (held : Option Box3) (os : List OpenBox) → held ≡ box_for p os → Some made ≡ hull_join (Some hull) held
-    → record { header = p; hull = made } ∷ without p os ≡ with_hull p hull os
-widened p hull made None os is wide = let same : made ≡ hull = (let x = wide in cc) in
-    ap (λ (h : Box3). opened p h ∷ without p os) same ∙ first_box p hull os is
-widened p hull made (Some held) os is wide =
-    let same : made ≡ join_of hull held = (let x = wide in cc) in ap (λ (h : Box3). opened p h ∷ without p os) same ∙ wider_box p hull held os is
-
--- so there is one box fewer without it
-pub one_fewer : (p : ℕ) (hull made : Box3) (held : Option Box3) (os left : List OpenBox) → held ≡ box_for p os → Some made ≡ hull_join (Some hull) held
-    → reverse left ≡ without p os → length left + 1 ≡ length (with_hull p hull os)
-one_fewer p hull made held os left is wide are =
-    omega (arith, length-reverse left, ap (length {A = OpenBox}) are, ap (length {A = OpenBox}) (widened p hull made held os is wide))

@@ -1,23 +1,20 @@
 -- An element among the trees of a design, by what is asked of it; and what reading it makes of what was read behind it.
-use Rattle.std.proofs.Common.{◌≡◌, ℕ, suc, ◌+◌, ◌-◌, ◌≤◌, List, ◌++◌, length, map, Option, Some, None, true, false, refl, sym, ap, ◌∙◌}
+use Rattle.std.proofs.Common.{◌≡◌, ℕ, suc, ◌+◌, ◌-◌, ◌≤◌, List, ◌++◌, length, Option, Some, None, true, false, refl, sym, ap, ◌∙◌}
 use Rattle.std.proofs.Common.{subst, arith}
-use Rattle.std.specs.Prelude.{slice_get, option_map}
+use Rattle.std.specs.Prelude.{slice_get}
 use Rattle.std.proofs.lemmas.Bool.{cond-true, cond-false}
 use Rattle.range_code.specs.declared.Box3.{Box3}
 use Rattle.dgn_layout.specs.Classes.{class_of, is_silent}
 use Rattle.dgn_layout.specs.Spots.{HoldsPoints}
-use Rattle.dgn_drawing.specs.declared.row.Row.{Row}
 use Rattle.dgn_drawing.specs.Element.{Element}
 use Rattle.dgn_drawing.specs.Spelling.{spell}
 use Rattle.dgn_drawing.specs.WellFormed.{IsDimension}
 use Rattle.dgn_drawing.specs.Rows.{row_of}
-use Rattle.dgn_drawing.specs.Nesting.{itself}
-use Rattle.dgn_drawing.specs.Numbering.{Mark, mark_of, span_of, parent_of, knot_of}
+use Rattle.dgn_drawing.specs.Numbering.{Mark, mark_of}
 use Rattle.elem_index.specs.declared.design.Design.{Design}
 use Rattle.elem_index.specs.Design.{elements, IsWhole}
 use Rattle.nest_tree.specs.declared.knot.Knot as code
 use Rattle.nest_tree.specs.Shapes.{code_knot}
-use Rattle.level_view.proofs.Places.{mark-rows, mark_part, some_mark}
 use Rattle.elem_index.proofs.Places.{axes_of}
 use Rattle.dgn_audit.specs.declared.nested_element.NestedElement.{NestedElement}
 use Rattle.dgn_audit.specs.declared.reported.Reported.{Reported}
@@ -30,39 +27,6 @@ use Rattle.dgn_audit.specs.NestedElements.{IsNestedElement}
 use Rattle.dgn_audit.specs.OpenBoxes.{box_for, without, with_hulls, past}
 use Rattle.dgn_audit.proofs.ReadBack.{Pass, read_one, read_marked, read_back}
 use Rattle.dgn_audit.proofs.ElementHulls.{hull_said, hull_loud, loud_findings, loud_long, row_holds}
-
-some_same : {A : Type 0} (x y : A) → Some x ≡ Some y → x ≡ y
-some_same x y is = cc
-
--- an element's mark, by what is told of it
-module _ (es : List Element) (rows : List Row) (are : rows ≡ map row_of es) (n : ℕ) (knot : code.Knot) (parent : Option ℕ) (first end : ℕ)
-    (known : Some knot ≡ option_map code_knot (knot_of itself rows n)) (up : Some parent ≡ parent_of itself rows n)
-    (spanned : ◌≡◌ {A = Option (ℕ × ℕ)} (Some (first, end)) (span_of itself rows n)) where
-  span_here : ◌≡◌ {A = Option (ℕ × ℕ)} (Some (first, end)) (option_map (λ (m : Mark). (n, m.end)) (mark_of row_of es n))
-  span_here = spanned ∙ ap (option_map (λ (m : Mark). (n, m.end))) (mark-rows es rows n are)
-
-  has_mark : (m : Mark) × (mark_of row_of es n ≡ Some m)
-  has_mark = some_mark (λ (m : Mark). (n, m.end)) (mark_of row_of es n) (first, end) span_here
-
-  pub nested_mark : Mark
-  nested_mark = has_mark.0
-
-  pub nested_marked : mark_of row_of es n ≡ Some nested_mark
-  unfolding nested_mark
-  nested_marked = has_mark.1
-
-  by_rows : mark_of itself rows n ≡ Some nested_mark
-  by_rows = mark-rows es rows n are ∙ nested_marked
-
-  pub nested_end : end ≡ nested_mark.end
-  nested_end = ap (λ (x : ℕ × ℕ). x.1) (mark_part (λ (m : Mark). (n, m.end)) nested_mark (mark_of row_of es n) (first, end) span_here nested_marked)
-
-  pub nested_parent : parent ≡ nested_mark.parent
-  nested_parent = mark_part (λ (m : Mark). m.parent) nested_mark (mark_of itself rows n) parent up by_rows
-
-  pub nested_knot : knot ≡ code_knot nested_mark.knot
-  nested_knot = some_same knot (code_knot nested_mark.knot) (known
-      ∙ ap (λ (o : Option Mark). option_map code_knot (option_map (λ (m : Mark). m.knot) o)) by_rows)
 
 -- the elements of a part lie between its root's number and its end
 module _ (d : Design) (whole : IsWhole d) (n : ℕ) (s : NestedElement) (is : IsNestedElement d n s) where

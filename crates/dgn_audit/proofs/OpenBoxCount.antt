@@ -21,7 +21,7 @@ use Rattle.elem_index.specs.declared.design.Design.{Design}
 use Rattle.elem_index.specs.Design.{elements, IsWhole}
 use Rattle.elem_index.proofs.Places.{axes_of}
 use Rattle.level_view.proofs.ItemsBack.{here_and_behind, length-marks}
-use Rattle.edit_ops.proofs.RootRows.{marks_by_rows}
+use Rattle.level_view.proofs.ElementRows.{marks_by_rows}
 use Rattle.dgn_audit.specs.declared.reported.Reported.{Reported}
 use Rattle.dgn_audit.specs.declared.open_box.OpenBox.{OpenBox}
 use Rattle.dgn_audit.specs.Hulls.{tree_hull}

@@ -1,5 +1,5 @@
 -- What a fit puts into an element turns its bytes into those of the fitted one.
-use Rattle.std.proofs.Common.{◌≡◌, ℕ, ℤ, zero, suc, ◌+◌, ◌≤◌, List, [], ◌∷◌, map, take, refl, ap, ◌∙◌, subst, arith}
+use Rattle.std.proofs.Common.{◌≡◌, ℕ, ℤ, ◌+◌, ◌≤◌, List, [], ◌∷◌, map, take, refl, ap, ◌∙◌, subst, arith}
 use Rattle.std.specs.List.{AllByRecursion}
 use Rattle.range_code.specs.declared.Box3.{Box3}
 use Rattle.dgn_layout.specs.declared.spot.Spot.{Spot}

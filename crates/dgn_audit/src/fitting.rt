@@ -1,4 +1,4 @@
-ghost use Rattle.std.specs.Prelude.{◌≡◌, ◌+◌, ◌<◌, ◌≤◌, ◌++◌, length, map, reverse, slice_get, option_map, IfOk, IfErr, IfSome, OnOk, IsTrue};
+ghost use Rattle.std.specs.Prelude.{◌≡◌, ◌+◌, ◌<◌, ◌≤◌, ◌++◌, length, reverse, slice_get, option_map, IfOk, IfErr, IfSome, OnOk, IsTrue};
 ghost use Rattle.std.specs.List.{AllByRecursion};
 ghost use Rattle.patch_bytes.specs.PatchView.{put_of};
 ghost use Rattle.dgn_layout.specs.Classes.{class_of};
@@ -7,11 +7,10 @@ ghost use Rattle.range_code.specs.Ranges.{on_axis};
 ghost use Rattle.elem_head.specs.Head.{properties_of};
 ghost use Rattle.edit_ops.specs.Causes.{says_locked, broken, deleted};
 ghost use Rattle.dgn_drawing.specs.Rows.{row_of};
-ghost use Rattle.dgn_drawing.specs.Nesting.{itself};
 ghost use Rattle.dgn_drawing.specs.Numbering.{first_broken_of};
 ghost use Rattle.dgn_drawing.specs.WellFormed.{IsDimension};
 ghost use Rattle.elem_index.specs.Offsets.{offset_of};
-ghost use Rattle.elem_index.specs.Design.{elements, IsWhole};
+ghost use Rattle.elem_index.specs.Design.{elements};
 ghost use Rattle.dgn_audit.specs.Findings.{fitted_in};
 ghost use Rattle.dgn_audit.specs.FitCauses.{edit_cause};
 ghost use Rattle.dgn_drawing.specs.SpotNumbers.{number_in, range_put, range_puts};
@@ -27,8 +26,7 @@ use dgn_drawing::{MOST_DESIGN, spots_in};
 use dgn_layout::Spot;
 use dgn_words::put_range_long;
 use elem_head::{head, properties};
-use elem_index::Design;
-use nest_tree::types::Nest;
+use level_view::Drawing;
 use patch_bytes::{Patch, PatchList};
 use range_code::Box3;
 use std::alloc::{AllocError, Global};
@@ -39,7 +37,7 @@ const LOCKED: u32 = 8;
 // The byte where the high corner of a range begins.
 const HIGH: u32 = 16;
 
-/// What a fit of the tree that holds element `n` of the drawing `d` writes. `t` is the nesting of `d`.
+/// What a fit of the tree that holds element `n` of the drawing `d` writes.
 ///
 /// The range of each fitted element of that tree, on the file's axes, becomes its hull (`audit`). Fitted are the live
 /// elements with a hull that are groups or have their points in a row. The patches are the fields of these ranges, four
@@ -50,51 +48,48 @@ const HIGH: u32 = 16;
 /// there was none for it.
 ///
 /// It takes the time of that tree, not of the drawing.
-pub fn plan_fit(alloc: Global, d: &Design, t: &Nest, n: u32) -> Result<PatchList, FitFault>
-    requires whole { IsWhole d.now }
-    requires nesting { t.now.rows ≡ map row_of (elements d.now) }
+pub fn plan_fit(alloc: Global, d: &Drawing<'_>, n: u32) -> Result<PatchList, FitFault>
     ensures planned { IfOk result (IsFitPlan d.now.dim (elements d.now) n) }
     ensures refused { IfErr result (IsFitRefused (apply_fit d.now.dim (elements d.now) n)) }
 {
-    let Some(root) = t.root(n) else {
+    d.is_whole();
+    let Some(root) = d.root(n) else {
         return Err(FitFault::Refused(FitCause::Unknown(n)));
     };
-    plan_root(alloc, d, t, root)
+    plan_root(alloc, d, root)
 }
 
 // What a fit of the tree of a root writes, or the first cause against it.
-fn plan_root(alloc: Global, d: &Design, t: &Nest, root: u32) -> Result<PatchList, FitFault>
-    requires whole { IsWhole d.now }
-    requires nesting { t.now.rows ≡ map row_of (elements d.now) }
+fn plan_root(alloc: Global, d: &Drawing<'_>, root: u32) -> Result<PatchList, FitFault>
     requires known { root < length (elements d.now) }
     ensures planned { IfOk result (IsPlanOfRoot d.now.dim (elements d.now) root) }
     ensures refused { IfErr result (IsCause (tree_cause d.now.dim (elements d.now) root)) }
 {
-    if let Some(cause) = broken(t, root) {
+    if let Some(cause) = broken(d, root) {
         return Err(FitFault::Refused(cause));
     }
     if let Some(cause) = deleted(d, root) {
         return Err(FitFault::Refused(cause));
     }
-    let fitted = fitted_in(alloc, d, t, root)?;
+    let fitted = fitted_in(alloc, d, root)?;
     patches_of(alloc, d, fitted)
 }
 
 // The tree of a root holds a broken number.
-fn broken(t: &Nest, root: u32) -> Option<FitCause>
-    ensures { option_map edit_cause result ≡ broken (first_broken_of itself t.now.rows root) }
+fn broken(d: &Drawing<'_>, root: u32) -> Option<FitCause>
+    ensures { option_map edit_cause result ≡ broken (first_broken_of row_of (elements d.now) root) }
 {
-    match t.first_broken(root) {
+    match d.first_broken(root) {
         Some(Some(least)) => Some(FitCause::Broken(least)),
         _ => None,
     }
 }
 
 // A root is marked deleted.
-fn deleted(d: &Design, root: u32) -> Option<FitCause>
-    requires { IsWhole d.now }
+fn deleted(d: &Drawing<'_>, root: u32) -> Option<FitCause>
     ensures { option_map edit_cause result ≡ against deleted root (slice_get (elements d.now) root) }
 {
+    d.is_whole();
     let bytes = d.element(root)?;
     if head(bytes).deleted {
         Some(FitCause::Deleted(root))
@@ -104,19 +99,20 @@ fn deleted(d: &Design, root: u32) -> Option<FitCause>
 }
 
 // The fitted elements of the part of element `n`, the last one first.
-fn fitted_in(alloc: Global, d: &Design, t: &Nest, n: u32) -> Result<Vec<Finding>, AllocError>
-    requires whole { IsWhole d.now }
-    requires nesting { t.now.rows ≡ map row_of (elements d.now) }
+fn fitted_in(alloc: Global, d: &Drawing<'_>, n: u32) -> Result<Vec<Finding>, AllocError>
     requires known { n < length (elements d.now) }
     ensures fitted { IfOk result (λ noted. reverse noted.items ≡ fitted_in d.now.dim (elements d.now) n) }
     ensures spotted { IfOk result (λ noted. AllByRecursion (IsSpotted (elements d.now)) (reverse noted.items)) }
 {
-    read_part(alloc, d, t, Some(n), Reported::Fitted)
+    read_part(alloc, d, Some(n), Reported::Fitted)
 }
 
 // What is put into fitted elements, of which the last one stands first, or the least of them that is locked.
-fn patches_of(alloc: Global, d: &Design, mut fitted: Vec<Finding>) -> Result<PatchList, FitFault>
-    requires whole { IsWhole d.now }
+fn patches_of(
+    alloc: Global,
+    d: &Drawing<'_>,
+    mut fitted: Vec<Finding>,
+) -> Result<PatchList, FitFault>
     requires spotted { AllByRecursion (IsSpotted (elements d.now)) (reverse fitted.items) }
     ensures planned { IfOk result (ArePatchesOf d.now.dim (elements d.now) (reverse fitted.items)) }
     ensures refused { IfErr result (IsCause (first_locked (elements d.now) (reverse fitted.items))) }
@@ -132,11 +128,11 @@ fn patches_of(alloc: Global, d: &Design, mut fitted: Vec<Finding>) -> Result<Pat
 }
 
 // Element `m`, of which more is read than nothing, is locked.
-fn locked(d: &Design, m: u32) -> Option<FitCause>
-    requires whole { IsWhole d.now }
+fn locked(d: &Drawing<'_>, m: u32) -> Option<FitCause>
     requires read { IfSome (slice_get (elements d.now) m) (λ e. IsTrue (has_spots (class_of e.kind))) }
     ensures { option_map edit_cause result ≡ against lock_cause m (slice_get (elements d.now) m) }
 {
+    d.is_whole();
     let bytes = d.element(m)?;
     if says_locked(bytes) {
         Some(FitCause::Locked(m))
@@ -154,19 +150,24 @@ fn says_locked(b: &[u8]) -> bool
 }
 
 // Appends the range of element `m`, which is a box from now on.
-fn push_range(patches: &mut PatchList, d: &Design, m: u32, hull: Box3) -> Result<(), AllocError>
-    requires whole { IsWhole d.now }
+fn push_range(
+    patches: &mut PatchList,
+    d: &Drawing<'_>,
+    m: u32,
+    hull: Box3,
+) -> Result<(), AllocError>
     requires spotted { IfSome (slice_get (elements d.now) m) (λ e. IsTrue (has_spots (class_of e.kind))) }
     requires known { m < length (elements d.now) }
     ensures { OnOk result (patches.new ≡ patches.old ++ range_puts d.now.dim hull (offset_of (elements d.now) m)) }
 {
+    d.is_whole();
     let Some(place) = d.offset(m) else {
         unreachable!()
     };
     let Some(bytes) = d.element(m) else {
         unreachable!()
     };
-    push_spots(patches, d.dim, place, head(bytes).kind, bytes, hull)
+    push_spots(patches, d.dim(), place, head(bytes).kind, bytes, hull)
 }
 
 // Appends the numbers of a box at the range spots of an element of that type, which begins at byte `place`.

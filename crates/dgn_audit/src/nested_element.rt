@@ -1,12 +1,10 @@
-ghost use Rattle.std.specs.Prelude.{◌≡◌, ◌<◌, length, map};
-ghost use Rattle.dgn_drawing.specs.Rows.{row_of};
-ghost use Rattle.elem_index.specs.Design.{elements, IsWhole};
+ghost use Rattle.std.specs.Prelude.{◌<◌, length};
+ghost use Rattle.elem_index.specs.Design.{elements};
 ghost use Rattle.dgn_audit.specs.NestedElements.{IsNestedElement};
 
 use edit_ops::{ElementView, find};
-use elem_index::Design;
+use level_view::Drawing;
 use nest_tree::Knot;
-use nest_tree::types::Nest;
 
 // An element among the trees of a drawing.
 #[derive(Clone, Copy)]
@@ -22,22 +20,20 @@ pub(crate) struct NestedElement<'a> {
 }
 
 // Element `n`, which there is.
-pub(crate) fn nested_at<'a>(d: &'a Design, t: &Nest, n: u32) -> NestedElement<'a>
-    requires whole { IsWhole d.now }
-    requires nesting { t.now.rows ≡ map row_of (elements d.now) }
+pub(crate) fn nested_at<'a>(d: &Drawing<'a>, n: u32) -> NestedElement<'a>
     requires known { n < length (elements d.now) }
     ensures { IsNestedElement d.now n result }
 {
     let Some(view) = find(d, n) else {
         unreachable!()
     };
-    let Some(knot) = t.knot(n) else {
+    let Some(knot) = d.knot(n) else {
         unreachable!()
     };
-    let Some(parent) = t.parent(n) else {
+    let Some(parent) = d.parent(n) else {
         unreachable!()
     };
-    let Some((_, end)) = t.span(n) else {
+    let Some((_, end)) = d.span(n) else {
         unreachable!()
     };
     NestedElement {

@@ -1,10 +1,9 @@
 // The hulls of the elements of a part, found from the last element back to the first. Both lists grow towards the front of the
 // drawing, so what is least stands last.
 
-ghost use Rattle.std.specs.Prelude.{◌≡◌, ◌<◌, ◌≤◌, ◌∷◌, ◌++◌, length, map, reverse, vec_len, vec_capacity, Option, Some, OnOk, IfOk, IfSome};
-ghost use Rattle.dgn_drawing.specs.Rows.{row_of};
+ghost use Rattle.std.specs.Prelude.{◌≡◌, ◌<◌, ◌≤◌, ◌∷◌, ◌++◌, length, reverse, vec_len, vec_capacity, Some, OnOk, IfOk, IfSome};
 ghost use Rattle.dgn_drawing.specs.WellFormed.{IsDimension};
-ghost use Rattle.elem_index.specs.Design.{elements, IsWhole};
+ghost use Rattle.elem_index.specs.Design.{elements};
 ghost use Rattle.dgn_audit.specs.Hulls.{hull_join};
 ghost use Rattle.dgn_audit.specs.Reading.{is_kept_read, finding_read};
 ghost use Rattle.dgn_audit.specs.Findings.{findings_of};
@@ -17,9 +16,8 @@ use crate::nested_element::{NestedElement, nested_at};
 use crate::open_box::OpenBox;
 use crate::reported::Reported;
 use crate::stored::{same_box, stored_range};
-use elem_index::Design;
+use level_view::Drawing;
 use nest_tree::Knot;
-use nest_tree::types::Nest;
 use range_code::{Box3, join};
 use std::alloc::{AllocError, Global};
 
@@ -142,16 +140,14 @@ fn tell(
 
 // The numbers of the first element of the part of element `n` and behind its last one, or of the whole drawing where none is
 // named.
-fn bounds(d: &Design, t: &Nest, part: Option<u32>) -> (u32, u32)
-    requires whole { IsWhole d.now }
-    requires nesting { t.now.rows ≡ map row_of (elements d.now) }
+fn bounds(d: &Drawing<'_>, part: Option<u32>) -> (u32, u32)
     requires known { IfSome part (λ n. n < length (elements d.now)) }
     ensures { result ≡ bounds_of (elements d.now) part }
 {
     let Some(n) = part else {
         return (0, d.count());
     };
-    let Some(span) = t.span(n) else {
+    let Some(span) = d.span(n) else {
         unreachable!()
     };
     span
@@ -162,35 +158,33 @@ fn bounds(d: &Design, t: &Nest, part: Option<u32>) -> (u32, u32)
 // can be open is taken once.
 pub(crate) fn read_part(
     alloc: Global,
-    d: &Design,
-    t: &Nest,
+    d: &Drawing<'_>,
     part: Option<u32>,
     keep: Reported,
 ) -> Result<Vec<Finding>, AllocError>
-    requires whole { IsWhole d.now }
-    requires nesting { t.now.rows ≡ map row_of (elements d.now) }
     requires known { IfSome part (λ n. n < length (elements d.now)) }
     ensures { IfOk result (λ noted. reverse noted.items ≡ findings_of keep d.now.dim (elements d.now) part) }
 {
-    let (first, end) = bounds(d, t, part);
+    d.is_whole();
+    let (first, end) = bounds(d, part);
     let mut boxes = Vec::with_capacity(alloc, MOST_OPEN)?;
     let mut noted = Vec::new(alloc);
     for n in (first..end).rev() {
-        let nested = nested_at(d, t, n);
+        let nested = nested_at(d, n);
         let members = take_box(&mut boxes, n);
         if nested.view.deleted {
             cut_below(&mut noted, nested.end);
             continue;
         }
         if let Some(hull) = hull_of(
-            d.dim,
+            d.dim(),
             nested.knot,
             nested.view.kind,
             nested.view.bytes,
             members,
         ) {
             add_hull(&mut boxes, nested.parent, hull);
-            tell(d.dim, keep, n, nested, hull, &mut noted)?;
+            tell(d.dim(), keep, n, nested, hull, &mut noted)?;
         }
     }
     Ok(noted)

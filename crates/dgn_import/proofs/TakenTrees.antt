@@ -10,15 +10,13 @@ use Rattle.std.proofs.lemmas.Option.{slice_get_within}
 use Rattle.dgn_layout.specs.Classes.{class_of, is_silent}
 use Rattle.dgn_drawing.specs.Element.{Element}
 use Rattle.dgn_drawing.specs.Rows.{row_of}
-use Rattle.dgn_drawing.specs.declared.row.Row.{Row}
-use Rattle.dgn_drawing.specs.Nesting.{Whole, Forest, nest, forest, flat, itself, BeginsFree}
+use Rattle.dgn_drawing.specs.Nesting.{Whole, Forest, nest, forest, flat, BeginsFree}
 use Rattle.dgn_drawing.specs.Numbering.{Mark, is_loose, is_orphan, is_broken_as, is_broken, first_from, first_broken_of}
 use Rattle.dgn_drawing.specs.Shown.{roots, IsRoot}
 use Rattle.level_view.proofs.RootItems.{all_roots}
 use Rattle.edit_ops.specs.Trees.{tree_at}
 use Rattle.edit_ops.proofs.PartPlace.{IsPlaced, placed, first_left}
 use Rattle.edit_ops.proofs.EditedBytes.{all_so, all_both}
-use Rattle.edit_ops.proofs.RootRows.{first_broken_by_rows}
 use Rattle.dgn_import.specs.Gathering.{is_drawn, is_unbroken, is_taken, taken}
 use Rattle.dgn_import.proofs.RootTreesAlone.{roots_alone}
 
@@ -131,13 +129,11 @@ taken_root es n root alone is =
     }
 
 -- a root other than element 0 is taken where it is drawn and its tree is sound, by what is asked of the nesting
-pub taken_asked : (es : List Element) (rows : List Row) (n : ℕ) (seen whole : Bool) → rows ≡ map row_of es → (n == 0) ≡ false
+pub taken_asked : (es : List Element) (n : ℕ) (seen whole : Bool) → (n == 0) ≡ false
     → seen ≡ is_drawn (slice_get es n) → seen ≡ true
-    → whole ≡ is_unbroken (first_broken_of itself rows n) → whole ≡ is_taken es n
-taken_asked es rows n seen whole by other is_seen is_true is_whole =
-    let sound : whole ≡ is_unbroken (first_broken_of row_of es n) =
-    is_whole ∙ ap (λ (r : List Row). is_unbroken (first_broken_of itself r n)) by ∙ ap is_unbroken (sym (first_broken_by_rows es n)) in
-    sound
+    → whole ≡ is_unbroken (first_broken_of row_of es n) → whole ≡ is_taken es n
+taken_asked es n seen whole other is_seen is_true is_whole =
+    is_whole
     ∙ sym (ap (λ (b : Bool). not b && (is_drawn (slice_get es n) && is_unbroken (first_broken_of row_of es n))) other
     ∙ ap (λ (b : Bool). b && is_unbroken (first_broken_of row_of es n)) (sym is_seen ∙ is_true))
 

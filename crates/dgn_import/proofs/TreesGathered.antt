@@ -4,12 +4,11 @@ use Rattle.std.proofs.Common.{length-append, arith}
 use Rattle.std.specs.Prelude.{option_map}
 use Rattle.std.specs.Option.{option_or}
 use Rattle.std.proofs.lemmas.List.{append-nil}
-use Rattle.dgn_drawing.specs.declared.row.Row.{Row}
 use Rattle.dgn_drawing.specs.Values.{Displacement}
 use Rattle.dgn_drawing.specs.Element.{Element}
 use Rattle.dgn_drawing.specs.Rows.{row_of}
 use Rattle.dgn_drawing.specs.Spelling.{spelling}
-use Rattle.dgn_drawing.specs.Nesting.{NoTree, flat, itself}
+use Rattle.dgn_drawing.specs.Nesting.{NoTree, flat}
 use Rattle.dgn_drawing.specs.Numbering.{Mark, mark_of}
 use Rattle.edit_ops.proofs.TreesBehind.{first_spelled}
 use Rattle.edit_ops.specs.declared.causes.cause.Cause.{Cause}
@@ -47,88 +46,86 @@ module _ (dim : ℕ) (es : List Element) (by : Option Displacement) where
       ap (option_or (import_cause dim es by n)) (cause_both ns ms)
       ∙ or_three (import_cause dim es by n) (cause_of_roots dim es by ns) (cause_of_roots dim es by ms)
 
-  module _ (rows : List Row) where
-    -- the trees that are taken of the roots before number k, which nothing refuses
-    pub record AreGathered (k : ℕ) (bytes : List ℕ) (count : ℕ) : Type 0 where
-      pub done : List ℕ
-      pub at : StandsAt es rows (is_taken es) k done
-      pub text : bytes ≡ text_of done
-      pub none : cause_of_roots dim es by done ≡ None
-      pub counted : count ≡ length done
+  -- the trees that are taken of the roots before number k, which nothing refuses
+  pub record AreGathered (k : ℕ) (bytes : List ℕ) (count : ℕ) : Type 0 where
+    pub done : List ℕ
+    pub at : StandsAt es (is_taken es) k done
+    pub text : bytes ≡ text_of done
+    pub none : cause_of_roots dim es by done ≡ None
+    pub counted : count ≡ length done
 
-    module _ (nesting : rows ≡ map row_of es) where
-      pub none_gathered : (bytes : List ℕ) → bytes ≡ [] → AreGathered 0 bytes 0
-      none_gathered bytes none = record { done = []; at = stands_first es rows nesting (is_taken es); text = none; none = refl; counted = refl }
+  pub none_gathered : (bytes : List ℕ) → bytes ≡ [] → AreGathered 0 bytes 0
+  none_gathered bytes none = record { done = []; at = stands_first es (is_taken es); text = none; none = refl; counted = refl }
 
-      module _ (k count : ℕ) (bytes : List ℕ) (are : AreGathered k bytes count) (known : k < length es) where
-        module _ (passes : is_taken es k ≡ true) where
-          abbrev rest : List ℕ
-          rest = (first_passes es rows nesting (is_taken es) k are.done are.at known passes).0
+  module _ (k count : ℕ) (bytes : List ℕ) (are : AreGathered k bytes count) (known : k < length es) where
+    module _ (passes : is_taken es k ≡ true) where
+      abbrev rest : List ℕ
+      rest = (first_passes es (is_taken es) k are.done are.at known passes).0
 
-          all : are.done ++ k ∷ rest ≡ taken es
-          all = ap (λ (ns : List ℕ). are.done ++ ns) (sym (first_passes es rows nesting (is_taken es) k are.done are.at known passes).1) ∙ are.at.all
+      all : are.done ++ k ∷ rest ≡ taken es
+      all = ap (λ (ns : List ℕ). are.done ++ ns) (sym (first_passes es (is_taken es) k are.done are.at known passes).1) ∙ are.at.all
 
-          -- there are more elements than trees so far
-          pub more_elements : count < length es
-          more_elements = omega (arith, are.counted, ap (length {A = ℕ}) all, length-append are.done (k ∷ rest), chosen_few es (is_taken es))
+      -- there are more elements than trees so far
+      pub more_elements : count < length es
+      more_elements = omega (arith, are.counted, ap (length {A = ℕ}) all, length-append are.done (k ∷ rest), chosen_few es (is_taken es))
 
-          first_refused : (c : Cause) → import_cause dim es by k ≡ Some c → cause_of_roots dim es by (taken es) ≡ Some c
-          first_refused c is =
-              ap (cause_of_roots dim es by) (sym all)
-              ∙ cause_both are.done (k ∷ rest)
-              ∙ ap (λ (o : Option Cause). option_or o (cause_of_roots dim es by (k ∷ rest))) are.none
-              ∙ ap (λ (o : Option Cause). option_or o (cause_of_roots dim es by rest)) is
+      first_refused : (c : Cause) → import_cause dim es by k ≡ Some c → cause_of_roots dim es by (taken es) ≡ Some c
+      first_refused c is =
+          ap (cause_of_roots dim es by) (sym all)
+          ∙ cause_both are.done (k ∷ rest)
+          ∙ ap (λ (o : Option Cause). option_or o (cause_of_roots dim es by (k ∷ rest))) are.none
+          ∙ ap (λ (o : Option Cause). option_or o (cause_of_roots dim es by rest)) is
 
-          -- where the tree of the root is refused, it is the first
-          pub next_refused : (f : ImportFault) → TellsCause (import_cause dim es by k) f → TellsCause (cause_of_roots dim es by (taken es)) f
-          next_refused (faults.Refused cause) is = first_refused cause is
-          next_refused (faults.Bad fault) is = absurd is
-          next_refused faults.Dimension is = absurd is
-          next_refused faults.Memory is = tt
+      -- where the tree of the root is refused, it is the first
+      pub next_refused : (f : ImportFault) → TellsCause (import_cause dim es by k) f → TellsCause (cause_of_roots dim es by (taken es)) f
+      next_refused (faults.Refused cause) is = first_refused cause is
+      next_refused (faults.Bad fault) is = absurd is
+      next_refused faults.Dimension is = absurd is
+      next_refused faults.Memory is = tt
 
-        module _ (end : ℕ) (ends : Some end ≡ option_map (λ (m : Mark). m.end) (mark_of itself rows k)) where
-          pub goes_on : k < end
-          goes_on = further es rows nesting (is_taken es) k end are.done are.at known ends
+    module _ (end : ℕ) (ends : Some end ≡ option_map (λ (m : Mark). m.end) (mark_of row_of es k)) where
+      pub goes_on : k < end
+      goes_on = further es (is_taken es) k end are.done are.at known ends
 
-          -- a root whose tree isn't taken
-          pub next_left : is_taken es k ≡ false → AreGathered end bytes count
-          next_left fails = record {
-            done = are.done;
-            at = stands_left es rows nesting (is_taken es) k end are.done are.at known ends fails;
-            text = are.text;
-            none = are.none;
-            counted = are.counted;
-          }
+      -- a root whose tree isn't taken
+      pub next_left : is_taken es k ≡ false → AreGathered end bytes count
+      next_left fails = record {
+        done = are.done;
+        at = stands_left es (is_taken es) k end are.done are.at known ends fails;
+        text = are.text;
+        none = are.none;
+        counted = are.counted;
+      }
 
-          -- the tree of a root that is put behind the others
-          pub next_gathered : is_taken es k ≡ true → (after : List ℕ) → import_cause dim es by k ≡ None → after ≡ bytes
-              ++ spelling (flat (import_tree dim es by k))
-              → AreGathered end after (count + 1)
-          next_gathered passes after sound is = record {
-            done = are.done ++ k ∷ [];
-            at = stands_taken es rows nesting (is_taken es) k end are.done are.at known ends passes;
-            text =
-                is
-                ∙ ap (λ (b : List ℕ). b ++ spelling (flat (import_tree dim es by k))) are.text
-                ∙ ap (λ (b : List ℕ). text_of are.done ++ b) (sym (text_one k))
-                ∙ sym (text_both are.done (k ∷ []));
-            none =
-                cause_both are.done (k ∷ [])
-                ∙ ap (λ (o : Option Cause). option_or o (cause_of_roots dim es by (k ∷ []))) are.none
-                ∙ ap (λ (o : Option Cause). option_or o None) sound;
-            counted = omega (arith, are.counted, length-append are.done (k ∷ []));
-          }
+      -- the tree of a root that is put behind the others
+      pub next_gathered : is_taken es k ≡ true → (after : List ℕ) → import_cause dim es by k ≡ None → after ≡ bytes
+          ++ spelling (flat (import_tree dim es by k))
+          → AreGathered end after (count + 1)
+      next_gathered passes after sound is = record {
+        done = are.done ++ k ∷ [];
+        at = stands_taken es (is_taken es) k end are.done are.at known ends passes;
+        text =
+            is
+            ∙ ap (λ (b : List ℕ). b ++ spelling (flat (import_tree dim es by k))) are.text
+            ∙ ap (λ (b : List ℕ). text_of are.done ++ b) (sym (text_one k))
+            ∙ sym (text_both are.done (k ∷ []));
+        none =
+            cause_both are.done (k ∷ [])
+            ∙ ap (λ (o : Option Cause). option_or o (cause_of_roots dim es by (k ∷ []))) are.none
+            ∙ ap (λ (o : Option Cause). option_or o None) sound;
+        counted = omega (arith, are.counted, length-append are.done (k ∷ []));
+      }
 
-      -- behind the last root all are
-      module _ (k count : ℕ) (bytes : List ℕ) (are : AreGathered k bytes count) (past : length es ≤ k) where
-        done_all : are.done ≡ taken es
-        done_all = all_found es rows nesting (is_taken es) k are.done past are.at
+  -- behind the last root all are
+  module _ (k count : ℕ) (bytes : List ℕ) (are : AreGathered k bytes count) (past : length es ≤ k) where
+    done_all : are.done ≡ taken es
+    done_all = all_found es (is_taken es) k are.done past are.at
 
-        pub all_gathered : bytes ≡ spelling (flat (import_trees dim es by (taken es)))
-        all_gathered = are.text ∙ ap text_of done_all
+    pub all_gathered : bytes ≡ spelling (flat (import_trees dim es by (taken es)))
+    all_gathered = are.text ∙ ap text_of done_all
 
-        pub all_accepted : cause_of_roots dim es by (taken es) ≡ None
-        all_accepted = ap (cause_of_roots dim es by) (sym done_all) ∙ are.none
+    pub all_accepted : cause_of_roots dim es by (taken es) ≡ None
+    all_accepted = ap (cause_of_roots dim es by) (sym done_all) ∙ are.none
 
-        pub all_counted : count ≡ length (taken es)
-        all_counted = are.counted ∙ ap (length {A = ℕ}) done_all
+    pub all_counted : count ≡ length (taken es)
+    all_counted = are.counted ∙ ap (length {A = ℕ}) done_all

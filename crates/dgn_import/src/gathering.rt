@@ -1,8 +1,7 @@
-ghost use Rattle.std.specs.Prelude.{◌≡◌, ◌<◌, ◌++◌, length, map, option_map, IfOk, IfErr, IfSome, OnOk, None};
-ghost use Rattle.dgn_drawing.specs.Rows.{row_of};
+ghost use Rattle.std.specs.Prelude.{◌≡◌, ◌<◌, ◌++◌, length, option_map, IfOk, IfErr, IfSome, OnOk, None};
 ghost use Rattle.dgn_drawing.specs.Nesting.{flat};
 ghost use Rattle.dgn_drawing.specs.Spelling.{spelling};
-ghost use Rattle.elem_index.specs.Design.{elements, IsWhole};
+ghost use Rattle.elem_index.specs.Design.{elements};
 ghost use Rattle.dgn_drawing.specs.Values.{IsShift};
 ghost use Rattle.dgn_import.specs.Seconds.{value_of, IsOpened};
 ghost use Rattle.dgn_import.specs.Gathering.{AreTrees, Trees, fits, gathered, gathered_in, taken, import_tree, import_trees, import_cause, cause_of_roots};
@@ -14,8 +13,7 @@ use crate::second::Second;
 use crate::taking::is_taken;
 use dgn_drawing::Shift;
 use edit_ops::{copy_tree, part_bytes, part_end};
-use elem_index::Design;
-use nest_tree::types::Nest;
+use level_view::Drawing;
 use patch_bytes::ByteList;
 use std::alloc::Global;
 use std::mem;
@@ -45,7 +43,7 @@ pub fn gather(
     ensures trees { IfOk result (λ g. AreTrees dim g.bytes) }
 {
     match second {
-        Second::Good(design, nest) => gather_from(alloc, dim, design, nest, by),
+        Second::Good(design, nest) => gather_from(alloc, dim, &Drawing::new(design, nest), by),
         Second::Bad(fault) => Err(ImportFault::Bad(*fault)),
     }
 }
@@ -54,22 +52,20 @@ pub fn gather(
 fn gather_from(
     alloc: Global,
     dim: u8,
-    d: &Design,
-    t: &Nest,
+    d: &Drawing<'_>,
     by: Option<&Shift>,
 ) -> Result<Gathered, ImportFault>
-    requires whole { IsWhole d.now }
-    requires nesting { t.now.rows ≡ map row_of (elements d.now) }
     ensures gathered { IfOk result
         (λ g. gathered_in dim d.now.dim (elements d.now) (option_map (λ b. b.now) by.entry) ≡ Trees g.bytes g.trees) }
     ensures refused { IfErr result
         (TellsFault (gathered_in dim d.now.dim (elements d.now) (option_map (λ b. b.now) by.entry))) }
     ensures trees { IfOk result (λ g. AreTrees dim g.bytes) }
 {
-    if !fits(dim, d.dim, by) {
+    d.is_whole();
+    if !fits(dim, d.dim(), by) {
         return Err(ImportFault::Dimension);
     }
-    taken_trees(alloc, d, t, by)
+    taken_trees(alloc, d, by)
 }
 
 // Whether a drawing of dimension `own` has that of the other, and the displacement is given for its axes.
@@ -86,14 +82,7 @@ fn fits(dim: u8, own: u8, by: Option<&Shift>) -> bool
 // The trees that are taken, as they stand or displaced; or the first cause of the first of them whose displacement is
 // refused. Nothing is kept of a tree but its bytes; what the copy of one of several elements takes is given back before
 // the next.
-fn taken_trees(
-    alloc: Global,
-    d: &Design,
-    t: &Nest,
-    by: Option<&Shift>,
-) -> Result<Gathered, ImportFault>
-    requires whole { IsWhole d.now }
-    requires nesting { t.now.rows ≡ map row_of (elements d.now) }
+fn taken_trees(alloc: Global, d: &Drawing<'_>, by: Option<&Shift>) -> Result<Gathered, ImportFault>
     ensures bytes { IfOk result
         (λ g. g.bytes ≡ spelling (flat (import_trees d.now.dim (elements d.now) (option_map (λ b. b.now) by.entry) (taken (elements d.now))))) }
     ensures trees { IfOk result (λ g. g.trees ≡ length (taken (elements d.now))) }
@@ -102,18 +91,19 @@ fn taken_trees(
     ensures refused { IfErr result
         (TellsCause (cause_of_roots d.now.dim (elements d.now) (option_map (λ b. b.now) by.entry) (taken (elements d.now)))) }
 {
+    d.is_whole();
     let mut room = Vec::new(alloc);
-    room.reserve(d.body.len())?;
+    room.reserve(d.body().len())?;
     let mut bytes = ByteList::from_vec(room);
     let mut trees = 0;
     let count = d.count();
     let mut root = 0;
     'roots: while root < count {
-        if is_taken(d, t, root) {
-            push_tree(alloc, d, t, root, by, &mut bytes)?;
+        if is_taken(d, root) {
+            push_tree(alloc, d, root, by, &mut bytes)?;
             trees += 1;
         }
-        root = part_end(t, root);
+        root = part_end(d, root);
     }
     Ok(Gathered { bytes, trees })
 }
@@ -122,14 +112,11 @@ fn taken_trees(
 // displacement is refused.
 fn push_tree(
     alloc: Global,
-    d: &Design,
-    t: &Nest,
+    d: &Drawing<'_>,
     n: u32,
     by: Option<&Shift>,
     out: &mut ByteList,
 ) -> Result<(), ImportFault>
-    requires whole { IsWhole d.now }
-    requires nesting { t.now.rows ≡ map row_of (elements d.now) }
     requires known { n < length (elements d.now) }
     ensures pushed { OnOk result
         (out.new ≡ out.old ++ spelling (flat (import_tree d.now.dim (elements d.now) (option_map (λ b. b.now) by.entry) n))) }
@@ -141,10 +128,10 @@ fn push_tree(
     match by {
         None => {
             let mut bytes = mem::replace(out, ByteList::new(alloc)).into_vec();
-            bytes.extend_from_slice(part_bytes(d, t, n))?;
+            bytes.extend_from_slice(part_bytes(d, n))?;
             *out = ByteList::from_vec(bytes);
         }
-        Some(by) => copy_tree(alloc, d, t, n, by, out)?,
+        Some(by) => copy_tree(alloc, d, n, by, out)?,
     }
     Ok(())
 }

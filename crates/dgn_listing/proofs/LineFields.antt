@@ -3,19 +3,17 @@ use Rattle.std.proofs.Common.{ℕ, ◌≡◌, ◌<◌, ◌+◌, ◌-◌, codes, 
 use Rattle.std.specs.Prelude.{Option, Some, None, option_map, slice_get, Bool, is_some, not, ◌&&◌, ◌==◌, ◌≤◌}
 use Rattle.elem_head.specs.declared.types.Head.{Head}
 use Rattle.elem_head.specs.Head.{head_of}
-use Rattle.dgn_drawing.specs.declared.row.Row.{Row}
 use Rattle.dgn_drawing.specs.Element.{Element}
 use Rattle.dgn_drawing.specs.Spelling.{spell}
 use Rattle.dgn_drawing.specs.WellFormed.{IsDimension, IsWellFormed}
 use Rattle.dgn_drawing.specs.Rows.{row_of}
-use Rattle.dgn_drawing.specs.Nesting.{Forest, forest, itself}
-use Rattle.dgn_drawing.specs.Numbering.{Mark, marks_of, mark_of, depth_of, knot_of, parent_of, span_of, is_orphan}
+use Rattle.dgn_drawing.specs.Nesting.{forest}
+use Rattle.dgn_drawing.specs.Numbering.{Mark, mark_of, depth_of, knot_of, parent_of, span_of, is_orphan}
 use Rattle.dgn_drawing.proofs.FirstElements.{dimension_is}
 use Rattle.dgn_drawing.proofs.FieldPlaces.{head-sits}
 use Rattle.dgn_drawing.proofs.RecordsRead.{size-spell}
 use Rattle.nest_tree.specs.declared.knot.Knot.{Knot}
 use Rattle.nest_tree.specs.Shapes.{code_knot}
-use Rattle.nest_tree.proofs.ByRows.{forest_rows, marks-map}
 use Rattle.elem_index.specs.declared.design.Design.{Design}
 use Rattle.elem_index.specs.Design.{elements, IsWhole}
 use Rattle.elem_index.proofs.Places.{each_at}
@@ -23,13 +21,6 @@ use Rattle.dgn_listing.specs.declared.tree_line.TreeLine.{TreeLine}
 use Rattle.dgn_listing.specs.TreeTexts.{line_at, element_text, tree_text_by, tree_text}
 use Rattle.dgn_listing.specs.Lines.{texts_from, ending_text}
 use Rattle.dgn_listing.proofs.SpanEnds.{ends_behind}
-
--- the marks of elements are those of their rows
-marked : (es : List Element) (rows : List Row) (n : ℕ) → rows ≡ map row_of es → mark_of itself rows n ≡ mark_of row_of es n
-marked es rows n same =
-    ap (λ (rs : List Row). mark_of itself rs n) same
-    ∙ sym (ap (λ (f : Forest Row). slice_get (marks_of f) n) (forest_rows row_of es))
-    ∙ ap (λ (ms : List Mark). slice_get ms n) (marks-map row_of (forest row_of es) 0 0 None)
 
 -- the element whose spelling is given is the one there
 pub taken : (o : Option Element) (b : List ℕ) → Some b ≡ option_map spell o → (e : Element) × (o ≡ Some e) × (b ≡ spell e)
@@ -87,20 +78,17 @@ line_from n e (Some m) head depth knot parent is deep knotted below orphan orpha
     ≡ said_of n m.depth e.kind e.level (code_knot m.knot) e.deleted (is_orphan n m (row_of e)) = cc in
     ap Some same
 
-pub line_is : (d : Design) → IsWhole d → (rows : List Row) → rows ≡ map row_of (elements d)
-    → (n : ℕ) (b : List ℕ) (head : Head) (depth : ℕ) (knot : Knot) (parent : Option ℕ)
+pub line_is : (d : Design) → IsWhole d → (n : ℕ) (b : List ℕ) (head : Head) (depth : ℕ) (knot : Knot) (parent : Option ℕ)
     → Some b ≡ option_map spell (slice_get (elements d) n) → head ≡ head_of b
-    → Some depth ≡ depth_of itself rows n → Some knot ≡ option_map code_knot (knot_of itself rows n) → Some parent ≡ parent_of itself rows n
+    → Some depth ≡ depth_of row_of (elements d) n → Some knot ≡ option_map code_knot (knot_of row_of (elements d) n)
+    → Some parent ≡ parent_of row_of (elements d) n
     → (orphan : Bool) → orphan ≡ (not (n == 0) && not (is_some parent) && head.cbit)
     → Some (said_of n depth head.kind head.level knot head.deleted orphan) ≡ line_at n (slice_get (elements d) n) (mark_of row_of (elements d) n)
-line_is d whole rows same n b head depth knot parent is read deep knotted below orphan orphaned =
+line_is d whole n b head depth knot parent is read deep knotted below orphan orphaned =
     let this = taken (slice_get (elements d) n) b is in
     let here : HeadIs this.0 head = subst (HeadIs this.0) (sym (read ∙ ap head_of this.2)) (head_is d whole n this.0 this.1) in
-    let mark = marked (elements d) rows n same in
     line_from n this.0 (mark_of row_of (elements d) n) head depth knot parent here
-    (deep ∙ ap (option_map (λ (m : Mark). m.depth)) mark)
-    (knotted ∙ ap (λ (r : Option Mark). option_map code_knot (option_map (λ (m : Mark). m.knot) r)) mark)
-    (below ∙ ap (option_map (λ (m : Mark). m.parent)) mark) orphan orphaned
+    deep knotted below orphan orphaned
     ∙ ap (λ (o : Option Element). line_at n o (mark_of row_of (elements d) n)) (sym this.1)
 
 -- the span of an element, by the marks of the elements
@@ -125,7 +113,6 @@ spanned_from es n first end (Some m) marks span =
           ∙ ap (λ (k : ℕ). texts_from (element_text es) k (end - k) ++ ending_text (codes "tree") (end - k)) (sym first_is);
     }
 
-pub spanned : (es : List Element) (rows : List Row) → rows ≡ map row_of es → (n first end : ℕ) → Some (pair_of first end) ≡ span_of itself rows n
+pub spanned : (es : List Element) (n first end : ℕ) → Some (pair_of first end) ≡ span_of row_of es n
     → Spanned es n first end
-spanned es rows same n first end span =
-    spanned_from es n first end (mark_of row_of es n) refl (span ∙ ap (option_map (λ (m : Mark). pair_of n m.end)) (marked es rows n same))
+spanned es n first end span = spanned_from es n first end (mark_of row_of es n) refl span

@@ -4,14 +4,14 @@ ghost use Rattle.std.specs.Prelude.{◌≡◌, ◌+◌, ◌-◌, ◌<◌, ◌^�
 ghost use Rattle.std.specs.Option.{unwrap_or};
 ghost use Rattle.std.specs.Map.{lookup};
 ghost use Rattle.indexmap.specs.IndexMap.{insert_entry};
-ghost use Rattle.elem_index.specs.Design.{elements, IsWhole};
+ghost use Rattle.elem_index.specs.Design.{elements};
 ghost use Rattle.dgn_listing.specs.Lines.{Appends};
 ghost use Rattle.dgn_listing.specs.Counts.{counts, count_line, count_lines};
 
 use crate::listed::listed_at;
 use crate::pieces::{put, put_field, put_number};
-use elem_index::Design;
 use indexmap::IndexMap;
+use level_view::Drawing;
 use std::alloc::{AllocError, Global};
 
 // How many elements there are of each level and of each type, in the order in which these are first seen.
@@ -22,8 +22,7 @@ pub(crate) struct Totals {
 }
 
 // Counts the elements of a design by level and by type.
-pub(crate) fn totals_of(alloc: Global, d: &Design) -> Result<Totals, AllocError>
-    requires { IsWhole d.now }
+pub(crate) fn totals_of(alloc: Global, d: &Drawing<'_>) -> Result<Totals, AllocError>
     ensures levels { IfOk result
         (λ c. c.levels.entries ≡ counts (map (λ e. e.level) (elements d.now))) }
     ensures types { IfOk result

@@ -2,14 +2,14 @@
 // are.
 
 ghost use Rattle.std.specs.Prelude.{length};
-ghost use Rattle.elem_index.specs.Design.{elements, IsWhole};
+ghost use Rattle.elem_index.specs.Design.{elements};
 ghost use Rattle.dgn_listing.specs.Lines.{texts_from, Appends};
 ghost use Rattle.dgn_listing.specs.ElementTexts.{sign_text, signs_text, places_text, listed_text, element_line, totals_text, elements_text};
 
 use crate::counts::{put_counts, totals_of};
 use crate::listed::{Listed, listed_at};
 use crate::pieces::{put, put_ending, put_fields};
-use elem_index::Design;
+use level_view::Drawing;
 use std::alloc::{AllocError, Global};
 
 /// Appends what `elements` says of the design `d`: a line for each element in file order, a line `level L K`
@@ -19,8 +19,7 @@ use std::alloc::{AllocError, Global};
 /// The line of an element is its number, the byte at which it begins, how many bytes it has, its type, its
 /// level, and two signs side by side: `c` where it has bit C, `d` where it is marked deleted itself, and a
 /// dash where not. Where there is no memory, `out` has grown by a front of that text.
-pub fn write_elements(alloc: Global, out: &mut Vec<u8>, d: &Design) -> Result<(), AllocError>
-    requires { IsWhole d.now }
+pub fn write_elements(alloc: Global, out: &mut Vec<u8>, d: &Drawing<'_>) -> Result<(), AllocError>
     ensures { Appends result (elements_text (elements d.now)) out.old.items out.new.items }
 {
     put_elements(out, d)?;
@@ -29,8 +28,7 @@ pub fn write_elements(alloc: Global, out: &mut Vec<u8>, d: &Design) -> Result<()
 }
 
 // Appends the lines of all elements.
-fn put_elements(out: &mut Vec<u8>, d: &Design) -> Result<(), AllocError>
-    requires { IsWhole d.now }
+fn put_elements(out: &mut Vec<u8>, d: &Drawing<'_>) -> Result<(), AllocError>
     ensures { Appends result (texts_from (element_line (elements d.now)) 0 (length (elements d.now))) out.old.items out.new.items }
 {
     for n in 0..d.count() {
@@ -40,8 +38,7 @@ fn put_elements(out: &mut Vec<u8>, d: &Design) -> Result<(), AllocError>
 }
 
 // Appends the line of element `n`, where there is one.
-fn put_element(out: &mut Vec<u8>, d: &Design, n: u32) -> Result<(), AllocError>
-    requires { IsWhole d.now }
+fn put_element(out: &mut Vec<u8>, d: &Drawing<'_>, n: u32) -> Result<(), AllocError>
     ensures { Appends result (element_line (elements d.now) n) out.old.items out.new.items }
 {
     match listed_at(d, n) {
@@ -91,8 +88,7 @@ fn put_sign(out: &mut Vec<u8>, sign: &[u8], set: bool) -> Result<(), AllocError>
 }
 
 // Appends the lines of the levels and of the types.
-fn put_totals(alloc: Global, out: &mut Vec<u8>, d: &Design) -> Result<(), AllocError>
-    requires { IsWhole d.now }
+fn put_totals(alloc: Global, out: &mut Vec<u8>, d: &Drawing<'_>) -> Result<(), AllocError>
     ensures { Appends result (totals_text (elements d.now)) out.old.items out.new.items }
 {
     let totals = totals_of(alloc, d)?;

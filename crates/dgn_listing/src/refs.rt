@@ -1,14 +1,14 @@
 // What `refs` says: a line for each element that may attach a reference file, and how many there are.
 
 ghost use Rattle.std.specs.Prelude.{◌≡◌, length};
-ghost use Rattle.elem_index.specs.Design.{elements, IsWhole};
+ghost use Rattle.elem_index.specs.Design.{elements};
 ghost use Rattle.dgn_listing.specs.Lines.{texts_from, Appends};
 ghost use Rattle.dgn_listing.specs.RefTexts.{is_ref, place_text, ref_text, ref_line, ref_count, refs_text};
 
 use crate::listed::{Listed, listed_at};
 use crate::pieces::{put, put_ending, put_fields, put_number};
 use crate::tree::put_state;
-use elem_index::Design;
+use level_view::Drawing;
 use std::alloc::{AllocError, Global};
 
 /// Appends what `refs` says of the design `d`: a line for each element of type 5 on level 9, in file order, and
@@ -16,8 +16,7 @@ use std::alloc::{AllocError, Global};
 ///
 /// A line is the element's number, the byte at which it begins, how many bytes it has, and `live` or `deleted` by
 /// the element's own bit. Where there is no memory, `out` has grown by a front of that text.
-pub fn write_refs(alloc: Global, out: &mut Vec<u8>, d: &Design) -> Result<(), AllocError>
-    requires { IsWhole d.now }
+pub fn write_refs(alloc: Global, out: &mut Vec<u8>, d: &Drawing<'_>) -> Result<(), AllocError>
     ensures { Appends result (refs_text (elements d.now)) out.old.items out.new.items }
 {
     put_refs(out, d)?;
@@ -32,8 +31,7 @@ fn is_ref(kind: u8, level: u8) -> bool
 }
 
 // How many such elements there are.
-fn ref_count(d: &Design) -> usize
-    requires { IsWhole d.now }
+fn ref_count(d: &Drawing<'_>) -> usize
     ensures { result ≡ ref_count (elements d.now) }
 {
     let mut found = 0;
@@ -49,8 +47,7 @@ fn ref_count(d: &Design) -> usize
 }
 
 // Appends the lines of all such elements.
-fn put_refs(out: &mut Vec<u8>, d: &Design) -> Result<(), AllocError>
-    requires { IsWhole d.now }
+fn put_refs(out: &mut Vec<u8>, d: &Drawing<'_>) -> Result<(), AllocError>
     ensures { Appends result (texts_from (ref_line (elements d.now)) 0 (length (elements d.now))) out.old.items out.new.items }
 {
     for n in 0..d.count() {
@@ -60,8 +57,7 @@ fn put_refs(out: &mut Vec<u8>, d: &Design) -> Result<(), AllocError>
 }
 
 // Appends the line of element `n`, where it is such a one.
-fn put_ref_line(out: &mut Vec<u8>, d: &Design, n: u32) -> Result<(), AllocError>
-    requires { IsWhole d.now }
+fn put_ref_line(out: &mut Vec<u8>, d: &Drawing<'_>, n: u32) -> Result<(), AllocError>
     ensures { Appends result (ref_line (elements d.now) n) out.old.items out.new.items }
 {
     match listed_at(d, n) {

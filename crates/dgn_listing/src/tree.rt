@@ -1,19 +1,17 @@
 // What `tree N` says: a line for each element from N to the last one below it, and how many there are.
 
-ghost use Rattle.std.specs.Prelude.{◌≡◌, ◌-◌, ◌<◌, ◌≤◌, length, map};
-ghost use Rattle.dgn_drawing.specs.Rows.{row_of};
-ghost use Rattle.elem_index.specs.Design.{elements, IsWhole};
+ghost use Rattle.std.specs.Prelude.{◌-◌, ◌<◌, ◌≤◌, length};
+ghost use Rattle.elem_index.specs.Design.{elements};
 ghost use Rattle.dgn_listing.specs.Lines.{texts_from, Appends};
 ghost use Rattle.dgn_listing.specs.TreeTexts.{knot_text, state_text, orphan_text, numbers_text, line_text, element_text, tree_text};
 
 use crate::pieces::{put, put_ending, put_fields};
 use crate::tree_line::{TreeLine, tree_line};
-use elem_index::Design;
+use level_view::Drawing;
 use nest_tree::Knot;
-use nest_tree::types::Nest;
 use std::alloc::{AllocError, Global};
 
-/// Appends what `tree N` says of element `n` of the design `d`, of which `t` is the nesting: a line for
+/// Appends what `tree N` says of element `n` of the design `d`: a line for
 /// each element of its span, and `tree K` with their number.
 ///
 /// A line is the element's number, depth, type, level and knot, `live` or `deleted` by the element's own
@@ -22,48 +20,35 @@ use std::alloc::{AllocError, Global};
 pub fn write_tree(
     alloc: Global,
     out: &mut Vec<u8>,
-    d: &Design,
-    t: &Nest,
+    d: &Drawing<'_>,
     n: u32,
 ) -> Result<(), AllocError>
-    requires whole { IsWhole d.now }
-    requires nesting { t.now.rows ≡ map row_of (elements d.now) }
     requires known { n < length (elements d.now) }
     ensures { Appends result (tree_text (elements d.now) n) out.old.items out.new.items }
 {
-    let Some((first, end)) = t.span(n) else {
+    let Some((first, end)) = d.span(n) else {
         unreachable!()
     };
-    put_elements(out, d, t, first, end)?;
+    put_elements(out, d, first, end)?;
     put_ending(out, b"tree", (end - first) as usize)
 }
 
 // Appends the lines of the elements from `first` on and before `end`.
-fn put_elements(
-    out: &mut Vec<u8>,
-    d: &Design,
-    t: &Nest,
-    first: u32,
-    end: u32,
-) -> Result<(), AllocError>
-    requires whole { IsWhole d.now }
-    requires nesting { t.now.rows ≡ map row_of (elements d.now) }
+fn put_elements(out: &mut Vec<u8>, d: &Drawing<'_>, first: u32, end: u32) -> Result<(), AllocError>
     requires ordered { first ≤ end }
     ensures { Appends result (texts_from (element_text (elements d.now)) first (end - first)) out.old.items out.new.items }
 {
     for n in first..end {
-        put_element(out, d, t, n)?;
+        put_element(out, d, n)?;
     }
     Ok(())
 }
 
 // Appends the line of element `n`, where there is one.
-fn put_element(out: &mut Vec<u8>, d: &Design, t: &Nest, n: u32) -> Result<(), AllocError>
-    requires whole { IsWhole d.now }
-    requires nesting { t.now.rows ≡ map row_of (elements d.now) }
+fn put_element(out: &mut Vec<u8>, d: &Drawing<'_>, n: u32) -> Result<(), AllocError>
     ensures { Appends result (element_text (elements d.now) n) out.old.items out.new.items }
 {
-    match tree_line(d, t, n) {
+    match tree_line(d, n) {
         Some(line) => put_line(out, &line),
         None => Ok(()),
     }

@@ -1,15 +1,14 @@
 // What a line of a tree says of an element.
 
-ghost use Rattle.std.specs.Prelude.{◌≡◌, ◌==◌, ◌&&◌, not, is_some, map, slice_get};
+ghost use Rattle.std.specs.Prelude.{◌≡◌, ◌==◌, ◌&&◌, not, is_some, slice_get};
 ghost use Rattle.dgn_drawing.specs.Numbering.{mark_of};
 ghost use Rattle.dgn_drawing.specs.Rows.{row_of};
-ghost use Rattle.elem_index.specs.Design.{elements, IsWhole};
+ghost use Rattle.elem_index.specs.Design.{elements};
 ghost use Rattle.dgn_listing.specs.TreeTexts.{line_at};
 
 use elem_head::head;
-use elem_index::Design;
+use level_view::Drawing;
 use nest_tree::Knot;
-use nest_tree::types::Nest;
 
 // What is said of an element: its number, how many headers lie above it, its type and level, what it is
 // in its tree, whether it is marked deleted itself, and whether it is an orphan.
@@ -26,15 +25,14 @@ pub(crate) struct TreeLine {
 
 // What is said of element `n`, where there is one. An orphan is a root other than element 0 that has
 // bit C.
-pub(crate) fn tree_line(d: &Design, t: &Nest, n: u32) -> Option<TreeLine>
-    requires whole { IsWhole d.now }
-    requires nesting { t.now.rows ≡ map row_of (elements d.now) }
+pub(crate) fn tree_line(d: &Drawing<'_>, n: u32) -> Option<TreeLine>
     ensures { result ≡ line_at n (slice_get (elements d.now) n) (mark_of row_of (elements d.now) n) }
 {
+    d.is_whole();
     let bytes = d.element(n)?;
-    let depth = t.depth(n)?;
-    let knot = t.knot(n)?;
-    let parent = t.parent(n)?;
+    let depth = d.depth(n)?;
+    let knot = d.knot(n)?;
+    let parent = d.parent(n)?;
     let head = head(bytes);
     Some(TreeLine {
         number: n,

@@ -1,9 +1,6 @@
 -- What a session comes to when the plan of an edit is carried out on it.
-use Rattle.std.proofs.Common.{◌≡◌, ℕ, ◌+◌, List, ◌++◌, length, reverse, Option, sym, ap, subst, arith}
-use Rattle.plane_geom.specs.declared.pt.Pt.{Pt}
-use Rattle.undo_log.specs.LogState.{LogState}
+use Rattle.std.proofs.Common.{◌≡◌, ℕ, ◌+◌, List, ◌++◌, length, reverse, sym, ap, subst, arith}
 use Rattle.dgn_drawing.specs.declared.edit.Edit.{Edit}
-use Rattle.dgn_drawing.specs.declared.mask.Mask.{Mask}
 use Rattle.dgn_drawing.specs.Spelling.{spelling}
 use Rattle.dgn_drawing.proofs.Fronts.{body_spelled}
 use Rattle.elem_index.specs.declared.design.Design.{Design}
@@ -14,10 +11,12 @@ use Rattle.edit_ops.specs.Fields.{edited_fields}
 use Rattle.edit_ops.specs.Planned.{IsPlan}
 use Rattle.edit_ops.specs.Laws.{ChangesItsFields}
 use Rattle.edit_ops.proofs.EditLaws.{changes_fields}
+use Rattle.dgn_drawing.specs.Opening.{elements_of}
+use Rattle.dgn_session.proofs.DesignSeen.{as_seen}
+use Rattle.dgn_session.specs.SessionParts.{IsDesignOf}
 use Rattle.dgn_session.specs.State.{SessionValue, state_of, edit_applied}
 use Rattle.dgn_session.specs.Laws.{IsSessionValue}
 use Rattle.dgn_session.specs.Kept.{OpensAt}
-use Rattle.dgn_session.specs.SessionParts.{value_of}
 use Rattle.dgn_session.specs.SessionParts.{IsSoundPlan, plan_of, value_after}
 use Rattle.dgn_session.proofs.EditedBody.{edit_becomes}
 use Rattle.dgn_session.proofs.PlannedBody.{IsPlanned, plan_sound}
@@ -25,11 +24,11 @@ use Rattle.dgn_session.proofs.PlanCarriedOut.{HasMade, has_made}
 use Rattle.dgn_session.proofs.LastEditBack.{opens_kept}
 
 -- a plan of an edit of a session's drawing, by its value
-pub plan_seen : (d : Design) (l : LogState) (mask : Mask) (fence : Option (List Pt)) (old : SessionValue) → value_of d l mask fence ≡ old
+pub plan_seen : (d : Design) (old : SessionValue) → IsDesignOf old d
     → (e : Edit) (p : Plan) (append : List ℕ) → append ≡ p.append → IsPlan d.dim (elements d) (length d.tail.items + 0) e p
     → IsPlan old.dim (state_of old).top (length old.tail + 0) e (plan_of p.patches append)
-plan_seen d l mask fence old view e p append is plan =
-    subst (λ (v : SessionValue). IsPlan v.dim (state_of v).top (length v.tail + 0) e (plan_of p.patches append)) view
+plan_seen d old seen e p append is plan =
+    as_seen old d seen (λ dim b t. IsPlan dim (elements_of dim b) (length t + 0) e (plan_of p.patches append))
     (subst (λ (b : List ℕ). IsPlan d.dim (elements d) (length d.tail.items + 0) e (plan_of p.patches b)) (sym is) plan)
 
 -- a session before and after an edit that is done

@@ -1,5 +1,5 @@
 -- What the entries of a session lead back to, and what stands still.
-use Rattle.std.proofs.Common.{◌≡◌, ℕ, zero, suc, ◌≤◌, ◌<◌, List, [], ◌∷◌, length, take, map, drop, get_or, reverse, Option, Some, None, refl, sym, ap, ◌∙◌}
+use Rattle.std.proofs.Common.{◌≡◌, ℕ, zero, suc, ◌≤◌, ◌<◌, List, [], ◌∷◌, length, take, map, drop, get_or, reverse, Some, refl, sym, ap, ◌∙◌}
 use Rattle.std.proofs.Common.{subst, arith}
 use Rattle.std.specs.Prelude.{slice_get}
 use Rattle.std.specs.List.{AllByRecursion}
@@ -16,39 +16,13 @@ use Rattle.dgn_drawing.specs.Rows.{row_of}
 use Rattle.dgn_drawing.specs.Opening.{elements_of}
 use Rattle.dgn_drawing.proofs.Fronts.{body_spelled}
 use Rattle.elem_index.specs.Offsets.{offset_of}
-use Rattle.edit_ops.specs.Applying.{Applied, Done, Refused}
-use Rattle.dgn_session.specs.State.{State, push_made, push_if_made, drop_top, after_undo, edit_applied, fence_applied, undo_refused, earlier_of}
+use Rattle.dgn_session.specs.State.{earlier_of}
 use Rattle.dgn_session.specs.Kept.{rows_of, AreKept}
-use Rattle.dgn_session.specs.Laws.{EditsAreUndone, FenceEditsAreUndone, ImportsAreUndone, last_of, opened_in, OpenedStay, EntriesAreCounted}
+use Rattle.dgn_session.specs.Laws.{EntriesAreCounted}
 use Rattle.dgn_session.specs.Laws.{EntriesLeadBack, IsUnheld, OpenedStandsStill}
 use Rattle.dgn_session.proofs.FrontSizes.{front_long}
 use Rattle.dgn_session.proofs.LastEditBack.{leads_fit, opens_kept}
 use Rattle.dgn_session.proofs.Steps.{bodies_first}
-
-pub edits_are_undone : EditsAreUndone
-edits_are_undone s e made done = (ap (λ (a : Applied). after_undo (push_made a s)) done, ap (λ (a : Applied). undo_refused (push_made a s)) done)
-
-pub fence_edits_are_undone : FenceEditsAreUndone
-fence_edits_are_undone s mode e made done =
-    (ap (λ (a : Option Applied). after_undo (push_if_made a s)) done, ap (λ (a : Option Applied). undo_refused (push_if_made a s)) done)
-
-pub imports_are_undone : ImportsAreUndone
-imports_are_undone s new = (refl, refl)
-
-pub pushed_stays : (s : State) (a : Applied) → opened_in (push_made a s) ≡ opened_in s
-pushed_stays s (Done made) = refl
-pushed_stays s (Refused cause) = refl
-
-dropped_stays : (s : State) (earlier : List (List Element)) → s.earlier ≡ earlier → opened_in (drop_top earlier s) ≡ opened_in s
-dropped_stays s [] is = refl
-dropped_stays s (es ∷ earlier) is = sym (ap (last_of s.top) is)
-
-pushed_if_stays : (s : State) (a : Option Applied) → opened_in (push_if_made a s) ≡ opened_in s
-pushed_if_stays s None = refl
-pushed_if_stays s (Some a) = pushed_stays s a
-
-pub opened_stay : OpenedStay
-opened_stay s = (λ e. pushed_stays s (edit_applied e s), λ mode e. pushed_if_stays s (fence_applied mode e s), λ new. refl, dropped_stays s s.earlier refl)
 
 length-bodies : (b : List ℕ) (es : List Entry) → length (drop 1 (bodies b es)) ≡ length es
 length-bodies b [] = refl

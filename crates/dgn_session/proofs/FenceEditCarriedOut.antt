@@ -2,7 +2,6 @@
 use Rattle.std.proofs.Common.{◌≡◌, ℕ, List, [], ◌∷◌, ◌++◌, length, reverse, Option, refl, sym, ap, ◌∙◌, subst, arith}
 use Rattle.std.specs.Prelude.{Some, option_map}
 use Rattle.plane_geom.specs.declared.pt.Pt.{Pt}
-use Rattle.undo_log.specs.LogState.{LogState}
 use Rattle.dgn_drawing.specs.declared.fence_edit.FenceEdit.{FenceEdit}
 use Rattle.dgn_drawing.specs.declared.mask.Mask.{Mask}
 use Rattle.dgn_drawing.specs.declared.mode.Mode.{Mode}
@@ -17,10 +16,12 @@ use Rattle.edit_ops.specs.declared.types.plan.Plan.{Plan}
 use Rattle.edit_ops.specs.Applying.{Done}
 use Rattle.edit_ops.specs.Fenced.{apply_all, fenced_fields, AreRoots, IsFenceEdit}
 use Rattle.edit_ops.specs.Planned.{IsFencePlan}
+use Rattle.dgn_drawing.specs.Opening.{elements_of}
+use Rattle.dgn_session.proofs.DesignSeen.{as_seen}
+use Rattle.dgn_session.specs.SessionParts.{IsDesignOf}
 use Rattle.dgn_session.specs.State.{SessionValue, state_of, selection, push_if_made, fence_entry, value_with}
 use Rattle.dgn_session.specs.Laws.{IsSessionValue}
 use Rattle.dgn_session.specs.Kept.{OpensAt}
-use Rattle.dgn_session.specs.SessionParts.{value_of}
 use Rattle.dgn_session.specs.SessionParts.{IsSoundPlan, plan_of, value_after}
 use Rattle.dgn_session.proofs.EditedBody.{fence_becomes}
 use Rattle.dgn_session.proofs.PlannedBody.{IsPlanned, plan_sound}
@@ -28,20 +29,21 @@ use Rattle.dgn_session.proofs.PlanCarriedOut.{has_made}
 use Rattle.dgn_session.proofs.LastEditBack.{opens_kept}
 
 -- a plan of an edit of these roots of a session's drawing, by its value
-pub plan_seen : (d : Design) (l : LogState) (mask : Mask) (fence : Option (List Pt)) (old : SessionValue) → value_of d l mask fence ≡ old
+pub plan_seen : (d : Design) (old : SessionValue) → IsDesignOf old d
     → (e : FenceEdit) (ns : List ℕ) (p : Plan) (append : List ℕ) → append ≡ p.append
     → IsFencePlan d.dim (elements d) (length d.tail.items) e ns p
     → IsFencePlan old.dim (state_of old).top (length old.tail) e ns (plan_of p.patches append)
-plan_seen d l mask fence old view e ns p append is plan =
-    subst (λ (v : SessionValue). IsFencePlan v.dim (state_of v).top (length v.tail) e ns (plan_of p.patches append)) view
+plan_seen d old seen e ns p append is plan =
+    as_seen old d seen (λ dim b t. IsFencePlan dim (elements_of dim b) (length t) e ns (plan_of p.patches append))
     (subst (λ (b : List ℕ). IsFencePlan d.dim (elements d) (length d.tail.items) e ns (plan_of p.patches b)) (sym is) plan)
 
 -- the roots that are chosen, by its value
-pub roots_seen : (d : Design) (l : LogState) (mask : Mask) (fence : Option (List Pt)) (old : SessionValue) → value_of d l mask fence ≡ old
+pub roots_seen : (d : Design) (old : SessionValue) → IsDesignOf old d → (mask : Mask) → mask ≡ old.mask
     → (mode : Mode) (corners : List Pt) (ns : List ℕ) → ns ≡ selected d.dim mask corners mode (elements d)
     → ns ≡ selected old.dim old.mask corners mode (state_of old).top
-roots_seen d l mask fence old view mode corners ns are =
-    subst (λ (v : SessionValue). ns ≡ selected v.dim v.mask corners mode (state_of v).top) view are
+roots_seen d old seen mask shown mode corners ns are =
+    as_seen old d seen (λ dim b t. ns ≡ selected dim mask corners mode (elements_of dim b)) are
+    ∙ ap (λ (m : Mask). selected old.dim m corners mode (state_of old).top) shown
 
 -- a session before and after an edit of what is chosen, where it is done
 pub record IsFenceEdited (e : FenceEdit) (old new : SessionValue) (ns : List ℕ) (chosen : Option (List ℕ)) : Type 0 where

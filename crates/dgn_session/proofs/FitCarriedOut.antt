@@ -9,22 +9,21 @@ use Rattle.dgn_drawing.specs.Rows.{row_of}
 use Rattle.dgn_drawing.specs.Nesting.{BeginsFree}
 use Rattle.dgn_drawing.specs.Opening.{Opens}
 use Rattle.dgn_drawing.proofs.Fronts.{body_spelled}
-use Rattle.edit_ops.specs.Applying.{Applied, Done}
+use Rattle.edit_ops.specs.Applying.{Done}
 use Rattle.edit_ops.specs.Fields.{filled}
 use Rattle.dgn_audit.specs.Fitting.{apply_fit, fit_fields}
 use Rattle.dgn_audit.specs.Planned.{IsFitPlan}
 use Rattle.dgn_audit.proofs.FitKeepsRows.{fitted_opens, fits_change}
 use Rattle.dgn_audit.proofs.FindingsEnd.{ends_findings}
-use Rattle.dgn_session.specs.State.{SessionValue, state_of, push_made, after_undo, undo_refused}
+use Rattle.dgn_session.specs.State.{SessionValue, state_of}
 use Rattle.dgn_session.specs.Laws.{IsSessionValue}
 use Rattle.dgn_session.specs.Kept.{OpensAt}
 use Rattle.dgn_session.specs.SessionParts.{IsSoundPlan, plan_of, value_after}
-use Rattle.dgn_session.specs.Fits.{fit_applied, IsFit, FitsAreUndone, OpenedStayFitted}
+use Rattle.dgn_session.specs.Fits.{fit_applied, IsFit}
 use Rattle.dgn_session.proofs.EditedBody.{Become}
 use Rattle.dgn_session.proofs.PlannedBody.{IsPlanned, plan_sound}
 use Rattle.dgn_session.proofs.PlanCarriedOut.{HasMade, has_made}
 use Rattle.dgn_session.proofs.LastEditBack.{opens_kept}
-use Rattle.dgn_session.proofs.EntriesBack.{pushed_stays}
 use Rattle.dgn_drawing.specs.declared.limits.TheConstants.{MOST_DESIGN}
 
 -- the elements become the fitted ones
@@ -86,9 +85,3 @@ module _ (old : SessionValue) (sound : IsSessionValue old) (n : ℕ) (patches : 
       let has =
       has_made old (fit_fields old.dim (state_of old).top n) plan.made (plan_of patches []) planned (fit_applied n (state_of old)) plan.done new is in
       record { has = has; fitted = ends (state_of new).top has.accepted }
-
-pub fits_are_undone : FitsAreUndone
-fits_are_undone s n made done = (ap (λ (a : Applied). after_undo (push_made a s)) done, ap (λ (a : Applied). undo_refused (push_made a s)) done)
-
-pub opened_stay_fitted : OpenedStayFitted
-opened_stay_fitted s n = pushed_stays s (fit_applied n s)

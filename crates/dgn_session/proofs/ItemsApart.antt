@@ -5,54 +5,49 @@ use Rattle.std.specs.Prelude.{not, slice_get, option_map}
 use Rattle.std.specs.List.{AllByRecursion, list_any, list_all}
 use Rattle.std.specs.Option.{option_to_list}
 use Rattle.std.proofs.lemmas.Bool.{cases_Bool, cases_lt, cond-true, cond-false, or_parts}
-use Rattle.std.proofs.lemmas.List.{length-map}
 use Rattle.plane_geom.specs.declared.pt.Pt.{Pt}
 use Rattle.dgn_drawing.specs.declared.mode.Mode.{Mode}
 use Rattle.dgn_drawing.specs.declared.mask.Mask.{Mask}
-use Rattle.dgn_drawing.specs.declared.row.Row.{Row}
 use Rattle.dgn_drawing.specs.declared.types.item.Item.{Item}
 use Rattle.dgn_drawing.specs.Element.{Element}
 use Rattle.dgn_drawing.specs.Rows.{row_of}
 use Rattle.dgn_drawing.specs.Items.{item_of}
-use Rattle.dgn_drawing.specs.Nesting.{forest, itself}
+use Rattle.dgn_drawing.specs.Nesting.{forest}
 use Rattle.dgn_drawing.specs.Numbering.{Mark, mark_of}
 use Rattle.dgn_drawing.specs.Shown.{its_item, tree_shown, IsRoot}
 use Rattle.dgn_fence.specs.Segments.{segments_of}
 use Rattle.dgn_fence.specs.Taken.{takes, parts, has_some, overlaps, is_inside, begins_within, touches_fence}
 use Rattle.nest_tree.proofs.NestingSteps.{flat-forest}
 use Rattle.level_view.proofs.Numbers.{back_all}
-use Rattle.level_view.proofs.Places.{mark-rows, mark_part}
+use Rattle.level_view.proofs.Places.{mark_part}
 use Rattle.level_view.proofs.RootsOnward.{GoesOn, root_goes_on}
-use Rattle.level_view.proofs.TreeItems.{IsTree, parent_at, root_known, root_found}
+use Rattle.level_view.proofs.TreeItems.{IsTree, root_known, root_found}
 use Rattle.dgn_session.specs.Selecting.{HasNone}
 
 some_same : {A : Type 0} {x y : A} → Some x ≡ Some y → x ≡ y
 some_same is = cc
 
 -- the tree of a root
-module _ (es : List Element) (rows : List Row) (nesting : rows ≡ map row_of es) (root : ℕ) (is_root : IsRoot itself rows root) where
-  at : parent_at (mark_of row_of es root) ≡ Some None
-  at = ap parent_at (sym (mark-rows es rows root nesting)) ∙ is_root
+module _ (es : List Element) (root : ℕ) (is_root : IsRoot row_of es root) where
+  pub root_there : root < length es
+  root_there = root_known es root is_root
 
-  pub root_there : root < length rows
-  root_there = omega (arith, root_known es root at, ap (length {A = Row}) nesting, length-map es row_of)
-
-  pub tree_within : (end : ℕ) → Some end ≡ option_map (λ (m : Mark). m.end) (mark_of itself rows root) → end ≤ length es
+  pub tree_within : (end : ℕ) → Some end ≡ option_map (λ (m : Mark). m.end) (mark_of row_of es root) → end ≤ length es
   tree_within end ends =
-      let on : GoesOn es (forest row_of es) 0 root = root_goes_on es root (root_known es root at) at in
+      let on : GoesOn es (forest row_of es) 0 root = root_goes_on es root root_there is_root in
       let last : end ≡ on.mark.end =
-      mark_part (λ (m : Mark). m.end) on.mark (mark_of row_of es root) end (ends ∙ ap (option_map (λ (m : Mark). m.end)) (mark-rows es rows root nesting))
+      mark_part (λ (m : Mark). m.end) on.mark (mark_of row_of es root) end ends
       on.marked in
       let within = on.within in
       omega (arith, last, ap (length {A = Element}) (flat-forest row_of es))
 
-  module _ (dim : ℕ) (mask : Mask) (end : ℕ) (ends : Some end ≡ option_map (λ (m : Mark). m.end) (mark_of itself rows root)) where
+  module _ (dim : ℕ) (mask : Mask) (end : ℕ) (ends : Some end ≡ option_map (λ (m : Mark). m.end) (mark_of row_of es root)) where
     tree : IsTree dim mask es root (forest row_of es) 0
-    tree = root_found dim mask es root at (root_known es root at)
+    tree = root_found dim mask es root is_root root_there
 
     end_is : end ≡ tree.mark.end
     end_is = mark_part (λ (m : Mark). m.end) tree.mark (mark_of row_of es root) end
-        (ends ∙ ap (option_map (λ (m : Mark). m.end)) (mark-rows es rows root nesting)) tree.marked
+        ends tree.marked
 
 module _ (fence : List Pt) where
   -- an item of which no part overlaps
@@ -126,12 +121,12 @@ module _ (fence : List Pt) where
     ]
 
     -- so none of what the tree of a root shows
-    pub tree_clear : (rows : List Row) → rows ≡ map row_of es → (root end : ℕ) → IsRoot itself rows root
-        → Some end ≡ option_map (λ (m : Mark). m.end) (mark_of itself rows root) → ClearTo root end
+    pub tree_clear : (root end : ℕ) → IsRoot row_of es root
+        → Some end ≡ option_map (λ (m : Mark). m.end) (mark_of row_of es root) → ClearTo root end
         → (mask : Mask) → HasNone fence (tree_shown dim mask es root)
-    tree_clear rows nesting root end is_root ends clear mask =
-        let t = tree es rows nesting root is_root dim mask end ends in
-        let last = end_is es rows nesting root is_root dim mask end ends in
+    tree_clear root end is_root ends clear mask =
+        let t = tree es root is_root dim mask end ends in
+        let last = end_is es root is_root dim mask end ends in
         subst (HasNone fence) t.found
         (has_none _ (back_all IsClear dim mask es root (t.mark.end - root)
         (λ k depth e low high there. one_clear (item_of dim k depth e) (clear k depth e low (omega (arith, low, high, last, t.ordered)) there))))

@@ -3,6 +3,7 @@ pub mod EditedBody
 pub mod PlannedBody
 pub mod Steps
 pub mod PlanCarriedOut
+pub mod DesignSeen
 pub mod EditCarriedOut
 pub mod FenceEditCarriedOut
 pub mod EntriesBack

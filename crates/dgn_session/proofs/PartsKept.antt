@@ -8,7 +8,6 @@ use Rattle.undo_log.specs.LogState.{LogState}
 use Rattle.undo_log.specs.Entries.{entry_of}
 use Rattle.undo_log.proofs.EntriesBack.{entry_fits}
 use Rattle.dgn_drawing.specs.declared.row.Row.{Row}
-use Rattle.dgn_drawing.specs.Element.{Element}
 use Rattle.dgn_drawing.specs.Rows.{row_of}
 use Rattle.dgn_drawing.specs.Nesting.{BeginsFree, itself}
 use Rattle.elem_index.specs.declared.design.Design.{Design}
@@ -16,7 +15,7 @@ use Rattle.elem_index.specs.Design.{kept_of, kinds_of, spare_of, elements, IsOpe
 use Rattle.elem_index.proofs.WrittenDesigns.{front_after}
 use Rattle.nest_tree.specs.Nested.{Nested}
 use Rattle.dgn_session.specs.Kept.{rows_of, OpensAt, IsUnder, Leads, AreKept, IsKept}
-use Rattle.dgn_session.specs.CarryingOut.{IsSpelling, HasRoom, IsFollowed, IsChange, IsSoundChange}
+use Rattle.dgn_session.specs.CarryingOut.{HasRoom, IsFollowed, IsChange}
 use Rattle.dgn_session.proofs.Leading.{may_commit, leads_back, olds_rise}
 
 -- vectors that are the same have the same items
@@ -123,11 +122,3 @@ pub room_for : (b : List ℕ) (old new : List Row) (d : Design) (l : LogState) (
 room_for b old new d l rows followed are =
     let many : followed.count ≡ length rows = omega (arith, followed.grown.many, ap (length {A = Row}) are, length-append old rows) in
     subst (λ (n : ℕ). HasRoom (length b) n d l) many followed.room
-
-free_elements : (es : List Element) → BeginsFree itself (map row_of es) → BeginsFree row_of es
-free_elements [] free = free
-free_elements (e ∷ es) free = free
-
--- what a sound change appends spells elements
-pub change_spells : (dim : ℕ) (tail b : List ℕ) (ps : List Put) (append : List ℕ) → IsSoundChange dim tail b ps append → IsSpelling append
-change_spells dim tail b ps append sound = (dim, sound.new, sound.spells, free_elements sound.new sound.change.free)

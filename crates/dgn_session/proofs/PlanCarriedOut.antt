@@ -1,6 +1,6 @@
 -- What a session comes to when a plan is carried out on it, and when an undo is.
 use Rattle.std.proofs.Common.{◌≡◌, ℕ, List, [], ◌∷◌, ◌++◌, Option, refl, sym, ap, ◌∙◌, subst}
-use Rattle.patch_bytes.specs.Puts.{Put, write}
+use Rattle.patch_bytes.specs.Puts.{write}
 use Rattle.plane_geom.specs.declared.pt.Pt.{Pt}
 use Rattle.undo_log.specs.declared.entry.Entry.{Entry}
 use Rattle.undo_log.specs.LogState.{LogState}
@@ -34,14 +34,6 @@ pub undone_value : (d g : Design) (l m : LogState) (mask : Mask) (fence : Option
 undone_value d g l m mask fence axes tail is =
     ap state_of (value_same (value_of d l mask fence) g.dim g.body.items g.body.items g.tail.items m.entries m.entries axes refl tail refl)
     ∙ undone_state (value_of d l mask fence) g.body.items m.entries is
-
--- where a design and its log have what a plan leaves, a session of them has it too
-pub carried_value : (d g : Design) (l m : LogState) (mask : Mask) (fence : Option (List Pt)) (ps : List Put) (append : List ℕ) → g.dim ≡ d.dim
-    → g.tail.items ≡ d.tail.items → g.body.items ≡ write d.body.items ps ++ append → m.entries ≡ l.entries ++ entry_of d.body.items ps ∷ []
-    → value_of g m mask fence ≡ value_after ps append (value_of d l mask fence)
-carried_value d g l m mask fence ps append axes tail body entries =
-    value_same (value_of d l mask fence) g.dim g.body.items (write d.body.items ps ++ append) g.tail.items m.entries
-    (l.entries ++ entry_of d.body.items ps ∷ []) axes body tail entries
 
 -- a session after what came to this, which wrote these fields: it is done, the state has one list more, the log one
 -- entry more

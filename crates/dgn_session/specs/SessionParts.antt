@@ -1,5 +1,5 @@
 -- What a contract sees of a session, and how its parts are carried on.
-use Rattle.std.specs.Prelude.{ℕ, Option, None, List, [], ◌∷◌, ◌++◌}
+use Rattle.std.specs.Prelude.{ℕ, ◌≡◌, Option, None, List, [], ◌∷◌, ◌++◌}
 use Rattle.patch_bytes.specs.Puts.{Put, write}
 use Rattle.plane_geom.specs.declared.pt.Pt.{Pt}
 use Rattle.undo_log.specs.LogState.{LogState}
@@ -13,6 +13,12 @@ use Rattle.dgn_session.specs.State.{SessionValue, all_levels, value_with}
 -- what a contract sees of a session
 abbrev pub value_of : Design → LogState → Mask → Option (List Pt) → SessionValue
 value_of d l mask fence = record { dim = d.dim; body = d.body.items; tail = d.tail.items; entries = l.entries; mask = mask; fence = fence }
+
+-- the design of a session that has the value v
+pub record IsDesignOf (v : SessionValue) (d : Design) : Type 0 where
+  pub dim : d.dim ≡ v.dim
+  pub body : d.body.items ≡ v.body
+  pub tail : d.tail.items ≡ v.tail
 
 -- the value of a session that begins on a design
 abbrev pub first_value : Design → SessionValue

@@ -19,7 +19,7 @@ impl Session {
     pub fn audit(&self) -> Result<Vec<Finding>, AllocError>
         ensures { IfOk result (λ found. found.items ≡ findings self.now.dim (state_of self.now).top) }
     {
-        audit(self.alloc, &self.design, &self.nest)
+        audit(self.alloc, &self.drawing())
     }
 
     /// Writes the hulls of the tree that holds element `n` into the ranges of its fitted elements (`dgn_audit::plan_fit`).
@@ -38,7 +38,7 @@ impl Session {
         ensures refused { IfErr result (IsRefused (fit_applied n (state_of self.old))) }
         ensures kept { OnErr result (self.new ≡ self.old) }
     {
-        let patches = plan_fit(self.alloc, &self.design, &self.nest, n)?;
+        let patches = plan_fit(self.alloc, &self.drawing(), n)?;
         self.carry_out(patches, &[])?;
         Ok(())
     }

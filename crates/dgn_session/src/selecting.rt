@@ -1,8 +1,7 @@
 // The roots that a fence chooses.
 
-ghost use Rattle.std.specs.Prelude.{ℕ, ◌≡◌, ◌<◌, map, Some, IfOk, IsFalse};
+ghost use Rattle.std.specs.Prelude.{ℕ, ◌≡◌, ◌<◌, Some, IfOk, IsFalse};
 ghost use Rattle.dgn_drawing.specs.Rows.{row_of};
-ghost use Rattle.dgn_drawing.specs.Nesting.{itself};
 ghost use Rattle.dgn_drawing.specs.WellFormed.{IsDimension};
 ghost use Rattle.dgn_drawing.specs.declared.mask.Mask.{Mask};
 ghost use Rattle.dgn_drawing.specs.Faults.{HasNoFaultIn};
@@ -10,7 +9,7 @@ ghost use Rattle.dgn_drawing.specs.Reading.{element_at};
 ghost use Rattle.dgn_drawing.specs.Shown.{tree_shown, shown_alone, IsRoot};
 ghost use Rattle.dgn_fence.specs.Selected.{selected};
 ghost use Rattle.dgn_fence.specs.Taken.{takes};
-ghost use Rattle.elem_index.specs.Design.{elements, IsWhole};
+ghost use Rattle.elem_index.specs.Design.{elements};
 ghost use Rattle.dgn_session.specs.Selecting.{HasNone};
 
 use dgn_drawing::types::Item;
@@ -18,23 +17,18 @@ use dgn_drawing::{Mask, Mode};
 use dgn_fence::types::Fence;
 use edit_ops::part_end;
 use elem_head::head;
-use elem_index::Design;
-use level_view::{lone_element, tree_items_into};
-use nest_tree::types::Nest;
+use level_view::{Drawing, lone_element, tree_items_into};
 use std::alloc::{AllocError, Global};
 
 /// The numbers of the roots, in file order, whose items under the mask the fence takes in this mode (`dgn_fence`). The items
 /// of one header at a time are made, in one list for all. An error says that there was no memory.
 pub fn select(
     alloc: Global,
-    design: &Design,
-    nest: &Nest,
+    design: &Drawing<'_>,
     mask: Mask,
     fence: &Fence,
     mode: Mode,
 ) -> Result<Vec<u32>, AllocError>
-    requires whole { IsWhole design.now }
-    requires nesting { nest.now.rows ≡ map row_of (elements design.now) }
     ensures { IfOk result (λ found. found.items ≡ selected design.now.dim mask fence.now mode (elements design.now)) }
 {
     let mut found = Vec::new(alloc);
@@ -42,11 +36,11 @@ pub fn select(
     let count = design.count();
     let mut root = 0;
     'roots: while root < count {
-        let taken = takes_root(alloc, design, nest, root, mask, fence, mode, &mut items)?;
+        let taken = takes_root(alloc, design, root, mask, fence, mode, &mut items)?;
         if taken {
             found.push(root)?;
         }
-        root = part_end(nest, root);
+        root = part_end(design, root);
     }
     Ok(found)
 }
@@ -55,28 +49,25 @@ pub fn select(
 // what stands there, but for where an overlap is needed and no element of the tree has one. A leaf is asked by its bytes.
 fn takes_root(
     alloc: Global,
-    design: &Design,
-    nest: &Nest,
+    design: &Drawing<'_>,
     root: u32,
     mask: Mask,
     fence: &Fence,
     mode: Mode,
     items: &mut Vec<Item>,
 ) -> Result<bool, AllocError>
-    requires whole { IsWhole design.now }
-    requires nesting { nest.now.rows ≡ map row_of (elements design.now) }
-    requires root { IsRoot itself nest.now.rows root }
+    requires root { IsRoot row_of (elements design.now) root }
     ensures { IfOk result
         (λ taken. taken ≡ takes mode fence.now (tree_shown design.now.dim mask (elements design.now) root)) }
 {
-    if let Some(b) = lone_element(design, nest, root) {
-        return takes_lone(alloc, design.dim, b, mask, fence, mode);
+    if let Some(b) = lone_element(design, root) {
+        return takes_lone(alloc, design.dim(), b, mask, fence, mode);
     }
     let needs_overlap = matches!(mode, Mode::Inside | Mode::Overlap);
-    if needs_overlap && !some_overlaps(alloc, design, nest, root, fence)? {
+    if needs_overlap && !some_overlaps(alloc, design, root, fence)? {
         return Ok(false);
     }
-    tree_items_into(alloc, design, nest, root, mask, items)?;
+    tree_items_into(alloc, design, root, mask, items)?;
     Ok(fence.takes(mode, items))
 }
 
@@ -84,22 +75,20 @@ fn takes_root(
 // the tree shows is inside or overlaps.
 fn some_overlaps(
     alloc: Global,
-    design: &Design,
-    nest: &Nest,
+    design: &Drawing<'_>,
     root: u32,
     fence: &Fence,
 ) -> Result<bool, AllocError>
-    requires whole { IsWhole design.now }
-    requires nesting { nest.now.rows ≡ map row_of (elements design.now) }
-    requires root { IsRoot itself nest.now.rows root }
+    requires root { IsRoot row_of (elements design.now) root }
     ensures none { IfOk result (λ some. IsFalse some → (mask : Mask) → HasNone fence.now (tree_shown design.now.dim mask (elements design.now) root)) }
 {
-    let end = part_end(nest, root);
+    design.is_whole();
+    let end = part_end(design, root);
     'elements: for n in root..end {
         let Some(b) = design.element(n) else {
             unreachable!()
         };
-        if fence.takes_element(alloc, Mode::Overlap, design.dim, b)? {
+        if fence.takes_element(alloc, Mode::Overlap, design.dim(), b)? {
             return Ok(true);
         }
     }

@@ -12,7 +12,7 @@ ghost use Rattle.dgn_session.specs.State.{after_undo, with_mask, entry, value_wi
 ghost use Rattle.dgn_session.specs.State.{selection, fence_applied, with_fence, fence_entry, value_with_fence};
 ghost use Rattle.dgn_session.specs.Answers.{IsDoneToAll, IsFenceRefused};
 ghost use Rattle.dgn_session.specs.Kept.{IsKept};
-ghost use Rattle.dgn_session.specs.SessionParts.{value_of, first_value};
+ghost use Rattle.dgn_session.specs.SessionParts.{value_of, first_value, IsDesignOf};
 ghost use Rattle.dgn_session.specs.Laws.{IsSessionValue};
 
 use crate::fence_edit_fault::FenceEditFault;
@@ -24,7 +24,7 @@ use dgn_drawing::{Edit, FenceEdit, Mask, Mode};
 use dgn_fence::types::Fence;
 use edit_ops::{EditFault, plan, plan_all};
 use elem_index::Design;
-use level_view::{count_shown, nest_design, show};
+use level_view::{Drawing, count_shown, nest_design, show};
 use nest_tree::types::Nest;
 use std::alloc::{AllocError, Global};
 use std::marker::Model;
@@ -94,7 +94,7 @@ impl Session {
         ensures refused { IfErr result (IsRefused (edit_applied e.now (state_of self.old))) }
         ensures kept { OnErr result (self.new ≡ self.old) }
     {
-        let plan = plan(self.alloc, &self.design, &self.nest, e, 0)?;
+        let plan = plan(self.alloc, &self.drawing(), e, 0)?;
         self.carry_out(plan.patches, plan.append.as_slice())?;
         Ok(())
     }
@@ -120,8 +120,9 @@ impl Session {
         let Some(fence) = &self.fence else {
             return Err(FenceEditFault::NoFence);
         };
-        let roots = select(self.alloc, &self.design, &self.nest, self.mask, fence, mode)?;
-        let plan = plan_all(self.alloc, &self.design, &self.nest, &roots, e)?;
+        let drawing = self.drawing();
+        let roots = select(self.alloc, &drawing, self.mask, fence, mode)?;
+        let plan = plan_all(self.alloc, &drawing, &roots, e)?;
         self.carry_out(plan.patches, plan.append.as_slice())?;
         Ok(roots.len() as u32)
     }
@@ -149,7 +150,7 @@ impl Session {
     pub fn show(&self) -> Result<Vec<Item>, AllocError>
         ensures { IfOk result (λ found. found.items ≡ shown self.now.dim self.now.mask (state_of self.now).top) }
     {
-        show(self.alloc, &self.design, &self.nest, self.mask)
+        show(self.alloc, &self.drawing(), self.mask)
     }
 
     /// How many items `show` gives. No item is made for it. An error says that there was no memory.
@@ -157,7 +158,7 @@ impl Session {
         ensures { IfOk result
             (λ count. count ≡ length (shown self.now.dim self.now.mask (state_of self.now).top)) }
     {
-        count_shown(self.alloc, &self.design, &self.nest, self.mask)
+        count_shown(self.alloc, &self.drawing(), self.mask)
     }
 
     /// The numbers of the roots, in file order, whose items under the levels that are shown the fence takes in this mode
@@ -169,7 +170,7 @@ impl Session {
         let Some(fence) = &self.fence else {
             return Err(SelectFault::NoFence);
         };
-        let found = select(self.alloc, &self.design, &self.nest, self.mask, fence, mode)?;
+        let found = select(self.alloc, &self.drawing(), self.mask, fence, mode)?;
         Ok(found)
     }
 
@@ -212,7 +213,15 @@ impl Session {
         &self.design.tail
     }
 
-    /// The drawing as it is now.
+    /// The drawing as it is now, with the trees of its elements.
+    pub fn drawing(&self) -> Drawing<'_>
+        ensures whole { IsWhole result }
+        ensures value { IsDesignOf self.now result }
+    {
+        Drawing::new(&self.design, &self.nest)
+    }
+
+    /// The design as it is now.
     pub fn design(&self) -> &Design
         ensures whole { IsWhole result.now }
         ensures dim { result.now.dim ≡ self.now.dim }

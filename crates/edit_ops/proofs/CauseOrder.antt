@@ -46,13 +46,6 @@ named_first dim es rest e n named =
 with_cause : (dim : ℕ) (es : List Element) (rest : ℕ) (e : Edit) (c : Cause) → cause_of dim es rest e ≡ Some c → apply dim es rest e ≡ Refused c
 with_cause dim es rest e c is = ap (λ (o : Option Cause). applied_unless o (flat (changed_forest dim es e))) is
 
--- an edit of an unknown element is refused
-pub unknown_refused : (dim : ℕ) (es : List Element) (rest : ℕ) (e : Edit) (n : ℕ) (c : Cause) → target_of e ≡ Some n → unknown n es ≡ Some c
-    → apply dim es rest e ≡ Refused c
-unknown_refused dim es rest e n c named is =
-    with_cause dim es rest e c
-    (named_first dim es rest e n named ∙ ap (λ (o : Option Cause). option_or o (option_or (part_cause dim es n) (first_of (causes_of dim es rest e)))) is)
-
 -- the first cause of an edit of a part of a known element
 pub later_first : (dim : ℕ) (es : List Element) (rest : ℕ) (e : Edit) (n : ℕ) → target_of e ≡ Some n → n < length es
     → cause_of dim es rest e ≡ option_or (part_cause dim es n) (first_of (causes_of dim es rest e))
@@ -123,5 +116,6 @@ pub planned_unless : {A : Type 0} (added old new : List A) (dim : ℕ) (es : Lis
     → option_or (part_cause dim es n) (first_of (causes_of dim es rest e)) ≡ o → AddsUnless o added r old new
     → (new ≡ old ++ added → o ≡ None → IsPlanBehind dim es rest e before after) → PlansUnless dim es rest e r before after
 planned_unless added old new dim es rest e n (Ok x) before after named known is adds plan = plan adds.0 adds.1
-planned_unless added old new dim es rest e n (Err (faults.Refused c)) before after named known is adds plan = later_refused dim es rest e n c named known (is ∙ adds)
+planned_unless added old new dim es rest e n (Err (faults.Refused c)) before after named known is adds plan = later_refused dim es rest e n c named known
+    (is ∙ adds)
 planned_unless added old new dim es rest e n (Err faults.Memory) before after named known is adds plan = tt

@@ -5,18 +5,16 @@ use Rattle.std.specs.List.{AllByRecursion}
 use Rattle.std.specs.Option.{option_or, option_to_list}
 use Rattle.std.proofs.lemmas.List.{append-nil, drop_more}
 use Rattle.std.proofs.lemmas.List.Concat.{flat_map-append}
-use Rattle.dgn_layout.specs.Classes.{class_of}
 use Rattle.dgn_drawing.specs.declared.edit.Edit.{Edit}
 use Rattle.dgn_drawing.specs.Element.{Element}
 use Rattle.patch_bytes.specs.Puts.{Put}
 use Rattle.elem_index.specs.Offsets.{offset_of}
-use Rattle.edit_ops.proofs.AcceptedEdit.{none_both, movable}
 use Rattle.edit_ops.specs.declared.causes.cause.Cause.{Cause}
 use Rattle.edit_ops.specs.declared.asking.test.Test.{Test}
 use Rattle.edit_ops.specs.declared.asking.test.Test.TheVariants as tests
 use Rattle.edit_ops.specs.Trees.{Live, found_at}
 use Rattle.edit_ops.specs.Causes.{cause_at, first_cause}
-use Rattle.edit_ops.specs.Asking.{cause_in, MayBeAsked, MayBeAskedOf}
+use Rattle.edit_ops.specs.Asking.{cause_in}
 use Rattle.edit_ops.specs.Written.{lives_of, puts_at, live_puts}
 use Rattle.edit_ops.proofs.EachLive.{each_first, each_last}
 
@@ -31,13 +29,6 @@ first_of : (dim : ℕ) (test : Test) (es : List Element) (m : ℕ) (o : Option E
     ≡ option_or (cause_in dim test m o) (first_cause dim test vs)
 first_of dim test es m None vs = refl
 first_of dim test es m (Some e) vs = refl
-
-pub cause_next : (dim : ℕ) (test : Test) (es : List Element) (live : List ℕ) (i : ℕ) → i < length live
-    → first_cause dim test (lives_of es (drop i live))
-    ≡ option_or (cause_in dim test (get_or live i 0) (slice_get es (get_or live i 0))) (first_cause dim test (lives_of es (drop (i + 1) live)))
-cause_next dim test es live i within =
-    ap (first_cause dim test) (found_next es live i within)
-    ∙ first_of dim test es (get_or live i 0) (slice_get es (get_or live i 0)) (lives_of es (drop (i + 1) live))
 
 -- the first of three that is there, however they are taken together
 pub or_assoc : (a b c : Option Cause) → option_or (option_or a b) c ≡ option_or a (option_or b c)
@@ -63,32 +54,6 @@ cause_alone dim test es m =
     ap (first_cause dim test) (sym (append-nil (option_to_list (found_at es m))))
     ∙ first_of dim test es m (slice_get es m) []
     ∙ or_nothing (cause_in dim test m (slice_get es m))
-
--- a test may be asked of an element that can be moved
-asked_of : (dim : ℕ) (test : Test) (m : ℕ) (o : Option Element) → cause_in dim tests.Moves m o ≡ None → MayBeAskedOf test o
-asked_of dim tests.NotDeleted m o is = tt
-asked_of dim tests.Unlocked m o is = tt
-asked_of dim tests.Widens m o is = tt
-asked_of dim tests.Moves m o is = tt
-asked_of dim tests.Looks m o is = tt
-asked_of dim tests.Marks m o is = tt
-asked_of dim (tests.StaysOnPlane by) m None is = tt
-asked_of dim (tests.StaysOnPlane by) m (Some e) is = movable m (class_of e.kind) is
-
--- a test may be asked of the next and of those behind it
-pub asked_next : (dim : ℕ) (test : Test) (es : List Element) (live : List ℕ) (i : ℕ) → i < length live → MayBeAsked dim test (lives_of es (drop i live))
-    → MayBeAskedOf test (slice_get es (get_or live i 0)) × MayBeAsked dim test (lives_of es (drop (i + 1) live))
-asked_next dim tests.NotDeleted es live i within asked = (tt, tt)
-asked_next dim tests.Unlocked es live i within asked = (tt, tt)
-asked_next dim tests.Widens es live i within asked = (tt, tt)
-asked_next dim tests.Moves es live i within asked = (tt, tt)
-asked_next dim tests.Looks es live i within asked = (tt, tt)
-asked_next dim tests.Marks es live i within asked = (tt, tt)
-asked_next dim (tests.StaysOnPlane by) es live i within asked =
-    let m : ℕ = get_or live i 0 in
-    let parts = none_both (cause_in dim tests.Moves m (slice_get es m)) (first_cause dim tests.Moves (lives_of es (drop (i + 1) live)))
-    (sym (cause_next dim tests.Moves es live i within) ∙ asked) in
-    (asked_of dim (tests.StaysOnPlane by) m (slice_get es m) parts.0, parts.1)
 
 -- what holds of each that is left holds of the next and of those behind it
 pub each_next : (P : Live → Type 0) (es : List Element) (live : List ℕ) (i : ℕ) → i < length live → AllByRecursion P (lives_of es (drop i live))

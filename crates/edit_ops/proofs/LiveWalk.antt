@@ -2,18 +2,16 @@
 -- a dead one is passed with all below it.
 use Rattle.std.proofs.Common.{◌≡◌, ℕ, suc, ◌+◌, ◌<◌, ◌≤◌, List, [], ◌∷◌, ◌++◌, length, drop, map, refl, sym, ap, ◌∙◌, arith, append_assoc, length-append}
 use Rattle.std.proofs.Common.{Bool, true, false, cond, inl, inr}
-use Rattle.std.specs.Prelude.{Option, Some, None, option_map, slice_get}
+use Rattle.std.specs.Prelude.{Option, Some, option_map, slice_get}
 use Rattle.std.proofs.lemmas.List.{append-nil, drop_at, map-append}
 use Rattle.std.proofs.lemmas.Option.{slice_get_within}
 use Rattle.std.proofs.lemmas.Bool.{cases_Bool, cond-true, cond-false}
-use Rattle.dgn_drawing.specs.declared.row.Row.{Row}
 use Rattle.dgn_drawing.specs.Element.{Element}
 use Rattle.dgn_drawing.specs.Spelling.{spelling, size_of}
 use Rattle.dgn_drawing.specs.Rows.{row_of}
-use Rattle.dgn_drawing.specs.Nesting.{Knot, Forest, NoTree, Tree, flat, forest, joined, itself}
-use Rattle.dgn_drawing.specs.Numbering.{Mark, end_of, marks_of, mark_of}
+use Rattle.dgn_drawing.specs.Nesting.{Knot, Forest, NoTree, Tree, flat, forest, joined}
+use Rattle.dgn_drawing.specs.Numbering.{Mark, end_of, mark_of}
 use Rattle.dgn_drawing.proofs.ListRests.{drop_front}
-use Rattle.nest_tree.proofs.ByRows.{forest_rows, marks-map}
 use Rattle.elem_index.specs.Offsets.{offset_of}
 use Rattle.edit_ops.specs.Trees.{Live, live_from, live_tree}
 use Rattle.edit_ops.proofs.PartPlace.{ends, length-ends, flat-joined, IsPlaced, placed, mark_ends, first_left, others_left}
@@ -192,15 +190,6 @@ module _ (es : List Element) (n end i : ℕ) (live : List ℕ) (so_far : IsLeft 
         -- so what is behind it comes later
         pub goes_on : i < next
         goes_on = omega (arith, next_is)
-
--- what the nesting of rows says of an end is said of the end of an element
-pub end_said : (es : List Element) (rows : List Row) (i end : ℕ) → rows ≡ map row_of es
-    → Some end ≡ option_map (λ (m : Mark). m.end) (mark_of itself rows i) → Some end ≡ option_map (λ (m : Mark). m.end) (mark_of row_of es i)
-end_said es rows i end are said =
-    let same : marks_of (forest itself rows) ≡ marks_of (forest row_of es)
-    = ap (λ (l : List Row). marks_of (forest itself l)) are ∙ ap (λ (f : Forest Row). marks_of f) (sym (forest_rows row_of es))
-    ∙ marks-map row_of (forest row_of es) 0 0 None in
-    said ∙ ap (λ (l : List Mark). option_map (λ (m : Mark). m.end) (slice_get l i)) same
 
 -- at first all of the tree is left
 pub all_left : (es : List Element) (n end : ℕ) → n < length es → Some end ≡ option_map (λ (m : Mark). m.end) (mark_of row_of es n) → IsLeft es n end n []

@@ -1,7 +1,7 @@
 -- Where the part of an element stands among the elements of a drawing and among its bytes.
 use Rattle.std.proofs.Common.{◌≡◌, ℕ, ◌+◌, ◌-◌, ◌<◌, ◌≤◌, List, [], ◌∷◌, ◌++◌, length, take, drop, Bool, false, cond, refl, sym, ap, ◌∙◌, arith}
 use Rattle.std.proofs.Common.{append_assoc, length-append}
-use Rattle.std.specs.Prelude.{Option, Some, None, option_map, slice_get}
+use Rattle.std.specs.Prelude.{Option, Some, option_map, slice_get}
 use Rattle.std.specs.Option.{option_to_list}
 use Rattle.std.proofs.lemmas.Grind.{flat_map-append}
 use Rattle.std.proofs.lemmas.List.{append-nil, take_at, drop_at}
@@ -9,7 +9,7 @@ use Rattle.dgn_drawing.specs.Element.{Element}
 use Rattle.dgn_drawing.specs.Spelling.{spell, spelling}
 use Rattle.dgn_drawing.specs.Rows.{row_of}
 use Rattle.dgn_drawing.specs.Nesting.{Forest, NoTree, Tree, flat, forest}
-use Rattle.dgn_drawing.specs.Numbering.{Mark, mark_of, span_of}
+use Rattle.dgn_drawing.specs.Numbering.{Mark, mark_of}
 use Rattle.elem_index.specs.Offsets.{offset_of}
 use Rattle.edit_ops.specs.Trees.{Live, tree_at, live_from, live_tree, found_at}
 use Rattle.edit_ops.proofs.PartPlace.{IsPlaced, placed, first_left}
@@ -18,24 +18,6 @@ use Rattle.edit_ops.proofs.PartPlace.{IsPlaced, placed, first_left}
 no_elements : {A : Type 0} (f : Forest A) → length (flat f) ≡ 0 → f ≡ NoTree
 no_elements NoTree none = refl
 no_elements (Tree knot h below behind) none = absurd (let x = none in cc)
-
--- an element's span, by where it ends
-abbrev pub from_to : ℕ → ℕ → Option (ℕ × ℕ)
-from_to n end = Some (n, end)
-
-abbrev end_in : Option (ℕ × ℕ) → ℕ
-end_in None = 0
-end_in (Some s) = s.1
-
-pub same_end : (n a b : ℕ) → from_to n a ≡ from_to n b → a ≡ b
-same_end n a b alike = ap end_in alike
-
-spans : (n end : ℕ) (m : Option Mark) → Some end ≡ option_map (λ (x : Mark). x.end) m → option_map {U = ℕ × ℕ} (λ x. (n, x.end)) m ≡ from_to n end
-spans n end None ends_at = absurd (let x = ends_at in cc)
-spans n end (Some m) ends_at = let same : m.end ≡ end = let x = ends_at in cc in ap (from_to n) same
-
-pub span_by : (es : List Element) (n end : ℕ) → Some end ≡ option_map (λ (m : Mark). m.end) (mark_of row_of es n) → span_of row_of es n ≡ from_to n end
-span_by es n end ends_at = spans n end (mark_of row_of es n) ends_at
 
 -- the part of element n
 module _ (es : List Element) (n : ℕ) (known : n < length es) where

@@ -1,5 +1,5 @@
 -- The causes of an edit in its place: those that are asked before its sums are made, and what the sums tell behind them.
-use Rattle.std.proofs.Common.{◌≡◌, ℕ, List, [], ◌∷◌, ◌++◌, Option, Some, None, refl, sym, ap, ◌∙◌, subst}
+use Rattle.std.proofs.Common.{◌≡◌, ℕ, List, [], ◌∷◌, Option, Some, None, sym, ap, ◌∙◌, subst}
 use Rattle.std.specs.Prelude.{slice_get, option_map, IfSome}
 use Rattle.std.specs.List.{AllByRecursion}
 use Rattle.std.specs.Option.{option_or, option_to_list}
@@ -12,43 +12,20 @@ use Rattle.edit_ops.specs.declared.causes.cause.Cause.{Cause}
 use Rattle.edit_ops.specs.declared.causes.edit_fault.EditFault.{EditFault}
 use Rattle.edit_ops.specs.declared.asking.test.Test.TheVariants as tests
 use Rattle.edit_ops.specs.Trees.{Live, live_tree, above_tree, found_at}
-use Rattle.edit_ops.specs.Causes.{unwidened, first_cause, cause_at, other_axes, causes_of, first_of, target_of}
+use Rattle.edit_ops.specs.Causes.{unwidened, cause_at, first_of, target_of}
 use Rattle.edit_ops.specs.Applying.{ChangesInPlace}
 use Rattle.edit_ops.specs.Written.{MayWiden}
 use Rattle.edit_ops.proofs.AcceptedEdit.{IsKept, none_of, none_first, movable, looks, markable}
 use Rattle.edit_ops.proofs.EditedBytes.{all_so}
 use Rattle.edit_ops.proofs.HeaderClasses.{headers_head, all_spotted}
-use Rattle.edit_ops.proofs.ListedLive.{or_nothing}
 use Rattle.edit_ops.specs.Copying.{IsStopped}
 use Rattle.edit_ops.specs.Putting.{MayBePut, leaving}
 use Rattle.edit_ops.proofs.LeavingElements.{leaving_both, stopped_first}
 use Rattle.edit_ops.specs.Asked.{causes_asked}
 
--- the last of five, apart from the others
-last_apart : (a b c d l : Option Cause) → option_or a (option_or b (option_or c (option_or d (option_or l None))))
-    ≡ option_or (option_or a (option_or b (option_or c (option_or d None)))) l
-last_apart (Some x) b c d l = refl
-last_apart None (Some x) c d l = refl
-last_apart None None (Some x) d l = refl
-last_apart None None None (Some x) l = refl
-last_apart None None None None l = or_nothing l
-
 -- the element that an edit names
 same_some : (m n : ℕ) → Some m ≡ Some n → m ≡ n
 same_some m n is = cc
-
--- what the sums tell comes last
-pub sums_last : (dim : ℕ) (es : List Element) (e : Edit) (n : ℕ) → target_of e ≡ Some n → ChangesInPlace e
-    → first_of (causes_of dim es 0 e) ≡ option_or (first_of (causes_asked dim es e)) (leaving dim e (live_tree es n))
-sums_last dim es (edit.Move m by) n named here =
-    last_apart (first_cause dim tests.Unlocked (above_tree es m ++ live_tree es m)) (other_axes dim by.axes)
-    (first_cause dim tests.Widens (above_tree es m)) (first_cause dim tests.Moves (live_tree es m)) (first_cause dim (tests.StaysOnPlane by) (live_tree es m))
-    ∙ ap (λ (k : ℕ). option_or (first_of (causes_asked dim es (edit.Move m by))) (first_cause dim (tests.StaysOnPlane by) (live_tree es k)))
-    (same_some m n named)
-sums_last dim es (edit.Copy m by) n named here = absurd here
-sums_last dim es (edit.Sym m change) n named here = sym (or_nothing (first_of (causes_of dim es 0 (edit.Sym m change))))
-sums_last dim es (edit.Delete m) n named here = sym (or_nothing (first_of (causes_of dim es 0 (edit.Delete m))))
-sums_last dim es (edit.Append new) n named here = absurd here
 
 -- where nothing that is asked stands against a move, each header above its element has a range that can be made wider
 pub headers_widen : (dim : ℕ) (es : List Element) (e : Edit) (n : ℕ) → target_of e ≡ Some n → first_of (causes_asked dim es e) ≡ None

@@ -1,14 +1,13 @@
 -- Wider numbers are put at those spots that hold range numbers, and the headers above a moved element are made to
 -- hold its range.
-use Rattle.std.proofs.Common.{◌≡◌, ℕ, zero, suc, ◌+◌, ◌*◌, if◌then◌else◌, ◌≤◌, ◌<◌, List, [], ◌∷◌, ◌++◌, length, take, drop, get_or, Bool, true, false}
-use Rattle.std.proofs.Common.{Option, Some, None, refl, sym, ap, ap₂, ◌∙◌, subst, append_assoc, inl, inr, arith}
+use Rattle.std.proofs.Common.{◌≡◌, ℕ, zero, suc, ◌+◌, ◌*◌, if◌then◌else◌, ◌≤◌, List, [], ◌∷◌, ◌++◌, length, take, Bool, true, false}
+use Rattle.std.proofs.Common.{Option, Some, None, refl, sym, ap, ap₂, ◌∙◌, subst, inl, inr, arith}
 use Rattle.std.specs.Prelude.{ℤ, pos, ◌+ℤ◌, ◌&&◌, slice_get, option_map, IfSome}
 use Rattle.std.specs.List.{AllByRecursion, flat_map, list_all}
 use Rattle.std.specs.Option.{option_to_list}
 use Rattle.std.proofs.lemmas.Bool.{and_parts}
 use Rattle.std.proofs.lemmas.Int.{ints}
 use Rattle.std.proofs.lemmas.List.{append-nil}
-use Rattle.std.proofs.lemmas.List.Concat.{flat_map-append}
 use Rattle.range_code.specs.declared.Box3.{Box3}
 use Rattle.range_code.specs.Plane.{is_on_plane}
 use Rattle.range_code.specs.Ranges.{corner_at, on_axis}
@@ -32,8 +31,7 @@ use Rattle.elem_index.specs.Offsets.{offset_of}
 use Rattle.edit_ops.specs.declared.asking.element_view.ElementView.{ElementView}
 use Rattle.edit_ops.specs.ElementViews.{IsElementView}
 use Rattle.edit_ops.specs.Trees.{Live, found_at}
-use Rattle.edit_ops.specs.Written.{lives_of, wider_puts, holding_puts, above_puts}
-use Rattle.edit_ops.proofs.ListedLive.{found_next}
+use Rattle.edit_ops.specs.Written.{wider_puts, holding_puts, above_puts}
 use Rattle.edit_ops.proofs.ReadableElements.{IsShown, is_shown, shown_long}
 use Rattle.elem_index.proofs.Places.{axes_of}
 
@@ -81,17 +79,6 @@ ranges_are dim kind b some =
 -- what is put into headers made wider
 abbrev pub all_wider : ℕ → Box3 → List Live → List Put
 all_wider dim r vs = flat_map (λ v. wider_puts dim r v.place (spell v.element)) vs
-
--- what is put into the next header and those behind it
-pub wider_next : (dim : ℕ) (r : Box3) (es : List Element) (above : List ℕ) (i : ℕ) (done : List Put) → i < length above
-    → (done ++ all_wider dim r (option_to_list (found_at es (get_or above i 0)))) ++ all_wider dim r (lives_of es (drop (i + 1) above)) ≡ done
-    ++ all_wider dim r (lives_of es (drop i above))
-wider_next dim r es above i done within =
-    let next : List Live = option_to_list (found_at es (get_or above i 0)) in
-    append_assoc done (all_wider dim r next) (all_wider dim r (lives_of es (drop (i + 1) above)))
-    ∙ ap (λ (ps : List Put). done ++ ps)
-    (sym (flat_map-append (λ v. wider_puts dim r v.place (spell v.element)) next (lives_of es (drop (i + 1) above)))
-    ∙ ap (all_wider dim r) (sym (found_next es above i within)))
 
 -- where nothing is put into any header, nothing is put
 nothing : (vs : List Live) → flat_map {X = Live} {A = Put} (λ v. []) vs ≡ []
@@ -245,15 +232,6 @@ module _ (d : Design) (whole : IsWhole d) (m : ℕ) (f : ElementView) (here : Is
       (sym (low_read shown))
       ∙ ap (λ (high : List ℤ). all_wider d.dim
       (record { lo = displaced (take d.dim by.by) (corner_at f.bytes.now 4); hi = displaced (take d.dim by.by) high }) vs) (sym (high_read shown))
-
-  -- what is put into it where it is made wider
-  pub wider_found : (r : Box3) → all_wider d.dim r (option_to_list (found_at (elements d) m)) ≡ wider_puts d.dim r f.place f.bytes.now
-  wider_found r =
-      ap (λ (o : Option Element). all_wider d.dim r
-      (option_to_list (option_map (λ (x : Element). record { number = m; place = offset_of (elements d) m; element = x }) o))) here.there
-      ∙ append-nil (wider_puts d.dim r (offset_of (elements d) m) (spell here.element))
-      ∙ ap (λ (p : ℕ). wider_puts d.dim r p (spell here.element)) (sym here.place)
-      ∙ ap (wider_puts d.dim r f.place) (sym here.bytes)
 
 -- the one element of which this holds
 pub one_of : (P : Live → Type 0) (es : List Element) (m : ℕ) (v : Element) → slice_get es m ≡ Some v

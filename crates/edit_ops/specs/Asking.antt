@@ -32,8 +32,3 @@ MayBeAskedOf test other = Unit {0}
 -- whether the bytes of an element of that type say that it is locked: bit 8 of its properties, where it has any
 abbrev pub locked_in : ℕ → List ℕ → Bool
 locked_in kind b = not (is_silent (class_of kind)) && says_locked (properties_of b)
-
--- the least broken number of the tree of a root, by the rows of all elements
-abbrev pub broken_by : List Row → Option ℕ → Option (Option ℕ)
-broken_by rows (Some root) = first_broken_of itself rows root
-broken_by rows None = None

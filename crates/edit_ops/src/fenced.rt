@@ -1,6 +1,5 @@
-ghost use Rattle.std.specs.Prelude.{◌≡◌, ◌+◌, ◌<◌, ◌≤◌, [], length, map, IfOk, IfErr, IsErrOf};
-ghost use Rattle.dgn_drawing.specs.Rows.{row_of};
-ghost use Rattle.elem_index.specs.Design.{elements, IsWhole};
+ghost use Rattle.std.specs.Prelude.{◌≡◌, ◌+◌, ◌<◌, ◌≤◌, [], length, IfOk, IfErr, IsErrOf};
+ghost use Rattle.elem_index.specs.Design.{elements};
 ghost use Rattle.edit_ops.specs.Fenced.{edit_at, apply_all, AreRoots, IsFenceEdit};
 ghost use Rattle.edit_ops.specs.Planned.{IsFencePlan, IsRefused, PlansUnless};
 
@@ -10,12 +9,11 @@ use crate::plans::numbers::{Numbers, no_numbers};
 use crate::types::Plan;
 use crate::{EditFault, same_shift};
 use dgn_drawing::{Edit, FenceEdit, MOST_DESIGN, Shift, SymbChange};
-use elem_index::Design;
-use nest_tree::types::Nest;
+use level_view::Drawing;
 use patch_bytes::{ByteList, PatchList};
 use std::alloc::Global;
 
-/// What an edit of the trees of these roots comes to on the design `d`, of which `t` is the nesting. `roots` are the
+/// What an edit of the trees of these roots comes to on the design `d`. `roots` are the
 /// numbers of some of its roots, in file order.
 ///
 /// Each root is edited as `plan` says, on the design as it was, where the bytes that the roots before it append are
@@ -26,13 +24,10 @@ use std::alloc::Global;
 /// It takes the time of the trees that it edits. Memory says that there was none for the plan of some root.
 pub fn plan_all(
     alloc: Global,
-    d: &Design,
-    t: &Nest,
+    d: &Drawing<'_>,
     roots: &[u32],
     edit: &FenceEdit,
 ) -> Result<Plan, EditFault>
-    requires whole { IsWhole d.now }
-    requires nesting { t.now.rows ≡ map row_of (elements d.now) }
     requires roots { AreRoots (elements d.now) roots.now }
     ensures planned { IfOk result
         (IsFencePlan d.now.dim (elements d.now) (length d.now.tail.items) edit.now roots.now) }
@@ -46,21 +41,18 @@ pub fn plan_all(
         patches: PatchList::new(alloc),
         append: ByteList::new(alloc),
     };
-    join_plans(alloc, d, t, roots, edit, &mut all)?;
+    join_plans(alloc, d, roots, edit, &mut all)?;
     Ok(all)
 }
 
 // Joins the plans of these roots to `all`, in which nothing is planned yet.
 fn join_plans(
     alloc: Global,
-    d: &Design,
-    t: &Nest,
+    d: &Drawing<'_>,
     roots: &[u32],
     edit: &FenceEdit,
     all: &mut Plan,
 ) -> Result<(), EditFault>
-    requires whole { IsWhole d.now }
-    requires nesting { t.now.rows ≡ map row_of (elements d.now) }
     requires roots { AreRoots (elements d.now) roots.now }
     requires fits { IsFenceEdit edit.now }
     requires no_patches { all.old.patches ≡ [] }
@@ -71,9 +63,10 @@ fn join_plans(
         (IsRefused (apply_all d.now.dim (elements d.now) (length d.now.tail.items) edit.now roots.now)) }
     ensures memory { IsErrOf result EditFault.Memory → 0 < length roots.now }
 {
+    d.is_whole();
     let mut numbers = no_numbers(alloc);
     'roots: for n in roots {
-        join_root(alloc, d, t, *n, edit, &mut numbers, all)?;
+        join_root(alloc, d, *n, edit, &mut numbers, all)?;
     }
     Ok(())
 }
@@ -81,20 +74,17 @@ fn join_plans(
 // Joins the plan of root n, for which the bytes that `all` appends are pending.
 fn join_root(
     alloc: Global,
-    d: &Design,
-    t: &Nest,
+    d: &Drawing<'_>,
     n: u32,
     edit: &FenceEdit,
     numbers: &mut Numbers,
     all: &mut Plan,
 ) -> Result<(), EditFault>
-    requires whole { IsWhole d.now }
-    requires nesting { t.now.rows ≡ map row_of (elements d.now) }
     requires bounded { length d.now.body.items + (length d.now.tail.items + length all.old.append) ≤ MOST_DESIGN }
     ensures { PlansUnless d.now.dim (elements d.now) (length d.now.tail.items + length all.old.append) (edit_at edit.now n) result all.old all.new }
 {
     let pending = all.append.len();
-    plan_behind(alloc, d, t, &root_edit(edit, n), pending, numbers, all)
+    plan_behind(alloc, d, &root_edit(edit, n), pending, numbers, all)
 }
 
 // The edit of root n.

@@ -2,18 +2,16 @@
 use Rattle.std.proofs.Common.{◌≡◌, ℕ, suc, zero, ◌-◌, List, [], map, sym, ap, ◌∙◌, refl, arith}
 use Rattle.std.specs.Prelude.{Option, Some, None, option_map, slice_get, IfSome}
 use Rattle.std.proofs.lemmas.List.{append-nil}
-use Rattle.dgn_drawing.specs.declared.row.Row.{Row}
 use Rattle.dgn_drawing.specs.declared.mask.Mask.{Mask}
 use Rattle.dgn_drawing.specs.Element.{Element}
 use Rattle.dgn_drawing.specs.Rows.{row_of}
-use Rattle.dgn_drawing.specs.Nesting.{Knot, Leaf, Group, Run, Loose, forest, itself}
-use Rattle.dgn_drawing.specs.Numbering.{Mark, mark_of, knot_of}
+use Rattle.dgn_drawing.specs.Nesting.{Knot, Leaf, Group, Run, Loose, forest}
+use Rattle.dgn_drawing.specs.Numbering.{Mark, knot_of}
 use Rattle.dgn_drawing.specs.Shown.{tree_shown, shown_alone, IsRoot}
 use Rattle.nest_tree.specs.declared.knot.Knot as code
 use Rattle.nest_tree.specs.Shapes.{code_knot}
 use Rattle.level_view.specs.Back.{with_marked, read_back}
-use Rattle.level_view.proofs.Places.{mark-rows}
-use Rattle.level_view.proofs.TreeItems.{IsTree, parent_at, root_known, root_found}
+use Rattle.level_view.proofs.TreeItems.{IsTree, root_known, root_found}
 
 -- what is told to be a leaf is one
 pub leaf_knot : (o : Option Knot) → Some code.Knot.Leaf ≡ option_map code_knot o → o ≡ Some Leaf
@@ -30,16 +28,13 @@ leaf_marked : (m : Mark) (e : Element) (dim : ℕ) (mask : Mask) (n : ℕ) → m
     → with_marked dim mask n (Some m) (Some e) [] ≡ shown_alone dim mask n 0 e
 leaf_marked m e dim mask n leaf depth = rw (leaf, depth) (append-nil (shown_alone dim mask n 0 e))
 
-module _ (es : List Element) (rows : List Row) (nesting : rows ≡ map row_of es) (n : ℕ) (root : IsRoot itself rows n)
-    (leaf : knot_of itself rows n ≡ Some Leaf) where
-  is_root : parent_at (mark_of row_of es n) ≡ Some None
-  is_root = ap parent_at (sym (mark-rows es rows n nesting)) ∙ root
-
+module _ (es : List Element) (n : ℕ) (root : IsRoot row_of es n)
+    (leaf : knot_of row_of es n ≡ Some Leaf) where
   pub leaf_shown : (e : Element) → slice_get es n ≡ Some e → (dim : ℕ) (mask : Mask) → tree_shown dim mask es n ≡ shown_alone dim mask n 0 e
   leaf_shown e is dim mask =
-      let tree : IsTree dim mask es n (forest row_of es) 0 = root_found dim mask es n is_root (root_known es n is_root) in
+      let tree : IsTree dim mask es n (forest row_of es) 0 = root_found dim mask es n root (root_known es n root) in
       let knot : tree.mark.knot ≡ Leaf =
-      same_some tree.mark.knot Leaf (sym (ap (option_map (λ (m : Mark). m.knot)) (mark-rows es rows n nesting ∙ tree.marked)) ∙ leaf) in
+      same_some tree.mark.knot Leaf (sym (ap (option_map (λ (m : Mark). m.knot)) tree.marked) ∙ leaf) in
       let one : tree.mark.end - n ≡ suc zero = omega (arith, tree.alone knot) in
       sym tree.found ∙ ap (read_back dim mask es n) one
       ∙ ap (λ (o : Option Mark). with_marked dim mask n o (slice_get es n) []) tree.marked

@@ -1,4 +1,5 @@
 pub mod Results
+pub mod ElementRows
 pub mod Heads
 pub mod Numbers
 pub mod ItemJoins

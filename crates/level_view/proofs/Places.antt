@@ -1,15 +1,13 @@
 -- Where an element stands, by what is asked of the drawing and of its nesting.
 use Rattle.std.proofs.Common.{◌≡◌, ℕ, suc, ◌+◌, ◌-◌, ◌≤◌, List, map, refl, sym, ap, ◌∙◌, subst, arith}
 use Rattle.std.specs.Prelude.{Option, Some, None, slice_get, option_map}
-use Rattle.dgn_drawing.specs.declared.row.Row.{Row}
 use Rattle.dgn_drawing.specs.Element.{Element}
 use Rattle.dgn_drawing.specs.Spelling.{spell}
 use Rattle.dgn_drawing.specs.WellFormed.{IsWellFormed}
 use Rattle.dgn_drawing.specs.Faults.{HasNoFaultIn}
 use Rattle.dgn_drawing.specs.Reading.{element_at}
 use Rattle.dgn_drawing.specs.Rows.{row_of}
-use Rattle.dgn_drawing.specs.Nesting.{Forest, itself, forest}
-use Rattle.dgn_drawing.specs.Numbering.{Mark, marks_of, mark_of, span_of, depth_of, knot_of}
+use Rattle.dgn_drawing.specs.Numbering.{Mark, mark_of, span_of, depth_of, knot_of}
 use Rattle.dgn_drawing.proofs.RecordsRead.{element_at-spell}
 use Rattle.elem_index.specs.declared.design.Design.{Design}
 use Rattle.elem_index.specs.Design.{elements, IsWhole}
@@ -20,14 +18,6 @@ use Rattle.level_view.specs.Back.{with_element, with_marked, read_back, IsPlace}
 use Rattle.dgn_drawing.specs.declared.types.item.Item.{Item}
 use Rattle.dgn_drawing.specs.declared.mask.Mask.{Mask}
 use Rattle.nest_tree.specs.Shapes.{code_knot}
-use Rattle.nest_tree.proofs.ByRows.{forest_rows, marks-map}
-
--- the marks of elements are those of their rows
-pub marks-rows : (es : List Element) → marks_of (forest itself (map row_of es)) ≡ marks_of (forest row_of es)
-marks-rows es = ap (λ (f : Forest Row). marks_of f) (sym (forest_rows row_of es)) ∙ marks-map row_of (forest row_of es) 0 0 None
-
-pub mark-rows : (es : List Element) (rows : List Row) (n : ℕ) → rows ≡ map row_of es → mark_of itself rows n ≡ mark_of row_of es n
-mark-rows es rows n are = ap (λ (r : List Row). mark_of itself r n) are ∙ ap (λ (ms : List Mark). slice_get ms n) (marks-rows es)
 
 -- what is told of an element's mark is so
 pub mark_part : {A : Type 0} (f : Mark → A) (m : Mark) (o : Option Mark) (x : A) → Some x ≡ option_map f o → o ≡ Some m → x ≡ f m
@@ -59,14 +49,11 @@ same_some : {A : Type 0} (x y : A) → Some x ≡ Some y → x ≡ y
 same_some x y is = cc
 
 -- an element's mark, by what is told of it
-module _ (es : List Element) (rows : List Row) (are : rows ≡ map row_of es) (n number end depth : ℕ) (knot : code.Knot)
-    (spanned : ◌≡◌ {A = Option (ℕ × ℕ)} (Some (number, end)) (span_of itself rows n))
-    (deep : Some depth ≡ depth_of itself rows n) (known : Some knot ≡ option_map code_knot (knot_of itself rows n)) where
-  span_here : ◌≡◌ {A = Option (ℕ × ℕ)} (Some (number, end)) (option_map (λ (m : Mark). (n, m.end)) (mark_of row_of es n))
-  span_here = spanned ∙ ap (option_map (λ (m : Mark). (n, m.end))) (mark-rows es rows n are)
-
+module _ (es : List Element) (n number end depth : ℕ) (knot : code.Knot)
+    (spanned : ◌≡◌ {A = Option (ℕ × ℕ)} (Some (number, end)) (span_of row_of es n))
+    (deep : Some depth ≡ depth_of row_of es n) (known : Some knot ≡ option_map code_knot (knot_of row_of es n)) where
   has_mark : (m : Mark) × (mark_of row_of es n ≡ Some m)
-  has_mark = some_mark (λ (m : Mark). (n, m.end)) (mark_of row_of es n) (number, end) span_here
+  has_mark = some_mark (λ (m : Mark). (n, m.end)) (mark_of row_of es n) (number, end) spanned
 
   pub place_mark : Mark
   place_mark = has_mark.0
@@ -76,7 +63,7 @@ module _ (es : List Element) (rows : List Row) (are : rows ≡ map row_of es) (n
   place_marked = has_mark.1
 
   pair_here : ◌≡◌ {A = ℕ × ℕ} (number, end) (n, place_mark.end)
-  pair_here = mark_part (λ (m : Mark). (n, m.end)) place_mark (mark_of row_of es n) (number, end) span_here place_marked
+  pair_here = mark_part (λ (m : Mark). (n, m.end)) place_mark (mark_of row_of es n) (number, end) spanned place_marked
 
   pub place_number : number ≡ n
   place_number = ap (λ (x : ℕ × ℕ). x.0) pair_here
@@ -85,11 +72,11 @@ module _ (es : List Element) (rows : List Row) (are : rows ≡ map row_of es) (n
   place_end = ap (λ (x : ℕ × ℕ). x.1) pair_here
 
   pub place_depth : depth ≡ place_mark.depth
-  place_depth = mark_part (λ (m : Mark). m.depth) place_mark (mark_of itself rows n) depth deep (mark-rows es rows n are ∙ place_marked)
+  place_depth = mark_part (λ (m : Mark). m.depth) place_mark (mark_of row_of es n) depth deep place_marked
 
   pub place_knot : knot ≡ code_knot place_mark.knot
   place_knot = same_some knot (code_knot place_mark.knot)
-      (known ∙ ap (λ (o : Option Mark). option_map code_knot (option_map (λ (m : Mark). m.knot) o)) (mark-rows es rows n are ∙ place_marked))
+      (known ∙ ap (λ (o : Option Mark). option_map code_knot (option_map (λ (m : Mark). m.knot) o)) place_marked)
 
 -- an element at its place, before what is shown behind it
 module _ (dim : ℕ) (mask : Mask) (es : List Element) (n : ℕ) (p : Place) (is : IsPlace dim es n p) where

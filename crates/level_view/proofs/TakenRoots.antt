@@ -4,15 +4,14 @@ use Rattle.std.proofs.Common.{arith}
 use Rattle.std.specs.Prelude.{Some, None, option_map, filter}
 use Rattle.std.proofs.lemmas.Bool.{cond-true, cond-false, cond_both}
 use Rattle.std.proofs.lemmas.List.{append-nil}
-use Rattle.dgn_drawing.specs.declared.row.Row.{Row}
 use Rattle.dgn_drawing.specs.Element.{Element}
 use Rattle.dgn_drawing.specs.Rows.{row_of}
-use Rattle.dgn_drawing.specs.Nesting.{Forest, NoTree, Tree, forest, flat, itself}
+use Rattle.dgn_drawing.specs.Nesting.{Forest, NoTree, Tree, forest, flat}
 use Rattle.dgn_drawing.specs.Numbering.{Mark, end_of, mark_of}
 use Rattle.dgn_drawing.specs.Shown.{roots, IsRoot}
 use Rattle.nest_tree.proofs.NestingSteps.{flat-forest}
 use Rattle.level_view.proofs.TreeItems.{parent_at}
-use Rattle.level_view.proofs.Places.{mark-rows, mark_part}
+use Rattle.level_view.proofs.Places.{mark_part}
 use Rattle.level_view.proofs.RootsOnward.{from_on, GoesOn, root_goes_on, zero_root, from_zero, from_end}
 
 -- the roots from number k on that pass
@@ -20,43 +19,40 @@ abbrev pub left_from : List Element → (ℕ → Bool) → ℕ → List ℕ
 left_from es test k = filter test (from_on k (roots 0 (forest row_of es)))
 
 -- the walk stands at a root or behind the last element
-pub record StandsAt (es : List Element) (rows : List Row) (test : ℕ → Bool) (k : ℕ) (found : List ℕ) : Type 0 where
+pub record StandsAt (es : List Element) (test : ℕ → Bool) (k : ℕ) (found : List ℕ) : Type 0 where
   pub within : k ≤ length es
-  pub root : k < length es → IsRoot itself rows k
+  pub root : k < length es → IsRoot row_of es k
   pub all : found ++ left_from es test k ≡ filter test (roots 0 (forest row_of es))
 
-module _ (es : List Element) (rows : List Row) (nesting : rows ≡ map row_of es) (test : ℕ → Bool) where
-  rooted : (k : ℕ) → parent_at (mark_of row_of es k) ≡ Some None → IsRoot itself rows k
-  rooted k is = ap parent_at (mark-rows es rows k nesting) ∙ is
-
-  pub stands_first : StandsAt es rows test 0 []
+module _ (es : List Element) (test : ℕ → Bool) where
+  pub stands_first : StandsAt es test 0 []
   stands_first = record {
     within = omega arith;
-    root = λ some. rooted 0 (zero_root es some);
+    root = λ some. zero_root es some;
     all = ap (filter test) (from_zero es);
   }
 
-  pub all_found : (k : ℕ) (found : List ℕ) → length es ≤ k → StandsAt es rows test k found → found ≡ filter test (roots 0 (forest row_of es))
+  pub all_found : (k : ℕ) (found : List ℕ) → length es ≤ k → StandsAt es test k found → found ≡ filter test (roots 0 (forest row_of es))
   all_found k found long at = sym (append-nil found) ∙ ap (λ (ns : List ℕ). found ++ filter test ns) (sym (from_end es k long)) ∙ at.all
 
-  stands_on : (k : ℕ) (found : List ℕ) → StandsAt es rows test k found → k < length es → GoesOn es (forest row_of es) 0 k
-  stands_on k found at known = root_goes_on es k known (ap parent_at (sym (mark-rows es rows k nesting)) ∙ at.root known)
+  stands_on : (k : ℕ) (found : List ℕ) → StandsAt es test k found → k < length es → GoesOn es (forest row_of es) 0 k
+  stands_on k found at known = root_goes_on es k known (at.root known)
 
   -- a root that passes is the first of those that are left
-  pub first_passes : (k : ℕ) (found : List ℕ) → StandsAt es rows test k found → k < length es → test k ≡ true → (rest : List ℕ)
+  pub first_passes : (k : ℕ) (found : List ℕ) → StandsAt es test k found → k < length es → test k ≡ true → (rest : List ℕ)
       × (left_from es test k ≡ k ∷ rest)
   first_passes k found at known passes =
       let on : GoesOn es (forest row_of es) 0 k = stands_on k found at known in
       let rest : List ℕ = left_from es test on.mark.end in
       (rest, ap (filter test) on.are ∙ cond-true (test k) (k ∷ rest) rest passes)
 
-  module _ (k end : ℕ) (found : List ℕ) (at : StandsAt es rows test k found) (known : k < length es)
-      (ends : Some end ≡ option_map (λ (m : Mark). m.end) (mark_of itself rows k)) where
+  module _ (k end : ℕ) (found : List ℕ) (at : StandsAt es test k found) (known : k < length es)
+      (ends : Some end ≡ option_map (λ (m : Mark). m.end) (mark_of row_of es k)) where
     on : GoesOn es (forest row_of es) 0 k
     on = stands_on k found at known
 
     end_is : end ≡ on.mark.end
-    end_is = mark_part (λ (m : Mark). m.end) on.mark (mark_of row_of es k) end (ends ∙ ap (option_map (λ (m : Mark). m.end)) (mark-rows es rows k nesting))
+    end_is = mark_part (λ (m : Mark). m.end) on.mark (mark_of row_of es k) end ends
         on.marked
 
     count : length (flat (forest row_of es)) ≡ length es
@@ -68,14 +64,14 @@ module _ (es : List Element) (rows : List Row) (nesting : rows ≡ map row_of es
     inside : end ≤ length es
     inside = let w = on.within in omega (arith, end_is, count)
 
-    next : end < length es → IsRoot itself rows end
-    next more = rooted end (subst (λ (j : ℕ). parent_at (mark_of row_of es j) ≡ Some None) (sym end_is) (on.next (omega (arith, more, end_is, count))))
+    next : end < length es → IsRoot row_of es end
+    next more = subst (λ (j : ℕ). parent_at (mark_of row_of es j) ≡ Some None) (sym end_is) (on.next (omega (arith, more, end_is, count)))
 
     left : left_from es test k ≡ filter test (k ∷ from_on end (roots 0 (forest row_of es)))
     left = ap (filter test) (on.are ∙ ap (λ (j : ℕ). k ∷ from_on j (roots 0 (forest row_of es))) (sym end_is))
 
     -- it goes on behind a root that passes
-    pub stands_taken : test k ≡ true → StandsAt es rows test end (found ++ k ∷ [])
+    pub stands_taken : test k ≡ true → StandsAt es test end (found ++ k ∷ [])
     stands_taken passes = record {
       within = inside;
       root = next;
@@ -85,7 +81,7 @@ module _ (es : List Element) (rows : List Row) (nesting : rows ≡ map row_of es
     }
 
     -- and behind one that doesn't
-    pub stands_left : test k ≡ false → StandsAt es rows test end found
+    pub stands_left : test k ≡ false → StandsAt es test end found
     stands_left fails = record {
       within = inside;
       root = next;

@@ -1,9 +1,10 @@
-//! What a display shows of a drawing: the items of its trees under a mask of levels. And the nesting of a design.
+//! A drawing: a design with its nesting. And what a display shows of it: the items of its trees under a mask of levels.
 #![tactic(auto)]
 
 mod alone;
 mod back;
 mod counting;
+mod drawing;
 pub mod laws;
 mod lone;
 mod nesting;
@@ -12,6 +13,7 @@ mod place;
 mod view;
 
 pub use counting::count_shown;
+pub use drawing::Drawing;
 pub use lone::lone_element;
 pub use nesting::nest_design;
 pub use view::{show, tree_items, tree_items_into};

@@ -1,13 +1,11 @@
 // Where an element stands.
 
-ghost use Rattle.std.specs.Prelude.{◌≡◌, ◌<◌, length, map};
-ghost use Rattle.dgn_drawing.specs.Rows.{row_of};
-ghost use Rattle.elem_index.specs.Design.{elements, IsWhole};
+ghost use Rattle.std.specs.Prelude.{◌<◌, length};
+ghost use Rattle.elem_index.specs.Design.{elements};
 ghost use Rattle.level_view.specs.Back.{IsPlace};
 
-use elem_index::Design;
+use crate::Drawing;
 use nest_tree::Knot;
-use nest_tree::types::Nest;
 
 // An element at its place in the drawing.
 #[derive(Clone, Copy, Drop)]
@@ -25,22 +23,21 @@ pub(crate) struct Place<'a> {
 }
 
 // Element `n` at its place.
-pub(crate) fn place_of<'a>(d: &'a Design, t: &Nest, n: u32) -> Place<'a>
-    requires whole { IsWhole d.now }
-    requires nesting { t.now.rows ≡ map row_of (elements d.now) }
+pub(crate) fn place_of<'a>(d: &Drawing<'a>, n: u32) -> Place<'a>
     requires known { n < length (elements d.now) }
     ensures { IsPlace d.now.dim (elements d.now) n result }
 {
+    d.is_whole();
     let Some(bytes) = d.element(n) else {
         unreachable!()
     };
-    let Some(knot) = t.knot(n) else {
+    let Some(knot) = d.knot(n) else {
         unreachable!()
     };
-    let Some(depth) = t.depth(n) else {
+    let Some(depth) = d.depth(n) else {
         unreachable!()
     };
-    let Some((number, end)) = t.span(n) else {
+    let Some((number, end)) = d.span(n) else {
         unreachable!()
     };
     Place {

@@ -1,22 +1,20 @@
 // The items of all trees, and of one.
 
-ghost use Rattle.std.specs.Prelude.{◌≡◌, ◌-◌, ◌≤◌, length, map, IfOk, OnOk};
-ghost use Rattle.dgn_drawing.specs.Nesting.{itself};
+ghost use Rattle.std.specs.Prelude.{◌≡◌, ◌-◌, ◌≤◌, length, IfOk, OnOk};
 ghost use Rattle.dgn_drawing.specs.Rows.{row_of};
 ghost use Rattle.dgn_drawing.specs.Shown.{shown, tree_shown, IsRoot};
-ghost use Rattle.elem_index.specs.Design.{elements, IsWhole};
+ghost use Rattle.elem_index.specs.Design.{elements};
 ghost use Rattle.level_view.specs.Back.{read_back};
 
+use crate::Drawing;
 use crate::back::add;
 use crate::place::place_of;
 use dgn_drawing::Mask;
 use dgn_drawing::types::Item;
-use elem_index::Design;
-use nest_tree::types::Nest;
 use std::alloc::{AllocError, Global};
 
 /// The items that the display shows of the drawing `d` under `mask`: those of all roots, in file order.
-/// `t` is the nesting of `d`.
+///
 ///
 /// A leaf that isn't marked deleted and whose level is in the mask gives its item, where it has one.
 /// So does the header of a B-spline, a run of type 24 or 27, and its parts give none. A group that
@@ -24,32 +22,27 @@ use std::alloc::{AllocError, Global};
 /// the header's level is, and then those of its members. The header of a shared cell definition, a run
 /// of type 34, a loose header and a group that is marked deleted give nothing, and neither does what
 /// stands below them. An error says that there was no memory.
-pub fn show(alloc: Global, d: &Design, t: &Nest, mask: Mask) -> Result<Vec<Item>, AllocError>
-    requires whole { IsWhole d.now }
-    requires nesting { t.now.rows ≡ map row_of (elements d.now) }
+pub fn show(alloc: Global, d: &Drawing<'_>, mask: Mask) -> Result<Vec<Item>, AllocError>
     ensures { IfOk result (λ found. found.items ≡ shown d.now.dim mask (elements d.now)) }
 {
     let mut items = Vec::new(alloc);
-    put_between(alloc, d, t, 0, d.count(), mask, &mut items)?;
+    put_between(alloc, d, 0, d.count(), mask, &mut items)?;
     Ok(items)
 }
 
 /// The items that the display shows of the tree of the root `n` under `mask`, by the rules of `show`.
-/// `t` is the nesting of `d`. An error says that there was no memory.
+/// An error says that there was no memory.
 pub fn tree_items(
     alloc: Global,
-    d: &Design,
-    t: &Nest,
+    d: &Drawing<'_>,
     n: u32,
     mask: Mask,
 ) -> Result<Vec<Item>, AllocError>
-    requires whole { IsWhole d.now }
-    requires nesting { t.now.rows ≡ map row_of (elements d.now) }
-    requires root { IsRoot itself t.now.rows n }
+    requires root { IsRoot row_of (elements d.now) n }
     ensures { IfOk result (λ found. found.items ≡ tree_shown d.now.dim mask (elements d.now) n) }
 {
     let mut items = Vec::new(alloc);
-    tree_items_into(alloc, d, t, n, mask, &mut items)?;
+    tree_items_into(alloc, d, n, mask, &mut items)?;
     Ok(items)
 }
 
@@ -57,21 +50,18 @@ pub fn tree_items(
 /// roots. Where there is no memory, some items or none stand there.
 pub fn tree_items_into(
     alloc: Global,
-    d: &Design,
-    t: &Nest,
+    d: &Drawing<'_>,
     n: u32,
     mask: Mask,
     items: &mut Vec<Item>,
 ) -> Result<(), AllocError>
-    requires whole { IsWhole d.now }
-    requires nesting { t.now.rows ≡ map row_of (elements d.now) }
-    requires root { IsRoot itself t.now.rows n }
+    requires root { IsRoot row_of (elements d.now) n }
     ensures { OnOk result (items.new.items ≡ tree_shown d.now.dim mask (elements d.now) n) }
 {
-    let Some((first, end)) = t.span(n) else {
+    let Some((first, end)) = d.span(n) else {
         unreachable!()
     };
-    put_between(alloc, d, t, first, end, mask, items)
+    put_between(alloc, d, first, end, mask, items)
 }
 
 // Puts what the elements from number `first` on and before number `end` show into `items`, in the place of what stands
@@ -81,22 +71,19 @@ pub fn tree_items_into(
 // what stands behind it.
 fn put_between(
     alloc: Global,
-    d: &Design,
-    t: &Nest,
+    d: &Drawing<'_>,
     first: u32,
     end: u32,
     mask: Mask,
     items: &mut Vec<Item>,
 ) -> Result<(), AllocError>
-    requires whole { IsWhole d.now }
-    requires nesting { t.now.rows ≡ map row_of (elements d.now) }
     requires ordered { first ≤ end }
     requires within { end ≤ length (elements d.now) }
     ensures { OnOk result (items.new.items ≡ read_back d.now.dim mask (elements d.now) first (end - first)) }
 {
     items.clear();
     for n in (first..end).rev() {
-        add(alloc, d.dim, mask, place_of(d, t, n), items)?;
+        add(alloc, d.dim(), mask, place_of(d, n), items)?;
     }
     items.reverse();
     Ok(())

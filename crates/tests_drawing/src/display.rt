@@ -53,7 +53,7 @@ fn shows_all(alloc: Global, d: &Design, mask: u64, told: &[Told]) -> bool
     let Ok(t) = nest_design(alloc, d) else {
         return false;
     };
-    match show(alloc, d, &t, Mask(mask)) {
+    match show(alloc, &Drawing::new(d, &t), Mask(mask)) {
         Ok(items) => are_told(&items, told),
         Err(_) => false,
     }
@@ -66,7 +66,7 @@ fn counts(alloc: Global, d: &Design, mask: u64, count: usize) -> bool
     let Ok(t) = nest_design(alloc, d) else {
         return false;
     };
-    count_shown(alloc, d, &t, Mask(mask)) == Ok(count)
+    count_shown(alloc, &Drawing::new(d, &t), Mask(mask)) == Ok(count)
 }
 
 // Whether so much is shown of the tree of a root.
@@ -79,7 +79,7 @@ fn shows_tree(alloc: Global, d: &Design, n: u32, mask: u64, told: &[Told]) -> bo
     if t.parent(n) != Some(None) {
         return false;
     }
-    match tree_items(alloc, d, &t, n, Mask(mask)) {
+    match tree_items(alloc, &Drawing::new(d, &t), n, Mask(mask)) {
         Ok(items) => are_told(&items, told),
         Err(_) => false,
     }

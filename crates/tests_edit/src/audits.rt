@@ -6,7 +6,7 @@ ghost use Rattle.elem_index.specs.Design.{IsWhole};
 use dgn_audit::*;
 use dgn_drawing::MOST_DESIGN;
 use elem_index::{Design, read_design};
-use level_view::nest_design;
+use level_view::{Drawing, nest_design};
 use range_code::Box3;
 use sample_elements::{
     ARC, CELL, CELL_OF_52, CELL_OF_81, FIRST_STRING, LOCKED_MEMBER, MEMBER, NODE, SECOND_STRING,
@@ -77,7 +77,7 @@ fn finds(alloc: Global, d: &Design, told: &[Told]) -> bool
     let Ok(t) = nest_design(alloc, d) else {
         return false;
     };
-    match audit(alloc, d, &t) {
+    match audit(alloc, &Drawing::new(d, &t)) {
         Ok(found) => are_told(&found, told),
         Err(_) => false,
     }
@@ -88,7 +88,7 @@ fn fit(alloc: Global, d: &Design, n: u32) -> Result<usize, FitFault>
     requires { IsWhole d.now }
 {
     let t = nest_design(alloc, d)?;
-    match plan_fit(alloc, d, &t, n) {
+    match plan_fit(alloc, &Drawing::new(d, &t), n) {
         Ok(patches) => Ok(patches.len()),
         Err(fault) => Err(fault),
     }

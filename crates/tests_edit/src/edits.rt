@@ -10,7 +10,7 @@ use edit_ops::types::Plan;
 use edit_ops::*;
 use elem_head::types::Symb;
 use elem_index::{Design, read_design};
-use level_view::nest_design;
+use level_view::{Drawing, nest_design};
 use patch_bytes::{ByteList, Patch};
 use plane_geom::PointList;
 use sample_elements::{
@@ -51,7 +51,7 @@ fn planned(
         return Err(EditFault::Memory);
     };
     let nesting = nest_design(alloc, &design)?;
-    plan(alloc, &design, &nesting, edit, pending)
+    plan(alloc, &Drawing::new(&design, &nesting), edit, pending)
 }
 
 // Whether patches put so many bytes at each of these places.
@@ -204,7 +204,7 @@ fn copies_line(alloc: Global, by: &Shift, copy: &mut ByteList) -> Result<(), Edi
     if design.count() <= 1 {
         return Err(EditFault::Memory);
     }
-    copy_tree(alloc, &design, &nesting, 1, by, copy)
+    copy_tree(alloc, &Drawing::new(&design, &nesting), 1, by, copy)
 }
 
 // A tree is copied behind what is there, and one that would leave the plane isn't.

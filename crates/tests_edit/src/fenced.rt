@@ -37,7 +37,7 @@ fn planned_of(alloc: Global, session: &Session, edit: &FenceEdit) -> Result<Plan
     let Ok(roots) = session.select(Mode::Inside) else {
         return Err(EditFault::Memory);
     };
-    plan_all(alloc, session.design(), session.nesting(), &roots, edit)
+    plan_all(alloc, &session.drawing(), &roots, edit)
 }
 
 // The same of that session.

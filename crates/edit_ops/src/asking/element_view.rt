@@ -1,9 +1,9 @@
 ghost use Rattle.std.specs.Prelude.{◌≡◌, ◌<◌, slice_get, None, IfSome, IfNone};
-ghost use Rattle.elem_index.specs.Design.{elements, IsWhole};
+ghost use Rattle.elem_index.specs.Design.{elements};
 ghost use Rattle.edit_ops.specs.ElementViews.{IsElementView};
 
 use elem_head::head;
-use elem_index::Design;
+use level_view::Drawing;
 
 /// What is read of an element.
 #[derive(Clone, Copy)]
@@ -19,11 +19,11 @@ pub struct ElementView<'a> {
 }
 
 /// Element `n` of the design `d`, from 0, or None where there is none.
-pub fn find(d: &Design, n: u32) -> Option<ElementView<'_>>
-    requires { IsWhole d.now }
+pub fn find<'a>(d: &Drawing<'a>, n: u32) -> Option<ElementView<'a>>
     ensures found { IfSome result (IsElementView d.now n) }
     ensures none { IfNone result (slice_get (elements d.now) n ≡ None) }
 {
+    d.is_whole();
     let place = d.offset(n)?;
     let bytes = d.element(n)?;
     let head = head(bytes);

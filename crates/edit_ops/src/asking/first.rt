@@ -1,7 +1,7 @@
 ghost use Rattle.std.specs.Prelude.{◌≡◌, ◌<◌, ◌≤◌, length, slice_get, IsFalse, if◌then◌else◌};
 ghost use Rattle.std.specs.Option.{option_or};
 ghost use Rattle.dgn_layout.specs.Classes.{class_of, is_silent};
-ghost use Rattle.elem_index.specs.Design.{elements, IsWhole};
+ghost use Rattle.elem_index.specs.Design.{elements};
 ghost use Rattle.edit_ops.specs.Causes.{unwidened, unmovable, lookless, unmarkable, first_cause};
 ghost use Rattle.edit_ops.specs.Asking.{cause_in, MayBeAsked, MayBeAskedOf, locked_in};
 ghost use Rattle.edit_ops.specs.Written.{lives_of};
@@ -12,15 +12,14 @@ use dgn_drawing::{Shift, stays_on_plane};
 use dgn_layout::types::Class;
 use dgn_layout::{END_MARK, class, is_silent};
 use elem_head::properties;
-use elem_index::Design;
+use level_view::Drawing;
 
 // The bit of an element's properties, 0x0100, that says that it is locked.
 const LOCKED: u32 = 8;
 
 /// What is against moving or copying the live elements of these numbers: Floating or Opaque, where not all coordinates of
 /// one are read; or else OffPlane, where one would leave the design plane. Each has the first such number.
-pub fn move_cause(d: &Design, live: &[u32], by: &Shift) -> Option<Cause>
-    requires { IsWhole d.now }
+pub fn move_cause(d: &Drawing<'_>, live: &[u32], by: &Shift) -> Option<Cause>
     ensures { result ≡ option_or (first_cause d.now.dim Test.Moves (lives_of (elements d.now) live.now))
         (first_cause d.now.dim (Test.StaysOnPlane by.now) (lives_of (elements d.now) live.now)) }
 {
@@ -40,8 +39,7 @@ fn leaves(by: &Shift) -> Test
 }
 
 /// What a test has against the first of the elements of these numbers against which it has something.
-pub fn first_cause(d: &Design, live: &[u32], test: &Test) -> Option<Cause>
-    requires whole { IsWhole d.now }
+pub fn first_cause(d: &Drawing<'_>, live: &[u32], test: &Test) -> Option<Cause>
     requires asked { MayBeAsked d.now.dim test.now (lives_of (elements d.now) live.now) }
     ensures { result ≡ first_cause d.now.dim test.now (lives_of (elements d.now) live.now) }
 {
@@ -55,11 +53,11 @@ pub fn first_cause(d: &Design, live: &[u32], test: &Test) -> Option<Cause>
 }
 
 // What a test has against element m.
-pub fn cause_against(d: &Design, test: &Test, m: u32) -> Option<Cause>
-    requires whole { IsWhole d.now }
+pub fn cause_against(d: &Drawing<'_>, test: &Test, m: u32) -> Option<Cause>
     requires asked { MayBeAskedOf test.now (slice_get (elements d.now) m) }
     ensures { result ≡ cause_in d.now.dim test.now m (slice_get (elements d.now) m) }
 {
+    d.is_whole();
     let found = find(d, m)?;
     match test {
         Test::NotDeleted => deleted(m, found.deleted),
@@ -69,7 +67,7 @@ pub fn cause_against(d: &Design, test: &Test, m: u32) -> Option<Cause>
         Test::Looks => lookless(m, class(found.kind)),
         Test::Marks => unmarkable(m, found.kind),
         Test::StaysOnPlane(by) => {
-            if stays_on_plane(d.dim, found.kind, found.bytes, by) {
+            if stays_on_plane(d.dim(), found.kind, found.bytes, by) {
                 None
             } else {
                 Some(Cause::OffPlane(m))

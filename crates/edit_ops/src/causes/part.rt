@@ -1,24 +1,20 @@
-ghost use Rattle.std.specs.Prelude.{◌≡◌, ◌<◌, map, slice_get, Some, None, if◌then◌else◌};
+ghost use Rattle.std.specs.Prelude.{◌≡◌, ◌<◌, slice_get, Some, None, if◌then◌else◌};
 ghost use Rattle.dgn_layout.specs.Classes.{class_of, is_silent};
 ghost use Rattle.dgn_drawing.specs.Rows.{row_of};
-ghost use Rattle.dgn_drawing.specs.Nesting.{itself};
 ghost use Rattle.dgn_drawing.specs.Numbering.{root_of};
-ghost use Rattle.elem_index.specs.Design.{elements, IsWhole};
+ghost use Rattle.elem_index.specs.Design.{elements};
 ghost use Rattle.edit_ops.specs.Trees.{above_tree};
-ghost use Rattle.edit_ops.specs.Causes.{unknown, broken, silent, other_axes, too_long, part_cause};
-ghost use Rattle.edit_ops.specs.Asking.{broken_by};
+ghost use Rattle.edit_ops.specs.Causes.{unknown, broken, broken_in, silent, other_axes, too_long, part_cause};
 ghost use Rattle.edit_ops.specs.Written.{lives_of};
 
 use crate::asking::first::{cause_against, first_cause};
 use crate::{Cause, Test, find};
 use dgn_drawing::MOST_DESIGN;
 use dgn_layout::is_silent;
-use elem_index::Design;
-use nest_tree::types::Nest;
+use level_view::Drawing;
 
 /// Unknown, where the design `d` has no element `n`; else None.
-pub fn unknown(d: &Design, n: u32) -> Option<Cause>
-    requires { IsWhole d.now }
+pub fn unknown(d: &Drawing<'_>, n: u32) -> Option<Cause>
     ensures { result ≡ unknown n (elements d.now) }
 {
     if n < d.count() {
@@ -29,25 +25,23 @@ pub fn unknown(d: &Design, n: u32) -> Option<Cause>
 }
 
 /// What keeps the part of element `n`, which there is, from any edit: Broken, with the least broken number of its tree; or
-/// Deleted, with the least of it and the headers above it that is marked deleted. `t` is the nesting of the design `d`, and
+/// Deleted, with the least of it and the headers above it that is marked deleted.
 /// `above` has the numbers of these headers.
-pub fn part_cause(d: &Design, t: &Nest, n: u32, above: &[u32]) -> Option<Cause>
-    requires whole { IsWhole d.now }
-    requires nesting { t.now.rows ≡ map row_of (elements d.now) }
+pub fn part_cause(d: &Drawing<'_>, n: u32, above: &[u32]) -> Option<Cause>
     requires above { lives_of (elements d.now) above.now ≡ above_tree (elements d.now) n }
     ensures { result ≡ part_cause d.now.dim (elements d.now) n }
 {
-    broken(t, n)
+    broken(d, n)
         .or(first_cause(d, above, &Test::NotDeleted))
         .or(cause_against(d, &Test::NotDeleted, n))
 }
 
 // The tree that holds element n has a broken number.
-fn broken(t: &Nest, n: u32) -> Option<Cause>
-    ensures { result ≡ broken (broken_by t.now.rows (root_of itself t.now.rows n)) }
+fn broken(d: &Drawing<'_>, n: u32) -> Option<Cause>
+    ensures { result ≡ broken (broken_in (elements d.now) (root_of row_of (elements d.now) n)) }
 {
-    let root = t.root(n)?;
-    match t.first_broken(root) {
+    let root = d.root(n)?;
+    match d.first_broken(root) {
         Some(Some(least)) => Some(Cause::Broken(least)),
         _ => None,
     }
@@ -65,8 +59,7 @@ pub fn other_axes(dim: u8, axes: u8) -> Option<Cause>
 }
 
 /// Opaque, where the class of element `n` is silent; None, where it isn't or there is no such element.
-pub fn silent(d: &Design, n: u32) -> Option<Cause>
-    requires { IsWhole d.now }
+pub fn silent(d: &Drawing<'_>, n: u32) -> Option<Cause>
     ensures { result ≡ silent n (slice_get (elements d.now) n) }
 {
     let found = find(d, n)?;

@@ -13,7 +13,7 @@ ghost use Rattle.dgn_drawing.specs.Spelling.{spelling};
 ghost use Rattle.dgn_drawing.specs.SpotNumbers.{sum_at, number_bytes};
 ghost use Rattle.dgn_drawing.specs.Values.{IsShift};
 ghost use Rattle.dgn_drawing.specs.WellFormed.{IsDimension};
-ghost use Rattle.elem_index.specs.Design.{elements, IsWhole};
+ghost use Rattle.elem_index.specs.Design.{elements};
 ghost use Rattle.patch_bytes.specs.Puts.{lay, write};
 ghost use Rattle.edit_ops.specs.Causes.{unmovable};
 ghost use Rattle.edit_ops.specs.Copying.{tree_copy, copy_cause, IsStopped};
@@ -27,18 +27,17 @@ use crate::copies::tree::free_first;
 use crate::{Cause, EditFault, ElementView};
 use dgn_drawing::{Shift, put_number, spots_in, sum};
 use dgn_layout::{Spot, class};
-use elem_index::Design;
+use level_view::Drawing;
 
 // Appends the bytes of a copy of the part of element n, which is found and is all of its part and live, or says what
 // stands against it. Then, and where there is no memory, `out` is as before.
 pub fn push_lone_copy(
-    d: &Design,
+    d: &Drawing<'_>,
     n: u32,
     found: ElementView,
     by: &Shift,
     out: &mut Vec<u8>,
 ) -> Result<(), EditFault>
-    requires whole { IsWhole d.now }
     requires found { IsElementView d.now n found }
     requires part { spelling (flat (tree_at n (forest row_of (elements d.now)))) ≡ found.bytes.now }
     requires live { live_tree (elements d.now) n ≡ option_to_list (found_at (elements d.now) n) }
@@ -48,6 +47,7 @@ pub fn push_lone_copy(
     ensures refused { IfErr result (IsStopped (copy_cause d.now.dim (elements d.now) by.now n)) }
     ensures kept { OnErr result (out.new.items ≡ out.old.items) }
 {
+    d.is_whole();
     if let Some(cause) = unmovable(n, class(found.kind)) {
         return Err(EditFault::Refused(cause));
     }
@@ -63,8 +63,7 @@ pub fn push_lone_copy(
 
 // Makes the bytes of such an element those of its copy, and answers whether each sum is on the design plane. Where one
 // isn't, some of them are laid.
-fn lay_copy(copy: &mut [u8], d: &Design, n: u32, found: ElementView, by: &Shift) -> bool
-    requires whole { IsWhole d.now }
+fn lay_copy(copy: &mut [u8], d: &Drawing<'_>, n: u32, found: ElementView, by: &Shift) -> bool
     requires found { IsElementView d.now n found }
     requires part { spelling (flat (tree_at n (forest row_of (elements d.now)))) ≡ found.bytes.now }
     requires live { live_tree (elements d.now) n ≡ option_to_list (found_at (elements d.now) n) }
@@ -76,7 +75,8 @@ fn lay_copy(copy: &mut [u8], d: &Design, n: u32, found: ElementView, by: &Shift)
     ensures copied { IsTrue result
         → copy.new ≡ spelling (flat (tree_copy d.now.dim (elements d.now) by.now n)) }
 {
-    let stays = lay_sums(copy, d.dim, found, by);
+    d.is_whole();
+    let stays = lay_sums(copy, d.dim(), found, by);
     free_first(copy);
     stays
 }

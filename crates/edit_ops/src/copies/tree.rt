@@ -1,9 +1,9 @@
-ghost use Rattle.std.specs.Prelude.{ℕ, ◌≡◌, ◌+◌, ◌%◌, ◌<◌, ◌≤◌, List, ◌++◌, length, map, slice_index, slice_set, OnErr};
+ghost use Rattle.std.specs.Prelude.{ℕ, ◌≡◌, ◌+◌, ◌%◌, ◌<◌, ◌≤◌, List, ◌++◌, length, slice_index, slice_set, OnErr};
 ghost use Rattle.std.specs.List.{AllByRecursion};
 ghost use Rattle.dgn_drawing.specs.Rows.{row_of};
 ghost use Rattle.dgn_drawing.specs.Nesting.{flat, forest};
 ghost use Rattle.dgn_drawing.specs.Spelling.{spelling};
-ghost use Rattle.elem_index.specs.Design.{elements, IsWhole};
+ghost use Rattle.elem_index.specs.Design.{elements};
 ghost use Rattle.elem_index.specs.Offsets.{offset_of};
 ghost use Rattle.edit_ops.specs.Trees.{tree_at, live_tree};
 ghost use Rattle.patch_bytes.specs.Puts.{write, Span};
@@ -16,8 +16,7 @@ use crate::EditFault;
 use crate::parts::live::part_end;
 use crate::parts::live_patches::push_live;
 use dgn_drawing::{Edit, MOST_DESIGN};
-use elem_index::Design;
-use nest_tree::types::Nest;
+use level_view::Drawing;
 use patch_bytes::{Patch, PatchList, swap_in};
 use std::alloc::Global;
 
@@ -25,36 +24,33 @@ use std::alloc::Global;
 const BIT_C: u8 = 0x80;
 
 // The byte at which element n begins, or behind the last one.
-fn place_of(d: &Design, n: u32) -> usize
-    requires whole { IsWhole d.now }
+fn place_of(d: &Drawing<'_>, n: u32) -> usize
     requires known { n ≤ length (elements d.now) }
     ensures { result ≡ offset_of (elements d.now) n }
 {
-    d.offset(n).unwrap_or(d.body.len())
+    d.is_whole();
+    d.offset(n).unwrap_or(d.body().len())
 }
 
-/// The bytes of the part of element `n` of the design `d`, of which `t` is the nesting: of the element, which there is,
-/// and of all below it.
-pub fn part_bytes<'a>(d: &'a Design, t: &Nest, n: u32) -> &'a [u8]
-    requires whole { IsWhole d.now }
-    requires nesting { t.now.rows ≡ map row_of (elements d.now) }
+/// The bytes of the part of element `n` of the design `d`: of the element, which there is, and of all below it.
+pub fn part_bytes<'a>(d: &Drawing<'a>, n: u32) -> &'a [u8]
     requires known { n < length (elements d.now) }
     ensures { result.now ≡ spelling (flat (tree_at n (forest row_of (elements d.now)))) }
 {
+    d.is_whole();
     let start = place_of(d, n);
-    let end = place_of(d, part_end(t, n));
-    &d.body[start..end]
+    let end = place_of(d, part_end(d, n));
+    &d.body()[start..end]
 }
 
-/// How many bytes the part of element `n` of the design `d` has, which there is; `t` is the nesting of `d`.
-pub fn part_len(d: &Design, t: &Nest, n: u32) -> usize
-    requires whole { IsWhole d.now }
-    requires nesting { t.now.rows ≡ map row_of (elements d.now) }
+/// How many bytes the part of element `n` of the design `d` has, which there is.
+pub fn part_len(d: &Drawing<'_>, n: u32) -> usize
     requires known { n < length (elements d.now) }
     ensures exact { result ≡ length (spelling (flat (tree_at n (forest row_of (elements d.now))))) }
     ensures bounded { result ≤ MOST_DESIGN }
 {
-    place_of(d, part_end(t, n)) - place_of(d, n)
+    d.is_whole();
+    place_of(d, part_end(d, n)) - place_of(d, n)
 }
 
 // Appends the bytes of the copy of the part of element n: those of the part with what the edit puts into its live
@@ -62,15 +58,12 @@ pub fn part_len(d: &Design, t: &Nest, n: u32) -> usize
 // where there is no memory, `out` is as before.
 pub fn push_copy(
     alloc: Global,
-    d: &Design,
-    t: &Nest,
+    d: &Drawing<'_>,
     n: u32,
     live: &[u32],
     edit: &Edit,
     out: &mut Vec<u8>,
 ) -> Result<(), EditFault>
-    requires whole { IsWhole d.now }
-    requires nesting { t.now.rows ≡ map row_of (elements d.now) }
     requires known { n < length (elements d.now) }
     requires fits { IsEdit edit.now }
     requires live { lives_of (elements d.now) live.now ≡ live_tree (elements d.now) n }
@@ -82,14 +75,13 @@ pub fn push_copy(
     let mut patches = PatchList::new(alloc);
     push_live(&mut patches, d, live, edit)?;
     let start = out.len();
-    out.extend_from_slice(part_bytes(d, t, n))?;
+    out.extend_from_slice(part_bytes(d, n))?;
     lay_part(&mut out[start..], d, n, edit, &patches);
     Ok(())
 }
 
 // Makes the bytes of the part of element n those of its copy, by the patches of the edit `_edit`.
-fn lay_part(copy: &mut [u8], d: &Design, n: u32, _edit: &Edit, patches: &PatchList)
-    requires whole { IsWhole d.now }
+fn lay_part(copy: &mut [u8], d: &Drawing<'_>, n: u32, _edit: &Edit, patches: &PatchList)
     requires known { n < length (elements d.now) }
     requires fits { IsEdit _edit.now }
     requires ready { AllByRecursion (λ v. IsReady d.now.dim _edit.now v.element) (live_tree (elements d.now) n) }
@@ -97,6 +89,7 @@ fn lay_part(copy: &mut [u8], d: &Design, n: u32, _edit: &Edit, patches: &PatchLi
     requires same { copy.old ≡ spelling (flat (tree_at n (forest row_of (elements d.now)))) }
     ensures { copy.new ≡ spelling (flat (copied d.now.dim (elements d.now) _edit.now n)) }
 {
+    d.is_whole();
     lay_all(copy, place_of(d, n) as u32, patches);
     free_first(copy);
 }

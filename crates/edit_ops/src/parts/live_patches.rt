@@ -1,11 +1,11 @@
-ghost use Rattle.std.specs.Prelude.{◌≡◌, ◌+◌, ◌<◌, ◌≤◌, ◌∷◌, [], ◌++◌, length, map, min, None, IfOk, OnSome, IfSome, IfNone, IsTrue, IsFalse};
+ghost use Rattle.std.specs.Prelude.{◌≡◌, ◌+◌, ◌<◌, ◌≤◌, ◌∷◌, [], ◌++◌, length, map, min, IfOk, OnSome, IfSome, IfNone, IsTrue, IsFalse};
 ghost use Rattle.std.specs.List.{AllByRecursion, list_all};
 ghost use Rattle.std.specs.Option.{option_to_list};
 ghost use Rattle.elem_head.specs.Head.{symbology_of};
 ghost use Rattle.dgn_layout.specs.Classes.{class_of};
 ghost use Rattle.dgn_layout.specs.Spots.{HoldsPoints, has_spots, spots_of};
 ghost use Rattle.dgn_drawing.specs.WellFormed.{IsDimension};
-ghost use Rattle.elem_index.specs.Design.{elements, IsWhole};
+ghost use Rattle.elem_index.specs.Design.{elements};
 ghost use Rattle.patch_bytes.specs.PatchView.{put_of};
 ghost use Rattle.range_code.specs.Plane.{is_on_plane};
 ghost use Rattle.dgn_drawing.specs.SpotNumbers.{sum_at, number_bytes};
@@ -19,7 +19,7 @@ use crate::{Cause, EditFault, ElementView, find};
 use dgn_drawing::{Edit, MOST_DESIGN, Shift, SymbChange, bytes_at, spots_in, sum};
 use dgn_layout::Spot;
 use elem_head::symb;
-use elem_index::Design;
+use level_view::Drawing;
 use patch_bytes::{Patch, PatchList};
 use std::alloc::AllocError;
 
@@ -33,11 +33,10 @@ const DELETED: u8 = 0x80;
 /// `patches` may have some of it.
 pub fn push_live(
     patches: &mut PatchList,
-    d: &Design,
+    d: &Drawing<'_>,
     live: &[u32],
     edit: &Edit,
 ) -> Result<(), EditFault>
-    requires whole { IsWhole d.now }
     requires readable { AllByRecursion (λ v. MayBePut edit.now v.element) (lives_of (elements d.now) live.now) }
     ensures { AddsUnless (leaving d.now.dim edit.now (lives_of (elements d.now) live.now))
         (live_puts d.now.dim edit.now (lives_of (elements d.now) live.now)) result patches.old patches.new }
@@ -53,11 +52,10 @@ pub fn push_live(
 // as it was.
 fn make_room(
     patches: &mut PatchList,
-    d: &Design,
+    d: &Drawing<'_>,
     live: &[u32],
     edit: &Edit,
 ) -> Result<(), AllocError>
-    requires whole { IsWhole d.now }
     requires readable { AllByRecursion (λ v. MayBePut edit.now v.element) (lives_of (elements d.now) live.now) }
     ensures { patches.new ≡ patches.old }
 {
@@ -68,8 +66,7 @@ fn make_room(
 }
 
 // How many coordinate fields the elements of these numbers have, as far as the number goes.
-fn numbers_in(d: &Design, live: &[u32]) -> usize
-    requires whole { IsWhole d.now }
+fn numbers_in(d: &Drawing<'_>, live: &[u32]) -> usize
     requires spotted { AllByRecursion (λ v. IsTrue (has_spots (class_of v.element.kind))) (lives_of (elements d.now) live.now) }
     ensures { result ≡ min (length (all_spots d.now.dim (lives_of (elements d.now) live.now))) 18446744073709551615 }
 {
@@ -81,31 +78,36 @@ fn numbers_in(d: &Design, live: &[u32]) -> usize
 }
 
 // How many coordinate fields element m has, where there is one.
-fn numbers_at(d: &Design, m: u32) -> usize
-    requires whole { IsWhole d.now }
+fn numbers_at(d: &Drawing<'_>, m: u32) -> usize
     requires spotted { AllByRecursion (λ v. IsTrue (has_spots (class_of v.element.kind)))
         (option_to_list (found_at (elements d.now) m)) }
     ensures { result ≡ length (all_spots d.now.dim (option_to_list (found_at (elements d.now) m))) }
 {
+    d.is_whole();
     let Some(found) = find(d, m) else {
         return 0;
     };
-    spots_in(d.dim, found.kind, found.bytes).len()
+    spots_in(d.dim(), found.kind, found.bytes).len()
 }
 
 // Appends what an edit puts into element m, where there is one, or says that it would leave the plane.
-fn push_patches(patches: &mut PatchList, d: &Design, m: u32, edit: &Edit) -> Result<(), EditFault>
-    requires whole { IsWhole d.now }
+fn push_patches(
+    patches: &mut PatchList,
+    d: &Drawing<'_>,
+    m: u32,
+    edit: &Edit,
+) -> Result<(), EditFault>
     requires readable { AllByRecursion (λ v. MayBePut edit.now v.element) (option_to_list (found_at (elements d.now) m)) }
     ensures { AddsUnless (leaving d.now.dim edit.now (option_to_list (found_at (elements d.now) m)))
         (live_puts d.now.dim edit.now (option_to_list (found_at (elements d.now) m))) result patches.old patches.new }
 {
+    d.is_whole();
     let Some(found) = find(d, m) else {
         return Ok(());
     };
     match edit {
-        Edit::Move { by, .. } => push_moved(patches, d.dim, m, found, by),
-        Edit::Copy { by, .. } => push_moved(patches, d.dim, m, found, by),
+        Edit::Move { by, .. } => push_moved(patches, d.dim(), m, found, by),
+        Edit::Copy { by, .. } => push_moved(patches, d.dim(), m, found, by),
         Edit::Sym { change, .. } => {
             patches.push(look_patch(found, change))?;
             Ok(())

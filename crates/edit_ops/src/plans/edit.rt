@@ -1,10 +1,9 @@
-ghost use Rattle.std.specs.Prelude.{◌≡◌, ◌+◌, ◌<◌, ◌≤◌, length, map, Some, None, IfOk, IfErr, IfSome, IsErrOf};
+ghost use Rattle.std.specs.Prelude.{◌≡◌, ◌+◌, ◌<◌, ◌≤◌, length, Some, None, IfOk, IfErr, IfSome, IsErrOf};
 ghost use Rattle.std.specs.Option.{option_or};
 ghost use Rattle.dgn_drawing.specs.declared.edit.Edit.{Edit};
 ghost use Rattle.dgn_drawing.specs.Spelling.{spelling};
-ghost use Rattle.dgn_drawing.specs.Rows.{row_of};
 ghost use Rattle.dgn_drawing.specs.Nesting.{flat};
-ghost use Rattle.elem_index.specs.Design.{elements, IsWhole};
+ghost use Rattle.elem_index.specs.Design.{elements};
 ghost use Rattle.edit_ops.specs.Trees.{above_tree, live_tree};
 ghost use Rattle.edit_ops.specs.Applying.{apply, ChangesInPlace, IsEdit};
 ghost use Rattle.edit_ops.specs.Causes.{target_of, part_cause, causes_of, first_of};
@@ -23,12 +22,11 @@ use crate::{
     put_live_numbers, unknown,
 };
 use dgn_drawing::{Edit, MOST_DESIGN, Shift, spelled};
-use elem_index::Design;
-use nest_tree::types::Nest;
+use level_view::Drawing;
 use patch_bytes::{ByteList, PatchList};
 use std::alloc::Global;
 
-/// What an edit comes to on the design `d`, of which `t` is the nesting. `pending` is the number of bytes
+/// What an edit comes to on the design `d`. `pending` is the number of bytes
 /// that are to be appended already.
 ///
 /// Refused comes exactly with the first cause that stands. The part of an element is the element and all below it.
@@ -49,15 +47,7 @@ use std::alloc::Global;
 ///
 /// It takes the time of the part and of the headers above it, not of the drawing. Memory says that there was none
 /// for the plan, of an edit whose element, where it names one, there is.
-pub fn plan(
-    alloc: Global,
-    d: &Design,
-    t: &Nest,
-    edit: &Edit,
-    pending: usize,
-) -> Result<Plan, EditFault>
-    requires whole { IsWhole d.now }
-    requires nesting { t.now.rows ≡ map row_of (elements d.now) }
+pub fn plan(alloc: Global, d: &Drawing<'_>, edit: &Edit, pending: usize) -> Result<Plan, EditFault>
     requires bounded { length d.now.body.items + (length d.now.tail.items + pending) ≤ MOST_DESIGN }
     ensures planned { IfOk result
         (IsPlan d.now.dim (elements d.now) (length d.now.tail.items + pending) edit.now) }
@@ -71,7 +61,7 @@ pub fn plan(
         append: ByteList::new(alloc),
     };
     let mut numbers = no_numbers(alloc);
-    plan_behind(alloc, d, t, edit, pending, &mut numbers, &mut plan)?;
+    plan_behind(alloc, d, edit, pending, &mut numbers, &mut plan)?;
     Ok(plan)
 }
 
@@ -79,15 +69,12 @@ pub fn plan(
 // `all` may have some of it. `numbers` is filled anew, whatever stands in it.
 pub(crate) fn plan_behind(
     alloc: Global,
-    d: &Design,
-    t: &Nest,
+    d: &Drawing<'_>,
     edit: &Edit,
     pending: usize,
     numbers: &mut Numbers,
     all: &mut Plan,
 ) -> Result<(), EditFault>
-    requires whole { IsWhole d.now }
-    requires nesting { t.now.rows ≡ map row_of (elements d.now) }
     requires bounded { length d.now.body.items + (length d.now.tail.items + pending) ≤ MOST_DESIGN }
     ensures planned { PlansUnless d.now.dim (elements d.now) (length d.now.tail.items + pending) edit.now result all.old all.new }
     ensures kept { IfOk result (λ _. IsEdit edit.now) }
@@ -95,7 +82,7 @@ pub(crate) fn plan_behind(
 {
     is_edit(edit);
     match target(edit) {
-        Some(n) => plan_part(alloc, d, t, n, edit, pending, numbers, all),
+        Some(n) => plan_part(alloc, d, n, edit, pending, numbers, all),
         None => plan_append(alloc, d, edit, pending, all),
     }
 }
@@ -103,46 +90,41 @@ pub(crate) fn plan_behind(
 // Puts what an edit of the part of element n comes to behind what `all` has already.
 fn plan_part(
     alloc: Global,
-    d: &Design,
-    t: &Nest,
+    d: &Drawing<'_>,
     n: u32,
     edit: &Edit,
     pending: usize,
     numbers: &mut Numbers,
     all: &mut Plan,
 ) -> Result<(), EditFault>
-    requires whole { IsWhole d.now }
-    requires nesting { t.now.rows ≡ map row_of (elements d.now) }
     requires bounded { length d.now.body.items + (length d.now.tail.items + pending) ≤ MOST_DESIGN }
     requires target { target_of edit.now ≡ Some n }
     requires fits { IsEdit edit.now }
     ensures planned { PlansUnless d.now.dim (elements d.now) (length d.now.tail.items + pending) edit.now result all.old all.new }
     ensures known { IsErrOf result EditFault.Memory → n < length (elements d.now) }
 {
+    d.is_whole();
     if let Some(cause) = unknown(d, n) {
         return Err(EditFault::Refused(cause));
     }
     if let Edit::Copy { by, .. } = edit {
-        put_numbers_above(d, t, n, &mut numbers.above)?;
-        return plan_copy(alloc, d, t, n, by, pending, numbers, &mut all.append);
+        put_numbers_above(d, n, &mut numbers.above)?;
+        return plan_copy(alloc, d, n, by, pending, numbers, &mut all.append);
     }
-    plan_in_place(d, t, n, edit, numbers, &mut all.patches)
+    plan_in_place(d, n, edit, numbers, &mut all.patches)
 }
 
 // Appends the bytes of a copy of the part of element n, which there is, or says what stands against it. `numbers` has
 // those of the headers above the part. Where the file would be too long with the copy, none is made to say so.
 fn plan_copy(
     alloc: Global,
-    d: &Design,
-    t: &Nest,
+    d: &Drawing<'_>,
     n: u32,
     by: &Shift,
     pending: usize,
     numbers: &mut Numbers,
     append: &mut ByteList,
 ) -> Result<(), EditFault>
-    requires whole { IsWhole d.now }
-    requires nesting { t.now.rows ≡ map row_of (elements d.now) }
     requires bounded { length d.now.body.items + (length d.now.tail.items + pending) ≤ MOST_DESIGN }
     requires known { n < length (elements d.now) }
     requires above { lives_of (elements d.now) numbers.old.above.items ≡ above_tree (elements d.now) n }
@@ -150,31 +132,29 @@ fn plan_copy(
         (first_of (causes_of d.now.dim (elements d.now) (length d.now.tail.items + pending) (Edit.Copy n by.now))))
         (spelling (flat (tree_copy d.now.dim (elements d.now) by.now n))) result append.old append.new }
 {
-    let first = part_cause(d, t, n, &numbers.above).or(other_axes(d.dim, by.axes));
+    d.is_whole();
+    let first = part_cause(d, n, &numbers.above).or(other_axes(d.dim(), by.axes));
     if let Some(cause) = first {
         return Err(EditFault::Refused(cause));
     }
-    if let Some(long) = growth_cause(d, part_len(d, t, n), pending) {
-        put_live_numbers(d, t, n, &mut numbers.live)?;
+    if let Some(long) = growth_cause(d, part_len(d, n), pending) {
+        put_live_numbers(d, n, &mut numbers.live)?;
         let cause = move_cause(d, &numbers.live, by).unwrap_or(long);
         return Err(EditFault::Refused(cause));
     }
-    copy_tree(alloc, d, t, n, by, append)
+    copy_tree(alloc, d, n, by, append)
 }
 
 // Appends what another edit puts into the part of element n, which there is, and into the headers above it, or says what
 // stands against it. Of a part that is one element by itself below no header no numbers are put: no header stands above it,
 // and its one live element is itself.
 fn plan_in_place(
-    d: &Design,
-    t: &Nest,
+    d: &Drawing<'_>,
     n: u32,
     edit: &Edit,
     numbers: &mut Numbers,
     patches: &mut PatchList,
 ) -> Result<(), EditFault>
-    requires whole { IsWhole d.now }
-    requires nesting { t.now.rows ≡ map row_of (elements d.now) }
     requires known { n < length (elements d.now) }
     requires target { target_of edit.now ≡ Some n }
     requires in_place { ChangesInPlace edit.now }
@@ -182,12 +162,12 @@ fn plan_in_place(
     ensures { AddsUnless (option_or (part_cause d.now.dim (elements d.now) n) (first_of (causes_of d.now.dim (elements d.now) 0 edit.now)))
         (part_puts d.now.dim (elements d.now) edit.now n) result patches.old patches.new }
 {
-    if is_lone_root(d, t, n) {
+    if is_lone_root(d, n) {
         return plan_found(d, n, edit, &[], &[n], patches);
     }
-    put_numbers_above(d, t, n, &mut numbers.above)?;
-    put_live_numbers(d, t, n, &mut numbers.live)?;
-    if let Some(cause) = part_cause(d, t, n, &numbers.above) {
+    put_numbers_above(d, n, &mut numbers.above)?;
+    put_live_numbers(d, n, &mut numbers.live)?;
+    if let Some(cause) = part_cause(d, n, &numbers.above) {
         return Err(EditFault::Refused(cause));
     }
     plan_found(d, n, edit, &numbers.above, &numbers.live, patches)
@@ -196,14 +176,13 @@ fn plan_in_place(
 // Appends what such an edit puts into a part that nothing keeps from any edit, and into the headers above it, or says what
 // stands against it. `above` has the numbers of these headers, and `live` those of the part's live elements.
 fn plan_found(
-    d: &Design,
+    d: &Drawing<'_>,
     n: u32,
     edit: &Edit,
     above: &[u32],
     live: &[u32],
     patches: &mut PatchList,
 ) -> Result<(), EditFault>
-    requires whole { IsWhole d.now }
     requires known { n < length (elements d.now) }
     requires target { target_of edit.now ≡ Some n }
     requires in_place { ChangesInPlace edit.now }
@@ -223,12 +202,11 @@ fn plan_found(
 // What an appended element comes to.
 fn plan_append(
     alloc: Global,
-    d: &Design,
+    d: &Drawing<'_>,
     edit: &Edit,
     pending: usize,
     all: &mut Plan,
 ) -> Result<(), EditFault>
-    requires whole { IsWhole d.now }
     requires bounded { length d.now.body.items + (length d.now.tail.items + pending) ≤ MOST_DESIGN }
     requires target { target_of edit.now ≡ None }
     requires fits { IsEdit edit.now }

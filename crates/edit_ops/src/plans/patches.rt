@@ -7,7 +7,7 @@ ghost use Rattle.dgn_layout.specs.Spots.{HoldsPoints, has_spots};
 ghost use Rattle.dgn_drawing.specs.Spelling.{spell};
 ghost use Rattle.dgn_drawing.specs.Changes.{displaced};
 ghost use Rattle.dgn_drawing.specs.WellFormed.{IsDimension};
-ghost use Rattle.elem_index.specs.Design.{elements, IsWhole};
+ghost use Rattle.elem_index.specs.Design.{elements};
 ghost use Rattle.patch_bytes.specs.PatchView.{put_of};
 ghost use Rattle.range_code.specs.Plane.{is_on_plane};
 ghost use Rattle.dgn_drawing.specs.SpotNumbers.{wider};
@@ -21,7 +21,7 @@ use crate::{Cause, EditFault, ElementView, find, number_patch, push_live};
 use dgn_drawing::{Edit, MOST_DESIGN, Shift, moved_number, spots_in, stays_on_plane, value, wider};
 use dgn_layout::Spot;
 use dgn_words::range_long;
-use elem_index::Design;
+use level_view::Drawing;
 use patch_bytes::{Patch, PatchList};
 use range_code::Box3;
 use std::alloc::AllocError;
@@ -30,13 +30,12 @@ use std::alloc::AllocError;
 // `above` and `live` have the numbers, or says which of these would leave the design plane.
 pub fn push_part(
     patches: &mut PatchList,
-    d: &Design,
+    d: &Drawing<'_>,
     n: u32,
     above: &[u32],
     live: &[u32],
     edit: &Edit,
 ) -> Result<(), EditFault>
-    requires whole { IsWhole d.now }
     requires known { n < length (elements d.now) }
     requires unkept { part_cause d.now.dim (elements d.now) n ≡ None }
     requires above { lives_of (elements d.now) above.now ≡ above_tree (elements d.now) n }
@@ -54,12 +53,11 @@ pub fn push_part(
 // element that leaves the plane has no range for them to hold.
 fn push_above(
     patches: &mut PatchList,
-    d: &Design,
+    d: &Drawing<'_>,
     n: u32,
     above: &[u32],
     edit: &Edit,
 ) -> Result<(), EditFault>
-    requires whole { IsWhole d.now }
     requires head { IfSome (slice_get (elements d.now) n) (MayBePut edit.now) }
     requires widens { MayWiden edit.now (lives_of (elements d.now) above.now) }
     ensures put { OnOk result (patches.new ≡ patches.old
@@ -67,6 +65,7 @@ fn push_above(
     ensures refused { IfErr result
         (IsStopped (leaving d.now.dim edit.now (option_to_list (found_at (elements d.now) n)))) }
 {
+    d.is_whole();
     if above.is_empty() {
         return Ok(());
     }
@@ -76,21 +75,20 @@ fn push_above(
     let Some(head) = find(d, n) else {
         return Ok(());
     };
-    if !stays_on_plane(d.dim, head.kind, head.bytes, by) {
+    if !stays_on_plane(d.dim(), head.kind, head.bytes, by) {
         return Err(EditFault::Refused(Cause::OffPlane(n)));
     }
-    push_all_wider(patches, d, above, moved_range(d.dim, head.bytes, by))?;
+    push_all_wider(patches, d, above, moved_range(d.dim(), head.bytes, by))?;
     Ok(())
 }
 
 // Appends the range numbers of each of the headers of these numbers made to hold a range too.
 fn push_all_wider(
     patches: &mut PatchList,
-    d: &Design,
+    d: &Drawing<'_>,
     above: &[u32],
     r: Box3,
 ) -> Result<(), AllocError>
-    requires whole { IsWhole d.now }
     requires spotted { AllByRecursion (λ v. IsTrue (has_spots (class_of v.element.kind))) (lives_of (elements d.now) above.now) }
     ensures { OnOk result (patches.new ≡ patches.old
         ++ flat_map (λ v. wider_puts d.now.dim r v.place (spell v.element)) (lives_of (elements d.now) above.now)) }
@@ -136,17 +134,17 @@ fn moved_corner(dim: u8, b: &[u8], at: u32, by: &Shift) -> [i32; 3]
 }
 
 // Appends the range numbers of header m, where there is one, made to hold a range too.
-fn push_wider(patches: &mut PatchList, d: &Design, m: u32, r: Box3) -> Result<(), AllocError>
-    requires whole { IsWhole d.now }
+fn push_wider(patches: &mut PatchList, d: &Drawing<'_>, m: u32, r: Box3) -> Result<(), AllocError>
     requires spotted { AllByRecursion (λ v. IsTrue (has_spots (class_of v.element.kind)))
         (option_to_list (found_at (elements d.now) m)) }
     ensures { OnOk result (patches.new ≡ patches.old
         ++ flat_map (λ v. wider_puts d.now.dim r v.place (spell v.element)) (option_to_list (found_at (elements d.now) m))) }
 {
+    d.is_whole();
     let Some(found) = find(d, m) else {
         return Ok(());
     };
-    push_range(patches, d.dim, found, r)
+    push_range(patches, d.dim(), found, r)
 }
 
 // Appends the numbers at the range spots of an element, made to hold a range too.

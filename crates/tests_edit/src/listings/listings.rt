@@ -7,6 +7,7 @@ use super::file;
 use dgn_drawing::MOST_DESIGN;
 use dgn_listing::{write_elements, write_links, write_refs};
 use elem_index::{Design, read_design};
+use level_view::{Drawing, nest_design};
 use sample_elements::{
     DELETED_REFERENCE, LINKED_LINE, LINKED_SHAPE, NO_REFERENCES, REFERENCE, SHORT_LINE, SILENT,
 };
@@ -27,8 +28,10 @@ fn listed(alloc: Global, d: &Design) -> Result<Vec<u8>, AllocError>
     requires { IsWhole d.now }
 {
     let mut out = Vec::from_slice(alloc, b"ok\n")?;
-    write_elements(alloc, &mut out, d)?;
-    write_refs(alloc, &mut out, d)?;
+    let nesting = nest_design(alloc, d)?;
+    let drawing = Drawing::new(d, &nesting);
+    write_elements(alloc, &mut out, &drawing)?;
+    write_refs(alloc, &mut out, &drawing)?;
     Ok(out)
 }
 

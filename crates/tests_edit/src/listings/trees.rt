@@ -5,7 +5,7 @@ ghost use Rattle.elem_index.specs.Design.{IsWhole};
 use super::listings::design;
 use dgn_listing::write_tree;
 use elem_index::Design;
-use level_view::nest_design;
+use level_view::{Drawing, nest_design};
 use sample_elements::{CELL, MEMBER, SPLINE, blank, with_byte};
 use std::alloc::{AllocError, Global};
 use std::process::Abort;
@@ -27,7 +27,7 @@ fn told(alloc: Global, d: &Design, n: u32) -> Result<Vec<u8>, AllocError>
     let mut out = Vec::new(alloc);
     if n < d.count() {
         let nesting = nest_design(alloc, d)?;
-        write_tree(alloc, &mut out, d, &nesting, n)?;
+        write_tree(alloc, &mut out, &Drawing::new(d, &nesting), n)?;
     }
     Ok(out)
 }

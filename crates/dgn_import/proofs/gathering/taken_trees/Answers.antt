@@ -10,7 +10,7 @@ use Rattle.dgn_import.proofs.gathering.taken_trees.Goals.{then-is_taken+in_ok-pu
 
 pub roots-init : goal.roots-init
 roots-init c =
-    none_gathered c.args.d.now.dim (elements c.args.d.now) (option_map (λ b. b.now) c.args.by) c.args.t.now.rows c.requires.nesting
+    none_gathered c.args.d.now.dim (elements c.args.d.now) (option_map (λ b. b.now) c.args.by)
     c.from_vec-bytes.result (c.from_vec-bytes.ensures ∙ c.in_ok-reserve.ensures.items ∙ c.new-room.ensures.items)
 
 pub roots-smaller : goal.roots-smaller
@@ -18,22 +18,22 @@ roots-smaller c =
     let known : c.roots.root < length (elements c.args.d.now) = omega (arith, c.roots-test.true, c.count-count.ensures) in
     let on : c.roots.root < c.part_end-root.result =
     goes_on c.args.d.now.dim (elements c.args.d.now) (option_map (λ b. b.now) c.args.by)
-    c.args.t.now.rows c.requires.nesting c.roots.root c.roots.trees c.roots.bytes c.roots.invariant known c.part_end-root.result c.part_end-root.ensures in
+    c.roots.root c.roots.trees c.roots.bytes c.roots.invariant known c.part_end-root.result c.part_end-root.ensures in
     omega (arith, on, c.roots-test.true)
 
 pub overflow_add-trees : goal.overflow_add-trees
 overflow_add-trees c =
     let known : c.roots.root < length (elements c.args.d.now) = omega (arith, c.roots-test.true, c.count-count.ensures) in
     let more = more_elements c.args.d.now.dim (elements c.args.d.now) (option_map (λ b. b.now) c.args.by)
-    c.args.t.now.rows c.requires.nesting c.roots.root c.roots.trees c.roots.bytes c.roots.invariant known (sym c.is_taken.ensures ∙ c.if-is_taken.true) in
-    omega (arith, more, few_elements c.args.d.now c.requires.whole)
+    c.roots.root c.roots.trees c.roots.bytes c.roots.invariant known (sym c.is_taken.ensures ∙ c.if-is_taken.true) in
+    omega (arith, more, few_elements c.args.d.now c.is_whole.ensures)
 
 pub returns-in_err-push_tree-clause-refused : goal.returns-in_err-push_tree-clause-refused
 returns-in_err-push_tree-clause-refused c =
     let known : c.roots.root < length (elements c.args.d.now) = omega (arith, c.roots-test.true, c.count-count.ensures) in
     let told = err_from_is_err_and c.from_residual-in_err-push_tree.result c.from_residual-in_err-push_tree.ensures.1 in
     rw (told.1, told.2) (next_refused c.args.d.now.dim (elements c.args.d.now) (option_map (λ b. b.now) c.args.by)
-    c.args.t.now.rows c.requires.nesting c.roots.root c.roots.trees c.roots.bytes c.roots.invariant known (sym c.is_taken.ensures ∙ c.if-is_taken.true)
+    c.roots.root c.roots.trees c.roots.bytes c.roots.invariant known (sym c.is_taken.ensures ∙ c.if-is_taken.true)
     c.in_err-push_tree.field-0.0 c.in_err-push_tree.ensures.refused)
 
 pub roots-preserved : goal.roots-preserved
@@ -43,29 +43,29 @@ roots-preserved c =
       | then-is_taken+in_ok-push_tree w ↦
           rw (w.bytes-is, w.trees-is)
           (next_gathered c.args.d.now.dim (elements c.args.d.now) (option_map (λ b. b.now) c.args.by)
-          c.args.t.now.rows c.requires.nesting c.roots.root c.roots.trees c.roots.bytes c.roots.invariant known c.part_end-root.result c.part_end-root.ensures
+          c.roots.root c.roots.trees c.roots.bytes c.roots.invariant known c.part_end-root.result c.part_end-root.ensures
           (sym c.is_taken.ensures ∙ w.if-is_taken.true) w.push_tree.new.out w.in_ok-push_tree.ensures.accepted w.in_ok-push_tree.ensures.pushed)
       | else-is_taken w ↦
           rw (w.bytes-is, w.trees-is)
           (next_left c.args.d.now.dim (elements c.args.d.now) (option_map (λ b. b.now) c.args.by)
-          c.args.t.now.rows c.requires.nesting c.roots.root c.roots.trees c.roots.bytes c.roots.invariant known c.part_end-root.result c.part_end-root.ensures
+          c.roots.root c.roots.trees c.roots.bytes c.roots.invariant known c.part_end-root.result c.part_end-root.ensures
           (sym c.is_taken.ensures ∙ w.if-is_taken.false))
     ]
 
 pub returns-clause-bytes : goal.returns-clause-bytes
 returns-clause-bytes c =
     all_gathered c.args.d.now.dim (elements c.args.d.now) (option_map (λ b. b.now) c.args.by)
-    c.args.t.now.rows c.requires.nesting c.roots.root c.roots.trees c.roots.bytes c.roots.invariant
+    c.roots.root c.roots.trees c.roots.bytes c.roots.invariant
     (omega (arith, c.roots-test.false, c.count-count.ensures))
 
 pub returns-clause-trees : goal.returns-clause-trees
 returns-clause-trees c =
     all_counted c.args.d.now.dim (elements c.args.d.now) (option_map (λ b. b.now) c.args.by)
-    c.args.t.now.rows c.requires.nesting c.roots.root c.roots.trees c.roots.bytes c.roots.invariant
+    c.roots.root c.roots.trees c.roots.bytes c.roots.invariant
     (omega (arith, c.roots-test.false, c.count-count.ensures))
 
 pub returns-clause-accepted : goal.returns-clause-accepted
 returns-clause-accepted c =
     all_accepted c.args.d.now.dim (elements c.args.d.now) (option_map (λ b. b.now) c.args.by)
-    c.args.t.now.rows c.requires.nesting c.roots.root c.roots.trees c.roots.bytes c.roots.invariant
+    c.roots.root c.roots.trees c.roots.bytes c.roots.invariant
     (omega (arith, c.roots-test.false, c.count-count.ensures))

@@ -8,7 +8,7 @@ use Rattle.dgn_import.proofs.DrawnElements.{drawn_seen, drawn_silent}
 use Rattle.dgn_import.proofs.taking.is_drawn.Goals as goal
 
 pub head-head-requires : goal.head-head-requires
-head-head-requires c = head_fits c.args.d.now c.requires c.args.n c.in-Some.bytes.now c.in-Some.ensures.bytes
+head-head-requires c = head_fits c.args.d.now c.is_whole.ensures c.args.n c.in-Some.bytes.now c.in-Some.ensures.bytes
 
 pub returns-then-not-is_silent : goal.returns-then-not-is_silent
 returns-then-not-is_silent c =
@@ -20,7 +20,8 @@ returns-then-not-is_silent c =
       bytes = c.in-Some.bytes;
     } in
     drawn_seen c.args.d.now c.args.n f
-    (found_here c.args.d.now c.requires c.args.n c.in-Some.bytes.now c.in-Some.ensures.bytes c.head-head.result c.head-head.ensures f refl refl refl refl)
+    (found_here c.args.d.now c.is_whole.ensures c.args.n c.in-Some.bytes.now c.in-Some.ensures.bytes c.head-head.result c.head-head.ensures f refl refl
+    refl refl)
     c.is_silent.result c.is_silent.ensures (ap not c.if-not-is_silent.true)
 
 pub returns-else-not-is_silent : goal.returns-else-not-is_silent
@@ -33,5 +34,6 @@ returns-else-not-is_silent c =
       bytes = c.in-Some.bytes;
     } in
     drawn_silent c.args.d.now c.args.n f
-    (found_here c.args.d.now c.requires c.args.n c.in-Some.bytes.now c.in-Some.ensures.bytes c.head-head.result c.head-head.ensures f refl refl refl refl)
+    (found_here c.args.d.now c.is_whole.ensures c.args.n c.in-Some.bytes.now c.in-Some.ensures.bytes c.head-head.result c.head-head.ensures f refl refl
+    refl refl)
     c.is_silent.result c.is_silent.ensures (ap not c.if-not-is_silent.false)

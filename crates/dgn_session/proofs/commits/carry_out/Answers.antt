@@ -2,7 +2,7 @@ use Rattle.std.proofs.Common.{◌≡◌, ◌++◌, map, length, refl}
 use Rattle.dgn_drawing.specs.Rows.{row_of}
 use Rattle.elem_index.specs.declared.design.Design.{Design}
 use Rattle.dgn_session.specs.CarryingOut.{IsChange, HasRoom}
-use Rattle.dgn_session.proofs.PartsKept.{change_spells, change_same, room_for, can_grow, kept_after}
+use Rattle.dgn_session.proofs.PartsKept.{change_same, room_for, can_grow, kept_after}
 use Rattle.dgn_session.proofs.Leading.{patches_within, patches_apart}
 use Rattle.dgn_session.proofs.commits.carry_out.Goals as goal
 use Rattle.dgn_session.proofs.commits.carry_out.Goals.{In_default, After-commit}
@@ -34,10 +34,6 @@ ungrown c = record {
   kept = c.follow.new.design.kept;
   kinds = c.follow.new.design.kinds;
 }
-
-pub follow-requires-clause-spelled : goal.follow-requires-clause-spelled
-follow-requires-clause-spelled c =
-    change_spells c.args.design.now.dim c.args.design.now.tail.items c.args.design.now.body.items c.args.patches c.args.append.now c.requires.sound
 
 pub commit-requires-clause-within : goal.commit-requires-clause-within
 commit-requires-clause-within c =

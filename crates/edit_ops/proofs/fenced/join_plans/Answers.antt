@@ -19,7 +19,7 @@ roots-preserved c =
     let d = c.args.d.now in
     let next = c.in_ok-join_root.ensures in
     next_planned d.dim (elements d) (length d.tail.items) c.args.edit.now c.args.roots.now (d.body.items ++ d.tail.items)
-    d.tail.items c.requires.whole.is_open.opens c.requires.fits
+    d.tail.items c.is_whole.ensures.is_open.opens c.requires.fits
     c.roots.n-index c.roots.all.patches c.roots.all.append c.roots-test.true (length c.roots.all.append)
     next.own c.join_root.new.all.patches c.join_root.new.all.append
     refl c.roots.invariant next.is next.patches next.append
@@ -28,5 +28,5 @@ pub returns-clause-planned : goal.returns-clause-planned
 returns-clause-planned c =
     let d = c.args.d.now in
     all_planned d.dim (elements d) (length d.tail.items) c.args.edit.now c.args.roots.now (d.body.items ++ d.tail.items)
-    d.tail.items c.requires.whole.is_open.opens c.requires.fits
+    d.tail.items c.is_whole.ensures.is_open.opens c.requires.fits
     c.roots.n-index c.roots.all c.requires.roots c.roots-test.false c.roots.invariant

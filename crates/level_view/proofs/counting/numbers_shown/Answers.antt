@@ -15,8 +15,9 @@ loop-n-init c =
 pub loop-n-preserved : goal.loop-n-preserved
 loop-n-preserved c =
     c.in_ok-add_number.ensures
-    ∙ number_step c.args.d.now.dim c.args.mask (elements c.args.d.now) (c.loop-n.n - 1) c.place_of.result c.place_of.ensures c.loop-n.n c.count-end.result
-    (reverse c.loop-n.numbers.items) (omega (arith, c.loop-n-test.true)) c.loop-n.auto.n c.loop-n.invariant
+    ∙ rw c.dim.ensures.value (number_step c.args.d.now.dim c.args.mask (elements c.args.d.now) (c.loop-n.n - 1) c.place_of.result c.place_of.ensures
+    c.loop-n.n c.count-end.result
+    (reverse c.loop-n.numbers.items) (omega (arith, c.loop-n-test.true)) c.loop-n.auto.n c.loop-n.invariant)
 
 pub returns : goal.returns
 returns c =

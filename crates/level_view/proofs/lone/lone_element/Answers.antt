@@ -16,7 +16,7 @@ returns-in-Some-Leaf-clause-bytes c =
 
 pub returns-in-Some-Leaf-clause-sound : goal.returns-in-Some-Leaf-clause-sound
 returns-in-Some-Leaf-clause-sound c =
-    if_mapped _ _ c.element.result (HasNoFaultIn c.args.d.now.dim) c.element.ensures.bytes (λ b is. sound_here c.args.d.now c.requires.whole c.args.n b is)
+    if_mapped _ _ c.element.result (HasNoFaultIn c.args.d.now.dim) c.element.ensures.bytes (λ b is. sound_here c.args.d.now c.is_whole.ensures c.args.n b is)
 
 pub returns-in-Some-Leaf-clause-shown : goal.returns-in-Some-Leaf-clause-shown
 returns-in-Some-Leaf-clause-shown c =
@@ -24,6 +24,6 @@ returns-in-Some-Leaf-clause-shown c =
     (λ (b : List ℕ). (mask : Mask)
     → tree_shown c.args.d.now.dim mask (elements c.args.d.now) c.args.n ≡ shown_alone c.args.d.now.dim mask c.args.n 0 (element_at c.args.d.now.dim b))
     c.element.ensures.bytes (λ b is mask.
-    leaf_shown (elements c.args.d.now) c.args.t.now.rows c.requires.nesting c.args.n c.requires.root
+    leaf_shown (elements c.args.d.now) c.args.n c.requires.root
     (leaf_knot _ (sym (ap Some c.in-Some-Leaf.field-0-is) ∙ c.in-Some-Leaf.ensures.knot))
-    (element_at c.args.d.now.dim b) (element_here c.args.d.now c.requires.whole c.args.n b is) c.args.d.now.dim mask)
+    (element_at c.args.d.now.dim b) (element_here c.args.d.now c.is_whole.ensures c.args.n b is) c.args.d.now.dim mask)

@@ -1,28 +1,25 @@
-use Rattle.std.proofs.Common.{◌≡◌, ℕ, ◌-◌, ap, sym, ◌∙◌, arith}
-use Rattle.std.specs.Prelude.{Some, None, option_map}
+use Rattle.std.proofs.Common.{◌≡◌, ℕ, ◌-◌, ap, ◌∙◌, arith}
+use Rattle.std.specs.Prelude.{Some}
 use Rattle.dgn_drawing.specs.Nesting.{forest}
 use Rattle.dgn_drawing.specs.Rows.{row_of}
 use Rattle.dgn_drawing.specs.Numbering.{Mark, mark_of}
 use Rattle.elem_index.specs.Design.{elements}
 use Rattle.level_view.specs.Back.{read_back}
 use Rattle.level_view.proofs.Results.{ok_same}
-use Rattle.level_view.proofs.Places.{mark-rows, mark_part}
-use Rattle.level_view.proofs.TreeItems.{IsTree, parent_at, root_known, root_found}
+use Rattle.level_view.proofs.Places.{mark_part}
+use Rattle.level_view.proofs.TreeItems.{IsTree, root_known, root_found}
 use Rattle.level_view.proofs.view.tree_items_into.Goals as goal
 use Rattle.level_view.proofs.view.tree_items_into.Goals.{In-Some}
 
 -- the tree of the root, and its span
 tree_of : (c : goal.In-Some) → IsTree c.args.d.now.dim c.args.mask (elements c.args.d.now) c.args.n (forest row_of (elements c.args.d.now)) 0
 tree_of c =
-    let is_root : parent_at (mark_of row_of (elements c.args.d.now) c.args.n) ≡ Some None =
-    ap parent_at (sym (mark-rows (elements c.args.d.now) c.args.t.now.rows c.args.n c.requires.nesting)) ∙ c.requires.root in
-    root_found c.args.d.now.dim c.args.mask (elements c.args.d.now) c.args.n is_root (root_known (elements c.args.d.now) c.args.n is_root)
+    root_found c.args.d.now.dim c.args.mask (elements c.args.d.now) c.args.n c.requires.root (root_known (elements c.args.d.now) c.args.n c.requires.root)
 
 span_is : (c : goal.In-Some) → ◌≡◌ {A = ℕ × ℕ} (c.in-Some.first, c.in-Some.end) (c.args.n, (tree_of c).mark.end)
 span_is c =
     mark_part (λ (m : Mark). (c.args.n, m.end)) (tree_of c).mark (mark_of row_of (elements c.args.d.now) c.args.n) (c.in-Some.first, c.in-Some.end)
-    (c.in-Some.ensures.span ∙ ap (option_map (λ (m : Mark). (c.args.n, m.end)))
-    (mark-rows (elements c.args.d.now) c.args.t.now.rows c.args.n c.requires.nesting)) (tree_of c).marked
+    c.in-Some.ensures.span (tree_of c).marked
 
 first_is : (c : goal.In-Some) → c.in-Some.first ≡ c.args.n
 first_is c = ap (λ (x : ℕ × ℕ). x.0) (span_is c)

@@ -17,10 +17,11 @@ edited : (c : goal.In_ok-carry_out) → IsFenceEdited c.args.e.now c.args.self.n
 edited c =
     fence_made c.args.self.now (subst IsSessionValue c.self.view_is c.self.invariant.back) c.in-Some.fence c.args.mode
     (sym (ap (λ (v : SessionValue). v.fence) c.self.view_is) ∙ c.in-Some.is) c.deref.result.now
-    (roots_seen c.self.inside.design c.self.inside.log c.self.inside.mask c.self.inside.fence c.args.self.now c.self.view_is c.args.mode
+    (roots_seen c.drawing-drawing.result c.args.self.now c.drawing-drawing.ensures.value c.self.inside.mask
+    (ap (λ (v : SessionValue). v.mask) c.self.view_is) c.args.mode
     c.in-Some.fence c.deref.result.now (c.deref.ensures.value ∙ c.in_ok-roots.ensures))
     c.args.e.now (plan_of c.in_ok-plan.plan.patches c.as_slice.result.now) c.in_ok-plan.ensures.kept
-    (plan_seen c.self.inside.design c.self.inside.log c.self.inside.mask c.self.inside.fence c.args.self.now c.self.view_is c.args.e.now
+    (plan_seen c.drawing-drawing.result c.args.self.now c.drawing-drawing.ensures.value c.args.e.now
     c.deref.result.now c.in_ok-plan.plan c.as_slice.result.now c.as_slice.ensures c.in_ok-plan.ensures.planned)
     c.carry_out.new.self c.in_ok-carry_out.ensures.carried
 
@@ -28,10 +29,11 @@ pub carry_out-requires : goal.carry_out-requires
 carry_out-requires c =
     fence_sound c.args.self.now (subst IsSessionValue c.self.view_is c.self.invariant.back) c.in-Some.fence c.args.mode
     (sym (ap (λ (v : SessionValue). v.fence) c.self.view_is) ∙ c.in-Some.is) c.deref.result.now
-    (roots_seen c.self.inside.design c.self.inside.log c.self.inside.mask c.self.inside.fence c.args.self.now c.self.view_is c.args.mode
+    (roots_seen c.drawing-drawing.result c.args.self.now c.drawing-drawing.ensures.value c.self.inside.mask
+    (ap (λ (v : SessionValue). v.mask) c.self.view_is) c.args.mode
     c.in-Some.fence c.deref.result.now (c.deref.ensures.value ∙ c.in_ok-roots.ensures))
     c.args.e.now (plan_of c.in_ok-plan.plan.patches c.as_slice.result.now) c.in_ok-plan.ensures.kept
-    (plan_seen c.self.inside.design c.self.inside.log c.self.inside.mask c.self.inside.fence c.args.self.now c.self.view_is c.args.e.now
+    (plan_seen c.drawing-drawing.result c.args.self.now c.drawing-drawing.ensures.value c.args.e.now
     c.deref.result.now c.in_ok-plan.plan c.as_slice.result.now c.as_slice.ensures c.in_ok-plan.ensures.planned)
 
 pub overflow_cast-result : goal.overflow_cast-result
@@ -40,9 +42,9 @@ overflow_cast-result c =
       arith,
       c.len.ensures,
       ap (length {A = ℕ}) c.in_ok-roots.ensures,
-      few_elements c.self.inside.design c.self.invariant.whole,
-      chosen_few (elements c.self.inside.design)
-          (λ (n : ℕ). takes c.args.mode c.in-Some.fence (tree_shown c.self.inside.design.dim c.self.inside.mask (elements c.self.inside.design) n)),
+      few_elements c.drawing-drawing.result c.drawing-drawing.ensures.whole,
+      chosen_few (elements c.drawing-drawing.result)
+          (λ (n : ℕ). takes c.args.mode c.in-Some.fence (tree_shown c.drawing-drawing.result.dim c.self.inside.mask (elements c.drawing-drawing.result) n)),
     )
 
 pub returns-clause-done : goal.returns-clause-done

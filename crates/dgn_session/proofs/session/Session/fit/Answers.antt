@@ -1,6 +1,8 @@
 use Rattle.std.proofs.Common.{subst}
 use Rattle.dgn_audit.specs.Planned.{IsFitPlan}
-use Rattle.dgn_session.specs.State.{SessionValue, state_of}
+use Rattle.dgn_drawing.specs.Opening.{elements_of}
+use Rattle.dgn_session.proofs.DesignSeen.{as_seen}
+use Rattle.dgn_session.specs.State.{SessionValue}
 use Rattle.dgn_session.specs.Laws.{IsSessionValue}
 use Rattle.dgn_session.proofs.FitCarriedOut.{IsFitted, fit_sound, fit_made}
 use Rattle.dgn_session.proofs.session.Session.fit.Goals as goal
@@ -10,13 +12,15 @@ use Rattle.dgn_session.proofs.session.Session.fit.Goals.{In_ok-carry_out}
 fitted : (c : goal.In_ok-carry_out) → IsFitted c.args.n c.args.self.now c.carry_out.new.self
 fitted c =
     fit_made c.args.self.now (subst IsSessionValue c.self.view_is c.self.invariant.back) c.args.n c.in_ok-patches.patches
-    (subst (λ (v : SessionValue). IsFitPlan v.dim (state_of v).top c.args.n c.in_ok-patches.patches) c.self.view_is c.in_ok-patches.ensures.planned)
+    (as_seen c.args.self.now c.drawing.result c.drawing.ensures.value (λ dim b t. IsFitPlan dim (elements_of dim b) c.args.n c.in_ok-patches.patches)
+    c.in_ok-patches.ensures.planned)
     c.carry_out.new.self c.in_ok-carry_out.ensures.carried
 
 pub carry_out-requires : goal.carry_out-requires
 carry_out-requires c =
     fit_sound c.args.self.now (subst IsSessionValue c.self.view_is c.self.invariant.back) c.args.n c.in_ok-patches.patches
-    (subst (λ (v : SessionValue). IsFitPlan v.dim (state_of v).top c.args.n c.in_ok-patches.patches) c.self.view_is c.in_ok-patches.ensures.planned)
+    (as_seen c.args.self.now c.drawing.result c.drawing.ensures.value (λ dim b t. IsFitPlan dim (elements_of dim b) c.args.n c.in_ok-patches.patches)
+    c.in_ok-patches.ensures.planned)
 
 pub returns-clause-done : goal.returns-clause-done
 returns-clause-done c = (fitted (goal.at.returns-clause-done c).In_ok-carry_out).has.done

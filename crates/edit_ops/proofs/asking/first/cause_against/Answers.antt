@@ -7,29 +7,29 @@ use Rattle.edit_ops.proofs.asking.first.cause_against.Goals as goal
 pub stays_on_plane-requires-clause-holds : goal.stays_on_plane-requires-clause-holds
 stays_on_plane-requires-clause-holds c =
     let found = c.in_ok-found.ensures.found in
-    holds_found c.args.d.now c.requires.whole c.args.m c.in_ok-found.found found
-    (asked_of_spots c.args.test.now c.in-StaysOnPlane.by _ found.element c.in-StaysOnPlane.is found.there c.requires.asked)
+    rw c.dim.ensures.value (holds_found c.args.d.now c.is_whole.ensures c.args.m c.in_ok-found.found found
+    (asked_of_spots c.args.test.now c.in-StaysOnPlane.by _ found.element c.in-StaysOnPlane.is found.there c.requires.asked))
 
 pub returns-then-stays_on_plane : goal.returns-then-stays_on_plane
 returns-then-stays_on_plane c =
     let found = c.in_ok-found.ensures.found in
     let some = asked_of_spots c.args.test.now c.in-StaysOnPlane.by _ found.element c.in-StaysOnPlane.is found.there c.requires.asked in
-    let same = stays_found c.args.d.now c.requires.whole c.args.m c.in_ok-found.found found c.in-StaysOnPlane.by some in
+    let same = stays_found c.args.d.now c.is_whole.ensures c.args.m c.in_ok-found.found found c.in-StaysOnPlane.by some in
     sym (plane_cause c.args.d.now.dim c.args.test.now c.in-StaysOnPlane.by c.args.m _ found.element true c.in-StaysOnPlane.is found.there
-    (sym same ∙ sym c.stays_on_plane.ensures ∙ c.if-stays_on_plane.true))
+    (sym same ∙ sym (rw c.dim.ensures.value at c.stays_on_plane.ensures) ∙ c.if-stays_on_plane.true))
 
 pub returns-else-stays_on_plane : goal.returns-else-stays_on_plane
 returns-else-stays_on_plane c =
     let found = c.in_ok-found.ensures.found in
     let some = asked_of_spots c.args.test.now c.in-StaysOnPlane.by _ found.element c.in-StaysOnPlane.is found.there c.requires.asked in
-    let same = stays_found c.args.d.now c.requires.whole c.args.m c.in_ok-found.found found c.in-StaysOnPlane.by some in
+    let same = stays_found c.args.d.now c.is_whole.ensures c.args.m c.in_ok-found.found found c.in-StaysOnPlane.by some in
     sym (plane_cause c.args.d.now.dim c.args.test.now c.in-StaysOnPlane.by c.args.m _ found.element false c.in-StaysOnPlane.is found.there
-    (sym same ∙ sym c.stays_on_plane.ensures ∙ c.if-stays_on_plane.false))
+    (sym same ∙ sym (rw c.dim.ensures.value at c.stays_on_plane.ensures) ∙ c.if-stays_on_plane.false))
 
 pub locked_at-requires-clause-long_enough : goal.locked_at-requires-clause-long_enough
 locked_at-requires-clause-long_enough c =
     let found = c.in_ok-found.ensures.found in
-    λ loud. long_found c.args.d.now c.requires.whole c.args.m c.in_ok-found.found found (sym (ap (λ (k : ℕ). is_silent (class_of k)) found.kind) ∙ loud)
+    λ loud. long_found c.args.d.now c.is_whole.ensures c.args.m c.in_ok-found.found found (sym (ap (λ (k : ℕ). is_silent (class_of k)) found.kind) ∙ loud)
 
 pub returns-in-Unlocked : goal.returns-in-Unlocked
 returns-in-Unlocked c =
@@ -37,4 +37,4 @@ returns-in-Unlocked c =
     c.locked_at.ensures
     ∙ lock_cause c.args.d.now.dim c.args.test.now c.args.m _ found.element (locked_in c.in_ok-found.found.kind c.in_ok-found.found.bytes.now)
     c.in-Unlocked.is found.there
-    (lock_found c.args.d.now c.requires.whole c.args.m c.in_ok-found.found found)
+    (lock_found c.args.d.now c.is_whole.ensures c.args.m c.in_ok-found.found found)

@@ -8,7 +8,7 @@ use Rattle.edit_ops.proofs.causes.part.part_cause.Goals as goal
 
 pub returns : goal.returns
 returns c =
-    let is = part_cause_is c.args.d.now.dim (elements c.args.d.now) c.args.t.now.rows c.args.n (lives_of (elements c.args.d.now) c.args.above.now)
+    let is = part_cause_is c.args.d.now.dim (elements c.args.d.now) c.args.n (lives_of (elements c.args.d.now) c.args.above.now)
     c.broken.result c.first_cause.result c.cause_against.result
-    c.requires.nesting c.requires.above c.broken.ensures c.first_cause.ensures c.cause_against.ensures in
+    c.requires.above c.broken.ensures c.first_cause.ensures c.cause_against.ensures in
     c.or-2.ensures ∙ ap (λ (o : Option Cause). option_or o c.cause_against.result) c.or.ensures ∙ is

@@ -1,10 +1,8 @@
 use Rattle.std.proofs.Common.{◌≡◌, ◌∙◌, sym, ap, ℕ, List, ◌++◌, ◌∷◌, [], reverse, append_assoc, arith}
 use Rattle.std.proofs.lemmas.List.{reverse-append}
-use Rattle.dgn_drawing.specs.declared.row.Row.{Row}
 use Rattle.dgn_drawing.specs.Rows.{row_of}
-use Rattle.dgn_drawing.specs.Nesting.{itself}
 use Rattle.dgn_drawing.specs.Numbering.{headers_of}
-use Rattle.nest_tree.proofs.HeaderChains.{climbs, ends_climb, headers_by_rows}
+use Rattle.nest_tree.proofs.HeaderChains.{climbs, ends_climb}
 use Rattle.elem_index.specs.Design.{elements}
 use Rattle.edit_ops.specs.Written.{lives_of}
 use Rattle.edit_ops.proofs.HeadersFound.{found_above}
@@ -17,25 +15,23 @@ one_more front above new q is =
     ∙ sym (append_assoc front (q ∷ []) (reverse above))
 
 pub up-smaller : goal.up-smaller
-up-smaller c = (climbs itself c.args.t.now.rows c.up.i c.in-Some.header c.in-Some.ensures).0
+up-smaller c = (climbs row_of (elements c.args.d.now) c.up.i c.in-Some.header c.in-Some.ensures).0
 
 pub up-preserved : goal.up-preserved
 up-preserved c =
-    let up = climbs itself c.args.t.now.rows c.up.i c.in-Some.header c.in-Some.ensures in
+    let up = climbs row_of (elements c.args.d.now) c.up.i c.in-Some.header c.in-Some.ensures in
     let less = up.0 in
     let within = c.up.invariant.0 in (
       omega arith,
-      one_more (headers_of itself c.args.t.now.rows c.in-Some.header) c.up.above.items c.push.new.self.items c.in-Some.header c.in_ok-push.ensures.items
+      one_more (headers_of row_of (elements c.args.d.now) c.in-Some.header) c.up.above.items c.push.new.self.items c.in-Some.header c.in_ok-push.ensures.items
           ∙ ap (λ (l : List ℕ). l ++ reverse c.up.above.items) (sym up.1) ∙ c.up.invariant.1,
     )
 
 pub returns : goal.returns
 returns c =
-    let none = ends_climb itself c.args.t.now.rows c.up.i c.in_default.ensures in
+    let none = ends_climb row_of (elements c.args.d.now) c.up.i c.in_default.ensures in
     record {
-      found = ap (lives_of (elements c.args._d.now))
-          (c.reverse.ensures.items ∙ ap (λ (l : List ℕ). l ++ reverse c.up.above.items) (sym none) ∙ c.up.invariant.1
-          ∙ ap (λ (rows : List Row). headers_of itself rows c.args.n) c.requires.nesting
-          ∙ headers_by_rows row_of (elements c.args._d.now) c.args.n)
-          ∙ found_above (elements c.args._d.now) c.args.n;
+      found = ap (lives_of (elements c.args.d.now))
+          (c.reverse.ensures.items ∙ ap (λ (l : List ℕ). l ++ reverse c.up.above.items) (sym none) ∙ c.up.invariant.1)
+          ∙ found_above (elements c.args.d.now) c.args.n;
     }

@@ -12,11 +12,6 @@ use Rattle.edit_ops.specs.Putting.{MayBePut, leaving}
 use Rattle.edit_ops.proofs.LeavingElements.{leaving_next, stopped_first}
 use Rattle.edit_ops.proofs.parts.live_patches.push_live.Goals as goal
 
-pub push_patches-requires-clause-readable : goal.push_patches-requires-clause-readable
-push_patches-requires-clause-readable c =
-    (each_next (λ (v : Live). MayBePut c.args.edit.now v.element) (elements c.args.d.now)
-    c.args.live.now c.live.m-index c.live-test.true c.live.invariant.readable).0
-
 pub live-preserved : goal.live-preserved
 live-preserved c =
     let d = c.args.d.now in

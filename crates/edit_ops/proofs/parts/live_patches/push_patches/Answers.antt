@@ -1,4 +1,4 @@
-use Rattle.std.proofs.Common.{◌++◌, ◌∷◌, [], List, Option, sym, ap, ◌∙◌, subst}
+use Rattle.std.proofs.Common.{◌++◌, ◌∷◌, [], List, sym, ap, ◌∙◌, subst}
 use Rattle.elem_index.specs.Design.{elements}
 use Rattle.patch_bytes.specs.Puts.{Put}
 use Rattle.dgn_drawing.specs.declared.edit.Edit.{Edit}
@@ -16,24 +16,24 @@ push_moved-requires-clause-holds c =
     let found = c.in-Some.ensures.found in
     let readable = subst (λ (e : Edit). MayBePut e found.element) c.in-Move.is
     (readable_of c.args.edit.now (elements c.args.d.now) c.args.m found.element found.there c.requires.readable) in
-    holds_found c.args.d.now c.requires.whole c.args.m c.in-Some.found found readable
+    rw c.dim.ensures.value (holds_found c.args.d.now c.is_whole.ensures c.args.m c.in-Some.found found readable)
 
 pub push_moved-requires-in-Copy-clause-holds : goal.push_moved-requires-in-Copy-clause-holds
 push_moved-requires-in-Copy-clause-holds c =
     let found = c.in-Some.ensures.found in
     let readable = subst (λ (e : Edit). MayBePut e found.element) c.in-Copy.is
     (readable_of c.args.edit.now (elements c.args.d.now) c.args.m found.element found.there c.requires.readable) in
-    holds_found c.args.d.now c.requires.whole c.args.m c.in-Some.found found readable
+    rw c.dim-in-Copy.ensures.value (holds_found c.args.d.now c.is_whole.ensures c.args.m c.in-Some.found found readable)
 
 pub look_patch-requires-clause-long_enough : goal.look_patch-requires-clause-long_enough
 look_patch-requires-clause-long_enough c =
     let found = c.in-Some.ensures.found in
     let ready = subst (λ (e : Edit). MayBePut e found.element) c.in-Sym.is
     (readable_of c.args.edit.now (elements c.args.d.now) c.args.m found.element found.there c.requires.readable) in
-    long_found c.args.d.now c.requires.whole c.args.m c.in-Some.found found ready
+    long_found c.args.d.now c.is_whole.ensures c.args.m c.in-Some.found found ready
 
 pub mark_patch-requires-clause-long_enough : goal.mark_patch-requires-clause-long_enough
-mark_patch-requires-clause-long_enough c = four_found c.args.d.now c.requires.whole c.args.m c.in-Some.found c.in-Some.ensures.found
+mark_patch-requires-clause-long_enough c = four_found c.args.d.now c.is_whole.ensures c.args.m c.in-Some.found c.in-Some.ensures.found
 
 pub returns-in-Move : goal.returns-in-Move
 returns-in-Move c =
@@ -45,8 +45,8 @@ returns-in-Move c =
     subst (λ (e : Edit). AddsUnless (leaving d.dim e one) (live_puts d.dim e one) c.push_moved.result c.args.patches.now c.push_moved.new.patches)
     (sym c.in-Move.is)
     (adds_same c.push_moved.result c.args.patches.now c.push_moved.new.patches
-    (leaving_found d c.requires.whole c.args.m c.in-Some.found found c.in-Move.by readable)
-    (moved_found d c.requires.whole c.args.m c.in-Some.found found c.in-Move.by c.in-Move.n) c.push_moved.ensures)
+    (leaving_found d c.is_whole.ensures c.args.m c.in-Some.found found c.in-Move.by readable)
+    (moved_found d c.is_whole.ensures c.args.m c.in-Some.found found c.in-Move.by c.in-Move.n) (rw c.dim.ensures.value at c.push_moved.ensures))
 
 pub returns-in-Copy : goal.returns-in-Copy
 returns-in-Copy c =
@@ -58,8 +58,8 @@ returns-in-Copy c =
     subst (λ (e : Edit). AddsUnless (leaving d.dim e one) (live_puts d.dim e one) c.push_moved-in-Copy.result c.args.patches.now
     c.push_moved-in-Copy.new.patches) (sym c.in-Copy.is)
     (adds_same c.push_moved-in-Copy.result c.args.patches.now c.push_moved-in-Copy.new.patches
-    (leaving_found d c.requires.whole c.args.m c.in-Some.found found c.in-Copy.by readable)
-    (moved_found d c.requires.whole c.args.m c.in-Some.found found c.in-Copy.by c.in-Copy.n) c.push_moved-in-Copy.ensures)
+    (leaving_found d c.is_whole.ensures c.args.m c.in-Some.found found c.in-Copy.by readable)
+    (moved_found d c.is_whole.ensures c.args.m c.in-Some.found found c.in-Copy.by c.in-Copy.n) (rw c.dim-in-Copy.ensures.value at c.push_moved-in-Copy.ensures))
 
 pub returns-in_ok-push-in-Sym : goal.returns-in_ok-push-in-Sym
 returns-in_ok-push-in-Sym c =
@@ -68,7 +68,7 @@ returns-in_ok-push-in-Sym c =
     let readable = subst (λ (e : Edit). MayBePut e found.element) c.in-Sym.is
     (readable_of c.args.edit.now (elements d) c.args.m found.element found.there c.requires.readable) in
     let one = option_to_list (found_at (elements d) c.args.m) in
-    let puts = look_found d c.requires.whole c.args.m c.in-Some.found found c.in-Sym.change c.in-Sym.n readable in (
+    let puts = look_found d c.is_whole.ensures c.args.m c.in-Some.found found c.in-Sym.change c.in-Sym.n readable in (
       c.in_ok-push-in-Sym.ensures.ok
           ∙ ap (λ (q : Put). c.args.patches.now ++ q ∷ []) c.look_patch.ensures ∙ ap (λ (qs : List Put). c.args.patches.now ++ qs) (sym puts)
           ∙ ap (λ (e : Edit). c.args.patches.now ++ live_puts d.dim e one) (sym c.in-Sym.is),

@@ -9,8 +9,6 @@ use Rattle.dgn_drawing.specs.SpotNumbers.{sum_at}
 use Rattle.patch_bytes.specs.Puts.{Put}
 use Rattle.edit_ops.specs.Written.{sum_put}
 use Rattle.dgn_drawing.proofs.SpotSteps.{LieIn, lie_in}
-use Rattle.edit_ops.proofs.SpotPuts.{all_put}
-use Rattle.edit_ops.proofs.ElementMoves.{stays_next}
 use Rattle.edit_ops.proofs.parts.live_patches.push_sums.Goals as goal
 
 pub spots-init : goal.spots-init
@@ -26,20 +24,3 @@ spots-init c =
           (lie_in c.args.dim c.args.found.kind c.args.found.bytes.now c.requires.dimension c.requires.holds);
       same = ap (λ (ss : List Spot). list_all (λ s. is_on_plane (sum_at c.args.by.now c.args.found.bytes.now s)) ss) begun;
     }
-
-pub spots-preserved : goal.spots-preserved
-spots-preserved c = record {
-  all =
-      ap (λ (qs : List Put). qs ++ map (sum_put c.args.by.now c.args.found.place c.args.found.bytes.now) (spots_left c.next.new.self))
-      c.in_ok-push.ensures.ok
-      ∙ all_put c.args.by.now c.args.found.place c.args.found.bytes.now c.spots.patches c.in-Some.spot (spots_left c.next.new.self) _
-      c.in-Some-sum_patch.ensures.put
-      ∙ ap (λ (ss : List Spot). c.spots.patches ++ map (sum_put c.args.by.now c.args.found.place c.args.found.bytes.now) ss) (sym c.in-Some.ensures.steps)
-      ∙ c.spots.invariant.all;
-  lie = (subst (LieIn (length c.args.found.bytes.now)) c.in-Some.ensures.steps c.spots.invariant.lie).1;
-  same =
-      stays_next (λ s. is_on_plane (sum_at c.args.by.now c.args.found.bytes.now s)) c.in-Some.spot (spots_left c.next.new.self)
-      c.in-Some-sum_patch.ensures.on
-      ∙ ap (λ (ss : List Spot). list_all (λ s. is_on_plane (sum_at c.args.by.now c.args.found.bytes.now s)) ss) (sym c.in-Some.ensures.steps)
-      ∙ c.spots.invariant.same;
-}

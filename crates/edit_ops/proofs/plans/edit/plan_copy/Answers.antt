@@ -20,7 +20,7 @@ returns-in-Some-growth_cause c =
     let es = elements c.args.d.now in
     let free : option_or (part_cause d.dim es c.args.n) (other_axes d.dim c.args.by.now.axes) ≡ None =
     ap (λ (by : Displacement). option_or (part_cause d.dim es c.args.n) (other_axes d.dim by.axes)) (sym c.by.view_is)
-    ∙ ap (option_or (part_cause d.dim es c.args.n)) (sym c.other_axes.ensures)
+    ∙ ap (option_or (part_cause d.dim es c.args.n)) (sym (rw c.dim.ensures.value at c.other_axes.ensures))
     ∙ ap (λ (o : Option Cause). option_or o c.other_axes.result) (sym c.part_cause.ensures)
     ∙ sym c.or-first.ensures ∙ c.in_default.is in
     let are : lives_of es c.deref-in-Some-growth_cause.result.now ≡ live_tree es c.args.n =
@@ -28,7 +28,7 @@ returns-in-Some-growth_cause c =
     let itself : c.move_cause.result ≡ copy_cause d.dim es c.args.by.now c.args.n =
     c.move_cause.ensures ∙ ap (λ (vs : List Live). option_or (first_cause d.dim tests.Moves vs) (first_cause d.dim (tests.StaysOnPlane c.args.by.now) vs))
     are in
-    long_copy d c.requires.whole c.args.n c.args.pending c.part_len.result c.args.by.now free c.part_len.ensures.exact c.move_cause.result
+    long_copy d c.is_whole.ensures c.args.n c.args.pending c.part_len.result c.args.by.now free c.part_len.ensures.exact c.move_cause.result
     c.in-Some-growth_cause.long itself
     (sym c.growth_cause.ensures ∙ c.in-Some-growth_cause.is)
     ∙ ap (λ (x : Cause). Some x) (sym c.unwrap_or-cause.ensures)
@@ -39,10 +39,10 @@ returns c =
     let es = elements c.args.d.now in
     let free : option_or (part_cause d.dim es c.args.n) (other_axes d.dim c.args.by.now.axes) ≡ None =
     ap (λ (by : Displacement). option_or (part_cause d.dim es c.args.n) (other_axes d.dim by.axes)) (sym c.by.view_is)
-    ∙ ap (option_or (part_cause d.dim es c.args.n)) (sym c.other_axes.ensures)
+    ∙ ap (option_or (part_cause d.dim es c.args.n)) (sym (rw c.dim.ensures.value at c.other_axes.ensures))
     ∙ ap (λ (o : Option Cause). option_or o c.other_axes.result) (sym c.part_cause.ensures)
     ∙ sym c.or-first.ensures ∙ c.in_default.is in
-    let all = short_copy d c.requires.whole c.args.n c.args.pending c.part_len.result c.args.by.now free c.part_len.ensures.exact
+    let all = short_copy d c.is_whole.ensures c.args.n c.args.pending c.part_len.result c.args.by.now free c.part_len.ensures.exact
     (sym c.growth_cause.ensures ∙ c.in_default-growth_cause.is) in
     let bytes = spelling (flat (tree_copy d.dim es c.args.by.now c.args.n)) in
     subst (λ (o : Option Cause). AddsUnless o bytes c.copy_tree.result c.args.append.now c.copy_tree.new.out) (sym all)

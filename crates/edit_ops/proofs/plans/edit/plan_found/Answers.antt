@@ -10,7 +10,6 @@ push_part-requires c =
     let d = c.args.d.now in
     let none : first_of (causes_asked d.dim (elements d) c.args.edit.now) ≡ None = sym c.edit_cause.ensures ∙ c.in_default.is in
     record {
-      whole = c.requires.whole;
       known = c.requires.known;
       unkept = c.requires.unkept;
       above = c.requires.above;

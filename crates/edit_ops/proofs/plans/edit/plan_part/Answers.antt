@@ -1,4 +1,4 @@
-use Rattle.std.proofs.Common.{◌≡◌, ◌+◌, ◌++◌, [], ◌<◌, length, None, refl, sym, ap, ◌∙◌}
+use Rattle.std.proofs.Common.{◌≡◌, ◌+◌, ◌++◌, [], ◌<◌, length, refl, sym, ap, ◌∙◌}
 use Rattle.std.specs.Option.{option_or}
 use Rattle.dgn_drawing.specs.declared.edit.Edit.{Edit}
 use Rattle.dgn_drawing.specs.declared.edit.Edit.TheVariants as edit
@@ -11,17 +11,9 @@ use Rattle.edit_ops.specs.Causes.{part_cause, causes_of, first_of}
 use Rattle.edit_ops.specs.Copying.{tree_copy}
 use Rattle.edit_ops.specs.Written.{part_puts}
 use Rattle.edit_ops.proofs.PlanBehind.{appends_behind, writes_behind}
-use Rattle.edit_ops.proofs.CauseOrder.{known_is, unknown_refused, later_first, planned_unless, copied_plan, changed_plan, causes_in_place, is_in_place}
+use Rattle.edit_ops.proofs.CauseOrder.{known_is, later_first, planned_unless, copied_plan, changed_plan, causes_in_place, is_in_place}
 use Rattle.edit_ops.proofs.CauseOrder.{copy_named}
 use Rattle.edit_ops.proofs.plans.edit.plan_part.Goals as goal
-
-pub returns-in-Some : goal.returns-in-Some
-returns-in-Some c = record {
-  planned =
-      unknown_refused c.args.d.now.dim (elements c.args.d.now) (length c.args.d.now.tail.items + c.args.pending)
-      c.args.edit.now c.args.n c.in-Some.cause c.requires.target (sym c.unknown.ensures ∙ c.in-Some.is);
-  known = λ memory. absurd (let x = memory in cc);
-}
 
 pub returns-in-Copy : goal.returns-in-Copy
 returns-in-Copy c =
@@ -35,7 +27,8 @@ returns-in-Copy c =
     let bytes = spelling (flat (tree_copy d.dim es c.in-Copy.by c.args.n)) in
     let after : Plan = record { patches = c.args.all.now.patches; append = c.plan_copy.new.append } in
     record {
-      planned = planned_unless bytes c.args.all.now.append c.plan_copy.new.append d.dim es rest e c.args.n c.plan_copy.result c.args.all.now after c.requires.target known same c.plan_copy.ensures
+      planned = planned_unless bytes c.args.all.now.append c.plan_copy.new.append d.dim es rest e c.args.n c.plan_copy.result c.args.all.now after
+          c.requires.target known same c.plan_copy.ensures
           (λ more free.
           appends_behind d.dim es rest e c.args.all.now after bytes
           (copied_plan d.dim es rest e c.args.n c.args.n c.in-Copy.by (record { patches = []; append = bytes }) c.requires.target named
@@ -44,9 +37,6 @@ returns-in-Copy c =
           refl more);
       known = λ _. known;
     }
-
-pub plan_in_place-requires-clause-in_place : goal.plan_in_place-requires-clause-in_place
-plan_in_place-requires-clause-in_place c = is_in_place c.args.edit.now c.args.n c.requires.target c.in_default-edit.not-Copy
 
 pub returns : goal.returns
 returns c =
@@ -60,11 +50,12 @@ returns c =
     let puts = part_puts d.dim es e c.args.n in
     let after : Plan = record { patches = c.plan_in_place.new.patches; append = c.args.all.now.append } in
     record {
-      planned = planned_unless puts c.args.all.now.patches c.plan_in_place.new.patches d.dim es rest e c.args.n c.plan_in_place.result c.args.all.now after c.requires.target known same c.plan_in_place.ensures
+      planned = planned_unless puts c.args.all.now.patches c.plan_in_place.new.patches d.dim es rest e c.args.n c.plan_in_place.result c.args.all.now after
+          c.requires.target known same c.plan_in_place.ensures
           (λ more free.
           writes_behind d.dim es rest e c.args.all.now after puts
           (changed_plan (d.body.items ++ d.tail.items) d.dim es d.tail.items rest e c.args.n (record { patches = puts; append = [] })
-          c.requires.fits c.requires.whole.is_open.opens c.requires.target
+          c.requires.fits c.is_whole.ensures.is_open.opens c.requires.target
           c.in_default-edit.not-Copy (later_first d.dim es rest e c.args.n c.requires.target known ∙ same ∙ free) refl refl)
           more refl);
       known = λ _. known;

@@ -4,7 +4,6 @@ use Rattle.std.specs.Option.{option_to_list}
 use Rattle.std.proofs.lemmas.List.{append-nil}
 use Rattle.range_code.specs.declared.Box3.{Box3}
 use Rattle.elem_index.specs.Design.{elements}
-use Rattle.elem_index.proofs.Places.{axes_of}
 use Rattle.patch_bytes.specs.Puts.{Put}
 use Rattle.dgn_drawing.specs.declared.edit.Edit.{Edit}
 use Rattle.dgn_drawing.specs.Element.{Element}
@@ -35,7 +34,7 @@ stays_on_plane-requires-clause-holds c =
     let head = c.in-Some.ensures.found in
     let spots = subst (λ (e : Edit). MayBePut e head.element) c.in-Move.is
     (holds_of (MayBePut c.args.edit.now) (slice_get (elements c.args.d.now) c.args.n) head.element head.there c.requires.head) in
-    holds_found c.args.d.now c.requires.whole c.args.n c.in-Some.head head spots
+    rw c.dim.ensures.value (holds_found c.args.d.now c.is_whole.ensures c.args.n c.in-Some.head head spots)
 
 pub returns-then-not-stays_on_plane-clause-refused : goal.returns-then-not-stays_on_plane-clause-refused
 returns-then-not-stays_on_plane-clause-refused c =
@@ -43,22 +42,22 @@ returns-then-not-stays_on_plane-clause-refused c =
     let spots = subst (λ (e : Edit). MayBePut e head.element) c.in-Move.is
     (holds_of (MayBePut c.args.edit.now) (slice_get (elements c.args.d.now) c.args.n) head.element head.there c.requires.head) in
     ap (λ (e : Edit). leaving c.args.d.now.dim e (option_to_list (found_at (elements c.args.d.now) c.args.n))) c.in-Move.is
-    ∙ leaving_found c.args.d.now c.requires.whole c.args.n c.in-Some.head head c.in-Move.by spots
-    ∙ ap (off_plane c.args.n) (sym c.stays_on_plane.ensures ∙ c.if-not-stays_on_plane.true)
+    ∙ leaving_found c.args.d.now c.is_whole.ensures c.args.n c.in-Some.head head c.in-Move.by spots
+    ∙ ap (off_plane c.args.n) (sym (rw c.dim.ensures.value at c.stays_on_plane.ensures) ∙ c.if-not-stays_on_plane.true)
 
 pub moved_range-requires : goal.moved_range-requires
 moved_range-requires c =
     let head = c.in-Some.ensures.found in
     let spots = subst (λ (e : Edit). MayBePut e head.element) c.in-Move.is
     (holds_of (MayBePut c.args.edit.now) (slice_get (elements c.args.d.now) c.args.n) head.element head.there c.requires.head) in
-    let stay = corners_stay c.args.d.now c.requires.whole c.args.n c.in-Some.head head c.in-Move.by spots
-    (sym (stays_found c.args.d.now c.requires.whole c.args.n c.in-Some.head head c.in-Move.by spots)
-    ∙ sym c.stays_on_plane.ensures ∙ c.if-not-stays_on_plane.false) in
+    let stay = corners_stay c.args.d.now c.is_whole.ensures c.args.n c.in-Some.head head c.in-Move.by spots
+    (sym (stays_found c.args.d.now c.is_whole.ensures c.args.n c.in-Some.head head c.in-Move.by spots)
+    ∙ sym (rw c.dim.ensures.value at c.stays_on_plane.ensures) ∙ c.if-not-stays_on_plane.false) in
     record {
-      dimension = axes_of c.args.d.now c.requires.whole;
-      long_enough = long_spots c.args.d.now c.requires.whole c.args.n c.in-Some.head head spots;
-      low = stay.0;
-      high = stay.1;
+      dimension = c.dim-2.ensures.dimension;
+      long_enough = long_spots c.args.d.now c.is_whole.ensures c.args.n c.in-Some.head head spots;
+      low = rw c.dim-2.ensures.value stay.0;
+      high = rw c.dim-2.ensures.value stay.1;
     }
 
 pub returns-clause-put : goal.returns-clause-put
@@ -66,10 +65,11 @@ returns-clause-put c =
     let head = c.in-Some.ensures.found in
     let spots = subst (λ (e : Edit). MayBePut e head.element) c.in-Move.is
     (holds_of (MayBePut c.args.edit.now) (slice_get (elements c.args.d.now) c.args.n) head.element head.there c.requires.head) in
-    let puts = above_moved c.args.d.now c.requires.whole c.args.n c.in-Some.head head c.in-Move.n c.in-Move.by
+    let puts = above_moved c.args.d.now c.is_whole.ensures c.args.n c.in-Some.head head c.in-Move.n c.in-Move.by
     (lives_of (elements c.args.d.now) c.args.above.now) spots in
     c.in_ok-push_all_wider.ensures
-    ∙ ap (λ (r : Box3). c.args.patches.now ++ all_wider c.args.d.now.dim r (lives_of (elements c.args.d.now) c.args.above.now)) c.moved_range.ensures
+    ∙ ap (λ (r : Box3). c.args.patches.now ++ all_wider c.args.d.now.dim r (lives_of (elements c.args.d.now) c.args.above.now))
+    (rw c.dim-2.ensures.value at c.moved_range.ensures)
     ∙ ap (λ (ps : List Put). c.args.patches.now ++ ps) (sym puts)
     ∙ ap (λ (e : Edit). c.args.patches.now
     ++ above_puts c.args.d.now.dim e (slice_get (elements c.args.d.now) c.args.n) (lives_of (elements c.args.d.now) c.args.above.now)) (sym c.in-Move.is)

@@ -1,11 +1,6 @@
-use Rattle.std.proofs.Common.{sym, subst}
-use Rattle.std.specs.List.{AllByRecursion}
 use Rattle.std.proofs.lemmas.Result.{err_from_is_err_and}
 use Rattle.elem_index.specs.Design.{elements}
-use Rattle.edit_ops.specs.Trees.{Live}
-use Rattle.edit_ops.specs.Written.{MayWiden}
 use Rattle.edit_ops.proofs.AcceptedEdit.{kept}
-use Rattle.edit_ops.specs.Putting.{MayBePut}
 use Rattle.edit_ops.proofs.SumsLast.{head_readable, head_leaves}
 use Rattle.edit_ops.proofs.plans.patches.push_part.Goals as goal
 
@@ -13,12 +8,6 @@ pub push_above-requires-clause-head : goal.push_above-requires-clause-head
 push_above-requires-clause-head c =
     let d = c.args.d.now in
     head_readable (elements d) c.args.edit.now c.args.n c.requires.readable (kept d.dim (elements d) c.args.n c.requires.known c.requires.unkept)
-
-pub push_above-requires-clause-widens : goal.push_above-requires-clause-widens
-push_above-requires-clause-widens c = subst (MayWiden c.args.edit.now) (sym c.requires.above) c.requires.widens
-
-pub push_live-requires-clause-readable : goal.push_live-requires-clause-readable
-push_live-requires-clause-readable c = subst (AllByRecursion (λ (v : Live). MayBePut c.args.edit.now v.element)) (sym c.requires.live) c.requires.readable
 
 pub returns-in_err-push_above : goal.returns-in_err-push_above
 returns-in_err-push_above c =

@@ -1,0 +1,10 @@
+use Rattle.std.proofs.Common.{ap, ◌∙◌}
+use Rattle.std.specs.Prelude.{Option, option_map}
+use Rattle.dgn_drawing.specs.Numbering.{Mark}
+use Rattle.level_view.proofs.ElementRows.{same_mark}
+use Rattle.level_view.proofs.drawing.Drawing.span.Goals as goal
+
+pub returns-clause-span : goal.returns-clause-span
+returns-clause-span c =
+    c.span.ensures.span ∙ ap (λ (m : Option Mark). option_map (λ (x : Mark). (c.args.n, x.end)) m)
+    (same_mark c.args.self.now c.self.inside.design.now c.self.view_is c.self.inside.nest.now.rows c.self.invariant.1 c.args.n)
