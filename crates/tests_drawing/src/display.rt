@@ -76,10 +76,11 @@ fn shows_tree(alloc: Global, d: &Design, n: u32, mask: u64, told: &[Told]) -> bo
     let Ok(t) = nest_design(alloc, d) else {
         return false;
     };
-    if t.parent(n) != Some(None) {
+    let drawing = Drawing::new(d, &t);
+    if drawing.parent(n) != Some(None) {
         return false;
     }
-    match tree_items(alloc, &Drawing::new(d, &t), n, Mask(mask)) {
+    match tree_items(alloc, &drawing, n, Mask(mask)) {
         Ok(items) => are_told(&items, told),
         Err(_) => false,
     }
