@@ -1,6 +1,6 @@
 -- What a fit comes to: the stored range of each fitted element of one tree replaced by its hull, or the first cause
 -- against it.
-use Rattle.std.specs.Prelude.{ℕ, ◌+◌, if◌then◌else◌, Option, Some, None, List, [], ◌∷◌, ◌++◌, slice_get}
+use Rattle.std.specs.Prelude.{ℕ, if◌then◌else◌, Option, Some, None, List, [], ◌∷◌, slice_get}
 use Rattle.std.specs.List.{flat_map}
 use Rattle.std.specs.Option.{option_or}
 use Rattle.range_code.specs.declared.Box3.{Box3}

@@ -8,7 +8,8 @@ use crate::reported::Reported;
 use level_view::Drawing;
 use std::alloc::{AllocError, Global};
 
-/// The elements of the drawing `d` whose stored range, on the file's axes, isn't the hull of their tree, in file order. An error says that there was no memory.
+/// The elements of the drawing `d` whose stored range, on the file's axes, isn't the hull of their tree, in file order. An
+/// error says that there was no memory.
 ///
 /// The hull of a row of points is the least box that holds them, and it has none without points. That of any other leaf of
 /// which more than its head is read, and of a B-spline, is its stored range. That of a group is the least box that holds

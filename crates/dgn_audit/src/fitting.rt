@@ -8,7 +8,6 @@ ghost use Rattle.elem_head.specs.Head.{properties_of};
 ghost use Rattle.edit_ops.specs.Causes.{says_locked, broken, deleted};
 ghost use Rattle.dgn_drawing.specs.Rows.{row_of};
 ghost use Rattle.dgn_drawing.specs.Numbering.{first_broken_of};
-ghost use Rattle.dgn_drawing.specs.WellFormed.{IsDimension};
 ghost use Rattle.elem_index.specs.Offsets.{offset_of};
 ghost use Rattle.elem_index.specs.Design.{elements};
 ghost use Rattle.dgn_audit.specs.Findings.{fitted_in};
@@ -22,10 +21,11 @@ use crate::fit_cause::FitCause;
 use crate::fit_fault::FitFault;
 use crate::reading::read_part;
 use crate::reported::Reported;
-use dgn_drawing::{MOST_DESIGN, spots_in};
+use dgn_drawing::MOST_DESIGN;
 use dgn_layout::Spot;
 use dgn_words::put_range_long;
-use elem_head::{head, properties};
+use edit_ops::{ElementView, find};
+use elem_head::properties;
 use level_view::Drawing;
 use patch_bytes::{Patch, PatchList};
 use range_code::Box3;
@@ -89,9 +89,8 @@ fn broken(d: &Drawing<'_>, root: u32) -> Option<FitCause>
 fn deleted(d: &Drawing<'_>, root: u32) -> Option<FitCause>
     ensures { option_map edit_cause result ≡ against deleted root (slice_get (elements d.now) root) }
 {
-    d.is_whole();
-    let bytes = d.element(root)?;
-    if head(bytes).deleted {
+    let found = find(d, root)?;
+    if found.deleted {
         Some(FitCause::Deleted(root))
     } else {
         None
@@ -133,8 +132,8 @@ fn locked(d: &Drawing<'_>, m: u32) -> Option<FitCause>
     ensures { option_map edit_cause result ≡ against lock_cause m (slice_get (elements d.now) m) }
 {
     d.is_whole();
-    let bytes = d.element(m)?;
-    if says_locked(bytes) {
+    let found = find(d, m)?;
+    if says_locked(found.bytes) {
         Some(FitCause::Locked(m))
     } else {
         None
@@ -161,34 +160,26 @@ fn push_range(
     ensures { OnOk result (patches.new ≡ patches.old ++ range_puts d.now.dim hull (offset_of (elements d.now) m)) }
 {
     d.is_whole();
-    let Some(place) = d.offset(m) else {
+    let Some(found) = find(d, m) else {
         unreachable!()
     };
-    let Some(bytes) = d.element(m) else {
-        unreachable!()
-    };
-    push_spots(patches, d.dim(), place, head(bytes).kind, bytes, hull)
+    push_spots(patches, d, found, hull)
 }
 
-// Appends the numbers of a box at the range spots of an element of that type, which begins at byte `place`.
+// Appends the numbers of a box at the range spots of an element.
 fn push_spots(
     patches: &mut PatchList,
-    dim: u8,
-    place: usize,
-    kind: u8,
-    b: &[u8],
+    d: &Drawing<'_>,
+    found: ElementView,
     hull: Box3,
 ) -> Result<(), AllocError>
-    requires dimension { IsDimension dim }
-    requires kind { kind < 128 }
-    requires spotted { IsTrue (has_spots (class_of kind)) }
-    requires holds { HoldsPoints dim kind b.now (length b.now) }
-    requires bounded { place + length b.now ≤ MOST_DESIGN }
-    ensures { OnOk result (patches.new ≡ patches.old ++ range_puts dim hull place) }
+    requires spotted { IsTrue (has_spots (class_of found.kind)) }
+    requires holds { HoldsPoints d.now.dim found.kind found.bytes.now (length found.bytes.now) }
+    ensures { OnOk result (patches.new ≡ patches.old ++ range_puts d.now.dim hull found.entry.place) }
 {
-    'spots: for spot in spots_in(dim, kind, b) {
+    'spots: for spot in found.coordinates(d) {
         if spot.offset {
-            patches.push(range_patch(place, spot, hull))?;
+            patches.push(range_patch(found.place, spot, hull))?;
         }
     }
     Ok(())

@@ -4,15 +4,15 @@ ghost use Rattle.std.specs.Prelude.{◌≡◌, ◌<◌, ◌≤◌, length, IsTru
 ghost use Rattle.body_vertex.specs.Points.{points_of};
 ghost use Rattle.dgn_layout.specs.Classes.{class_of, is_silent};
 ghost use Rattle.dgn_layout.specs.Spots.{HoldsPoints};
-ghost use Rattle.dgn_drawing.specs.WellFormed.{IsDimension};
 ghost use Rattle.dgn_audit.specs.Hulls.{hull_join, is_vertices, points_hull};
 ghost use Rattle.dgn_audit.specs.Reading.{with_number, range_read, leaf_read, hull_read, is_fitted_knot};
 
 use crate::stored::stored_range;
-use dgn_drawing::spots_in;
 use dgn_layout::types::Class;
 use dgn_layout::{SHARED_CELL, class, is_silent};
 use dgn_words::long;
+use edit_ops::ElementView;
+use level_view::Drawing;
 use nest_tree::Knot;
 use range_code::{Box3, join};
 
@@ -50,20 +50,19 @@ fn with_point(hull: Option<Box3>, point: [i32; 3]) -> Option<Box3>
 }
 
 // The least box that holds the points of an element that has them in a row. In 2D their z numbers are 0.
-fn points_hull(dim: u8, kind: u8, b: &[u8]) -> Option<Box3>
-    requires dimension { IsDimension dim }
-    requires kind { kind < 128 }
-    requires row { IsTrue (is_vertices (class_of kind)) }
-    requires holds { HoldsPoints dim kind b.now (length b.now) }
-    ensures { result ≡ points_hull dim (points_of dim kind b.now) }
+fn points_hull(d: &Drawing<'_>, view: ElementView) -> Option<Box3>
+    requires row { IsTrue (is_vertices (class_of view.kind)) }
+    requires holds { HoldsPoints d.now.dim view.kind view.bytes.now (length view.bytes.now) }
+    ensures { result ≡ points_hull d.now.dim (points_of d.now.dim view.entry.kind view.entry.bytes.now) }
 {
+    let dim = d.dim();
     let mut hull = None;
     let mut point = Begun { at: [0; 3] };
-    'spots: for spot in spots_in(dim, kind, b) {
+    'spots: for spot in view.coordinates(d) {
         if spot.offset {
             continue;
         }
-        point = with_number(point, spot.axis, long(b, spot.at as usize));
+        point = with_number(point, spot.axis, long(view.bytes, spot.at as usize));
         if spot.axis == dim - 1 {
             hull = with_point(hull, point.at);
             point = Begun { at: [0; 3] };
@@ -73,73 +72,65 @@ fn points_hull(dim: u8, kind: u8, b: &[u8]) -> Option<Box3>
 }
 
 // The stored range on the file's axes, but of a shared cell definition none.
-fn range_hull(dim: u8, kind: u8, b: &[u8]) -> Option<Box3>
-    requires dimension { IsDimension dim }
-    requires long_enough { 36 ≤ length b.now }
-    ensures { result ≡ range_read dim kind b.now }
+fn range_hull(d: &Drawing<'_>, view: ElementView) -> Option<Box3>
+    requires long_enough { 36 ≤ length view.bytes.now }
+    ensures { result ≡ range_read d.now.dim view.entry.kind view.entry.bytes.now }
 {
-    if kind == SHARED_CELL {
+    if view.kind == SHARED_CELL {
         None
     } else {
-        Some(stored_range(dim, b))
+        Some(stored_range(d, view.bytes))
     }
 }
 
-// Whether elements of a type have their points in a row.
-fn is_vertices(kind: u8) -> bool
-    requires { kind < 128 }
-    ensures { result ≡ is_vertices (class_of kind) }
+// Whether an element has its points in a row.
+fn is_vertices(view: ElementView) -> bool
+    ensures { result ≡ is_vertices (class_of view.entry.kind) }
 {
-    matches!(class(kind), Class::Vertices)
+    matches!(class(view.kind), Class::Vertices)
 }
 
 // The hull of a leaf of which more is read than nothing.
-fn leaf_hull(dim: u8, kind: u8, b: &[u8]) -> Option<Box3>
-    requires dimension { IsDimension dim }
-    requires kind { kind < 128 }
-    requires long_enough { 36 ≤ length b.now }
-    requires holds { IsTrue (is_vertices (class_of kind)) → HoldsPoints dim kind b.now (length b.now) }
-    ensures { result ≡ leaf_read dim kind b.now }
+fn leaf_hull(d: &Drawing<'_>, view: ElementView) -> Option<Box3>
+    requires long_enough { 36 ≤ length view.bytes.now }
+    requires holds { IsTrue (is_vertices (class_of view.kind)) → HoldsPoints d.now.dim view.kind view.bytes.now (length view.bytes.now) }
+    ensures { result ≡ leaf_read d.now.dim view.entry.kind view.entry.bytes.now }
 {
-    if is_vertices(kind) {
-        points_hull(dim, kind, b)
+    if is_vertices(view) {
+        points_hull(d, view)
     } else {
-        range_hull(dim, kind, b)
+        range_hull(d, view)
     }
 }
 
 // The hull of a tree whose head isn't marked deleted, by what the head is and the box of its members.
 pub(crate) fn hull_of(
-    dim: u8,
+    d: &Drawing<'_>,
     knot: Knot,
-    kind: u8,
-    b: &[u8],
+    view: ElementView,
     members: Option<Box3>,
 ) -> Option<Box3>
-    requires dimension { IsDimension dim }
-    requires kind { kind < 128 }
-    requires long_enough { IsFalse (is_silent (class_of kind)) → 36 ≤ length b.now }
-    requires holds { IsTrue (is_vertices (class_of kind)) → HoldsPoints dim kind b.now (length b.now) }
-    ensures { result ≡ hull_read dim knot kind b.now members }
+    requires long_enough { IsFalse (is_silent (class_of view.kind)) → 36 ≤ length view.bytes.now }
+    requires holds { IsTrue (is_vertices (class_of view.kind)) → HoldsPoints d.now.dim view.kind view.bytes.now (length view.bytes.now) }
+    ensures { result ≡ hull_read d.now.dim knot view.entry.kind view.entry.bytes.now members }
 {
-    if is_silent(kind) {
+    if is_silent(view.kind) {
         return None;
     }
     match knot {
-        Knot::Leaf => leaf_hull(dim, kind, b),
+        Knot::Leaf => leaf_hull(d, view),
         Knot::Group => members,
-        Knot::Run => range_hull(dim, kind, b),
+        Knot::Run => range_hull(d, view),
         Knot::Loose => None,
     }
 }
 
 // Whether a range can be fitted: that of a leaf with its points in a row, and that of a group.
-pub(crate) fn is_fitted(knot: Knot, kind: u8) -> bool
-    requires { kind < 128 }
-    ensures { result ≡ is_fitted_knot knot kind }
+pub(crate) fn is_fitted(knot: Knot, view: ElementView) -> bool
+    ensures { result ≡ is_fitted_knot knot view.entry.kind }
 {
     match knot {
-        Knot::Leaf => is_vertices(kind),
+        Knot::Leaf => is_vertices(view),
         Knot::Group => true,
         Knot::Run | Knot::Loose => false,
     }

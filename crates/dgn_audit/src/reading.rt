@@ -2,7 +2,6 @@
 // drawing, so what is least stands last.
 
 ghost use Rattle.std.specs.Prelude.{◌≡◌, ◌<◌, ◌≤◌, ◌∷◌, ◌++◌, length, reverse, vec_len, vec_capacity, Some, OnOk, IfOk, IfSome};
-ghost use Rattle.dgn_drawing.specs.WellFormed.{IsDimension};
 ghost use Rattle.elem_index.specs.Design.{elements};
 ghost use Rattle.dgn_audit.specs.Hulls.{hull_join};
 ghost use Rattle.dgn_audit.specs.Reading.{is_kept_read, finding_read};
@@ -100,37 +99,34 @@ fn cut_below(noted: &mut Vec<Finding>, end: u32)
     }
 }
 
-// Whether an element with that hull is kept.
-fn is_kept(keep: Reported, knot: Knot, kind: u8, stored: Box3, hull: Box3) -> bool
-    requires { kind < 128 }
-    ensures { result ≡ is_kept_read keep knot kind stored hull }
+// Whether an element with that stored range and that hull is kept.
+fn is_kept(keep: Reported, nested: NestedElement<'_>, stored: Box3, hull: Box3) -> bool
+    ensures { result ≡ is_kept_read keep nested.entry.knot nested.entry.view.kind stored hull }
 {
     match keep {
-        Reported::Fitted => is_fitted(knot, kind),
+        Reported::Fitted => is_fitted(nested.knot, nested.view),
         Reported::Differing => !same_box(stored, hull),
     }
 }
 
 // Tells of element `n`, where it is kept.
 fn tell(
-    dim: u8,
+    d: &Drawing<'_>,
     keep: Reported,
     n: u32,
     nested: NestedElement<'_>,
     hull: Box3,
     noted: &mut Vec<Finding>,
 ) -> Result<(), AllocError>
-    requires dimension { IsDimension dim }
-    requires kind { nested.view.kind < 128 }
     requires long_enough { 36 ≤ length nested.view.bytes.now }
     ensures { OnOk result (reverse noted.new.items
-        ≡ finding_read keep dim nested.entry.knot n nested.entry.view.kind nested.entry.view.bytes.now hull ++ reverse noted.old.items) }
+        ≡ finding_read keep d.now.dim nested.entry.knot n nested.entry.view.kind nested.entry.view.bytes.now hull ++ reverse noted.old.items) }
 {
-    let stored = stored_range(dim, nested.view.bytes);
-    if is_kept(keep, nested.knot, nested.view.kind, stored, hull) {
+    let stored = stored_range(d, nested.view.bytes);
+    if is_kept(keep, nested, stored, hull) {
         noted.push(Finding {
             number: n,
-            axes: dim,
+            axes: d.dim(),
             stored,
             hull,
         })?;
@@ -176,15 +172,9 @@ pub(crate) fn read_part(
             cut_below(&mut noted, nested.end);
             continue;
         }
-        if let Some(hull) = hull_of(
-            d.dim(),
-            nested.knot,
-            nested.view.kind,
-            nested.view.bytes,
-            members,
-        ) {
+        if let Some(hull) = hull_of(d, nested.knot, nested.view, members) {
             add_hull(&mut boxes, nested.parent, hull);
-            tell(d.dim(), keep, n, nested, hull, &mut noted)?;
+            tell(d, keep, n, nested, hull, &mut noted)?;
         }
     }
     Ok(noted)

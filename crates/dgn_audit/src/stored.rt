@@ -2,20 +2,19 @@
 
 ghost use Rattle.std.specs.Prelude.{◌≡◌, ◌≤◌, length};
 ghost use Rattle.range_code.specs.Ranges.{range_of};
-ghost use Rattle.dgn_drawing.specs.WellFormed.{IsDimension};
 ghost use Rattle.dgn_audit.specs.Hulls.{on_axes};
 ghost use Rattle.dgn_audit.specs.Findings.{same_corner, same_box};
 
+use level_view::Drawing;
 use range_code::{Box3, range};
 
 // The range of the element with the bytes `b`, on the file's axes.
-pub(crate) fn stored_range(dim: u8, b: &[u8]) -> Box3
-    requires dimension { IsDimension dim }
+pub(crate) fn stored_range(d: &Drawing<'_>, b: &[u8]) -> Box3
     requires long_enough { 36 ≤ length b.now }
-    ensures { result ≡ on_axes dim (range_of b.now) }
+    ensures { result ≡ on_axes d.now.dim (range_of b.now) }
 {
     let mut stored = range(b);
-    if dim == 2 {
+    if d.dim() == 2 {
         stored.lo[2] = 0;
         stored.hi[2] = 0;
     }

@@ -7,7 +7,7 @@ ghost use Rattle.elem_index.specs.Design.{elements};
 ghost use Rattle.dgn_import.specs.Gathering.{is_drawn, is_unbroken, is_taken};
 
 use dgn_layout::is_silent;
-use elem_head::head;
+use edit_ops::find;
 use level_view::Drawing;
 
 // Whether the tree of root n is taken.
@@ -24,12 +24,8 @@ pub(crate) fn is_taken(d: &Drawing<'_>, n: u32) -> bool
 fn is_drawn(d: &Drawing<'_>, n: u32) -> bool
     ensures { result ≡ is_drawn (slice_get (elements d.now) n) }
 {
-    d.is_whole();
-    match d.element(n) {
-        Some(bytes) => {
-            let head = head(bytes);
-            !is_silent(head.kind) && !head.deleted
-        }
+    match find(d, n) {
+        Some(found) => !is_silent(found.kind) && !found.deleted,
         None => false,
     }
 }

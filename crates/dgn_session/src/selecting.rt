@@ -2,7 +2,6 @@
 
 ghost use Rattle.std.specs.Prelude.{ℕ, ◌≡◌, ◌<◌, Some, IfOk, IsFalse};
 ghost use Rattle.dgn_drawing.specs.Rows.{row_of};
-ghost use Rattle.dgn_drawing.specs.WellFormed.{IsDimension};
 ghost use Rattle.dgn_drawing.specs.declared.mask.Mask.{Mask};
 ghost use Rattle.dgn_drawing.specs.Faults.{HasNoFaultIn};
 ghost use Rattle.dgn_drawing.specs.Reading.{element_at};
@@ -24,23 +23,23 @@ use std::alloc::{AllocError, Global};
 /// of one header at a time are made, in one list for all. An error says that there was no memory.
 pub fn select(
     alloc: Global,
-    design: &Drawing<'_>,
+    d: &Drawing<'_>,
     mask: Mask,
     fence: &Fence,
     mode: Mode,
 ) -> Result<Vec<u32>, AllocError>
-    ensures { IfOk result (λ found. found.items ≡ selected design.now.dim mask fence.now mode (elements design.now)) }
+    ensures { IfOk result (λ found. found.items ≡ selected d.now.dim mask fence.now mode (elements d.now)) }
 {
     let mut found = Vec::new(alloc);
     let mut items = Vec::new(alloc);
-    let count = design.count();
+    let count = d.count();
     let mut root = 0;
     'roots: while root < count {
-        let taken = takes_root(alloc, design, root, mask, fence, mode, &mut items)?;
+        let taken = takes_root(alloc, d, root, mask, fence, mode, &mut items)?;
         if taken {
             found.push(root)?;
         }
-        root = part_end(design, root);
+        root = part_end(d, root);
     }
     Ok(found)
 }
@@ -49,25 +48,25 @@ pub fn select(
 // what stands there, but for where an overlap is needed and no element of the tree has one. A leaf is asked by its bytes.
 fn takes_root(
     alloc: Global,
-    design: &Drawing<'_>,
+    d: &Drawing<'_>,
     root: u32,
     mask: Mask,
     fence: &Fence,
     mode: Mode,
     items: &mut Vec<Item>,
 ) -> Result<bool, AllocError>
-    requires root { IsRoot row_of (elements design.now) root }
+    requires root { IsRoot row_of (elements d.now) root }
     ensures { IfOk result
-        (λ taken. taken ≡ takes mode fence.now (tree_shown design.now.dim mask (elements design.now) root)) }
+        (λ taken. taken ≡ takes mode fence.now (tree_shown d.now.dim mask (elements d.now) root)) }
 {
-    if let Some(b) = lone_element(design, root) {
-        return takes_lone(alloc, design.dim(), b, mask, fence, mode);
+    if let Some(b) = lone_element(d, root) {
+        return takes_lone(alloc, d, b, mask, fence, mode);
     }
     let needs_overlap = matches!(mode, Mode::Inside | Mode::Overlap);
-    if needs_overlap && !some_overlaps(alloc, design, root, fence)? {
+    if needs_overlap && !some_overlaps(alloc, d, root, fence)? {
         return Ok(false);
     }
-    tree_items_into(alloc, design, root, mask, items)?;
+    tree_items_into(alloc, d, root, mask, items)?;
     Ok(fence.takes(mode, items))
 }
 
@@ -75,20 +74,20 @@ fn takes_root(
 // the tree shows is inside or overlaps.
 fn some_overlaps(
     alloc: Global,
-    design: &Drawing<'_>,
+    d: &Drawing<'_>,
     root: u32,
     fence: &Fence,
 ) -> Result<bool, AllocError>
-    requires root { IsRoot row_of (elements design.now) root }
-    ensures none { IfOk result (λ some. IsFalse some → (mask : Mask) → HasNone fence.now (tree_shown design.now.dim mask (elements design.now) root)) }
+    requires root { IsRoot row_of (elements d.now) root }
+    ensures none { IfOk result (λ some. IsFalse some → (mask : Mask) → HasNone fence.now (tree_shown d.now.dim mask (elements d.now) root)) }
 {
-    design.is_whole();
-    let end = part_end(design, root);
+    d.is_whole();
+    let end = part_end(d, root);
     'elements: for n in root..end {
-        let Some(b) = design.element(n) else {
+        let Some(b) = d.element(n) else {
             unreachable!()
         };
-        if fence.takes_element(alloc, Mode::Overlap, design.dim(), b)? {
+        if fence.takes_element(alloc, Mode::Overlap, d.dim(), b)? {
             return Ok(true);
         }
     }
@@ -98,20 +97,19 @@ fn some_overlaps(
 // Whether the fence takes what the element `b` shows by itself.
 fn takes_lone(
     alloc: Global,
-    dim: u8,
+    d: &Drawing<'_>,
     b: &[u8],
     mask: Mask,
     fence: &Fence,
     mode: Mode,
 ) -> Result<bool, AllocError>
-    requires dimension { IsDimension dim }
-    requires element { HasNoFaultIn dim b.now }
+    requires element { HasNoFaultIn d.now.dim b.now }
     ensures { IfOk result
-        (λ taken. (number depth : ℕ) → taken ≡ takes mode fence.now (shown_alone dim mask number depth (element_at dim b.now))) }
+        (λ taken. (number depth : ℕ) → taken ≡ takes mode fence.now (shown_alone d.now.dim mask number depth (element_at d.now.dim b.now))) }
 {
     let head = head(b);
     if head.deleted || !mask.shows(head.level) {
         return Ok(false);
     }
-    fence.takes_element(alloc, mode, dim, b)
+    fence.takes_element(alloc, mode, d.dim(), b)
 }

@@ -39,14 +39,14 @@ module _ (d : Design) (whole : IsWhole d) (n : ℕ) (b : List ℕ) (is : Some b 
   good : IsWellFormed d.dim there.0
   good = each_at (IsWellFormed d.dim) (elements d) n there.0 whole.is_open.opens.each there.1
 
-  inside : offset_of (elements d) n + size_of there.0 ≤ MOST_DESIGN
-  inside =
+  pub inside : (place : ℕ) → place ≡ offset_of (elements d) n → place + length b ≤ MOST_DESIGN
+  inside place stands_there =
       let known : n < length (elements d) = slice_get_within (elements d) n there.0 there.1 in
       let stands = stands_at (elements d) n known in
       let same : stands.0 ≡ there.0 = some_same (sym stands.1.found ∙ there.1) in
       let size : size_of stands.0 ≡ size_of there.0 = ap (λ (e : Element). size_of e) same in
       let body : length (spelling (elements d)) ≡ length d.body.items = ap (length {A = ℕ}) (body_is d whole) in
-      omega (arith, stands.1.inside, size, body, whole.is_open.few)
+      omega (arith, stands.1.inside, size, body, whole.is_open.few, stands_there, ap (length {A = ℕ}) there.2)
 
   module _ (h : Head) (read : h ≡ head_of b) where
     said : h ≡ record { level = there.0.level; cbit = there.0.cbit; kind = there.0.kind; deleted = there.0.deleted; words = h.words }
@@ -63,5 +63,4 @@ module _ (d : Design) (whole : IsWhole d) (n : ℕ) (b : List ℕ) (is : Some b 
       kind = kind ∙ ap (λ (x : Head). x.kind) said;
       deleted = deleted ∙ ap (λ (x : Head). x.deleted) said;
       bytes = bytes ∙ there.2;
-      within = omega (arith, inside, place, ap (length {A = ℕ}) (bytes ∙ there.2));
     }

@@ -1,5 +1,5 @@
 -- What is read of an element says what stands against an edit of it, and what the edit puts into it.
-use Rattle.std.proofs.Common.{◌≡◌, ℕ, ◌+◌, ◌<◌, ◌≤◌, List, [], ◌∷◌, length, Bool, true, false, cond, Option, Some, None, refl, sym, ap, ◌∙◌}
+use Rattle.std.proofs.Common.{◌≡◌, ℕ, ◌+◌, ◌≤◌, List, [], ◌∷◌, length, Bool, true, false, cond, Option, Some, None, refl, sym, ap, ◌∙◌}
 use Rattle.std.proofs.Common.{map, subst, arith}
 use Rattle.std.specs.Prelude.{◌&&◌, not, slice_get, option_map}
 use Rattle.std.specs.List.{AllByRecursion, list_all}
@@ -97,10 +97,6 @@ readable_of e es m v there each =
 module _ (d : Design) (whole : IsWhole d) (m : ℕ) (f : ElementView) (found : IsElementView d m f) where
   axes : IsDimension d.dim
   axes = axes_of d whole
-
-  -- a type is below 128
-  pub kind_found : f.kind < 128
-  kind_found = subst (λ (k : ℕ). k < 128) (sym found.kind) found.good.kind
 
   -- it has fields, where each that is found has
   pub spotted_found : AllByRecursion (λ (v : Live). has_spots (class_of v.element.kind) ≡ true) (option_to_list (found_at (elements d) m))

@@ -4,10 +4,7 @@ use Rattle.std.specs.Prelude.{ℕ, ◌≡◌, ◌&&◌, not, Bool, IsTrue, List,
 use Rattle.elem_head.specs.Head.{properties_of}
 use Rattle.dgn_layout.specs.Classes.{class_of, is_silent}
 use Rattle.dgn_layout.specs.Spots.{has_spots}
-use Rattle.dgn_drawing.specs.declared.row.Row.{Row}
 use Rattle.dgn_drawing.specs.Element.{Element}
-use Rattle.dgn_drawing.specs.Nesting.{itself}
-use Rattle.dgn_drawing.specs.Numbering.{first_broken_of}
 use Rattle.edit_ops.specs.declared.causes.cause.Cause.{Cause}
 use Rattle.edit_ops.specs.declared.asking.test.Test.{Test}
 use Rattle.edit_ops.specs.declared.asking.test.Test.TheVariants as tests

@@ -1,5 +1,5 @@
 -- What is read of one element of a design, and what is known of one that stands by itself.
-use Rattle.std.specs.Prelude.{ℕ, ◌≡◌, ◌+◌, ◌≤◌, [], length, slice_get, Some, None}
+use Rattle.std.specs.Prelude.{ℕ, ◌≡◌, [], slice_get, Some, None}
 use Rattle.std.specs.Option.{option_to_list}
 use Rattle.elem_index.specs.declared.design.Design.{Design}
 use Rattle.elem_index.specs.Design.{elements}
@@ -10,7 +10,6 @@ use Rattle.dgn_drawing.specs.WellFormed.{IsWellFormed}
 use Rattle.edit_ops.specs.declared.asking.element_view.ElementView.{ElementView}
 use Rattle.edit_ops.specs.Trees.{above_tree, live_tree, found_at}
 use Rattle.edit_ops.specs.Causes.{part_cause}
-use Rattle.dgn_drawing.specs.declared.limits.TheConstants.{MOST_DESIGN}
 
 -- this is element n of the design
 pub record IsElementView (d : Design) (n : ℕ) (f : ElementView) : Type 0 where
@@ -21,7 +20,6 @@ pub record IsElementView (d : Design) (n : ℕ) (f : ElementView) : Type 0 where
   pub kind : f.kind ≡ element.kind
   pub deleted : f.deleted ≡ element.deleted
   pub bytes : f.bytes.now ≡ spell element
-  pub within : f.place + length f.bytes.now ≤ MOST_DESIGN
 
 -- it stands below no header, it is the one live element of its part, and nothing keeps that part from any edit
 pub record IsLone (d : Design) (n : ℕ) : Type 0 where

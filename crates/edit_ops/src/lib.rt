@@ -15,7 +15,8 @@ mod parts;
 mod plans;
 pub mod types;
 
-pub use asking::element_view::{ElementView, find};
+pub use asking::element_view::ElementView;
+pub use asking::finding::find;
 pub(crate) use asking::first::{first_cause, move_cause};
 pub(crate) use asking::shift::same_shift;
 pub(crate) use asking::test::Test;

@@ -1,5 +1,5 @@
 -- The tree of a root that is a leaf shows what the root shows by itself.
-use Rattle.std.proofs.Common.{◌≡◌, ℕ, suc, zero, ◌-◌, List, [], map, sym, ap, ◌∙◌, refl, arith}
+use Rattle.std.proofs.Common.{◌≡◌, ℕ, suc, zero, ◌-◌, List, [], sym, ap, ◌∙◌, refl, arith}
 use Rattle.std.specs.Prelude.{Option, Some, None, option_map, slice_get, IfSome}
 use Rattle.std.proofs.lemmas.List.{append-nil}
 use Rattle.dgn_drawing.specs.declared.mask.Mask.{Mask}

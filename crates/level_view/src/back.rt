@@ -3,12 +3,12 @@
 
 ghost use Rattle.std.specs.Prelude.{◌≡◌, ◌++◌, reverse, OnOk};
 ghost use Rattle.std.specs.Option.{option_to_list};
-ghost use Rattle.dgn_drawing.specs.WellFormed.{IsDimension};
 ghost use Rattle.dgn_drawing.specs.Faults.{HasNoFaultIn};
 ghost use Rattle.dgn_drawing.specs.Reading.{element_at};
 ghost use Rattle.dgn_drawing.specs.Shown.{shown_alone};
 ghost use Rattle.level_view.specs.Back.{begins_below, past, with_group, with_element};
 
+use crate::Drawing;
 use crate::alone::shown_alone;
 use crate::place::Place;
 use dgn_drawing::types::Item;
@@ -49,14 +49,13 @@ fn put_first(items: &mut Vec<Item>, found: Option<Item>) -> Result<(), AllocErro
 // Adds the header of a group to what its members show, if they show anything.
 fn add_group(
     alloc: Global,
-    dim: u8,
+    d: &Drawing<'_>,
     place: Place<'_>,
     items: &mut Vec<Item>,
 ) -> Result<(), AllocError>
-    requires dimension { IsDimension dim }
-    requires sound { HasNoFaultIn dim place.bytes.now }
+    requires sound { HasNoFaultIn d.now.dim place.bytes.now }
     ensures { OnOk result (reverse items.new.items
-        ≡ with_group dim place.entry.number place.entry.depth place.entry.end (element_at dim place.entry.bytes.now) (reverse items.old.items)) }
+        ≡ with_group d.now.dim place.entry.number place.entry.depth place.entry.end (element_at d.now.dim place.entry.bytes.now) (reverse items.old.items)) }
 {
     if head(place.bytes).deleted {
         cut_back(items, place.end);
@@ -67,45 +66,43 @@ fn add_group(
     }
     put_first(
         items,
-        item(alloc, dim, place.number, place.depth, place.bytes)?,
+        item(alloc, d.dim(), place.number, place.depth, place.bytes)?,
     )
 }
 
 // Puts the header of a run in the place of what its parts show.
 fn add_run(
     alloc: Global,
-    dim: u8,
+    d: &Drawing<'_>,
     mask: Mask,
     place: Place<'_>,
     items: &mut Vec<Item>,
 ) -> Result<(), AllocError>
-    requires dimension { IsDimension dim }
-    requires sound { HasNoFaultIn dim place.bytes.now }
-    ensures { OnOk result (reverse items.new.items ≡ shown_alone dim mask place.entry.number place.entry.depth (element_at dim place.entry.bytes.now)
+    requires sound { HasNoFaultIn d.now.dim place.bytes.now }
+    ensures { OnOk result (reverse items.new.items ≡ shown_alone d.now.dim mask place.entry.number place.entry.depth (element_at d.now.dim place.entry.bytes.now)
         ++ past place.entry.end (reverse items.old.items)) }
 {
     cut_back(items, place.end);
-    put_first(items, shown_alone(alloc, dim, mask, place)?)
+    put_first(items, shown_alone(alloc, d, mask, place)?)
 }
 
 // Adds an element to what the elements behind it show.
 pub(crate) fn add(
     alloc: Global,
-    dim: u8,
+    d: &Drawing<'_>,
     mask: Mask,
     place: Place<'_>,
     items: &mut Vec<Item>,
 ) -> Result<(), AllocError>
-    requires dimension { IsDimension dim }
-    requires sound { HasNoFaultIn dim place.bytes.now }
+    requires sound { HasNoFaultIn d.now.dim place.bytes.now }
     ensures { OnOk result (reverse items.new.items
-        ≡ with_element dim mask place.entry.knot place.entry.number place.entry.depth place.entry.end (element_at dim place.entry.bytes.now)
+        ≡ with_element d.now.dim mask place.entry.knot place.entry.number place.entry.depth place.entry.end (element_at d.now.dim place.entry.bytes.now)
         (reverse items.old.items)) }
 {
     match place.knot {
-        Knot::Leaf => put_first(items, shown_alone(alloc, dim, mask, place)?),
-        Knot::Group => add_group(alloc, dim, place, items),
-        Knot::Run => add_run(alloc, dim, mask, place, items),
+        Knot::Leaf => put_first(items, shown_alone(alloc, d, mask, place)?),
+        Knot::Group => add_group(alloc, d, place, items),
+        Knot::Run => add_run(alloc, d, mask, place, items),
         Knot::Loose => Ok(()),
     }
 }

@@ -15,7 +15,6 @@ use std::alloc::{AllocError, Global};
 
 /// The items that the display shows of the drawing `d` under `mask`: those of all roots, in file order.
 ///
-///
 /// A leaf that isn't marked deleted and whose level is in the mask gives its item, where it has one.
 /// So does the header of a B-spline, a run of type 24 or 27, and its parts give none. A group that
 /// isn't marked deleted, and whose members give at least one item, gives its header's item, whatever
@@ -83,7 +82,7 @@ fn put_between(
 {
     items.clear();
     for n in (first..end).rev() {
-        add(alloc, d.dim(), mask, place_of(d, n), items)?;
+        add(alloc, d, mask, place_of(d, n), items)?;
     }
     items.reverse();
     Ok(())

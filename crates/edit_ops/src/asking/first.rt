@@ -7,8 +7,8 @@ ghost use Rattle.edit_ops.specs.Asking.{cause_in, MayBeAsked, MayBeAskedOf, lock
 ghost use Rattle.edit_ops.specs.Written.{lives_of};
 
 use crate::asking::shift::same_shift;
-use crate::{Cause, Test, find};
-use dgn_drawing::{Shift, stays_on_plane};
+use crate::{Cause, ElementView, Test, find};
+use dgn_drawing::Shift;
 use dgn_layout::types::Class;
 use dgn_layout::{END_MARK, class, is_silent};
 use elem_head::properties;
@@ -61,13 +61,13 @@ pub fn cause_against(d: &Drawing<'_>, test: &Test, m: u32) -> Option<Cause>
     let found = find(d, m)?;
     match test {
         Test::NotDeleted => deleted(m, found.deleted),
-        Test::Unlocked => locked_at(m, found.kind, found.bytes),
+        Test::Unlocked => locked_at(m, found),
         Test::Widens => unwidened(m, class(found.kind)),
         Test::Moves => unmovable(m, class(found.kind)),
         Test::Looks => lookless(m, class(found.kind)),
         Test::Marks => unmarkable(m, found.kind),
         Test::StaysOnPlane(by) => {
-            if stays_on_plane(d.dim(), found.kind, found.bytes, by) {
+            if found.stays_on_plane(d, by) {
                 None
             } else {
                 Some(Cause::OffPlane(m))
@@ -87,13 +87,12 @@ fn deleted(m: u32, deleted: bool) -> Option<Cause>
     }
 }
 
-// Element m, of that type and with the bytes b, is locked.
-fn locked_at(m: u32, kind: u8, b: &[u8]) -> Option<Cause>
-    requires kind { kind < 128 }
-    requires long_enough { IsFalse (is_silent (class_of kind)) → 36 ≤ length b.now }
-    ensures { result ≡ (if locked_in kind b.now then Some (Cause.Locked m) else None) }
+// Element m, which is found, is locked.
+fn locked_at(m: u32, found: ElementView) -> Option<Cause>
+    requires { IsFalse (is_silent (class_of found.kind)) → 36 ≤ length found.bytes.now }
+    ensures { result ≡ (if locked_in found.entry.kind found.entry.bytes.now then Some (Cause.Locked m) else None) }
 {
-    if !is_silent(kind) && (properties(b) >> LOCKED) & 1 == 1 {
+    if !is_silent(found.kind) && (properties(found.bytes) >> LOCKED) & 1 == 1 {
         Some(Cause::Locked(m))
     } else {
         None

@@ -8,7 +8,7 @@ ghost use Rattle.edit_ops.specs.Causes.{unknown, broken, broken_in, silent, othe
 ghost use Rattle.edit_ops.specs.Written.{lives_of};
 
 use crate::asking::first::{cause_against, first_cause};
-use crate::{Cause, Test, find};
+use crate::{Cause, ElementView, Test, find};
 use dgn_drawing::MOST_DESIGN;
 use dgn_layout::is_silent;
 use level_view::Drawing;
@@ -63,15 +63,14 @@ pub fn silent(d: &Drawing<'_>, n: u32) -> Option<Cause>
     ensures { result ≡ silent n (slice_get (elements d.now) n) }
 {
     let found = find(d, n)?;
-    silent_at(n, found.kind)
+    silent_at(n, found)
 }
 
-// Nothing is read of element n, by its type.
-fn silent_at(n: u32, kind: u8) -> Option<Cause>
-    requires { kind < 128 }
-    ensures { result ≡ (if is_silent (class_of kind) then Some (Cause.Opaque n) else None) }
+// Nothing is read of element n, which is found, by its type.
+fn silent_at(n: u32, found: ElementView) -> Option<Cause>
+    ensures { result ≡ (if is_silent (class_of found.entry.kind) then Some (Cause.Opaque n) else None) }
 {
-    if is_silent(kind) {
+    if is_silent(found.kind) {
         Some(Cause::Opaque(n))
     } else {
         None

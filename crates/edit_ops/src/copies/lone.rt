@@ -12,7 +12,6 @@ ghost use Rattle.dgn_drawing.specs.Rows.{row_of};
 ghost use Rattle.dgn_drawing.specs.Spelling.{spelling};
 ghost use Rattle.dgn_drawing.specs.SpotNumbers.{sum_at, number_bytes};
 ghost use Rattle.dgn_drawing.specs.Values.{IsShift};
-ghost use Rattle.dgn_drawing.specs.WellFormed.{IsDimension};
 ghost use Rattle.elem_index.specs.Design.{elements};
 ghost use Rattle.patch_bytes.specs.Puts.{lay, write};
 ghost use Rattle.edit_ops.specs.Causes.{unmovable};
@@ -25,7 +24,7 @@ use crate::asking::first::unmovable;
 use crate::asking::shift::is_shift;
 use crate::copies::tree::free_first;
 use crate::{Cause, EditFault, ElementView};
-use dgn_drawing::{Shift, put_number, spots_in, sum};
+use dgn_drawing::{Shift, put_number, sum};
 use dgn_layout::{Spot, class};
 use level_view::Drawing;
 
@@ -76,24 +75,22 @@ fn lay_copy(copy: &mut [u8], d: &Drawing<'_>, n: u32, found: ElementView, by: &S
         → copy.new ≡ spelling (flat (tree_copy d.now.dim (elements d.now) by.now n)) }
 {
     d.is_whole();
-    let stays = lay_sums(copy, d.dim(), found, by);
+    let stays = lay_sums(copy, d, found, by);
     free_first(copy);
     stays
 }
 
 // Lays the sums at all spots of an element into as many bytes as it has, and answers whether each is on the design plane.
-fn lay_sums(copy: &mut [u8], dim: u8, found: ElementView, by: &Shift) -> bool
-    requires dimension { IsDimension dim }
-    requires kind { found.kind < 128 }
-    requires holds { HoldsPoints dim found.kind found.bytes.now (length found.bytes.now) }
+fn lay_sums(copy: &mut [u8], d: &Drawing<'_>, found: ElementView, by: &Shift) -> bool
+    requires holds { HoldsPoints d.now.dim found.kind found.bytes.now (length found.bytes.now) }
     requires same_length { length copy.old ≡ length found.bytes.now }
     ensures on_plane { result ≡ list_all (λ s. is_on_plane (sum_at by.now found.entry.bytes.now s))
-        (spots_of dim found.entry.kind found.entry.bytes.now) }
+        (spots_of d.now.dim found.entry.kind found.entry.bytes.now) }
     ensures laid { IsTrue result → (a : List ℕ) → length a ≡ found.entry.place → write (a ++ copy.old)
-        (map (sum_put by.now found.entry.place found.entry.bytes.now) (spots_of dim found.entry.kind found.entry.bytes.now))
+        (map (sum_put by.now found.entry.place found.entry.bytes.now) (spots_of d.now.dim found.entry.kind found.entry.bytes.now))
         ≡ a ++ copy.new }
 {
-    'spots: for spot in spots_in(dim, found.kind, found.bytes) {
+    'spots: for spot in found.coordinates(d) {
         if !put_sum(copy, found, spot, by) {
             return false;
         }

@@ -4,7 +4,6 @@ ghost use Rattle.std.specs.Option.{option_to_list};
 ghost use Rattle.elem_head.specs.Head.{symbology_of};
 ghost use Rattle.dgn_layout.specs.Classes.{class_of};
 ghost use Rattle.dgn_layout.specs.Spots.{HoldsPoints, has_spots, spots_of};
-ghost use Rattle.dgn_drawing.specs.WellFormed.{IsDimension};
 ghost use Rattle.elem_index.specs.Design.{elements};
 ghost use Rattle.patch_bytes.specs.PatchView.{put_of};
 ghost use Rattle.range_code.specs.Plane.{is_on_plane};
@@ -16,7 +15,7 @@ ghost use Rattle.edit_ops.specs.Copying.{AddsUnless};
 ghost use Rattle.edit_ops.specs.Putting.{MayBePut, leaving, all_spots};
 
 use crate::{Cause, EditFault, ElementView, find};
-use dgn_drawing::{Edit, MOST_DESIGN, Shift, SymbChange, bytes_at, spots_in, sum};
+use dgn_drawing::{Edit, Shift, SymbChange, bytes_at, sum};
 use dgn_layout::Spot;
 use elem_head::symb;
 use level_view::Drawing;
@@ -87,7 +86,7 @@ fn numbers_at(d: &Drawing<'_>, m: u32) -> usize
     let Some(found) = find(d, m) else {
         return 0;
     };
-    spots_in(d.dim(), found.kind, found.bytes).len()
+    found.coordinates(d).len()
 }
 
 // Appends what an edit puts into element m, where there is one, or says that it would leave the plane.
@@ -106,8 +105,8 @@ fn push_patches(
         return Ok(());
     };
     match edit {
-        Edit::Move { by, .. } => push_moved(patches, d.dim(), m, found, by),
-        Edit::Copy { by, .. } => push_moved(patches, d.dim(), m, found, by),
+        Edit::Move { by, .. } => push_moved(patches, d, m, found, by),
+        Edit::Copy { by, .. } => push_moved(patches, d, m, found, by),
         Edit::Sym { change, .. } => {
             patches.push(look_patch(found, change))?;
             Ok(())
@@ -123,21 +122,18 @@ fn push_patches(
 // Appends the sums at all spots of element m, or says that one leaves the plane.
 fn push_moved(
     patches: &mut PatchList,
-    dim: u8,
+    d: &Drawing<'_>,
     m: u32,
     found: ElementView,
     by: &Shift,
 ) -> Result<(), EditFault>
-    requires dimension { IsDimension dim }
-    requires kind { found.kind < 128 }
-    requires holds { HoldsPoints dim found.kind found.bytes.now (length found.bytes.now) }
-    requires bounded { found.place + length found.bytes.now ≤ MOST_DESIGN }
+    requires holds { HoldsPoints d.now.dim found.kind found.bytes.now (length found.bytes.now) }
     ensures { AddsUnless
-        (off_plane m (list_all (λ s. is_on_plane (sum_at by.now found.entry.bytes.now s)) (spots_of dim found.entry.kind found.entry.bytes.now)))
-        (map (sum_put by.now found.entry.place found.entry.bytes.now) (spots_of dim found.entry.kind found.entry.bytes.now))
+        (off_plane m (list_all (λ s. is_on_plane (sum_at by.now found.entry.bytes.now s)) (spots_of d.now.dim found.entry.kind found.entry.bytes.now)))
+        (map (sum_put by.now found.entry.place found.entry.bytes.now) (spots_of d.now.dim found.entry.kind found.entry.bytes.now))
         result patches.old patches.new }
 {
-    if push_sums(patches, dim, found, by)? {
+    if push_sums(patches, d, found, by)? {
         Ok(())
     } else {
         Err(EditFault::Refused(Cause::OffPlane(m)))
@@ -148,20 +144,17 @@ fn push_moved(
 // before it are appended.
 fn push_sums(
     patches: &mut PatchList,
-    dim: u8,
+    d: &Drawing<'_>,
     found: ElementView,
     by: &Shift,
 ) -> Result<bool, AllocError>
-    requires dimension { IsDimension dim }
-    requires kind { found.kind < 128 }
-    requires holds { HoldsPoints dim found.kind found.bytes.now (length found.bytes.now) }
-    requires bounded { found.place + length found.bytes.now ≤ MOST_DESIGN }
+    requires holds { HoldsPoints d.now.dim found.kind found.bytes.now (length found.bytes.now) }
     ensures on_plane { IfOk result (λ stays. stays ≡ list_all (λ s. is_on_plane (sum_at by.now found.entry.bytes.now s))
-        (spots_of dim found.entry.kind found.entry.bytes.now)) }
+        (spots_of d.now.dim found.entry.kind found.entry.bytes.now)) }
     ensures put { IfOk result (λ stays. IsTrue stays → patches.new ≡ patches.old
-        ++ map (sum_put by.now found.entry.place found.entry.bytes.now) (spots_of dim found.entry.kind found.entry.bytes.now)) }
+        ++ map (sum_put by.now found.entry.place found.entry.bytes.now) (spots_of d.now.dim found.entry.kind found.entry.bytes.now)) }
 {
-    let spots = spots_in(dim, found.kind, found.bytes);
+    let spots = found.coordinates(d);
     patches.reserve(spots.len())?;
     'spots: for spot in spots {
         let Some(patch) = sum_patch(found, spot, by) else {
@@ -175,7 +168,6 @@ fn push_sums(
 // The sum at a spot, or None exactly where it is off the design plane.
 fn sum_patch(found: ElementView, spot: Spot, by: &Shift) -> Option<Patch>
     requires within { spot.at + 4 ≤ length found.bytes.now }
-    requires bounded { found.place + length found.bytes.now ≤ MOST_DESIGN }
     ensures on { OnSome result (IsTrue (is_on_plane (sum_at by.now found.entry.bytes.now spot))) }
     ensures off { IfNone result (IsFalse (is_on_plane (sum_at by.now found.entry.bytes.now spot))) }
     ensures put { IfSome result
@@ -188,7 +180,6 @@ fn sum_patch(found: ElementView, spot: Spot, by: &Shift) -> Option<Patch>
 /// A number at a spot of an element.
 pub fn number_patch(found: ElementView, spot: Spot, number: i32) -> Patch
     requires within { spot.at + 4 ≤ length found.bytes.now }
-    requires bounded { found.place + length found.bytes.now ≤ MOST_DESIGN }
     ensures { put_of result ≡ record {
       at = found.entry.place + spot.at;
       bytes = number_bytes spot number;
@@ -204,7 +195,6 @@ pub fn number_patch(found: ElementView, spot: Spot, number: i32) -> Patch
 // The two bytes of an element's look with what is given of another.
 fn look_patch(found: ElementView, change: &SymbChange) -> Patch
     requires long_enough { 36 ≤ length found.bytes.now }
-    requires bounded { found.place + length found.bytes.now ≤ MOST_DESIGN }
     ensures { put_of result ≡ record {
       at = found.entry.place + 34;
       bytes = new_look change.now (symbology_of found.entry.bytes.now);
@@ -223,9 +213,7 @@ fn look_patch(found: ElementView, change: &SymbChange) -> Patch
 
 // The type and the deleted bit of an element, with the bit set.
 fn mark_patch(found: ElementView) -> Patch
-    requires kind { found.kind < 128 }
     requires long_enough { 4 ≤ length found.bytes.now }
-    requires bounded { found.place + length found.bytes.now ≤ MOST_DESIGN }
     ensures { put_of result ≡ record { at = found.entry.place + 1; bytes = (found.entry.kind + 128) ∷ [] } }
 {
     Patch {

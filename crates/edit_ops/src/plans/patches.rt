@@ -6,7 +6,6 @@ ghost use Rattle.dgn_layout.specs.Classes.{class_of};
 ghost use Rattle.dgn_layout.specs.Spots.{HoldsPoints, has_spots};
 ghost use Rattle.dgn_drawing.specs.Spelling.{spell};
 ghost use Rattle.dgn_drawing.specs.Changes.{displaced};
-ghost use Rattle.dgn_drawing.specs.WellFormed.{IsDimension};
 ghost use Rattle.elem_index.specs.Design.{elements};
 ghost use Rattle.patch_bytes.specs.PatchView.{put_of};
 ghost use Rattle.range_code.specs.Plane.{is_on_plane};
@@ -18,7 +17,7 @@ ghost use Rattle.edit_ops.specs.Copying.{IsStopped, AddsUnless};
 ghost use Rattle.edit_ops.specs.Putting.{MayBePut, leaving};
 
 use crate::{Cause, EditFault, ElementView, find, number_patch, push_live};
-use dgn_drawing::{Edit, MOST_DESIGN, Shift, moved_number, spots_in, stays_on_plane, value, wider};
+use dgn_drawing::{Edit, Shift, moved_number, value, wider};
 use dgn_layout::Spot;
 use dgn_words::range_long;
 use level_view::Drawing;
@@ -75,10 +74,10 @@ fn push_above(
     let Some(head) = find(d, n) else {
         return Ok(());
     };
-    if !stays_on_plane(d.dim(), head.kind, head.bytes, by) {
+    if !head.stays_on_plane(d, by) {
         return Err(EditFault::Refused(Cause::OffPlane(n)));
     }
-    push_all_wider(patches, d, above, moved_range(d.dim(), head.bytes, by))?;
+    push_all_wider(patches, d, above, moved_range(d, head.bytes, by))?;
     Ok(())
 }
 
@@ -100,30 +99,29 @@ fn push_all_wider(
 }
 
 // The range of an element with the bytes b, moved by a displacement along the file's axes.
-fn moved_range(dim: u8, b: &[u8], by: &Shift) -> Box3
-    requires dimension { IsDimension dim }
+fn moved_range(d: &Drawing<'_>, b: &[u8], by: &Shift) -> Box3
     requires long_enough { 36 ≤ length b.now }
-    requires low { IsTrue (list_all is_on_plane (take dim (displaced (take dim by.now.by) (corner_at b.now 4)))) }
-    requires high { IsTrue (list_all is_on_plane (take dim (displaced (take dim by.now.by) (corner_at b.now 16)))) }
+    requires low { IsTrue (list_all is_on_plane (take d.now.dim (displaced (take d.now.dim by.now.by) (corner_at b.now 4)))) }
+    requires high { IsTrue (list_all is_on_plane (take d.now.dim (displaced (take d.now.dim by.now.by) (corner_at b.now 16)))) }
     ensures { result ≡ record {
-      lo = displaced (take dim by.now.by) (corner_at b.now 4);
-      hi = displaced (take dim by.now.by) (corner_at b.now 16);
+      lo = displaced (take d.now.dim by.now.by) (corner_at b.now 4);
+      hi = displaced (take d.now.dim by.now.by) (corner_at b.now 16);
     } }
 {
     Box3 {
-        lo: moved_corner(dim, b, 4, by),
-        hi: moved_corner(dim, b, 16, by),
+        lo: moved_corner(d, b, 4, by),
+        hi: moved_corner(d, b, 16, by),
     }
 }
 
 // The corner at byte `at`, moved along the file's axes, along which it stays on the design plane.
-fn moved_corner(dim: u8, b: &[u8], at: u32, by: &Shift) -> [i32; 3]
-    requires dimension { IsDimension dim }
+fn moved_corner(d: &Drawing<'_>, b: &[u8], at: u32, by: &Shift) -> [i32; 3]
     requires low { at ≤ 16 }
     requires long_enough { at + 12 ≤ length b.now }
-    requires plane { IsTrue (list_all is_on_plane (take dim (displaced (take dim by.now.by) (corner_at b.now at)))) }
-    ensures { result ≡ displaced (take dim by.now.by) (corner_at b.now at) }
+    requires plane { IsTrue (list_all is_on_plane (take d.now.dim (displaced (take d.now.dim by.now.by) (corner_at b.now at)))) }
+    ensures { result ≡ displaced (take d.now.dim by.now.by) (corner_at b.now at) }
 {
+    let dim = d.dim();
     let x = moved_number(b, at, 0, by);
     let y = moved_number(b, at + 4, 1, by);
     if dim == 3 {
@@ -144,24 +142,21 @@ fn push_wider(patches: &mut PatchList, d: &Drawing<'_>, m: u32, r: Box3) -> Resu
     let Some(found) = find(d, m) else {
         return Ok(());
     };
-    push_range(patches, d.dim(), found, r)
+    push_range(patches, d, found, r)
 }
 
 // Appends the numbers at the range spots of an element, made to hold a range too.
 fn push_range(
     patches: &mut PatchList,
-    dim: u8,
+    d: &Drawing<'_>,
     found: ElementView,
     r: Box3,
 ) -> Result<(), AllocError>
-    requires dimension { IsDimension dim }
-    requires kind { found.kind < 128 }
     requires spotted { IsTrue (has_spots (class_of found.kind)) }
-    requires holds { HoldsPoints dim found.kind found.bytes.now (length found.bytes.now) }
-    requires bounded { found.place + length found.bytes.now ≤ MOST_DESIGN }
-    ensures { OnOk result (patches.new ≡ patches.old ++ wider_puts dim r found.entry.place found.entry.bytes.now) }
+    requires holds { HoldsPoints d.now.dim found.kind found.bytes.now (length found.bytes.now) }
+    ensures { OnOk result (patches.new ≡ patches.old ++ wider_puts d.now.dim r found.entry.place found.entry.bytes.now) }
 {
-    'spots: for spot in spots_in(dim, found.kind, found.bytes) {
+    'spots: for spot in found.coordinates(d) {
         if spot.offset {
             patches.push(wider_patch(found, spot, r))?;
         }
@@ -172,7 +167,6 @@ fn push_range(
 // The number at a range spot, made to hold a range too.
 fn wider_patch(found: ElementView, spot: Spot, r: Box3) -> Patch
     requires within { spot.at + 4 ≤ length found.bytes.now }
-    requires bounded { found.place + length found.bytes.now ≤ MOST_DESIGN }
     ensures { put_of result ≡ wider_put r found.entry.place found.entry.bytes.now spot }
 {
     number_patch(found, spot, wider(spot, value(found.bytes, spot), r))

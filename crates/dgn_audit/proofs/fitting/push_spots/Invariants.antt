@@ -9,7 +9,7 @@ use Rattle.dgn_audit.proofs.fitting.push_spots.Given as goal
 -- what is put so far and what is put at the range spots that are left are all
 abbrev pub invariant-spots : goal.invariant-spots
 invariant-spots l = record {
-  all : l.patches ++ map (range_put l.hull l.place) (of_ranges (spots_left l.spot-iterator))
-      ≡ l.fn.patches ++ map (range_put l.hull l.place) (of_ranges (spots_of l.dim l.kind l.b));
-  lie : LieIn (length l.b) (spots_left l.spot-iterator);
+  all : l.patches ++ map (range_put l.hull l.found.place) (of_ranges (spots_left l.spot-iterator))
+      ≡ l.fn.patches ++ map (range_put l.hull l.found.place) (of_ranges (spots_of l.d.dim l.found.kind l.found.bytes.now));
+  lie : LieIn (length l.found.bytes.now) (spots_left l.spot-iterator);
 }

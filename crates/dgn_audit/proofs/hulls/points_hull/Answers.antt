@@ -3,22 +3,22 @@ use Rattle.dgn_layout.specs.declared.spot.Spot.{Spot}
 use Rattle.dgn_layout.specs.declared.types.spots.Spots.{Spots}
 use Rattle.dgn_layout.specs.Spots.{spots_of}
 use Rattle.dgn_layout.specs.SpotsLeft.{spots_left}
-use Rattle.dgn_drawing.proofs.SpotSteps.{LieIn, lie_in}
+use Rattle.dgn_drawing.proofs.SpotSteps.{LieIn}
 use Rattle.dgn_audit.proofs.PointHulls.{blank, read_from, row_read}
 use Rattle.dgn_audit.proofs.hulls.points_hull.Goals as goal
 
 pub spots-init : goal.spots-init
 spots-init c =
-    let begun : spots_left c.into_iter-spot-iterator.result ≡ spots_of c.args.dim c.args.kind c.args.b.now =
-    ap (λ (s : Spots). spots_left s) c.into_iter-spot-iterator.ensures.into_iter_gives ∙ c.spots_in-spot-items.ensures in
+    let begun : spots_left c.into_iter-spot-iterator.result ≡ spots_of c.args.d.now.dim c.args.view.kind c.args.view.bytes.now =
+    ap (λ (s : Spots). spots_left s) c.into_iter-spot-iterator.ensures.into_iter_gives ∙ c.coordinates-spot-items.ensures.spots in
     record {
-      all = ap (λ (ss : List Spot). read_from c.args.dim c.args.b.now blank None ss) begun;
-      lie = subst (LieIn (length c.args.b.now)) (sym begun) (lie_in c.args.dim c.args.kind c.args.b.now c.requires.dimension c.requires.holds);
+      all = ap (λ (ss : List Spot). read_from c.dim-dim.result c.args.view.bytes.now blank None ss) begun;
+      lie = subst (LieIn (length c.args.view.bytes.now)) (sym begun) c.coordinates-spot-items.ensures.within;
     }
 
 pub returns : goal.returns
 returns c =
     let none : spots_left c.spots.spot-iterator ≡ [] = c.in-None.ensures.steps.0 in
-    ap (λ (ss : List Spot). read_from c.args.dim c.args.b.now c.spots.point.at c.spots.hull ss) (sym none)
+    ap (λ (ss : List Spot). read_from c.dim-dim.result c.args.view.bytes.now c.spots.point.at c.spots.hull ss) (sym none)
     ∙ c.spots.invariant.all
-    ∙ row_read c.args.dim c.requires.dimension c.args.b.now c.args.kind c.requires.row
+    ∙ rw c.dim-dim.ensures.value (row_read c.args.d.now.dim (rw c.dim-dim.ensures.value at c.dim-dim.ensures.dimension) c.args.view.bytes.now c.args.view.kind c.requires.row)

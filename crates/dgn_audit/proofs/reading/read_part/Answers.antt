@@ -34,7 +34,7 @@ hull_of-requires-clause-long_enough c = nested_long c.args.d.now c.is_whole.ensu
 
 pub hull_of-requires-clause-holds : goal.hull_of-requires-clause-holds
 hull_of-requires-clause-holds c =
-    rw c.dim.ensures.value (nested_holds c.args.d.now c.is_whole.ensures (c.loop-n.n - 1) c.nested_at-nested.result c.nested_at-nested.ensures)
+    nested_holds c.args.d.now c.is_whole.ensures (c.loop-n.n - 1) c.nested_at-nested.result c.nested_at-nested.ensures
 
 pub add_hull-requires : goal.add_hull-requires
 add_hull-requires c =
@@ -48,7 +48,7 @@ add_hull-requires c =
     (hull_is_read d c.is_whole.ensures (c.loop-n.n - 1) s c.nested_at-nested.ensures c.args.keep os (reverse c.loop-n.noted.items) c.if-nested.false
     c.in-Some.hull (with_hulls s.parent (Some c.in-Some.hull) (without (c.loop-n.n - 1) os))
     (finding_read c.args.keep d.dim s.knot (c.loop-n.n - 1) s.view.kind s.view.bytes.now c.in-Some.hull ++ reverse c.loop-n.noted.items)
-    (hull_from d.dim s (c.loop-n.n - 1) _ _ os (rw c.dim.ensures.value at c.in-Some.ensures) c.take_box-members.ensures.found) refl refl) in
+    (hull_from d.dim s (c.loop-n.n - 1) _ _ os c.in-Some.ensures c.take_box-members.ensures.found) refl refl) in
     omega (
       arith,
       c.loop-n.invariant.room,
@@ -59,10 +59,11 @@ add_hull-requires c =
           (omega (arith, c.loop-n-test.true, c.loop-n.auto.n, bounds.within)),
     )
 
-pub tell-requires-clause-long_enough : goal.tell-requires-clause-long_enough
-tell-requires-clause-long_enough c =
-    hull_long c.args.d.now c.is_whole.ensures (c.loop-n.n - 1) c.nested_at-nested.result c.nested_at-nested.ensures c.in-Some.hull c.take_box-members.result
-    (rw c.dim.ensures.value at c.in-Some.ensures)
+pub tell-requires : goal.tell-requires
+tell-requires c = record {
+  long_enough = hull_long c.args.d.now c.is_whole.ensures (c.loop-n.n - 1) c.nested_at-nested.result c.nested_at-nested.ensures c.in-Some.hull
+      c.take_box-members.result c.in-Some.ensures;
+}
 
 pub loop-n-preserved-then-nested : goal.loop-n-preserved-then-nested
 loop-n-preserved-then-nested c = record {
@@ -87,11 +88,11 @@ loop-n-preserved-in-Continue-branch-2 c = record {
       (hull_is_read c.args.d.now c.is_whole.ensures (c.loop-n.n - 1) c.nested_at-nested.result c.nested_at-nested.ensures c.args.keep
       (reverse c.loop-n.boxes.items) (reverse c.loop-n.noted.items) c.if-nested.false
       c.in-Some.hull (reverse c.add_hull.new.boxes.items) (reverse c.tell.new.noted.items)
-      (hull_from c.args.d.now.dim c.nested_at-nested.result (c.loop-n.n - 1) _ _ (reverse c.loop-n.boxes.items) (rw c.dim.ensures.value at c.in-Some.ensures)
+      (hull_from c.args.d.now.dim c.nested_at-nested.result (c.loop-n.n - 1) _ _ (reverse c.loop-n.boxes.items) c.in-Some.ensures
       c.take_box-members.ensures.found)
       (c.add_hull.ensures.held
       ∙ ap (λ (os : List OpenBox). with_hulls c.nested_at-nested.result.parent (Some c.in-Some.hull) os) c.take_box-members.ensures.left)
-      (rw c.dim-in-Some.ensures.value at c.in_ok-tell.ensures));
+      c.in_ok-tell.ensures);
 }
 
 pub loop-n-preserved : goal.loop-n-preserved
@@ -104,7 +105,7 @@ loop-n-preserved c = record {
       (ap (λ (os : List OpenBox). record { open_boxes = os; noted = reverse c.loop-n.noted.items }) c.take_box-members.ensures.left
       ∙ bare_read c.args.d.now c.is_whole.ensures (c.loop-n.n - 1) c.nested_at-nested.result c.nested_at-nested.ensures c.args.keep
       (reverse c.loop-n.boxes.items) (reverse c.loop-n.noted.items) c.if-nested.false
-      (hull_from c.args.d.now.dim c.nested_at-nested.result (c.loop-n.n - 1) _ _ (reverse c.loop-n.boxes.items) (rw c.dim.ensures.value at c.in_default.ensures)
+      (hull_from c.args.d.now.dim c.nested_at-nested.result (c.loop-n.n - 1) _ _ (reverse c.loop-n.boxes.items) c.in_default.ensures
       c.take_box-members.ensures.found));
 }
 

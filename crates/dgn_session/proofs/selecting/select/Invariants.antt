@@ -6,7 +6,7 @@ use Rattle.level_view.proofs.TakenRoots.{StandsAt}
 use Rattle.dgn_session.proofs.selecting.select.Given as goal
 
 abbrev pub invariant-roots : goal.invariant-roots
-invariant-roots l = StandsAt (elements l.design) (λ n. takes l.mode l.fence (tree_shown l.design.dim l.mask (elements l.design) n))
+invariant-roots l = StandsAt (elements l.d) (λ n. takes l.mode l.fence (tree_shown l.d.dim l.mask (elements l.d) n))
     l.root l.found.items
 
 abbrev pub decreases-roots : goal.decreases-roots

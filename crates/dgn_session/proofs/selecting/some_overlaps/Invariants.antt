@@ -4,4 +4,4 @@ use Rattle.dgn_session.proofs.selecting.some_overlaps.Given as goal
 
 -- no element before the next one overlaps the fence by itself
 abbrev pub invariant-elements : goal.invariant-elements
-invariant-elements l = ClearTo l.fence l.design.dim (elements l.design) l.root l.n
+invariant-elements l = ClearTo l.fence l.d.dim (elements l.d) l.root l.n

@@ -8,15 +8,15 @@ pub returns-then-head : goal.returns-then-head
 returns-then-head c =
     elim c.then-head.branch [
       | then-head-via-then-head w ↦
-          deleted_hides c.args.dim c.args.place.bytes.now c.head-head.result c.head-head.ensures c.args.mask c.args.place.number c.args.place.depth
+          deleted_hides c.args.d.now.dim c.args.place.bytes.now c.head-head.result c.head-head.ensures c.args.mask c.args.place.number c.args.place.depth
           w.if-head.true
       | then-head-via-else-head+then-not-shows w ↦
-          mask_hides c.args.dim c.args.place.bytes.now c.head-head.result c.head-head.ensures c.args.mask c.args.place.number c.args.place.depth
+          mask_hides c.args.d.now.dim c.args.place.bytes.now c.head-head.result c.head-head.ensures c.args.mask c.args.place.number c.args.place.depth
           w.if-head.false (sym w.shows.ensures ∙ w.if-not-shows.true)
     ]
 
 pub returns : goal.returns
 returns c =
-    ok_lists c.item.result _ _ c.item.ensures
-    (is_shown c.args.dim c.args.place.bytes.now c.head-head.result c.head-head.ensures c.args.mask c.args.place.number c.args.place.depth c.if-head.false
+    ok_lists c.item.result _ _ (rw c.dim.ensures.value at c.item.ensures)
+    (is_shown c.args.d.now.dim c.args.place.bytes.now c.head-head.result c.head-head.ensures c.args.mask c.args.place.number c.args.place.depth c.if-head.false
     (sym c.shows.ensures ∙ c.if-not-shows.false))

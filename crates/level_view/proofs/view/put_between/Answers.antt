@@ -9,9 +9,9 @@ loop-n-preserved c = record {
   after = omega (arith, c.loop-n-test.true);
   found =
       c.in_ok-add.ensures
-      ∙ rw c.dim.ensures.value (back_step c.args.d.now.dim c.args.mask (elements c.args.d.now) (c.loop-n.n - 1) c.place_of.result c.place_of.ensures
+      ∙ back_step c.args.d.now.dim c.args.mask (elements c.args.d.now) (c.loop-n.n - 1) c.place_of.result c.place_of.ensures
       c.loop-n.n c.args.end
-      (reverse c.loop-n.items.items) (omega (arith, c.loop-n-test.true)) c.loop-n.auto.n c.loop-n.invariant.found);
+      (reverse c.loop-n.items.items) (omega (arith, c.loop-n-test.true)) c.loop-n.auto.n c.loop-n.invariant.found;
 }
 
 pub returns : goal.returns

@@ -1,5 +1,4 @@
 use Rattle.std.proofs.Common.{◌≡◌, ℕ, ◌-◌, ap, ◌∙◌, arith}
-use Rattle.std.specs.Prelude.{Some}
 use Rattle.dgn_drawing.specs.Nesting.{forest}
 use Rattle.dgn_drawing.specs.Rows.{row_of}
 use Rattle.dgn_drawing.specs.Numbering.{Mark, mark_of}

@@ -1,5 +1,4 @@
 use Rattle.std.proofs.Common.{subst}
-use Rattle.dgn_session.specs.State.{SessionValue}
 use Rattle.dgn_session.specs.Laws.{IsSessionValue}
 use Rattle.dgn_session.specs.SessionParts.{plan_of}
 use Rattle.dgn_session.proofs.EditCarriedOut.{IsEdited, plan_seen, edit_sound, edit_made}

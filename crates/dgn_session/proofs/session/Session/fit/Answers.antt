@@ -2,7 +2,6 @@ use Rattle.std.proofs.Common.{subst}
 use Rattle.dgn_audit.specs.Planned.{IsFitPlan}
 use Rattle.dgn_drawing.specs.Opening.{elements_of}
 use Rattle.dgn_session.proofs.DesignSeen.{as_seen}
-use Rattle.dgn_session.specs.State.{SessionValue}
 use Rattle.dgn_session.specs.Laws.{IsSessionValue}
 use Rattle.dgn_session.proofs.FitCarriedOut.{IsFitted, fit_sound, fit_made}
 use Rattle.dgn_session.proofs.session.Session.fit.Goals as goal

@@ -4,11 +4,11 @@ use Rattle.edit_ops.specs.Asking.{locked_in}
 use Rattle.edit_ops.proofs.ElementAnswers.{lock_cause, lock_found, long_found, asked_of_spots, plane_cause, holds_found, stays_found}
 use Rattle.edit_ops.proofs.asking.first.cause_against.Goals as goal
 
-pub stays_on_plane-requires-clause-holds : goal.stays_on_plane-requires-clause-holds
-stays_on_plane-requires-clause-holds c =
+pub stays_on_plane-requires : goal.stays_on_plane-requires
+stays_on_plane-requires c =
     let found = c.in_ok-found.ensures.found in
-    rw c.dim.ensures.value (holds_found c.args.d.now c.is_whole.ensures c.args.m c.in_ok-found.found found
-    (asked_of_spots c.args.test.now c.in-StaysOnPlane.by _ found.element c.in-StaysOnPlane.is found.there c.requires.asked))
+    holds_found c.args.d.now c.is_whole.ensures c.args.m c.in_ok-found.found found
+    (asked_of_spots c.args.test.now c.in-StaysOnPlane.by _ found.element c.in-StaysOnPlane.is found.there c.requires.asked)
 
 pub returns-then-stays_on_plane : goal.returns-then-stays_on_plane
 returns-then-stays_on_plane c =
@@ -16,7 +16,7 @@ returns-then-stays_on_plane c =
     let some = asked_of_spots c.args.test.now c.in-StaysOnPlane.by _ found.element c.in-StaysOnPlane.is found.there c.requires.asked in
     let same = stays_found c.args.d.now c.is_whole.ensures c.args.m c.in_ok-found.found found c.in-StaysOnPlane.by some in
     sym (plane_cause c.args.d.now.dim c.args.test.now c.in-StaysOnPlane.by c.args.m _ found.element true c.in-StaysOnPlane.is found.there
-    (sym same ∙ sym (rw c.dim.ensures.value at c.stays_on_plane.ensures) ∙ c.if-stays_on_plane.true))
+    (sym same ∙ sym c.stays_on_plane.ensures ∙ c.if-stays_on_plane.true))
 
 pub returns-else-stays_on_plane : goal.returns-else-stays_on_plane
 returns-else-stays_on_plane c =
@@ -24,10 +24,10 @@ returns-else-stays_on_plane c =
     let some = asked_of_spots c.args.test.now c.in-StaysOnPlane.by _ found.element c.in-StaysOnPlane.is found.there c.requires.asked in
     let same = stays_found c.args.d.now c.is_whole.ensures c.args.m c.in_ok-found.found found c.in-StaysOnPlane.by some in
     sym (plane_cause c.args.d.now.dim c.args.test.now c.in-StaysOnPlane.by c.args.m _ found.element false c.in-StaysOnPlane.is found.there
-    (sym same ∙ sym (rw c.dim.ensures.value at c.stays_on_plane.ensures) ∙ c.if-stays_on_plane.false))
+    (sym same ∙ sym c.stays_on_plane.ensures ∙ c.if-stays_on_plane.false))
 
-pub locked_at-requires-clause-long_enough : goal.locked_at-requires-clause-long_enough
-locked_at-requires-clause-long_enough c =
+pub locked_at-requires : goal.locked_at-requires
+locked_at-requires c =
     let found = c.in_ok-found.ensures.found in
     λ loud. long_found c.args.d.now c.is_whole.ensures c.args.m c.in_ok-found.found found (sym (ap (λ (k : ℕ). is_silent (class_of k)) found.kind) ∙ loud)
 

@@ -7,16 +7,16 @@ use Rattle.edit_ops.proofs.copies.lone.lay_copy.Goals as goal
 
 pub lay_sums-stays-requires-clause-holds : goal.lay_sums-stays-requires-clause-holds
 lay_sums-stays-requires-clause-holds c =
-    rw c.dim.ensures.value (points_held c.args.d.now c.is_whole.ensures c.args.n c.args.found c.requires.found c.requires.live c.args.by.now c.requires.movable)
+    points_held c.args.d.now c.is_whole.ensures c.args.n c.args.found c.requires.found c.requires.live c.args.by.now c.requires.movable
 
 pub returns-clause-copied : goal.returns-clause-copied
 returns-clause-copied c all =
     c.free_first.ensures
     ∙ alone_copied c.args.d.now c.is_whole.ensures c.args.n c.args.found c.requires.found c.requires.live c.args.by.now c.requires.movable c.requires.fits
-    c.requires.part (sym (rw c.dim.ensures.value at c.lay_sums-stays.ensures.on_plane) ∙ all)
+    c.requires.part (sym c.lay_sums-stays.ensures.on_plane ∙ all)
     c.lay_sums-stays.new.copy
     (λ a long.
     ap (λ (z : List ℕ). write (a ++ z)
     (map (sum_put c.args.by.now c.args.found.place c.args.found.bytes.now) (spots_of c.args.d.now.dim c.args.found.kind c.args.found.bytes.now)))
     (sym c.requires.same)
-    ∙ (rw c.dim.ensures.value at c.lay_sums-stays.ensures.laid) all a long)
+    ∙ c.lay_sums-stays.ensures.laid all a long)

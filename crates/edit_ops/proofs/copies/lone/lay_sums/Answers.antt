@@ -8,19 +8,18 @@ use Rattle.dgn_layout.specs.SpotsLeft.{spots_left}
 use Rattle.dgn_drawing.specs.SpotNumbers.{sum_at, number_bytes}
 use Rattle.patch_bytes.specs.Puts.{Put, write}
 use Rattle.edit_ops.specs.Written.{sum_put}
-use Rattle.dgn_drawing.proofs.SpotSteps.{LieIn, lie_in}
+use Rattle.dgn_drawing.proofs.SpotSteps.{LieIn}
 use Rattle.edit_ops.proofs.ElementMoves.{stays_next}
 use Rattle.edit_ops.proofs.TextTurns.{lay_behind}
 use Rattle.edit_ops.proofs.copies.lone.lay_sums.Goals as goal
 
 pub spots-init : goal.spots-init
 spots-init c =
-    let begun : spots_left c.into_iter-spot-iterator.result ≡ spots_of c.args.dim c.args.found.kind c.args.found.bytes.now =
-    ap (λ (s : Spots). spots_left s) c.into_iter-spot-iterator.ensures.into_iter_gives ∙ c.spots_in-spot-items.ensures in
+    let begun : spots_left c.into_iter-spot-iterator.result ≡ spots_of c.args.d.now.dim c.args.found.kind c.args.found.bytes.now =
+    ap (λ (s : Spots). spots_left s) c.into_iter-spot-iterator.ensures.into_iter_gives ∙ c.coordinates-spot-items.ensures.spots in
     record {
       long = c.requires.same_length;
-      lie = subst (LieIn (length c.args.found.bytes.now)) (sym begun)
-          (lie_in c.args.dim c.args.found.kind c.args.found.bytes.now c.requires.dimension c.requires.holds);
+      lie = subst (LieIn (length c.args.found.bytes.now)) (sym begun) c.coordinates-spot-items.ensures.within;
       same = ap (λ (ss : List Spot). list_all (λ s. is_on_plane (sum_at c.args.by.now c.args.found.bytes.now s)) ss) begun;
       give = λ a long. ap (λ (ss : List Spot). write (a ++ c.args.copy.now) (map (sum_put c.args.by.now c.args.found.place c.args.found.bytes.now) ss)) begun;
     }

@@ -15,7 +15,7 @@ invariant-spots l = record {
   long : length l.copy ≡ length l.found.bytes.now;
   lie : LieIn (length l.found.bytes.now) (spots_left l.spot-iterator);
   same : list_all (λ s. is_on_plane (sum_at l.by l.found.bytes.now s)) (spots_left l.spot-iterator)
-      ≡ list_all (λ s. is_on_plane (sum_at l.by l.found.bytes.now s)) (spots_of l.dim l.found.kind l.found.bytes.now);
+      ≡ list_all (λ s. is_on_plane (sum_at l.by l.found.bytes.now s)) (spots_of l.d.dim l.found.kind l.found.bytes.now);
   give : (a : List ℕ) → length a ≡ l.found.place → write (a ++ l.copy) (map (sum_put l.by l.found.place l.found.bytes.now) (spots_left l.spot-iterator))
-      ≡ write (a ++ l.fn.copy) (map (sum_put l.by l.found.place l.found.bytes.now) (spots_of l.dim l.found.kind l.found.bytes.now));
+      ≡ write (a ++ l.fn.copy) (map (sum_put l.by l.found.place l.found.bytes.now) (spots_of l.d.dim l.found.kind l.found.bytes.now));
 }

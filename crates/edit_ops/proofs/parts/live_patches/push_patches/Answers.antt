@@ -11,29 +11,29 @@ use Rattle.edit_ops.proofs.ElementAnswers.{readable_of, holds_found, long_found,
 use Rattle.edit_ops.proofs.LeavingElements.{leaving_found, adds_same}
 use Rattle.edit_ops.proofs.parts.live_patches.push_patches.Goals as goal
 
-pub push_moved-requires-clause-holds : goal.push_moved-requires-clause-holds
-push_moved-requires-clause-holds c =
+pub push_moved-requires : goal.push_moved-requires
+push_moved-requires c =
     let found = c.in-Some.ensures.found in
     let readable = subst (λ (e : Edit). MayBePut e found.element) c.in-Move.is
     (readable_of c.args.edit.now (elements c.args.d.now) c.args.m found.element found.there c.requires.readable) in
-    rw c.dim.ensures.value (holds_found c.args.d.now c.is_whole.ensures c.args.m c.in-Some.found found readable)
+    record { holds = holds_found c.args.d.now c.is_whole.ensures c.args.m c.in-Some.found found readable }
 
-pub push_moved-requires-in-Copy-clause-holds : goal.push_moved-requires-in-Copy-clause-holds
-push_moved-requires-in-Copy-clause-holds c =
+pub push_moved-requires-in-Copy : goal.push_moved-requires-in-Copy
+push_moved-requires-in-Copy c =
     let found = c.in-Some.ensures.found in
     let readable = subst (λ (e : Edit). MayBePut e found.element) c.in-Copy.is
     (readable_of c.args.edit.now (elements c.args.d.now) c.args.m found.element found.there c.requires.readable) in
-    rw c.dim-in-Copy.ensures.value (holds_found c.args.d.now c.is_whole.ensures c.args.m c.in-Some.found found readable)
+    record { holds = holds_found c.args.d.now c.is_whole.ensures c.args.m c.in-Some.found found readable }
 
-pub look_patch-requires-clause-long_enough : goal.look_patch-requires-clause-long_enough
-look_patch-requires-clause-long_enough c =
+pub look_patch-requires : goal.look_patch-requires
+look_patch-requires c =
     let found = c.in-Some.ensures.found in
     let ready = subst (λ (e : Edit). MayBePut e found.element) c.in-Sym.is
     (readable_of c.args.edit.now (elements c.args.d.now) c.args.m found.element found.there c.requires.readable) in
-    long_found c.args.d.now c.is_whole.ensures c.args.m c.in-Some.found found ready
+    record { long_enough = long_found c.args.d.now c.is_whole.ensures c.args.m c.in-Some.found found ready }
 
-pub mark_patch-requires-clause-long_enough : goal.mark_patch-requires-clause-long_enough
-mark_patch-requires-clause-long_enough c = four_found c.args.d.now c.is_whole.ensures c.args.m c.in-Some.found c.in-Some.ensures.found
+pub mark_patch-requires : goal.mark_patch-requires
+mark_patch-requires c = record { long_enough = four_found c.args.d.now c.is_whole.ensures c.args.m c.in-Some.found c.in-Some.ensures.found }
 
 pub returns-in-Move : goal.returns-in-Move
 returns-in-Move c =
@@ -46,7 +46,7 @@ returns-in-Move c =
     (sym c.in-Move.is)
     (adds_same c.push_moved.result c.args.patches.now c.push_moved.new.patches
     (leaving_found d c.is_whole.ensures c.args.m c.in-Some.found found c.in-Move.by readable)
-    (moved_found d c.is_whole.ensures c.args.m c.in-Some.found found c.in-Move.by c.in-Move.n) (rw c.dim.ensures.value at c.push_moved.ensures))
+    (moved_found d c.is_whole.ensures c.args.m c.in-Some.found found c.in-Move.by c.in-Move.n) c.push_moved.ensures)
 
 pub returns-in-Copy : goal.returns-in-Copy
 returns-in-Copy c =
@@ -59,7 +59,7 @@ returns-in-Copy c =
     c.push_moved-in-Copy.new.patches) (sym c.in-Copy.is)
     (adds_same c.push_moved-in-Copy.result c.args.patches.now c.push_moved-in-Copy.new.patches
     (leaving_found d c.is_whole.ensures c.args.m c.in-Some.found found c.in-Copy.by readable)
-    (moved_found d c.is_whole.ensures c.args.m c.in-Some.found found c.in-Copy.by c.in-Copy.n) (rw c.dim-in-Copy.ensures.value at c.push_moved-in-Copy.ensures))
+    (moved_found d c.is_whole.ensures c.args.m c.in-Some.found found c.in-Copy.by c.in-Copy.n) c.push_moved-in-Copy.ensures)
 
 pub returns-in_ok-push-in-Sym : goal.returns-in_ok-push-in-Sym
 returns-in_ok-push-in-Sym c =

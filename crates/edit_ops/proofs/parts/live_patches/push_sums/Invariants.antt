@@ -12,8 +12,8 @@ use Rattle.edit_ops.proofs.parts.live_patches.push_sums.Given as goal
 abbrev pub invariant-spots : goal.invariant-spots
 invariant-spots l = record {
   all : l.patches ++ map (sum_put l.by l.found.place l.found.bytes.now) (spots_left l.spot-iterator)
-      ≡ l.fn.patches ++ map (sum_put l.by l.found.place l.found.bytes.now) (spots_of l.dim l.found.kind l.found.bytes.now);
+      ≡ l.fn.patches ++ map (sum_put l.by l.found.place l.found.bytes.now) (spots_of l.d.dim l.found.kind l.found.bytes.now);
   lie : LieIn (length l.found.bytes.now) (spots_left l.spot-iterator);
   same : list_all (λ s. is_on_plane (sum_at l.by l.found.bytes.now s)) (spots_left l.spot-iterator)
-      ≡ list_all (λ s. is_on_plane (sum_at l.by l.found.bytes.now s)) (spots_of l.dim l.found.kind l.found.bytes.now);
+      ≡ list_all (λ s. is_on_plane (sum_at l.by l.found.bytes.now s)) (spots_of l.d.dim l.found.kind l.found.bytes.now);
 }

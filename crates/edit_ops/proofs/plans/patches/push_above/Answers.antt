@@ -29,12 +29,12 @@ returns-in_default-find-clause-put c =
     ∙ above_none c.args.d.now.dim c.args.edit.now (lives_of (elements c.args.d.now) c.args.above.now) in
     sym (ap (λ (ps : List Put). c.args.patches.now ++ ps) puts ∙ append-nil c.args.patches.now)
 
-pub stays_on_plane-requires-clause-holds : goal.stays_on_plane-requires-clause-holds
-stays_on_plane-requires-clause-holds c =
+pub stays_on_plane-requires : goal.stays_on_plane-requires
+stays_on_plane-requires c =
     let head = c.in-Some.ensures.found in
     let spots = subst (λ (e : Edit). MayBePut e head.element) c.in-Move.is
     (holds_of (MayBePut c.args.edit.now) (slice_get (elements c.args.d.now) c.args.n) head.element head.there c.requires.head) in
-    rw c.dim.ensures.value (holds_found c.args.d.now c.is_whole.ensures c.args.n c.in-Some.head head spots)
+    holds_found c.args.d.now c.is_whole.ensures c.args.n c.in-Some.head head spots
 
 pub returns-then-not-stays_on_plane-clause-refused : goal.returns-then-not-stays_on_plane-clause-refused
 returns-then-not-stays_on_plane-clause-refused c =
@@ -43,7 +43,7 @@ returns-then-not-stays_on_plane-clause-refused c =
     (holds_of (MayBePut c.args.edit.now) (slice_get (elements c.args.d.now) c.args.n) head.element head.there c.requires.head) in
     ap (λ (e : Edit). leaving c.args.d.now.dim e (option_to_list (found_at (elements c.args.d.now) c.args.n))) c.in-Move.is
     ∙ leaving_found c.args.d.now c.is_whole.ensures c.args.n c.in-Some.head head c.in-Move.by spots
-    ∙ ap (off_plane c.args.n) (sym (rw c.dim.ensures.value at c.stays_on_plane.ensures) ∙ c.if-not-stays_on_plane.true)
+    ∙ ap (off_plane c.args.n) (sym c.stays_on_plane.ensures ∙ c.if-not-stays_on_plane.true)
 
 pub moved_range-requires : goal.moved_range-requires
 moved_range-requires c =
@@ -52,12 +52,11 @@ moved_range-requires c =
     (holds_of (MayBePut c.args.edit.now) (slice_get (elements c.args.d.now) c.args.n) head.element head.there c.requires.head) in
     let stay = corners_stay c.args.d.now c.is_whole.ensures c.args.n c.in-Some.head head c.in-Move.by spots
     (sym (stays_found c.args.d.now c.is_whole.ensures c.args.n c.in-Some.head head c.in-Move.by spots)
-    ∙ sym (rw c.dim.ensures.value at c.stays_on_plane.ensures) ∙ c.if-not-stays_on_plane.false) in
+    ∙ sym c.stays_on_plane.ensures ∙ c.if-not-stays_on_plane.false) in
     record {
-      dimension = c.dim-2.ensures.dimension;
       long_enough = long_spots c.args.d.now c.is_whole.ensures c.args.n c.in-Some.head head spots;
-      low = rw c.dim-2.ensures.value stay.0;
-      high = rw c.dim-2.ensures.value stay.1;
+      low = stay.0;
+      high = stay.1;
     }
 
 pub returns-clause-put : goal.returns-clause-put
@@ -69,7 +68,7 @@ returns-clause-put c =
     (lives_of (elements c.args.d.now) c.args.above.now) spots in
     c.in_ok-push_all_wider.ensures
     ∙ ap (λ (r : Box3). c.args.patches.now ++ all_wider c.args.d.now.dim r (lives_of (elements c.args.d.now) c.args.above.now))
-    (rw c.dim-2.ensures.value at c.moved_range.ensures)
+    c.moved_range.ensures
     ∙ ap (λ (ps : List Put). c.args.patches.now ++ ps) (sym puts)
     ∙ ap (λ (e : Edit). c.args.patches.now
     ++ above_puts c.args.d.now.dim e (slice_get (elements c.args.d.now) c.args.n) (lives_of (elements c.args.d.now) c.args.above.now)) (sym c.in-Move.is)

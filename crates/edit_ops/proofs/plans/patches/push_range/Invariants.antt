@@ -10,6 +10,6 @@ use Rattle.edit_ops.proofs.plans.patches.push_range.Given as goal
 abbrev pub invariant-spots : goal.invariant-spots
 invariant-spots l = record {
   all : l.patches ++ map (wider_put l.r l.found.place l.found.bytes.now) (of_ranges (spots_left l.spot-iterator))
-      ≡ l.fn.patches ++ map (wider_put l.r l.found.place l.found.bytes.now) (of_ranges (spots_of l.dim l.found.kind l.found.bytes.now));
+      ≡ l.fn.patches ++ map (wider_put l.r l.found.place l.found.bytes.now) (of_ranges (spots_of l.d.dim l.found.kind l.found.bytes.now));
   lie : LieIn (length l.found.bytes.now) (spots_left l.spot-iterator);
 }
