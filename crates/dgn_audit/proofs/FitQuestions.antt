@@ -48,7 +48,8 @@ module _ (d : Design) (n : ℕ) (f : ElementView) (found : IsElementView d n f) 
     lock_is : says_locked (properties_of f.bytes.now) ≡ is_locked found.element.body
     lock_is = ap (λ (x : List ℕ). says_locked (properties_of x)) found.bytes ∙ loud_locked d.dim (axes_of d whole) found.element found.good loud
 
-    pub locked_is : (t : Bool) → t ≡ says_locked (properties_of f.bytes.now) → cond t (Some (causes.Locked n)) None ≡ against lock_cause n (slice_get (elements d) n)
+    pub locked_is : (t : Bool) → t ≡ says_locked (properties_of f.bytes.now)
+        → cond t (Some (causes.Locked n)) None ≡ against lock_cause n (slice_get (elements d) n)
     locked_is t asked = ap (λ (x : Bool). cond x (Some (causes.Locked n)) None) (asked ∙ lock_is) ∙ ap (against lock_cause n) (sym found.there)
 
 -- what an answer gives, in other words

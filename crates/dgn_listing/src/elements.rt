@@ -12,7 +12,7 @@ use crate::pieces::{put, put_ending, put_fields};
 use level_view::Drawing;
 use std::alloc::{AllocError, Global};
 
-/// Appends what `elements` says of the design `d`: a line for each element in file order, a line `level L K`
+/// Appends what `elements` says of the drawing `d`: a line for each element in file order, a line `level L K`
 /// for each level and `type T K` for each type, in the order in which they are first seen, with the number of
 /// elements, and `elements K`.
 ///

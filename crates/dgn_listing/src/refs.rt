@@ -11,7 +11,7 @@ use crate::tree::put_state;
 use level_view::Drawing;
 use std::alloc::{AllocError, Global};
 
-/// Appends what `refs` says of the design `d`: a line for each element of type 5 on level 9, in file order, and
+/// Appends what `refs` says of the drawing `d`: a line for each element of type 5 on level 9, in file order, and
 /// `refs K` with how many there are.
 ///
 /// A line is the element's number, the byte at which it begins, how many bytes it has, and `live` or `deleted` by

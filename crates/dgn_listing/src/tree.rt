@@ -11,7 +11,7 @@ use level_view::Drawing;
 use nest_tree::Knot;
 use std::alloc::{AllocError, Global};
 
-/// Appends what `tree N` says of element `n` of the design `d`: a line for
+/// Appends what `tree N` says of element `n` of the drawing `d`: a line for
 /// each element of its span, and `tree K` with their number.
 ///
 /// A line is the element's number, depth, type, level and knot, `live` or `deleted` by the element's own

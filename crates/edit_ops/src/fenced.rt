@@ -13,7 +13,7 @@ use level_view::Drawing;
 use patch_bytes::{ByteList, PatchList};
 use std::alloc::Global;
 
-/// What an edit of the trees of these roots comes to on the design `d`. `roots` are the
+/// What an edit of the trees of these roots comes to on the drawing `d`. `roots` are the
 /// numbers of some of its roots, in file order.
 ///
 /// Each root is edited as `plan` says, on the design as it was, where the bytes that the roots before it append are

@@ -21,7 +21,8 @@ pub(crate) fn shown_alone(
     place: Place<'_>,
 ) -> Result<Option<Item>, AllocError>
     requires sound { HasNoFaultIn d.now.dim place.bytes.now }
-    ensures { IfOk result (λ found. option_to_list found ≡ shown_alone d.now.dim mask place.entry.number place.entry.depth (element_at d.now.dim place.entry.bytes.now)) }
+    ensures { IfOk result (λ found. option_to_list found
+        ≡ shown_alone d.now.dim mask place.entry.number place.entry.depth (element_at d.now.dim place.entry.bytes.now)) }
 {
     let head = head(place.bytes);
     if head.deleted || !mask.shows(head.level) {

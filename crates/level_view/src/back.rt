@@ -79,7 +79,8 @@ fn add_run(
     items: &mut Vec<Item>,
 ) -> Result<(), AllocError>
     requires sound { HasNoFaultIn d.now.dim place.bytes.now }
-    ensures { OnOk result (reverse items.new.items ≡ shown_alone d.now.dim mask place.entry.number place.entry.depth (element_at d.now.dim place.entry.bytes.now)
+    ensures { OnOk result (reverse items.new.items
+        ≡ shown_alone d.now.dim mask place.entry.number place.entry.depth (element_at d.now.dim place.entry.bytes.now)
         ++ past place.entry.end (reverse items.old.items)) }
 {
     cut_back(items, place.end);

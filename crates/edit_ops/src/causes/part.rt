@@ -13,7 +13,7 @@ use dgn_drawing::MOST_DESIGN;
 use dgn_layout::is_silent;
 use level_view::Drawing;
 
-/// Unknown, where the design `d` has no element `n`; else None.
+/// Unknown, where the drawing `d` has no element `n`; else None.
 pub fn unknown(d: &Drawing<'_>, n: u32) -> Option<Cause>
     ensures { result ≡ unknown n (elements d.now) }
 {

@@ -32,7 +32,7 @@ fn place_of(d: &Drawing<'_>, n: u32) -> usize
     d.offset(n).unwrap_or(d.body().len())
 }
 
-/// The bytes of the part of element `n` of the design `d`: of the element, which there is, and of all below it.
+/// The bytes of the part of element `n` of the drawing `d`: of the element, which there is, and of all below it.
 pub fn part_bytes<'a>(d: &Drawing<'a>, n: u32) -> &'a [u8]
     requires known { n < length (elements d.now) }
     ensures { result.now ≡ spelling (flat (tree_at n (forest row_of (elements d.now)))) }
@@ -43,7 +43,7 @@ pub fn part_bytes<'a>(d: &Drawing<'a>, n: u32) -> &'a [u8]
     &d.body()[start..end]
 }
 
-/// How many bytes the part of element `n` of the design `d` has, which there is.
+/// How many bytes the part of element `n` of the drawing `d` has, which there is.
 pub fn part_len(d: &Drawing<'_>, n: u32) -> usize
     requires known { n < length (elements d.now) }
     ensures exact { result ≡ length (spelling (flat (tree_at n (forest row_of (elements d.now))))) }

@@ -26,7 +26,7 @@ use level_view::Drawing;
 use patch_bytes::{ByteList, PatchList};
 use std::alloc::Global;
 
-/// What an edit comes to on the design `d`. `pending` is the number of bytes
+/// What an edit comes to on the drawing `d`. `pending` is the number of bytes
 /// that are to be appended already.
 ///
 /// Refused comes exactly with the first cause that stands. The part of an element is the element and all below it.

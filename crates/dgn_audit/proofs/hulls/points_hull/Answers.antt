@@ -21,4 +21,5 @@ returns c =
     let none : spots_left c.spots.spot-iterator ≡ [] = c.in-None.ensures.steps.0 in
     ap (λ (ss : List Spot). read_from c.dim-dim.result c.args.view.bytes.now c.spots.point.at c.spots.hull ss) (sym none)
     ∙ c.spots.invariant.all
-    ∙ rw c.dim-dim.ensures.value (row_read c.args.d.now.dim (rw c.dim-dim.ensures.value at c.dim-dim.ensures.dimension) c.args.view.bytes.now c.args.view.kind c.requires.row)
+    ∙ rw c.dim-dim.ensures.value (row_read c.args.d.now.dim (rw c.dim-dim.ensures.value at c.dim-dim.ensures.dimension)
+    c.args.view.bytes.now c.args.view.kind c.requires.row)

@@ -20,7 +20,8 @@ returns-then-head c = λ number depth.
 pub returns : goal.returns
 returns c =
     ok_then c.takes_element.result
-    (λ (taken : Bool). (number depth : ℕ) → taken ≡ takes c.args.mode c.args.fence.now (its_item c.args.d.now.dim number depth (element_at c.args.d.now.dim c.args.b.now)))
+    (λ (taken : Bool). (number depth : ℕ)
+    → taken ≡ takes c.args.mode c.args.fence.now (its_item c.args.d.now.dim number depth (element_at c.args.d.now.dim c.args.b.now)))
     (λ (taken : Bool). (number depth : ℕ)
     → taken ≡ takes c.args.mode c.args.fence.now (shown_alone c.args.d.now.dim c.args.mask number depth (element_at c.args.d.now.dim c.args.b.now)))
     (λ taken is number depth. is number depth
