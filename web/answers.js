@@ -28,7 +28,7 @@ export function wordOf(line) {
 
 /**
  * The answers to the lines of a script, none to a line that is no command or wasn't run.
- * @param {string[]} lines
+ * @param {readonly string[]} lines
  * @param {string} text what was printed
  * @returns {(Answer | null)[]}
  */

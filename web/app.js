@@ -4,18 +4,25 @@ import { ChangesPanel } from './changes_panel.js';
 import { Choice } from './choice.js';
 import { byId, setHidden, make, fill } from './dom.js';
 import { EditPanel } from './edit_panel.js';
+import { Editing } from './editing.js';
 import { ElementPanel } from './element_panel.js';
 import { GREATEST, LEAST } from './format.js';
+import { KeptPanel } from './kept_panel.js';
 import { LevelsPanel } from './levels_panel.js';
 import { Menu } from './menu.js';
 import { Modes } from './modes.js';
+import { Opener } from './opener.js';
 import { Picker } from './picker.js';
 import { Pointer } from './pointer.js';
+import { Questions, buttonOf } from './questions.js';
 import { Refusals } from './refusals.js';
+import { Saver } from './saver.js';
+import { targetOf } from './saving.js';
 import { Scene } from './scene.js';
 import { ScriptPanel } from './script_panel.js';
 import { Search } from './search.js';
 import { Stage } from './stage.js';
+import { busy, lineSaid, surroundingsOf } from './surroundings.js';
 import { Tabs } from './tabs.js';
 import { Tools } from './tools.js';
 import { View } from './view.js';
@@ -36,8 +43,6 @@ export class App {
         this.colours = [];
         /** @type {Record<string, string>} */
         this.pens = {};
-        /** @type {any} */
-        this.opener = null;
         this.place = null;
         /** What is told of changes, by their records, while two drawings are compared. */
         this.changes = new Map();
@@ -49,7 +54,14 @@ export class App {
         this.stage = new Stage(this);
         this.modes = new Modes(this);
         this.tabs = new Tabs(this);
-        this.work = engine ? new Work(this, engine) : null;
+        this.questions = new Questions((isOpen) => {
+            busy.isAsking = isOpen;
+            busy.show();
+        });
+        this.work = new Work(surroundingsOf(this, engine));
+        this.opener = new Opener(this.work);
+        this.saver = new Saver(this.work, { target: targetOf, confirm: (name, act) => this.confirm(name, act) });
+        this.editing = new Editing(this);
         this.levelsPanel = new LevelsPanel(this);
         this.elementPanel = new ElementPanel(this);
         this.editPanel = new EditPanel(this);
@@ -57,17 +69,69 @@ export class App {
         this.changesPanel = new ChangesPanel(this);
         this.search = new Search(this);
         this.menu = new Menu(this);
+        this.keptPanel = new KeptPanel(this);
         new Pointer(byId('marks'), this);
         document.body.dataset.program = String(engine !== null);
     }
 
     get isAsking() {
-        return byId('asking').open;
+        return this.questions.isOpen;
+    }
+
+    get hasProgram() {
+        return this.work.maker !== null;
     }
 
     /** Whether edits can be made: not while two drawings are compared. */
     get canEdit() {
-        return this.work !== null && this.changesPanel.other === null;
+        return this.hasProgram && this.work.document !== null && this.changesPanel.other === null;
+    }
+
+    /**
+     * Shows a document after a step: all that is seen of the drawing follows from it.
+     * @param {import('./document.js').Document} document
+     * @param {import('./document.js').Document | null} former
+     */
+    showDocument(document, former) {
+        const { made, original } = document, isOther = former === null || former.original !== original;
+        if (isOther) {
+            setHidden(byId('start-fault'), true);
+            fill(byId('confirms'));
+        }
+        if (isOther || this.drawing !== made.base) {
+            this.takeInView(made.base, isOther);
+        }
+        if (isOther || former.made !== made) {
+            setHidden(byId('notice'), true);
+            this.showMade(made);
+        }
+        this.showKeeping();
+        this.show();
+    }
+
+    /** Shows what a script makes of the drawing that it runs on. */
+    showMade({ base, changes }) {
+        const isChanged = changes !== null && (changes.starts.length > 0 || changes.appended.length > 0);
+        this.tools.fence.clear();
+        this.showAfter(isChanged ? base.after(changes) : null);
+    }
+
+    /** Shows another drawing, in the same view where it is of the same file. */
+    takeInView(drawing, isOther) {
+        const seen = this.view.copy();
+        this.take(drawing);
+        if (!isOther) {
+            Object.assign(this.view, { x: seen.x, y: seen.y, scale: seen.scale });
+            this.stage.moved();
+        }
+    }
+
+    /** Says that the work can't be kept, as long as it is so. */
+    showKeeping() {
+        const { document, keeper } = this.work;
+        const said = document !== null && document.isUnsaved ? keeper.fault : '';
+        byId('keeping').textContent = said;
+        setHidden(byId('keeping'), said === '');
     }
 
     /**
@@ -139,9 +203,9 @@ export class App {
 
     /* Comparing. */
 
-    /** Shows another drawing behind this one, with what differs. */
-    compareWith(other, changes, after) {
-        this.changesPanel.take(other, changes);
+    /** Shows another drawing behind this one, with what differs; `said` tells which state of this one it is. */
+    compareWith(other, changes, after, said) {
+        this.changesPanel.take(other, changes, said);
         this.readChanges(changes, after);
         this.scene.mode = 'both';
         this.scene.setAfter(after, changes);
@@ -149,12 +213,24 @@ export class App {
         this.sceneChanged();
     }
 
+    /** Forgets what differs. */
     endCompare() {
         if (this.changesPanel.other !== null) {
             this.changesPanel.take(null, []);
             this.changes.clear();
             this.became.clear();
             this.tabs.show('edit');
+        }
+    }
+
+    /** Ends comparing, and shows the document again. */
+    leaveCompare() {
+        const { document } = this.work;
+        this.endCompare();
+        if (document !== null) {
+            this.takeInView(document.made.base, false);
+            this.showMade(document.made);
+            this.show();
         }
     }
 
@@ -216,32 +292,30 @@ export class App {
     }
 
     /**
-     * Asks something in a dialog; gives the name of the button that was pressed, or null.
-     * @param {string} title
-     * @param {Node[]} body
-     * @param {string[]} names
-     * @returns {Promise<string | null>}
+     * Says that a line was refused, and why; `leaveOut` adds what goes.
+     * @param {import('./work.js').Refusal} refusal
+     * @param {(() => void) | null} leaveOut
      */
-    ask(title, body, names) {
-        const dialog = /** @type {HTMLDialogElement} */ (byId('asking'));
-        byId('asking-title').textContent = title;
-        fill(byId('asking-body'), ...body);
-        return new Promise((resolve) => {
-            const end = (name) => {
-                dialog.onclose = null;
-                dialog.close();
-                resolve(name);
-            };
-            fill(byId('asking-buttons'), ...names.map((name) => buttonOf(name, () => end(name))));
-            dialog.onclose = () => end(null);
-            dialog.showModal();
-        });
+    tellRefusal({ document, lines, answers, index }, leaveOut = null) {
+        const line = lines[index], done = document.doneBefore(document.lines.length);
+        const sentence = this.refusals.sentence(line, answers[index]?.cause || '', done);
+        /** @type {[string, () => void][]} */
+        const acts = leaveOut ? [['Leave out what can’t be edited', leaveOut]] : [];
+        this.notice(lineSaid(line) + ' is refused: ' + sentence, ...acts);
     }
-}
 
-/** A button with a name that does something. */
-function buttonOf(name, act) {
-    const button = make('button', { type: 'button' }, name);
-    button.addEventListener('click', act);
-    return button;
+    /**
+     * Asks, beside the drawing, whether a file is there that the browser was given to save.
+     * @param {string} name
+     * @param {() => void} act
+     */
+    confirm(name, act) {
+        const said = name + ' was given to the browser to save. Is it there?';
+        const row = make('div', { class: 'confirm' }, make('p', {}, said),
+            buttonOf('It is saved', () => {
+                row.remove();
+                act();
+            }), buttonOf('Not yet', () => row.remove()));
+        fill(byId('confirms'), row);
+    }
 }

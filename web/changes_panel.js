@@ -14,31 +14,20 @@ export class ChangesPanel {
         this.other = null;
         this.rows = [];
         byId('changes-filter').addEventListener('input', () => this.show());
-        byId('compare-end').addEventListener('click', () => this.end());
+        byId('compare-end').addEventListener('click', () => app.leaveCompare());
     }
 
-    /** Lists what differs in another drawing, or nothing. */
-    take(other, rows) {
+    /** Lists what differs in another drawing, or nothing; `said` tells what it is compared with. */
+    take(other, rows, said = '') {
         this.other = other;
         this.rows = rows;
         setHidden(byId('tab-changes'), other === null);
         if (other !== null) {
-            byId('changes-title').textContent = 'In ' + other.name;
+            byId('changes-title').textContent = 'In ' + other.name + ', against ' + said;
             const count = rows.reduce((sum, { more }) => sum + 1 + more, 0);
             byId('changes-count').textContent = counted(count, 'change');
         }
         this.show();
-    }
-
-    /** Ends comparing, and shows the drawing as the script has left it. */
-    end() {
-        const { app } = this;
-        app.endCompare();
-        if (app.work) {
-            app.work.showAgain();
-        } else {
-            app.showAfter(null);
-        }
     }
 
     show() {

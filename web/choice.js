@@ -15,6 +15,11 @@ export class Choice {
         this.hovered = -1;
         /** @type {number[]} */
         this.numbers = [];
+        /**
+         * The fence that took them, where one did.
+         * @type {import('./editing.js').Source | null}
+         */
+        this.source = null;
         /** @type {number[] | null} */
         this.pointer = null;
     }
@@ -34,6 +39,7 @@ export class Choice {
     clear() {
         this.hovered = -1;
         this.numbers = [];
+        this.source = null;
     }
 
     point(place) {
@@ -95,13 +101,14 @@ export class Choice {
         return became;
     }
 
-    /** Chooses elements, and nothing else. */
-    choose(numbers) {
+    /** Chooses elements, and nothing else; `source` is the fence that took them. */
+    choose(numbers, source = null) {
         const { app } = this, { scene } = app;
         if (numbers.some((it) => it >= scene.state.count)) {
             app.modes.set(numbers.every((it) => it < scene.before.count) ? 'before' : 'both');
         }
         this.numbers = numbers;
+        this.source = source;
         if (numbers.length === 0) {
             app.tools.endDrag();
         }

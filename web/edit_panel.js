@@ -2,7 +2,7 @@
 
 import { counted } from './describing.js';
 import { byId, fill, make, setHidden } from './dom.js';
-import { newLine, probesOf } from './lines.js';
+import { probesOf } from './lines.js';
 import { TEXT_UNIT } from './reading.js';
 
 const EDITS = Object.freeze([['move', 'Move'], ['copy', 'Copy'], ['sym', 'Set look'], ['delete', 'Delete']]);
@@ -39,7 +39,7 @@ export class EditPanel {
         }
         fill(byId('by-unit'), ...options.reverse());
         byId('make-height-unit').textContent = words.hasMaster ? words.master : 'units';
-        for (const element of document.querySelectorAll('.axis-z')) {
+        for (const element of /** @type {NodeListOf<HTMLElement>} */ (document.querySelectorAll('.axis-z'))) {
             setHidden(element, drawing.axes === 2);
         }
         this.causes.clear();
@@ -81,20 +81,19 @@ export class EditPanel {
         if (hasAim && !isMissing && app.work.isDoing) {
             app.say('The program is still working on the last edit.');
         } else if (hasAim && !isMissing) {
-            app.work.edit(edit);
+            app.editing.edit(edit);
         }
     }
 
-    /** Appends an element that was drawn by its points. */
+    /** Appends an element that was drawn by its points, and says whether it was. */
     async make(word, points) {
         if (word === 'text' && byId('make-words').value === '') {
             this.app.notice('Type the text first.');
             byId('make-words').focus();
-            return;
+            return false;
         }
-        const { app } = this, z = new Array(app.drawing.axes - 2).fill(0);
-        const line = newLine(word, this.makingOf(), points.map((point) => [...point, ...z]));
-        await app.work.add([line]);
+        const z = new Array(this.app.drawing.axes - 2).fill(0);
+        return this.app.editing.make(word, this.makingOf(), points.map((point) => [...point, ...z]));
     }
 
     makingOf() {
@@ -115,7 +114,7 @@ export class EditPanel {
             return;
         }
         setTimeout(async () => {
-            if (probed !== this.probed || app.work.engine.isBusy) {
+            if (probed !== this.probed || app.work.isDoing) {
                 return;
             }
             const answers = await app.work.ask(probesOf(numbers, app.drawing.axes));
@@ -139,7 +138,7 @@ export class EditPanel {
 
     show() {
         const { app } = this, { fence } = app.tools;
-        if (app.work === null) {
+        if (!app.hasProgram) {
             return;
         }
         const isAimed = fence.isSet ? fence.chosen.length > 0 : this.hasChoice;

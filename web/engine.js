@@ -1,46 +1,38 @@
-/* The program, as the page asks it: one thing after another, each in a worker of its own. */
+/* The program in this browser: each run has a worker of its own, with whose memory that of the run goes. */
+
+import { Stopped } from './queue.js';
 
 /** The least module with a memory of 64-bit places: a browser that takes it can run the program. */
 const WITH_MEMORY64 = Uint8Array.of(0, 0x61, 0x73, 0x6D, 1, 0, 0, 0, 5, 3, 1, 4, 0);
 
-/** Said to whatever waits for an answer when the program is stopped. */
-export class Stopped extends Error {}
-
-/** @typedef {import('./drawing.js').Changes} Changes */
-/** @typedef {{ status: number, text: Uint8Array }} Said the exit number, and what was printed */
-/** @typedef {Said & { file: Uint8Array | null }} Ran */
-/** @typedef {Ran & { changes: Changes | null }} Edited */
+/** @typedef {import('./making.js').Files} Files */
+/** @typedef {import('./making.js').Said} Said */
+/** @typedef {import('./making.js').Ran} Ran */
+/** @typedef {import('./making.js').Edited} Edited */
 
 /** Whether this browser can run the program. */
 export function canRun() {
     return typeof WebAssembly === 'object' && WebAssembly.validate(WITH_MEMORY64);
 }
 
-/**
- * Keeps the drawing that was opened and what the last script made of it, and runs the program on them. The memory of a
- * run goes with its worker; the next worker is begun meanwhile, so that it is ready when it is wanted.
- */
+/** @typedef {import('./making.js').Program} Program */
+
+/** @implements {Program} */
 export class Engine {
     /**
      * @param {string} source the worker's script
      * @param {WebAssembly.Module} program
-     * @param {(isBusy: boolean) => void} tell is told when the program begins to work and when it has ended
+     * @param {(running: number) => void} tell is told how many runs there are when one begins or ends
      */
     constructor(source, program, tell) {
         this.place = URL.createObjectURL(new Blob([source], { type: 'text/javascript' }));
         this.program = program;
         this.tell = tell;
-        this.opened = new Uint8Array(0);
-        this.bodyLength = 0;
-        /** What the last script made. */
-        this.made = this.opened;
-        /** @type {Promise<any>} */
-        this.turn = Promise.resolve();
-        this.waiting = 0;
-        /** Counts how often all was stopped: what was asked before isn't begun any more. */
-        this.stops = 0;
-        /** @type {((why: Error) => void) | null} */
-        this.endRun = null;
+        this.running = 0;
+        /**
+         * A worker that waits for the next run.
+         * @type {Worker | null}
+         */
         this.ready = this.begun();
     }
 
@@ -51,131 +43,106 @@ export class Engine {
         return worker;
     }
 
-    get isBusy() {
-        return this.waiting > 0;
-    }
-
     /**
-     * Does something when all that was asked before is done.
-     * @template T
-     * @param {() => Promise<T>} act
-     * @returns {Promise<T>}
-     */
-    inTurn(act) {
-        const { stops } = this;
-        this.waiting++;
-        if (this.waiting === 1) {
-            this.tell(true);
-        }
-        const turn = this.turn.then(() => (stops === this.stops ? act() : Promise.reject(new Stopped('stopped'))));
-        this.turn = turn.catch(() => {}).then(() => {
-            this.waiting--;
-            if (this.waiting === 0) {
-                this.tell(false);
-            }
-        });
-        return turn;
-    }
-
-    /**
-     * Has the worker that is ready do one thing, and lets it go. It is given the drawing as a copy of its own, which is
-     * moved and not copied once more.
+     * Has a worker do one thing, and lets it go. It is given the drawing as a copy of its own, which is moved and not
+     * copied once more. A signal ends it at once.
      * @param {string} does
-     * @param {{ bytes: Uint8Array } & Record<string, any>} words
-     * @returns {Promise<any>}
+     * @param {Record<string, unknown> & { bytes: Uint8Array }} words
+     * @param {AbortSignal} signal
+     * @returns {Promise<any>} what the worker answers
      */
-    once(does, words) {
-        const worker = this.ready, bytes = words.bytes.slice();
-        return new Promise((resolve, reject) => {
-            this.endRun = reject;
-            worker.onmessage = ({ data }) => {
-                if (data.fault !== undefined) {
-                    reject(new Error(data.fault));
-                } else if ('status' in data.answer) {
-                    resolve(data.answer);
-                }
-            };
-            worker.onerror = (event) => reject(new Error(event.message || 'the worker couldn’t be started'));
-            worker.postMessage({ ...words, bytes, does }, [bytes.buffer]);
-        }).finally(() => {
-            this.endRun = null;
+    async once(does, words, signal) {
+        if (signal.aborted) {
+            throw new Stopped('stopped');
+        }
+        const worker = this.ready || this.begun();
+        this.ready = null;
+        this.tell(++this.running);
+        try {
+            return await answerOf(worker, { ...words, bytes: words.bytes.slice(), does }, signal);
+        } finally {
             worker.terminate();
-            this.ready = this.begun();
-        });
+            this.ready = this.ready || this.begun();
+            this.tell(--this.running);
+        }
     }
 
     /**
-     * Opens a drawing, and answers as `check` does.
+     * Tells whether a file is a drawing, as `check` does.
      * @param {Uint8Array} bytes
-     * @param {number} bodyLength how many of the bytes are its elements
+     * @param {AbortSignal} signal
      * @returns {Promise<Said>}
      */
-    open(bytes, bodyLength) {
-        return this.inTurn(() => {
-            this.opened = this.made = bytes;
-            this.bodyLength = bodyLength;
-            return this.once('check', { bytes });
-        });
+    check(bytes, signal) {
+        return this.once('check', { bytes }, signal);
     }
 
     /**
-     * Asks of a file whether it is a drawing.
-     * @param {Uint8Array} bytes
-     * @returns {Promise<Said>}
-     */
-    check(bytes) {
-        return this.inTurn(() => this.once('check', { bytes }));
-    }
-
-    /**
-     * Runs a script on the drawing as it was opened, and keeps what it makes.
+     * Runs a script on a drawing; what it makes comes with what of it has changed.
+     * @param {{ bytes: Uint8Array, bodyLength: number }} drawing
      * @param {Uint8Array} script
-     * @param {Map<string, Uint8Array>} files
+     * @param {Files} files
+     * @param {AbortSignal} signal
      * @returns {Promise<Edited>}
      */
-    edit(script, files) {
-        return this.inTurn(async () => {
-            const { opened, bodyLength } = this;
-            const ran = await this.once('edit', { bytes: opened, bodyLength, script, files });
-            this.made = ran.file || this.made;
-            return ran;
-        });
+    edit({ bytes, bodyLength }, script, files, signal) {
+        return this.once('edit', { bytes, bodyLength, script, files }, signal);
     }
 
     /**
-     * Asks what a script would be answered behind the last one.
+     * Runs a script on a drawing for its answers alone.
+     * @param {Uint8Array} bytes
      * @param {Uint8Array} script
-     * @param {Map<string, Uint8Array>} files
+     * @param {Files} files
+     * @param {AbortSignal} signal
      * @returns {Promise<Said>}
      */
-    ask(script, files) {
-        return this.inTurn(() => this.once('ask', { bytes: this.made, script, files }));
+    ask(bytes, script, files, signal) {
+        return this.once('ask', { bytes, script, files }, signal);
     }
 
     /**
      * Makes a patch file of a script.
+     * @param {Uint8Array} bytes
      * @param {Uint8Array} script
-     * @param {Map<string, Uint8Array>} files
+     * @param {Files} files
+     * @param {AbortSignal} signal
      * @returns {Promise<Ran>}
      */
-    pack(script, files) {
-        return this.inTurn(() => this.once('pack', { bytes: this.opened, script, files }));
+    pack(bytes, script, files, signal) {
+        return this.once('pack', { bytes, script, files }, signal);
     }
 
     /**
-     * Puts a patch file on what the last script made.
+     * Puts a patch file on a drawing.
+     * @param {Uint8Array} bytes
      * @param {Uint8Array} patch
+     * @param {AbortSignal} signal
      * @returns {Promise<Ran>}
      */
-    apply(patch) {
-        return this.inTurn(() => this.once('apply', { bytes: this.made, patch }));
+    apply(bytes, patch, signal) {
+        return this.once('apply', { bytes, patch }, signal);
     }
+}
 
-    /** Ends whatever goes on, and whatever waits. */
-    stop() {
-        this.stops++;
-        if (this.endRun !== null) {
-            this.endRun(new Stopped('stopped'));
-        }
-    }
+/**
+ * What a worker answers to what it is asked.
+ * @param {Worker} worker
+ * @param {Record<string, unknown> & { bytes: Uint8Array }} asked its bytes are moved
+ * @param {AbortSignal} signal
+ * @returns {Promise<any>}
+ */
+function answerOf(worker, asked, signal) {
+    return new Promise((resolve, reject) => {
+        signal.addEventListener('abort', () => reject(new Stopped('stopped')), { once: true });
+        worker.onmessage = ({ data }) => {
+            if (data.fault !== undefined) {
+                reject(new Error(data.fault));
+            } else if ('status' in data.answer) {
+                resolve(data.answer);
+            }
+        };
+        worker.onerror = (event) => reject(new Error(event.message || 'the worker couldn’t be started'));
+        worker.postMessage(asked, [asked.bytes.buffer]);
+    });
 }

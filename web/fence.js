@@ -24,6 +24,8 @@ export class Fence {
          */
         this.causes = new Map();
         this.isKnown = false;
+        /** Tells the last asking from those before it. */
+        this.asked = null;
     }
 
     get isSet() {
@@ -46,22 +48,25 @@ export class Fence {
         return fenceLines(script, this.corners, this.app.scene.levels);
     }
 
-    /** Asks the program what the fence takes of what is shown, and which edits of it would be refused. */
+    /** Asks the program what the fence takes of what is shown, and which edits of it would be refused. What was known
+        of it before, as of another mode, isn't any more. */
     async ask() {
         const { app, corners } = this;
-        if (corners === null || !app.work) {
+        if (corners === null || !app.hasProgram) {
             return;
         }
         this.isKnown = false;
-        const lines = this.lines([]), { mode } = this;
-        const answers = await app.work.ask([...lines, 'select ' + mode, ...probesOfFence(mode, app.drawing.axes)]);
-        if (answers === null || this.corners !== corners) {
+        this.causes.clear();
+        const asked = this.asked = {}, lines = this.lines([]), { mode } = this;
+        const all = [...lines, 'select ' + mode, ...probesOfFence(mode, app.drawing.axes)];
+        const answers = await app.work.ask(all);
+        if (answers === null || this.corners !== corners || this.asked !== asked) {
             return;
         }
         const [set, chosen, ...probes] = answers.slice(lines.length - 1);
         if (set.cause !== null) {
             this.clear();
-            app.work.tellRefusal(lines[lines.length - 1], set);
+            app.tellRefusal({ document: app.work.document, lines: all, answers, index: lines.length - 1 });
             return;
         }
         this.isKnown = true;
@@ -78,9 +83,9 @@ export class Fence {
 
     /** Chooses the trees of the fence one by one. */
     takeOver() {
-        const { chosen } = this;
+        const { chosen, corners, mode } = this, { choice, scene } = this.app;
         this.app.tools.clearFence();
-        this.app.choice.choose(chosen);
+        choice.choose(chosen, { corners, mode, levels: scene.levels.slice() });
     }
 
     show() {

@@ -2,20 +2,40 @@
 
 import { byId } from './dom.js';
 
+/** @typedef {import('./second_files.js').NamedFile} NamedFile */
+
 /**
- * Asks for one file, and gives its name and its bytes, or null where none was chosen.
+ * Ends the choice that is open.
+ * @type {(file: File | null) => void}
+ */
+let endChoice = () => {};
+
+/**
+ * Asks for one file, and gives it, or null where none was chosen or another one is asked for meanwhile.
  * @param {string} [accept] the endings that are offered first
- * @returns {Promise<{ name: string, bytes: Uint8Array } | null>}
+ * @returns {Promise<File | null>}
  */
 export function chosenFile(accept = '') {
     const field = /** @type {HTMLInputElement} */ (byId('second-file'));
+    endChoice(null);
     field.accept = accept;
     field.value = '';
     return new Promise((resolve) => {
-        field.onchange = async () => resolve(field.files.length > 0 ? await readFile(field.files[0]) : null);
+        endChoice = resolve;
+        field.onchange = () => resolve(field.files && field.files[0]);
         field.addEventListener('cancel', () => resolve(null), { once: true });
         field.click();
     });
+}
+
+/**
+ * The same, with the file's bytes.
+ * @param {string} [accept]
+ * @returns {Promise<NamedFile | null>}
+ */
+export async function chosenBytes(accept = '') {
+    const file = await chosenFile(accept);
+    return file === null ? null : readFile(file);
 }
 
 /**

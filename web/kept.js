@@ -1,64 +1,91 @@
-/* Work that is kept in the browser until it is saved or thrown away: the script and patch files, never a drawing. */
+/* Work that is kept in the browser until it is saved or discarded: what was done to a drawing, never a drawing. */
 
-import { base64Of, fromBase64 } from './byte_strings.js';
-import { KEPT_MOST } from './limits.js';
+import { isAct, stagesOf } from './acts.js';
 
-const FRONT = 'dgnedit ';
+/** The shape of the records. One that has another is set aside. */
+const SHAPE = 2;
 
-/** @typedef {import('./session.js').Step} Step */
-/** @typedef {{ name: string, lines: string[], steps: Step[], when: string }} Kept */
-
-/**
- * Keeps work under the SHA-256 of its drawing, and says what kept it from being kept, or nothing.
- * @param {string} hash
- * @param {{ name: string, lines: string[], steps: Step[] }} work
- * @returns {string}
- */
-export function keep(hash, { name, lines, steps }) {
-    if (hash === '') {
-        return 'The browser can’t keep the script of this page: save it before you leave.';
-    }
-    const held = steps.map((step) => (step.kind === 'patch' ? { ...step, bytes: base64Of(step.bytes) } : step));
-    const text = JSON.stringify({ name, lines, steps: held, when: new Date().toISOString() });
-    if (text.length > KEPT_MOST) {
-        return 'The script is too long for the browser to keep: save it before you leave.';
-    }
-    try {
-        localStorage.setItem(FRONT + hash, text);
-        return '';
-    } catch {
-        return 'The browser doesn’t let the page keep the script: save it before you leave.';
-    }
-}
+/** @typedef {import('./acts.js').Act} Act */
+/** @typedef {import('./document.js').Document} Document */
 
 /**
- * The work that is kept for a drawing, or none.
- * @param {string} hash
- * @returns {Kept | null}
+ * What was done to a drawing since it was opened, with the second drawings that it wants, by name and SHA-256. `from`
+ * is the record that was continued, with its time.
+ * @typedef {object} Kept
+ * @property {string} id
+ * @property {number} shape
+ * @property {string} digest the SHA-256 of the drawing
+ * @property {string} name
+ * @property {number} size bytes of the drawing
+ * @property {readonly Act[]} acts
+ * @property {readonly Act[]} undone
+ * @property {{ name: string, digest: string }[]} imports
+ * @property {{ id: string, time: number } | null} from
+ * @property {number} time milliseconds since 1970
  */
-export function keptOf(hash) {
-    try {
-        const text = localStorage.getItem(FRONT + hash);
-        return text === null ? null : readKept(JSON.parse(text));
-    } catch {
-        return null;
-    }
+
+/**
+ * A record that isn't one of ours, and why it isn't offered.
+ * @typedef {{ id: string, why: string }} SetAside
+ */
+
+/**
+ * Whether something that stands in the store is a record of this shape.
+ * @param {any} it
+ * @returns {it is Kept}
+ */
+export function isKept(it) {
+    return typeof it === 'object' && it !== null && it.shape === SHAPE && typeof it.id === 'string'
+        && [it.digest, it.name].every((text) => typeof text === 'string') && /^[0-9a-f]{64}$/.test(it.digest)
+        && [it.size, it.time].every((value) => Number.isFinite(value) && value >= 0)
+        && [it.acts, it.undone].every((acts) => Array.isArray(acts) && acts.every(isAct))
+        && Array.isArray(it.imports) && it.imports.every(isImport)
+        && (it.from === null || (typeof it.from === 'object' && typeof it.from.id === 'string'));
 }
 
-/** @param {any} held */
-function readKept({ name, lines, steps, when }) {
-    if (![name, when, ...lines].every((it) => typeof it === 'string')) {
-        return null;
-    }
-    const read = steps.map((step) => (step.kind === 'patch' ? { ...step, bytes: fromBase64(step.bytes) } : step));
-    return { name, lines, steps: read, when };
+/** @param {any} it */
+function isImport(it) {
+    return typeof it === 'object' && it !== null && typeof it.name === 'string' && typeof it.digest === 'string';
 }
 
-/** @param {string} hash */
-export function forget(hash) {
-    try {
-        localStorage.removeItem(FRONT + hash);
-    } catch {
-        // What can't be reached isn't kept either.
-    }
+/**
+ * What stands in the store, apart: records of work, the newest first, and what is set aside. A record that was
+ * continued and has stayed as it was then isn't among them, since the record that goes on from it has all of it.
+ * @param {unknown[]} all
+ * @returns {{ kept: Kept[], aside: SetAside[] }}
+ */
+export function sorted(all) {
+    const kept = all.filter(isKept), times = new Map(kept.map(({ id, time }) => [id, time]));
+    const continued = new Set(kept.flatMap(({ from }) => (from !== null && times.get(from.id) === from.time
+        ? [from.id] : [])));
+    const aside = all.filter((it) => !isKept(it)).map((it) => ({
+        id: String(/** @type {any} */ (it)?.id), why: 'it is damaged, or of another version of this page',
+    }));
+    return { kept: kept.filter(({ id }) => !continued.has(id)).sort((one, other) => other.time - one.time), aside };
+}
+
+/**
+ * How many lines and patch files a record has, and how many acts that were taken back.
+ * @param {Kept} record
+ */
+export function countsOf({ acts, undone }) {
+    const stages = stagesOf(acts);
+    return {
+        lines: stages.reduce((sum, { lines }) => sum + lines.length, 0), patches: stages.length - 1,
+        undone: undone.length,
+    };
+}
+
+/**
+ * The record of a document.
+ * @param {Document} document
+ * @param {string} id
+ * @param {{ name: string, digest: string }[]} imports
+ * @param {{ id: string, time: number } | null} from
+ * @param {number} time
+ * @returns {Kept}
+ */
+export function recordOf({ original, acts, undone }, id, imports, from, time) {
+    const { digest, name, bytes } = original;
+    return { id, shape: SHAPE, digest, name, size: bytes.length, acts, undone, imports, from, time };
 }

@@ -2,7 +2,9 @@
 
 import { counted } from './describing.js';
 import { byId, fill, make, termed } from './dom.js';
-import { DRAWN, DRAWN_OF, FLAG } from './format.js';
+import { DRAWN, DRAWN_OF, FLAG, GREATEST, LEAST } from './format.js';
+
+const WHOLE_PLANE = Object.freeze([[LEAST, LEAST], [GREATEST, LEAST], [GREATEST, GREATEST], [LEAST, GREATEST]]);
 
 export class LevelsPanel {
     /** @param {import('./app.js').App} app */
@@ -87,7 +89,9 @@ export class LevelsPanel {
             }
         }
         tools.clearFence();
-        choice.choose([...roots]);
+        const levels = new Uint8Array(64);
+        levels[level] = 1;
+        choice.choose([...roots], { corners: WHOLE_PLANE, mode: 'overlap', levels });
     }
 
     fillTypes() {

@@ -27,8 +27,8 @@ function lastOf(script, words, otherwise) {
 
 /**
  * The lines that set levels and a fence, but those that a script has set already.
- * @param {string[]} script
- * @param {number[][]} corners
+ * @param {readonly string[]} script
+ * @param {readonly (readonly number[])[]} corners
  * @param {Uint8Array} levels those that are shown
  */
 export function fenceLines(script, corners, levels) {

@@ -4,8 +4,9 @@ import { App } from './app.js';
 import { byId, setHidden } from './dom.js';
 import { Engine, canRun } from './engine.js';
 import { partOf } from './files.js';
-import { Opener } from './opener.js';
-import { linesOf } from './session.js';
+import { Incoming } from './incoming.js';
+import { linesOf } from './making.js';
+import { busy } from './surroundings.js';
 
 const NO_PROGRAM = 'This browser can show drawings, but can’t run the program that edits them: it lacks Memory64 of '
     + 'WebAssembly, which Chrome and Edge have from version 133 on, and Firefox from 134 on.';
@@ -19,28 +20,17 @@ async function engineOf() {
         return null;
     }
     const program = await WebAssembly.compile(/** @type {BufferSource} */ (part));
-    return new Engine(byId('worker-part').textContent, program, (isBusy) => showBusy(isBusy));
-}
-
-/** @type {ReturnType<typeof setTimeout> | undefined} */
-let busyTimer;
-
-/** Shows that the program works, where that takes longer than a blink. */
-function showBusy(isBusy) {
-    clearTimeout(busyTimer);
-    if (isBusy) {
-        busyTimer = setTimeout(() => setHidden(byId('busy'), false), 200);
-    } else {
-        setHidden(byId('busy'), true);
-    }
-    document.documentElement.dataset.busy = String(isBusy);
+    return new Engine(byId('worker-part').textContent, program, (running) => {
+        busy.running = running;
+        busy.show();
+    });
 }
 
 async function start() {
     const app = new App(await engineOf());
     Object.assign(window, { page: app });
-    app.opener = new Opener(app);
-    if (app.work === null) {
+    new Incoming(app);
+    if (!app.hasProgram) {
         byId('start-fault').textContent = canRun() ? NO_PART : NO_PROGRAM;
         setHidden(byId('start-fault'), false);
     }
@@ -51,17 +41,25 @@ async function start() {
     document.documentElement.dataset.started = 'true';
 }
 
-/** Opens the drawing that the page was made with, and does what it was made for. */
+/**
+ * Opens the drawing that the page was made with, and does what it was made for.
+ * @param {App} app
+ */
 async function openOwn(app) {
-    const drawing = await partOf('drawing-part');
-    if (drawing === null || !await app.opener.open(byId('drawing-part').dataset.name, drawing)) {
+    const drawing = await partOf('drawing-part'), script = await partOf('script-part');
+    if (drawing === null) {
         return;
     }
-    const other = await partOf('after-part'), script = await partOf('script-part');
+    const lines = script === null || !app.hasProgram ? [] : linesOf(script);
+    const { name = '' } = byId('drawing-part').dataset;
+    // A question may stay open; the page has started all the same.
+    const opening = app.opener.open(name, async () => drawing, lines);
+    await Promise.race([opening, app.questions.first]);
+    const other = await partOf('after-part');
     if (other !== null) {
-        app.menu.compareWith(byId('after-part').dataset.name, other);
+        await app.menu.compareWith(byId('after-part').dataset.name || '', other);
     }
-    if (script !== null && app.work !== null && await app.work.addTyped(linesOf(script))) {
+    if (lines.length > 0 && app.scene !== null && app.scene.after !== null) {
         app.modes.set('both');
         app.tabs.show('script');
     }

@@ -1,186 +1,188 @@
-/* Opens a drawing: reads it, has the program check it, and offers the work that is kept for it. */
+/* Opens drawings, and offers the work that is kept for one. */
 
-import { byteString } from './byte_strings.js';
-import { counted } from './describing.js';
-import { byId, make, setHidden } from './dom.js';
-import { Drawing } from './drawing.js';
-import { readFile } from './files.js';
-import { keptOf } from './kept.js';
+import { Document } from './document.js';
+import { NotRun } from './making.js';
 import { Fault } from './opening.js';
-import { faultSaid } from './refusals.js';
-import { sha256 } from './saving.js';
-import { KIND_SAID, kindOf } from './tcb.js';
+import { countsOf } from './kept.js';
+import { counted } from './describing.js';
+
+/** @typedef {import('./kept.js').Kept} Kept */
+/** @typedef {import('./queue.js').Step} Step */
+/** @typedef {import('./work.js').Ended} Ended */
+/** @typedef {import('./work.js').Left} Left */
+
+const OPEN_OTHER = 'Open the other drawing';
+const DISCARD = 'Discard it';
 
 /**
- * Why bytes don't open, in a sentence.
- * @param {Fault} fault
- * @param {Uint8Array} bytes
+ * What is kept, in a few words.
+ * @param {Kept} record
  */
-export function whyNotOpened({ word, at }, bytes) {
-    return word === 'not-design' ? 'It is ' + KIND_SAID[kindOf(bytes)] + '.' : sentenceOf(faultSaid(word, at)) + '.';
-}
-
-function sentenceOf(text) {
-    return text.charAt(0).toUpperCase() + text.slice(1);
-}
-
-/** The fault that the program prints, `bad design cut at 1680`, in a sentence. */
-function saidFault(text, bytes) {
-    const [, , word, , at] = byteString(text).trimEnd().split(' ');
-    return whyNotOpened(new Fault(word, Number(at)), bytes);
+export function keptSaid(record) {
+    const { lines, patches, undone } = countsOf(record);
+    const parts = [counted(lines, 'line'), ...(patches > 0 ? [counted(patches, 'patch file')] : []),
+        ...(undone > 0 ? [counted(undone, 'act') + ' taken back'] : [])];
+    return parts.join(', ') + ', of ' + new Date(record.time).toLocaleString();
 }
 
 export class Opener {
-    /** @param {import('./app.js').App} app */
-    constructor(app) {
-        this.app = app;
-        this.name = '';
-        this.bytes = new Uint8Array(0);
-        const field = /** @type {HTMLInputElement} */ (byId('open-file'));
-        for (const id of ['open', 'start-open']) {
-            byId(id).addEventListener('click', () => field.click());
-        }
-        field.addEventListener('change', async () => {
-            if (field.files.length > 0) {
-                const { name, bytes } = await readFile(field.files[0]);
-                field.value = '';
-                await this.openAsked(name, bytes);
-            }
-        });
-        this.listenToDrops();
-        addEventListener('beforeunload', (event) => {
-            if (this.hasUnsaved) {
-                event.preventDefault();
-                event.returnValue = '';
-            }
-        });
-    }
-
-    listenToDrops() {
-        document.addEventListener('dragover', (event) => {
-            event.preventDefault();
-            document.body.classList.add('dropping');
-        });
-        document.addEventListener('dragleave', () => document.body.classList.remove('dropping'));
-        document.addEventListener('drop', async (event) => {
-            event.preventDefault();
-            document.body.classList.remove('dropping');
-            if (event.dataTransfer.files.length > 0) {
-                const { name, bytes } = await readFile(event.dataTransfer.files[0]);
-                await this.openAsked(name, bytes);
-            }
-        });
-    }
-
-    get hasUnsaved() {
-        const { work } = this.app;
-        return work !== null && work.session.hasWork && !work.session.isSaved;
-    }
-
-    /** Opens a drawing; what isn't saved is asked about before. */
-    async openAsked(name, bytes) {
-        if (this.hasUnsaved) {
-            const said = 'Another drawing would replace ' + this.app.drawing.name
-                + '. Its script is kept in this browser, and offered when you open the drawing again.';
-            const answer = await this.app.ask('Your work isn’t saved', [make('p', {}, said)],
-                ['Open the other drawing', 'Stay']);
-            if (answer !== 'Open the other drawing') {
-                return;
-            }
-        }
-        await this.open(name, bytes);
+    /** @param {import('./work.js').Work} work */
+    constructor(work) {
+        this.work = work;
     }
 
     /**
-     * Opens a drawing, and says whether it did.
+     * Opens a drawing, once work that isn't saved has been asked about, and then offers what is kept for it. A later
+     * call takes the place of one that waits, reads or asks.
      * @param {string} name
-     * @param {Uint8Array} bytes
+     * @param {() => Promise<Uint8Array>} bytesOf reads the file
+     * @param {readonly string[]} script lines that the page was made with, which are in a file already
+     * @returns {Ended} whether the drawing was opened
      */
-    async open(name, bytes) {
-        const { app } = this, drawing = Drawing.open(name, bytes);
-        if (drawing instanceof Fault) {
-            this.tellFault(name + ' doesn’t open. ' + await this.faultOf(drawing, bytes));
-            return false;
+    async open(name, bytesOf, script = []) {
+        const { work } = this;
+        work.queue.stop(({ kind }) => kind === 'open');
+        const isOpened = await work.step('Opening ' + name, 'open', (step) => this.opened(name, bytesOf, step));
+        const { document } = work;
+        if (isOpened && document !== null && !await this.offer() && script.length > 0) {
+            await this.runOwn(document, script);
         }
-        if (app.work !== null && app.work.isDoing) {
-            app.work.engine.stop();
-            await app.work.turn;
+        return isOpened;
+    }
+
+    /**
+     * @param {string} name
+     * @param {() => Promise<Uint8Array>} bytesOf
+     * @param {Step} step
+     * @returns {Promise<Left | null>}
+     */
+    async opened(name, bytesOf, step) {
+        if (!await this.mayLeave(step)) {
+            return null;
         }
-        setHidden(byId('start-fault'), true);
-        this.name = name;
-        this.bytes = bytes;
-        if (app.work === null) {
-            app.take(drawing);
+        const { around } = this.work, bytes = await bytesOf(), base = await around.read(name, bytes, step.signal);
+        const checked = around.program === null ? null : await around.program.check(bytes, step.signal);
+        if (checked !== null && checked.status !== 0) {
+            around.tellNotOpened(name, new NotRun(checked, name), bytes);
+            return null;
+        }
+        if (base instanceof Fault) {
+            around.tellNotOpened(name, base, bytes);
+            return null;
+        }
+        const digest = await around.digest(bytes);
+        return { document: Document.of(Object.freeze({ name, bytes, digest }), base), said: '' };
+    }
+
+    /**
+     * Asks about work that isn't saved; without any it may be left.
+     * @param {Step} step
+     */
+    async mayLeave({ signal }) {
+        const { document, keeper, around } = this.work;
+        if (document === null || !document.isUnsaved) {
             return true;
         }
-        app.work.begin();
-        app.take(drawing);
-        app.work.hash = await sha256(bytes);
-        const isChecked = await this.check(name, bytes, drawing.bodyLength);
-        if (isChecked) {
-            await this.offerKept();
-        }
-        return isChecked;
+        const isKept = keeper.isThere && keeper.fault === '';
+        const kept = isKept ? 'It is kept in this browser, and offered when you open that drawing again.'
+            : 'It isn’t kept in this browser: it is lost then.';
+        const answer = await around.ask({ title: 'Your work isn’t saved', buttons: [OPEN_OTHER, 'Stay'],
+            said: ['Another drawing would take the place of ' + document.original.name + ', and of what you did to it. '
+                + kept] }, signal);
+        return answer !== null && answer.button === OPEN_OTHER;
     }
 
-    /** Why a file doesn't open: the program is asked; where it can't be, the reader's own fault is told. */
-    async faultOf(fault, bytes) {
-        const { work } = this.app, checked = work === null ? null : await work.trying(() => work.engine.check(bytes));
-        return checked !== null && checked.status === 4 ? saidFault(checked.text, bytes) : whyNotOpened(fault, bytes);
+    /**
+     * Runs the script that the page was made with, on the drawing that was opened with it, where nothing else was done
+     * to it yet. It is in a file, the page, so nothing of it is kept.
+     * @param {Document} opened
+     * @param {readonly string[]} lines
+     * @returns {Ended}
+     */
+    runOwn(opened, lines) {
+        const { work } = this;
+        return work.stepOn('Running the script of the page', 'open', async (document, step) => {
+            const files = document !== opened ? null : await work.filesFor(document, lines, step.signal);
+            if (files === null) {
+                return null;
+            }
+            const left = await work.added(document, { why: 'opened', lines }, files, step.signal);
+            return { document: left.with({ saved: left.last }), said: 'The script of the page was run.',
+                keeping: 'nothing' };
+        });
     }
 
-    /** Has the program check the drawing. It decides; the reader only shows. */
-    async check(name, bytes, bodyLength) {
-        const { app } = this, checked = await app.work.trying(() => app.work.engine.open(bytes, bodyLength));
-        if (checked !== null && checked.status !== 0) {
-            const why = checked.status === 4 ? saidFault(checked.text, bytes)
-                : app.refusals.notRun(checked.status, byteString(checked.text).trimEnd());
-            this.tellFault(name + ' doesn’t open. ' + why);
+    /* Kept work. */
+
+    /**
+     * Offers the newest work that is kept for the drawing that is open; says whether it was continued.
+     * @returns {Ended}
+     */
+    async offer() {
+        const { work } = this;
+        if (work.maker === null) {
             return false;
         }
-        return checked !== null;
-    }
-
-    tellFault(text) {
-        const { app } = this;
-        if (app.drawing === null) {
-            byId('start-fault').textContent = text;
-            setHidden(byId('start-fault'), false);
-        } else {
-            app.notice(text);
-        }
-    }
-
-    /** Offers the work that is kept for this drawing. */
-    async offerKept() {
-        const { app } = this, kept = keptOf(app.work.hash);
-        if (kept === null) {
-            return;
-        }
-        const before = kept.steps.length > 0 ? ', and what was done before it,' : '';
-        const said = 'A script of ' + counted(kept.lines.length, 'line') + before + ' is kept for this drawing, of '
-            + new Date(kept.when).toLocaleString() + '. It was not saved.';
-        const answer = await app.ask('Continue where you left off?', [make('p', {}, said)],
-            ['Continue', 'Not now', 'Throw it away']);
-        if (answer === 'Continue') {
-            await this.restore(kept);
-        } else if (answer === 'Throw it away') {
-            app.work.forgetKept();
-        }
-    }
-
-    /** Does again what is kept. */
-    async restore({ steps, lines }) {
-        const { app } = this;
-        for (const step of steps) {
-            const isDone = step.kind === 'patch' ? await app.menu.apply(step.name, step.bytes)
-                : await app.work.addTyped(step.lines);
-            if (!isDone) {
-                return;
+        return work.stepOn('Looking for kept work', 'open', async (document, step) => {
+            const [record, ...others] = await work.keeper.keptOf(document.original.digest);
+            if (record === undefined) {
+                return null;
             }
+            const said = ['Work on this drawing is kept that was not saved: ' + keptSaid(record) + '.'];
+            if (others.length > 0) {
+                said.push('There is older work, too: ‘Kept work’, under ‘More’, lists it.');
+            }
+            const answer = await work.around.ask({ title: 'Continue where you left off?', said,
+                buttons: ['Continue', 'Not now', DISCARD] }, step.signal);
+            if (answer !== null && answer.button === DISCARD) {
+                await work.keeper.discard(record.id);
+            }
+            return answer !== null && answer.button === 'Continue' ? this.continued(document, record, step) : null;
+        });
+    }
+
+    /**
+     * Goes on from a record that is kept for the drawing that is open.
+     * @param {Kept} record
+     * @returns {Ended}
+     */
+    goOn(record) {
+        return this.work.stepOn('Continuing', 'open', async (document, step) => (
+            await this.mayLeave(step) ? this.continued(document, record, step) : null));
+    }
+
+    /**
+     * Does again what a record has; each act can be taken back by itself then.
+     * @param {import('./document.js').Document} document
+     * @param {Kept} record
+     * @param {Step} step
+     * @returns {Promise<Left | null>}
+     */
+    async continued(document, record, step) {
+        const { work } = this, { acts, undone, imports } = record;
+        const lines = [...acts, ...undone].flatMap((act) => ('lines' in act ? act.lines : []));
+        const fresh = Document.of(document.original, document.made.base);
+        const files = await work.filesFor(fresh, lines, step.signal, imports);
+        if (files === null) {
+            return null;
         }
-        if (lines.length > 0) {
-            await app.work.addTyped(lines);
-        }
+        const made = await work.made(document, acts, files, step.signal);
+        return { document: fresh.with({ acts, undone, files, made }), said: 'Continued: ' + keptSaid(record) + '.',
+            from: record };
+    }
+
+    /** Throws away what was done to the drawing that is open, once that was asked about. @returns {Ended} */
+    throwAway() {
+        const { work } = this;
+        return work.stepOn('Throwing the work away', 'edit', async (document, step) => {
+            const answer = await work.around.ask({ title: 'Throw the work away?', buttons: ['Throw it away', 'Keep it'],
+                said: ['The drawing is then as it was opened. What you have saved stays.'] }, step.signal);
+            if (answer === null || answer.button !== 'Throw it away') {
+                return null;
+            }
+            const made = await work.made(document, [], document.files, step.signal);
+            return { document: document.with({ acts: [], undone: [], made, saved: null, savedDigest: '' }),
+                said: 'The drawing is as it was opened.', keeping: 'drop' };
+        });
     }
 }

@@ -43,7 +43,7 @@ export class Pointer {
         if (this.down.size === 1) {
             const isMain = event.button === 0, isMore = event.shiftKey || event.ctrlKey || event.metaKey;
             const isDrag = isMain && this.app.tools.isDragging;
-            const isBox = isMain && isMore && this.app.tools.tool === 'choose' && this.app.work !== null;
+            const isBox = isMain && isMore && this.app.tools.tool === 'choose' && this.app.hasProgram;
             this.pressed = { at: this.placeOf(event), isDrag, isBox, isMore, hasMoved: false, isMain };
         } else if (this.pressed) {
             this.pressed.hasMoved = true;
@@ -159,7 +159,7 @@ export class Pointer {
             'ArrowLeft': pan(step, 0), 'ArrowRight': pan(-step, 0), 'ArrowUp': pan(0, step), 'ArrowDown': pan(0, -step),
             '+': () => stage.zoom(1.5), '=': () => stage.zoom(1.5), '-': () => stage.zoom(1 / 1.5),
             '0': () => stage.fit(), 'Home': () => stage.fit(), 'n': () => choice.step(1), 'p': () => choice.step(-1),
-            'f': () => (app.work ? tools.set('fence') : undefined), 'm': () => tools.set('measure'),
+            'f': () => (app.hasProgram ? tools.set('fence') : undefined), 'm': () => tools.set('measure'),
             'Enter': () => (tools.draws ? tools.close() : choice.click(stage.centre(), REACH.touch, false)),
             ' ': () => tools.click(stage.centre(), REACH.touch, false),
             'Backspace': () => tools.dropPoint(), 'Delete': () => app.editPanel.edit({ word: 'delete' }),
@@ -170,11 +170,13 @@ export class Pointer {
     /** Keys that hold wherever the focus is, but in a field. */
     keyAnywhere(event) {
         const isField = /^(INPUT|SELECT|TEXTAREA)$/.test(event.target.tagName) && event.target.type !== 'checkbox';
-        if (isField || event.altKey || this.app.isAsking) {
+        if (event.altKey || this.app.isAsking) {
             return;
         }
         if (event.ctrlKey || event.metaKey) {
-            this.keyWithControl(event);
+            this.keyWithControl(event, isField);
+        } else if (isField) {
+            return;
         } else if (event.key === 'o') {
             byId('open').click();
         } else if (this.app.drawing === null) {
@@ -188,9 +190,11 @@ export class Pointer {
         }
     }
 
-    keyWithControl(event) {
-        const id = { z: event.shiftKey ? 'redo' : 'undo', y: 'redo', s: 'save' }[event.key.toLowerCase()];
-        if (id !== undefined) {
+    /** Opens and saves wherever the focus is; in a field the other keys are the field's own. */
+    keyWithControl(event, isField) {
+        const key = event.key.toLowerCase();
+        const id = { z: event.shiftKey ? 'redo' : 'undo', y: 'redo', s: 'save', o: 'open' }[key];
+        if (id !== undefined && (!isField || key === 's' || key === 'o')) {
             event.preventDefault();
             byId(id).click();
         }

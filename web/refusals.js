@@ -4,6 +4,8 @@ import { whyBroken } from './broken.js';
 import { described } from './describing.js';
 import { mendingOf } from './mending.js';
 
+const TOO_LONG = ' Choose many elements by a fence or by their level: that is one line, however many they are. Or save'
+    + ' the drawing, and go on in the saved one.';
 const PLANE_SAID = 'the design plane, -2147483648 to 2147483647';
 const FAULTS = Object.freeze({
     'not-design': 'it isn’t a design file of version 7',
@@ -136,7 +138,8 @@ export class Refusals {
                 + ' too many. Nothing was run.';
             case 5: return 'A file that an import names isn’t there.';
             case 7: return 'There was not enough memory.';
-            case 8: return 'The program says ‘' + last + '’: it is larger than the program can read.';
+            case 8: return 'The program says ‘' + last + '’: it is larger than the program can read.'
+                + (last === 'too long script' ? TOO_LONG : '');
             case 10: return 'The file isn’t a patch file, or is damaged: the first bad piece begins at byte ' + number
                 + '.';
             case 11: return 'The patch file doesn’t match this drawing: entry ' + number + ' doesn’t find the bytes'

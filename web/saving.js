@@ -14,16 +14,58 @@ export function namesOf(name) {
     };
 }
 
+/** @typedef {import('./saver.js').Target} Target */
+
 /**
- * Saves a file as the browser saves what is loaded down.
+ * Asks where a file is to be saved, where the browser lets a page write files, and then writes it whole or not at all;
+ * otherwise the browser saves it among what is loaded down. None where the person cancels.
+ * @param {string} name
+ * @returns {Promise<Target | null>}
+ */
+export async function targetOf(name) {
+    const pick = /** @type {any} */ (globalThis).showSaveFilePicker;
+    if (typeof pick !== 'function') {
+        return { name, put: async (bytes) => handOver(name, bytes) };
+    }
+    try {
+        const handle = await pick({ suggestedName: name });
+        return { name: handle.name, put: (bytes) => write(handle, bytes) };
+    } catch (why) {
+        if (why instanceof DOMException && why.name === 'AbortError') {
+            return null;
+        }
+        return { name, put: async (bytes) => handOver(name, bytes) };
+    }
+}
+
+/**
+ * Writes a file. It is whole when its stream has closed: until then what stood there before stays.
+ * @param {any} handle a FileSystemFileHandle
+ * @param {Uint8Array} bytes
+ */
+async function write(handle, bytes) {
+    const stream = await handle.createWritable();
+    try {
+        await stream.write(bytes);
+        await stream.close();
+    } catch (why) {
+        await stream.abort().catch(() => {});
+        throw why;
+    }
+    return true;
+}
+
+/**
+ * Hands a file to the browser, which saves it as it saves what is loaded down; nobody tells whether it did.
  * @param {string} name
  * @param {Uint8Array} bytes
  */
-export function save(name, bytes) {
-    const link = make('a', { download: name });
+export function handOver(name, bytes) {
+    const link = /** @type {HTMLAnchorElement} */ (make('a', { download: name }));
     link.href = URL.createObjectURL(new Blob([/** @type {BlobPart} */ (bytes)], { type: 'application/octet-stream' }));
     link.click();
     setTimeout(() => URL.revokeObjectURL(link.href), 60000);
+    return false;
 }
 
 /**

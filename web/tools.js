@@ -22,6 +22,8 @@ export class Tools {
         /** @type {number[][]} */
         this.points = [];
         this.pointer = null;
+        /** Whether the element that was drawn is being made. */
+        this.isClosing = false;
         /** @type {{ from: number[], to: number[], by: number[] } | null} */
         this.drag = null;
         /**
@@ -113,16 +115,27 @@ export class Tools {
     }
 
     click(place, reach, isMore) {
-        if (this.draws) {
-            this.addPoint(this.app.wholePlace(place));
-        } else {
+        if (!this.draws) {
             this.app.choice.click(place, reach, isMore);
+        } else if (this.isAtFirst(place, reach)) {
+            this.close();
+        } else {
+            this.addPoint(this.app.wholePlace(place));
         }
     }
 
+    /** Whether a place is where the outline of an area began, which closes it. */
+    isAtFirst([left, top], reach) {
+        const { view } = this.app, { points } = this;
+        return this.isArea && points.length >= 3
+            && Math.hypot(view.toScreenX(points[0][0]) - left, view.toScreenY(points[0][1]) - top) <= reach;
+    }
+
+    /** Takes a point, but for one that is there already, or while what is drawn is being made. */
     addPoint(point) {
         const last = this.points[this.points.length - 1];
-        if (!last || last[0] !== point[0] || last[1] !== point[1]) {
+        const isThere = last && last[0] === point[0] && last[1] === point[1];
+        if (!isThere && !this.isClosing && this.points.length < this.draws.count) {
             this.points.push(point);
         }
         if (this.points.length >= this.draws.count) {
@@ -133,22 +146,33 @@ export class Tools {
 
     /** Takes the last point back. */
     dropPoint() {
-        this.points.pop();
-        this.app.stage.request();
+        if (!this.isClosing) {
+            this.points.pop();
+            this.app.stage.request();
+        }
     }
 
-    /** Ends what is drawn by points. */
-    close() {
+    /** Ends what is drawn by points. The points of an element stay until it is made: where it is refused they can be
+        changed, and tried again. */
+    async close() {
         const { tool, points } = this;
-        if (this.draws === null || tool === 'measure' || points.length === 0) {
+        if (this.draws === null || tool === 'measure' || points.length === 0 || this.isClosing) {
             return;
         }
         if (tool === 'fence') {
             this.set('choose');
             this.fence.set(points);
-        } else {
-            this.points = [];
-            this.app.editPanel.make(tool, points);
+            return;
+        }
+        this.isClosing = true;
+        try {
+            if (await this.app.editPanel.make(tool, tool === 'shape' ? [...points, points[0]] : points)
+                && this.points === points) {
+                this.points = [];
+                this.app.stage.request();
+            }
+        } finally {
+            this.isClosing = false;
         }
     }
 
@@ -201,10 +225,13 @@ export class Tools {
         this.box = null;
         app.stage.request();
         const [[x, y], [right, top]] = box.map((place) => app.wholePlace(place));
-        const chosen = await app.work.selected([[x, y], [right, y], [right, top], [x, top]],
-            box[1][0] < box[0][0] ? 'overlap' : 'inside');
+        const corners = [[x, y], [right, y], [right, top], [x, top]];
+        const mode = box[1][0] < box[0][0] ? 'overlap' : 'inside';
+        const { levels } = app.scene, chosen = await app.editing.selected(corners, mode);
         if (chosen !== null) {
-            app.choice.choose([...new Set([...app.choice.numbers.map((it) => app.scene.state.rootOf(it)), ...chosen])]);
+            const before = app.choice.numbers.map((it) => app.scene.state.rootOf(it));
+            app.choice.choose([...new Set([...before, ...chosen])],
+                before.length === 0 ? { corners, mode, levels: levels.slice() } : null);
         }
     }
 

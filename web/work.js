@@ -1,344 +1,391 @@
-/* What is done to the drawing: lines go to the program, and what it makes is shown. */
+/* What is done to the drawing that is open. Whatever changes it is a step; steps run one after another. */
 
-import { wordOf } from './answers.js';
-import { bytesOf } from './byte_strings.js';
-import { changesBetween } from './changes.js';
-import { byId, make, setHidden } from './dom.js';
-import { Stopped } from './engine.js';
-import { chosenFile } from './files.js';
-import { forget, keep } from './kept.js';
-import { editLine, fenceEditLine, fenceLines } from './lines.js';
-import { readable } from './texts.js';
-import { NotRun, Session } from './session.js';
-import { joined } from './choice.js';
+import { Keeper } from './keeper.js';
+import { Maker } from './making.js';
+import { Queue, Stopped } from './queue.js';
+import { namedFile, missingNames } from './second_files.js';
 
+/** @typedef {import('./acts.js').Act} Act */
+/** @typedef {import('./acts.js').LinesAct} LinesAct */
 /** @typedef {import('./answers.js').Answer} Answer */
-/** @typedef {import('./lines.js').Edit} Edit */
+/** @typedef {import('./document.js').Document} Document */
+/** @typedef {import('./document.js').Made} Made */
+/** @typedef {import('./kept.js').Kept} Kept */
+/** @typedef {import('./making.js').NotRun} NotRun */
+/** @typedef {import('./making.js').Program} Program */
+/** @typedef {import('./making.js').Reader} Reader */
+/** @typedef {import('./opening.js').Fault} Fault */
+/** @typedef {import('./queue.js').Kind} Kind */
+/** @typedef {import('./queue.js').Step} Step */
+/** @typedef {import('./second_files.js').NamedFile} NamedFile */
+/** @typedef {import('./store.js').Store} Store */
 
-/** Commands that write nothing. */
-const SILENT = new Set(['levels', 'fence', 'nofence']);
+/**
+ * What is asked of a person: a text, a list, buttons, a file or numbers that are wanted.
+ * @typedef {{ title: string, said: string[], list?: string[], buttons: string[], accept?: string,
+ *     fields?: { name: string, label: string, value: string }[] }} Question
+ */
+
+/**
+ * An answer: the button that was pressed, the file that was chosen, what stands in the fields.
+ * @typedef {{ button: string, file: NamedFile | null, values: Record<string, string> }} Reply
+ */
+
+/**
+ * What stands around the work: the program, the store, the person, and what shows the document after a step.
+ * @typedef {object} Surroundings
+ * @property {Program | null} program none where the browser can't run it
+ * @property {Reader} read
+ * @property {Store} store
+ * @property {(bytes: Uint8Array) => Promise<string>} digest SHA-256
+ * @property {() => number} now milliseconds since 1970
+ * @property {(question: Question, signal: AbortSignal) => Promise<Reply | null>} ask
+ * @property {(document: Document, former: Document | null) => void} show
+ * @property {(queue: Queue) => void} busy is told when a step is asked, begins or ends
+ * @property {(text: string) => void} say
+ * @property {(why: unknown, document: Document | null) => void} tellFault something that failed
+ * @property {(name: string, fault: Fault | NotRun, bytes: Uint8Array) => void} tellNotOpened
+ * @property {(refusal: Refusal) => void} tellRefusal
+ * @property {(gone: Kept) => void} tellGone
+ * @property {(document: Document, made: Made, index: number) => string[]} behind what the lines behind one that is
+ *     taken out do then, where it isn't what they did
+ */
+
+/**
+ * A line that was refused, behind the lines of a document; `lines` are those that were tried with it.
+ * @typedef {{ document: Document, lines: readonly string[], answers: readonly (Answer | null)[],
+ *     index: number }} Refusal
+ */
+
+/**
+ * What a step leaves: another document, and what is said of it, if anything; the record that it goes on from, where it
+ * does; and whether what was done is kept, or has to be kept no more.
+ * @typedef {{ document: Document, said: string, from?: Kept, keeping?: 'drop' | 'nothing' }} Left
+ */
+
+/**
+ * How a step ended: whether it left another document.
+ * @typedef {Promise<boolean>} Ended
+ */
+
+/** @param {Answer | null} answer */
+export function isRefused(answer) {
+    return answer !== null && answer.cause !== null;
+}
 
 export class Work {
-    /**
-     * @param {import('./app.js').App} app
-     * @param {import('./engine.js').Engine} engine
-     */
-    constructor(app, engine) {
-        this.app = app;
-        this.engine = engine;
-        this.session = new Session(engine);
-        /** The SHA-256 of the drawing as it was opened. */
-        this.hash = '';
-        /** That of the drawing as it was saved last. */
-        this.savedHash = '';
-        /**
-         * What is done last, and how many things wait.
-         * @type {Promise<any>}
-         */
-        this.turn = Promise.resolve();
-        this.doings = 0;
-        byId('stop').addEventListener('click', () => this.engine.stop());
-        byId('undo').addEventListener('click', () => this.undo());
-        byId('redo').addEventListener('click', () => this.redo());
+    /** @param {Surroundings} around */
+    constructor(around) {
+        this.around = around;
+        /** @type {Document | null} */
+        this.document = null;
+        this.queue = new Queue(around.busy);
+        this.keeper = new Keeper(around.store, around.digest, around.now);
+        this.maker = around.program === null ? null : new Maker(around.program, around.read);
+        this.asking = new AbortController();
     }
 
-    /** Begins work on a drawing; its SHA-256 is told later. */
-    begin() {
-        this.session = new Session(this.engine);
-        this.hash = '';
-        this.savedHash = '';
-    }
-
-    /** Forgets the work that is kept for this drawing. */
-    forgetKept() {
-        forget(this.hash);
-    }
-
-    /** A line as it is read. */
-    said(line) {
-        return readable(bytesOf(line));
-    }
-
-    /* Asking. */
+    /* Steps. */
 
     /**
-     * What lines would be answered behind the script, or null where the program was stopped or fell short.
-     * @param {string[]} lines
-     * @returns {Promise<(Answer | null)[] | null>}
+     * Does a step: `act` gives what it leaves, or null where it leaves all as it was.
+     * @param {string} name
+     * @param {Kind} kind
+     * @param {(step: Step) => Promise<Left | null>} act
+     * @returns {Ended}
      */
-    async ask(lines) {
+    async step(name, kind, act) {
         try {
-            return await this.session.ask(lines);
+            return await this.queue.add(name, kind, async (step) => {
+                const left = await act(step);
+                if (left !== null) {
+                    step.settle();
+                    await this.put(left);
+                }
+                return left !== null;
+            });
         } catch (why) {
-            this.tell(why);
-            return null;
+            this.around.tellFault(why, this.document);
+            return false;
         }
     }
 
-    /** The trees that a fence would take of what is shown, or null. */
-    async selected(corners, mode) {
-        const lines = fenceLines([], corners, this.app.scene.levels);
-        const answers = await this.ask([...lines, 'select ' + mode]);
-        if (answers === null) {
-            return null;
+    /**
+     * Keeps what a step leaves, puts it in place, and shows it.
+     * @param {Left} left
+     */
+    async put({ document, said, from, keeping }) {
+        const former = this.document, { keeper } = this;
+        if (former === null || former.original !== document.original) {
+            keeper.begin();
         }
-        const chosen = answers[answers.length - 1];
-        if (chosen.cause !== null) {
-            this.tellRefusal('select ' + mode, chosen);
-            return null;
+        if (from !== undefined) {
+            keeper.goOn(from);
         }
-        return chosen.listed.map(Number);
+        if (keeping === 'drop') {
+            await keeper.drop();
+        } else if (keeping !== 'nothing' && (former === null || former.acts !== document.acts)) {
+            await keeper.keep(document);
+        }
+        this.stopAsking();
+        this.document = document;
+        this.around.show(document, former);
+        if (said !== '') {
+            this.around.say(said);
+        }
+        keeper.gone.splice(0).forEach((gone) => this.around.tellGone(gone));
+    }
+
+    /**
+     * Does a step on the drawing that is open when it is asked; where another one is open by then it isn't done.
+     * @param {string} name
+     * @param {Kind} kind
+     * @param {(document: Document, step: Step) => Promise<Left | null>} act
+     * @returns {Ended}
+     */
+    stepOn(name, kind, act) {
+        const asked = this.document;
+        if (asked === null) {
+            return Promise.resolve(false);
+        }
+        return this.step(name, kind, async (step) => {
+            const { document } = this;
+            if (document === null || document.original !== asked.original) {
+                this.around.say(name + ' was asked of ' + asked.original.name + ', which is no longer open.');
+                return null;
+            }
+            return act(document, step);
+        });
+    }
+
+    /** Stops what runs and what waits. */
+    stop() {
+        this.stopAsking();
+        this.queue.stop();
+    }
+
+    /** Whether leaving the page would lose something: a step runs or waits, or what was done is in no file. */
+    get losesByLeaving() {
+        return this.queue.isWorking || (this.document !== null && this.document.isUnsaved);
+    }
+
+    get isDoing() {
+        return this.queue.running !== null;
     }
 
     /* Doing. */
 
     /**
-     * Does one thing after another: what is begun waits until all that was begun before has ended.
-     * @template T
-     * @param {() => Promise<T>} act
-     * @returns {Promise<T>}
+     * Adds lines behind the script. Where one of them is refused none is added, but lines that a person typed or opened
+     * stay with their answers.
+     * @param {LinesAct} act
+     * @param {(refusal: Refusal) => void} [refused] is told in the place of `tellRefusal`
+     * @returns {Ended}
      */
-    inTurn(act) {
-        this.doings++;
-        const turn = this.turn.then(act).finally(() => {
-            this.doings--;
-        });
-        this.turn = turn.catch(() => {});
-        return turn;
-    }
-
-    /** Whether something is done, or waits for its turn. */
-    get isDoing() {
-        return this.doings > 0;
-    }
-
-    /**
-     * Does an edit of what is chosen, or of the fence where one is drawn.
-     * @param {Edit} edit
-     */
-    edit(edit) {
-        const { fence } = this.app.tools;
-        return fence.isSet ? this.editFence(edit) : this.editChosen(edit);
-    }
-
-    /** @param {Edit} edit */
-    async editChosen(edit) {
-        const { numbers } = this.app.choice;
-        await this.add(numbers.map((number) => editLine(edit, number)), numbers);
-    }
-
-    /** @param {Edit} edit */
-    async editFence(edit) {
-        const { fence } = this.app.tools, { chosen } = fence;
-        const lines = [...fence.lines(this.session.lines), fenceEditLine(edit, fence.mode)];
-        const leaveOut = () => this.addWhatGoes(chosen.map((number) => editLine(edit, number)), chosen);
-        if (await this.add(lines, chosen, leaveOut)) {
-            this.app.tools.clearFence();
-        }
-    }
-
-    /**
-     * Adds lines, all or none of them, and says whether they were. `numbers` are the elements that they edit.
-     * @param {string[]} lines
-     * @param {number[]} numbers
-     * @param {(() => void) | null} leaveOut adds what goes of lines that were refused
-     */
-    add(lines, numbers = [], leaveOut = null) {
-        return this.inTurn(() => this.addNow(lines, numbers, leaveOut));
-    }
-
-    /** @returns {Promise<boolean>} */
-    async addNow(lines, numbers, leaveOut) {
-        const { session, app: { scene } } = this, { lines: before, isSaved, undone } = session;
-        const { count } = scene.after || scene.before;
-        const tried = await this.trying(() => session.add(lines));
-        if (tried === null) {
-            return false;
-        }
-        const answers = tried.answers.slice(before.length);
-        const refused = answers.findIndex((it) => it !== null && it.cause !== null);
-        if (refused < 0) {
-            this.show(tried.changes);
-            this.app.say(this.said(lines[lines.length - 1]) + ': ' + answers[answers.length - 1].said);
-            this.tellWhere(numbers, count);
-            return true;
-        }
-        await this.takeBack(lines, answers, tried.changes, isSaved);
-        session.undone = undone;
-        const others = lines.length > 1 && leaveOut === null ? () => this.addWhatGoes(lines, numbers) : leaveOut;
-        this.tellRefusal(lines[refused], answers[refused], others);
-        return false;
-    }
-
-    /** Takes back lines of which one was refused, without a trace. Where none of them has written anything the script
-        isn't run anew. */
-    async takeBack(lines, answers, changes, isSaved) {
-        const { session } = this;
-        const isEdit = (line, at) => !SILENT.has(wordOf(line)) && answers[at] !== null && answers[at].cause === null;
-        if (lines.some(isEdit)) {
-            const ran = await this.trying(() => session.undo());
-            session.isSaved = isSaved && ran !== null;
-            this.show(ran === null ? changes : ran.changes);
-        } else {
-            session.drop();
-            session.isSaved = isSaved;
-            this.keepWork();
-        }
-    }
-
-    /** Adds those of the lines that the program accepts, one by one on the drawing as it is. */
-    async addWhatGoes(lines, numbers) {
-        const answers = await this.ask(lines);
-        if (answers === null) {
-            return;
-        }
-        const kept = lines.filter((_, index) => answers[index] !== null && answers[index].cause === null);
-        const left = lines.length - kept.length;
-        if (kept.length === 0) {
-            this.app.notice('None of them can be edited.');
-        } else if (await this.add(kept, numbers)) {
-            this.app.tools.clearFence();
-            this.app.say(kept.length + ' edited, ' + left + ' left out');
-        }
-    }
-
-    /** Adds lines that were typed or opened: what is refused stays, with its answer. */
-    addTyped(lines) {
-        return this.inTurn(async () => await this.askForFiles(lines) && await this.addTypedNow(lines));
-    }
-
-    async addTypedNow(lines) {
-        const ran = await this.trying(() => this.session.add(lines));
-        if (ran !== null) {
-            this.show(ran.changes);
-            const answers = ran.answers.slice(ran.answers.length - lines.length).filter((it) => it !== null);
-            const refused = answers.filter((it) => it.cause !== null).length;
-            this.app.say(answers.length + (answers.length === 1 ? ' line was run, ' : ' lines were run, ') + refused
-                + ' refused');
-        }
-        return ran !== null;
-    }
-
-    /** Asks for the second files that lines import and that aren't there; says whether all are there then. */
-    async askForFiles(lines) {
-        for (const name of this.session.missing(lines)) {
-            const answer = await this.app.ask('A second drawing is needed', [make('p', {}, 'The script imports ' + name
-                + ', which the page doesn’t have.')], ['Choose it', 'Leave it']);
-            const file = answer === 'Choose it' ? await chosenFile('.dgn') : null;
-            if (file === null) {
-                return false;
+    apply(act, refused = this.around.tellRefusal) {
+        const stays = act.why === 'typed' || act.why === 'opened', said = act.lines.length === 1 ? 'a line' : 'lines';
+        return this.stepOn('Running ' + said, 'edit', async (document, step) => {
+            const files = await this.filesFor(document, act.lines, step.signal);
+            if (files === null) {
+                return null;
             }
-            this.session.files.set(name, file.bytes);
-        }
-        return true;
+            const left = await this.added(document, act, files, step.signal);
+            const answers = left.answers.slice(document.lines.length), index = answers.findIndex(isRefused);
+            if (index >= 0 && !stays) {
+                refused({ document, lines: act.lines, answers, index });
+                return null;
+            }
+            return { document: left, said: saidOf(act, answers) };
+        });
     }
 
+    /**
+     * A document with one act more, of which what was taken back can't be done again.
+     * @param {Document} document
+     * @param {Act} act
+     * @param {ReadonlyMap<string, Uint8Array>} files
+     * @param {AbortSignal} signal
+     */
+    async added(document, act, files, signal) {
+        const acts = [...document.acts, act];
+        return document.with({ acts, undone: [], files, made: await this.made(document, acts, files, signal) });
+    }
+
+    /**
+     * @param {Document} document
+     * @param {readonly Act[]} acts
+     * @param {ReadonlyMap<string, Uint8Array>} files
+     * @param {AbortSignal} signal
+     */
+    made(document, acts, files, signal) {
+        if (this.maker === null) {
+            throw new Error('this browser can’t run the program');
+        }
+        return this.maker.make(document, acts, files, signal);
+    }
+
+    /**
+     * Appends the trees of a second drawing, moved by so much where that isn't nothing.
+     * @param {NamedFile} file
+     * @param {string[]} by
+     * @returns {Ended}
+     */
+    importDrawing(file, by) {
+        return this.stepOn('Importing ' + file.name, 'edit', async (document, step) => {
+            const { name, files } = namedFile(document.files, file);
+            const moved = by.some((it) => it !== '0') ? ' ' + by.join(' ') : '';
+            /** @type {LinesAct} */
+            const act = { why: 'import', lines: ['import ' + name + moved] };
+            const left = await this.added(document, act, files, step.signal);
+            const answers = left.answers.slice(document.lines.length);
+            if (answers.some(isRefused)) {
+                this.around.tellRefusal({ document, lines: act.lines, answers, index: 0 });
+                return null;
+            }
+            return { document: left, said: saidOf(act, answers) };
+        });
+    }
+
+    /** Takes the last act back. @returns {Ended} */
     undo() {
-        return this.inTurn(async () => {
-            if (this.session.groups.length > 0) {
-                this.showIf(await this.trying(() => this.session.undo()), 'Undone.');
+        return this.stepOn('Undo', 'edit', async (document, step) => {
+            if (document.last === null) {
+                return null;
             }
+            const acts = document.acts.slice(0, -1), undone = [...document.undone, document.last];
+            const made = await this.made(document, acts, document.files, step.signal);
+            return { document: document.with({ acts, undone, made }), said: 'Undone.' };
         });
     }
 
+    /** Does again what was taken back last. @returns {Ended} */
     redo() {
-        return this.inTurn(async () => {
-            if (this.session.undone.length > 0) {
-                this.showIf(await this.trying(() => this.session.redo()), 'Redone.');
+        return this.stepOn('Redo', 'edit', async (document, step) => {
+            if (document.undone.length === 0) {
+                return null;
             }
+            const acts = [...document.acts, document.undone[document.undone.length - 1]];
+            const made = await this.made(document, acts, document.files, step.signal);
+            return { document: document.with({ acts, undone: document.undone.slice(0, -1), made }), said: 'Redone.' };
         });
     }
 
-    /** Takes one line out, unless it has gone meanwhile. */
+    /**
+     * Takes a line out of the script. Where lines behind it then do something else that is shown and asked about.
+     * @param {number} index
+     * @returns {Ended}
+     */
     remove(index) {
-        const line = this.session.lines[index];
-        return this.inTurn(async () => {
-            if (this.session.lines[index] === line) {
-                this.showIf(await this.trying(() => this.session.remove(index)), 'Removed: ' + this.said(line));
+        const { lines } = /** @type {Document} */ (this.document);
+        return this.stepOn('Removing a line', 'edit', async (document, step) => {
+            if (document.lines !== lines || index >= lines.length) {
+                return null;
             }
+            const left = await this.added(document, { why: 'remove', index, line: lines[index] }, document.files,
+                step.signal);
+            const list = this.around.behind(document, left.made, index);
+            const answer = list.length === 0 ? { button: 'Remove the line' } : await this.around.ask({
+                title: 'Remove line ' + (index + 1) + '?', said: ['Lines behind it then do something else:'], list,
+                buttons: ['Remove the line', 'Leave it'],
+            }, step.signal);
+            return answer === null || answer.button !== 'Remove the line' ? null
+                : { document: left, said: 'Line ' + (index + 1) + ' was removed. Undo brings it back.' };
         });
     }
 
-    showIf(ran, said) {
-        if (ran !== null) {
-            this.show(ran.changes);
-            this.app.say(said);
-        }
+    /**
+     * Puts a patch file on the drawing as it is; a new script begins behind it.
+     * @param {string} name
+     * @param {Uint8Array} bytes
+     * @returns {Ended}
+     */
+    applyPatch(name, bytes) {
+        return this.stepOn('Applying ' + name, 'edit', async (document, step) => ({
+            document: await this.added(document, { why: 'patch', name, bytes }, document.files, step.signal),
+            said: name + ' was applied.',
+        }));
     }
 
-    /** Runs something that may be stopped or fail; then it is told, and null is given. */
-    async trying(act) {
-        setHidden(byId('notice'), true);
+    /* Asking. */
+
+    /**
+     * What lines would be answered behind the script; null where it couldn't be asked, or a step came between.
+     * @param {readonly string[]} lines
+     * @returns {Promise<(Answer | null)[] | null>}
+     */
+    async ask(lines) {
+        const { document, maker } = this, { signal } = this.asking;
+        if (document === null || maker === null) {
+            return null;
+        }
         try {
-            return await act();
+            const answers = await maker.ask(document, lines, signal);
+            return this.document === document ? answers : null;
         } catch (why) {
-            await this.tell(why);
+            if (!(why instanceof Stopped)) {
+                this.around.tellFault(why, document);
+            }
             return null;
         }
     }
 
-    /** Shows what the script makes, and keeps the script. */
-    show(changes) {
-        const { app } = this, isChanged = changes.starts.length > 0 || changes.appended.length > 0;
-        app.tools.fence.clear();
-        app.showAfter(isChanged ? app.drawing.after(changes) : null);
-        this.keepWork();
+    stopAsking() {
+        this.asking.abort();
+        this.asking = new AbortController();
     }
 
-    keepWork() {
-        const { session, hash, app } = this;
-        if (!session.hasWork) {
-            session.isSaved = true;
+    /**
+     * The second drawings of a document with those that lines import, which are asked for; null where one isn't given.
+     * @param {Document} document
+     * @param {readonly string[]} lines
+     * @param {AbortSignal} signal
+     * @param {{ name: string, digest: string }[]} known their sums, where these are known
+     * @returns {Promise<ReadonlyMap<string, Uint8Array> | null>}
+     */
+    async filesFor({ files }, lines, signal, known = []) {
+        const found = new Map(files);
+        for (const name of missingNames(lines, files)) {
+            const bytes = await this.fileOf(name, known.find((it) => it.name === name)?.digest, signal);
+            if (bytes === null) {
+                return null;
+            }
+            found.set(name, bytes);
         }
-        const said = session.isSaved ? '' : keep(hash, { name: app.drawing.name, ...session });
-        if (session.isSaved) {
-            forget(hash);
-        }
-        if (said !== '') {
-            app.notice(said);
-        }
-        app.show();
+        return found;
     }
 
-    /* Telling. */
-
-    /** Says where what was edited or made lies, when it is out of sight. */
-    tellWhere(numbers, count) {
-        const { app } = this, { scene, stage } = app, { state } = scene;
-        const made = Array.from({ length: Math.min(Math.max(state.count - count, 0), 1000) }, (_, it) => count + it);
-        const told = made.length > 0 ? made : numbers;
-        const boxes = told.filter((it) => it < state.count).map((it) => scene.boxOfPart(state, it));
-        const box = joined(boxes);
-        if (box !== null && !stage.isSeen(box)) {
-            app.notice((made.length > 0 ? 'What was added' : 'What was edited') + ' is out of sight.',
-                ['Go to it', () => stage.goToBox(box)]);
-        }
-    }
-
-    /** Says that a line was refused, and why; `leaveOut` adds what goes. */
-    tellRefusal(line, answer, leaveOut = null) {
-        const { app } = this;
-        const done = this.session.doneBefore(this.session.lines.length);
-        const sentence = app.refusals.sentence(line, answer.cause, done);
-        /** @type {[string, () => void][]} */
-        const acts = leaveOut ? [['Leave out what can’t be edited', leaveOut]] : [];
-        app.notice(this.said(line) + ' is refused: ' + sentence, ...acts);
-    }
-
-    /** Says why something wasn't done. */
-    async tell(why) {
-        if (why instanceof Stopped) {
-            this.app.say('Stopped. Nothing has changed.');
-        } else if (why instanceof NotRun) {
-            this.app.notice(this.app.refusals.notRun(why.status, why.said));
-        } else {
-            this.app.notice('The program ended unexpectedly: ' + why.message);
+    /**
+     * A second drawing that is asked for, until it is the one with this sum, or none is given.
+     * @param {string} name
+     * @param {string | undefined} digest
+     * @param {AbortSignal} signal
+     */
+    async fileOf(name, digest, signal) {
+        let said = 'The script imports ' + name + ', which the page doesn’t have. Choose the file.';
+        for (;;) {
+            const answer = await this.around.ask({ title: 'A second drawing is needed', said: [said],
+                accept: '.dgn', buttons: ['Leave it'] }, signal);
+            if (answer === null || answer.file === null) {
+                return null;
+            }
+            if (digest === undefined || await this.around.digest(answer.file.bytes) === digest) {
+                return answer.file.bytes;
+            }
+            said = answer.file.name + ' isn’t the drawing that was imported as ' + name + '. Choose that one.';
         }
     }
+}
 
-    /** Shows again what the script makes, behind something else that was shown. */
-    showAgain() {
-        const { opened, made, bodyLength } = this.engine;
-        this.show(changesBetween(opened, bodyLength, made));
+/**
+ * What is said of lines that were added.
+ * @param {LinesAct} act
+ * @param {(Answer | null)[]} answers
+ */
+function saidOf({ why, lines }, answers) {
+    const told = answers.filter((it) => it !== null), refused = told.filter(isRefused).length;
+    const last = told[told.length - 1];
+    if (why === 'typed' || why === 'opened') {
+        return told.length + (told.length === 1 ? ' line was run, ' : ' lines were run, ') + refused + ' refused';
     }
+    return lines[lines.length - 1] + ': ' + (last ? last.said : '');
 }

@@ -11,6 +11,9 @@ import { run } from './module.js';
 /** @type {WebAssembly.Module} */
 let program;
 
+/** What the files of a run are called. A name that a script can use for a second file has no blank in it. */
+const DRAWING = 'the drawing', SCRIPT = 'the script', PATCH = 'the patch', MADE = 'what is made';
+
 /**
  * Runs the program on a drawing.
  * @param {string[]} words
@@ -18,7 +21,7 @@ let program;
  * @param {[string, Uint8Array][]} more files beside the drawing and the second files
  */
 function ran(words, { bytes, files }, ...more) {
-    return run(program, words, new Map([...(files || []), ['IN', bytes], ...more]));
+    return run(program, words, new Map([...(files || []), [DRAWING, bytes], ...more]));
 }
 
 const DOES = {
@@ -31,32 +34,32 @@ const DOES = {
     /** Tells whether a file is a drawing.
         @param {Given} asked */
     check(asked) {
-        const { status, text } = ran(['check', 'IN'], asked);
+        const { status, text } = ran(['check', DRAWING], asked);
         return { status, text };
     },
 
     /** Runs a script on a drawing, and tells what it makes and what of it has changed.
         @param {Given & { bodyLength: number, script: Uint8Array }} asked */
     edit(asked) {
-        const made = ran(['edit', 'IN', 'SCRIPT', 'OUT'], asked, ['SCRIPT', asked.script]);
+        const made = ran(['edit', DRAWING, SCRIPT, MADE], asked, [SCRIPT, asked.script]);
         return { ...made, changes: made.file && changesBetween(asked.bytes, asked.bodyLength, made.file) };
     },
 
     /** Runs a script on a drawing for its answers alone.
         @param {Given & { script: Uint8Array }} asked */
     ask(asked) {
-        const { status, text } = ran(['edit', 'IN', 'SCRIPT', 'OUT'], asked, ['SCRIPT', asked.script]);
+        const { status, text } = ran(['edit', DRAWING, SCRIPT, MADE], asked, [SCRIPT, asked.script]);
         return { status, text };
     },
 
     /** @param {Given & { script: Uint8Array }} asked */
     pack(asked) {
-        return ran(['pack', 'IN', 'SCRIPT', 'PATCH'], asked, ['SCRIPT', asked.script]);
+        return ran(['pack', DRAWING, SCRIPT, PATCH], asked, [SCRIPT, asked.script]);
     },
 
     /** @param {Given & { patch: Uint8Array }} asked */
     apply(asked) {
-        return ran(['apply', 'IN', 'PATCH', 'OUT'], asked, ['PATCH', asked.patch]);
+        return ran(['apply', DRAWING, PATCH, MADE], asked, [PATCH, asked.patch]);
     },
 };
 

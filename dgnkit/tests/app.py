@@ -19,7 +19,20 @@ from browser import Browser, browser
 from samples import PROGRAM, TOP, WithProgram
 
 MODULE = TOP / 'dist' / 'dgnedit.wasm'
+
+# Forgets what is open and what the browser keeps, so that the next page is the first one.
+FORGET = '''
+const done = arguments[arguments.length - 1];
+if (window.page && page.work) {
+    Object.defineProperty(page.work, 'losesByLeaving', { value: false });
+    const { store } = page.work.around;
+    store.all().then((all) => Promise.all(all.map(({ id }) => store.remove(id)))).then(done, done);
+} else {
+    done();
+}
+'''
 HOSTILE = '</script><script>document.title = "taken"</script><img src=x onerror=alert(1)>'
+IS_ASKED = "document.getElementById('asking') !== null"
 MISSING = browsers.MISSING
 HAS_PROGRAM = MODULE.is_file()
 NO_PROGRAM = 'dist/dgnedit.wasm is not made'
@@ -76,7 +89,7 @@ class WithBrowser(WithProgram):
 
     def leave(self) -> None:
         """Leaves a page whatever isn't saved, and forgets what the browser keeps."""
-        self.seen.run('if (window.page && page.work) { page.work.session.isSaved = true; localStorage.clear(); }')
+        self.seen.run_slowly(FORGET)
 
     def tearDown(self) -> None:
         self.assertEqual(self.seen.complaints(), [])
@@ -137,8 +150,7 @@ class WithBrowser(WithProgram):
 
     def dialog(self, name: str) -> str:
         """Presses a button of the dialog, and gives what was said there."""
-        self.seen.wait("document.getElementById('asking').open")
-        said = self.seen.text('#asking')
+        said = self.asked()
         self.seen.run(
             "[...document.querySelectorAll('#asking-buttons button')]"
             '.find((it) => it.textContent === arguments[0]).click()',
@@ -146,6 +158,19 @@ class WithBrowser(WithProgram):
         )
         self.seen.settle()
         return said
+
+    def asked(self) -> str:
+        """The question that is open."""
+        self.seen.wait(IS_ASKED)
+        return self.seen.text('#asking')
+
+    def is_asked(self) -> bool:
+        return bool(self.seen.run('return ' + IS_ASKED))
+
+    def confirm(self) -> None:
+        """Says that what was saved last is there."""
+        self.seen.wait("document.querySelector('#confirms button') !== null")
+        self.do('#confirms button')
 
     def notice(self) -> str:
         self.seen.wait("!document.getElementById('notice').hidden")

@@ -40,6 +40,8 @@ class Browser:
         wanted = {'goog:chromeOptions': options, 'goog:loggingPrefs': {'browser': 'ALL'}}
         made = self._call('POST', '/session', {'capabilities': {'alwaysMatch': wanted}})
         self.session = '/session/%s' % made['sessionId']
+        # No window asks where a file is to be saved: it is loaded down.
+        self.command('Page.addScriptToEvaluateOnNewDocument', source='delete window.showSaveFilePicker')
         self._size(width, height)
 
     def _call(self, method: str, path: str, body: Optional[Any] = None) -> Any:

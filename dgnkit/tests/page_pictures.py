@@ -18,7 +18,7 @@ import tempfile
 from pathlib import Path
 from typing import List, Tuple
 
-from app import made_app
+from app import FORGET, made_app
 from browser import MISSING, Browser, browser
 from samples import EXAMPLES, PROGRAM, cli
 
@@ -50,7 +50,7 @@ def screen(seen: Browser, x: float, y: float) -> Tuple[float, float]:
 
 
 def open_on(seen: Browser, page: str, ground: str) -> None:
-    seen.run('if (window.page && page.work) { page.work.session.isSaved = true; localStorage.clear(); }')
+    seen.run_slowly(FORGET)
     seen.open(page)
     if seen.run('return page.stage.ground') != ground:
         seen.click('#ground')

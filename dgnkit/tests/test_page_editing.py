@@ -11,7 +11,7 @@ from pathlib import Path
 from typing import List, Sequence, Tuple
 
 import ogr
-from app import HAS_PROGRAM, HOSTILE, MISSING, NO_PROGRAM, WithBrowser
+from app import HAS_PROGRAM, HOSTILE, IS_ASKED, MISSING, NO_PROGRAM, WithBrowser
 from samples import EXAMPLES, OGR, PROGRAM, drawings, plan, with_units
 
 
@@ -52,6 +52,27 @@ class WithEditor(WithBrowser):
 
     def tool(self, name: str) -> None:
         self.do('#tools [data-tool=%s]' % name)
+
+    def second(self, name: str, path: str) -> None:
+        """Does what stands in the menu with a file that is chosen for it."""
+        self.seen.run("document.getElementById('second-file').click = () => {}")
+        self.more(name)
+        self.seen.choose_file('#second-file', path)
+        self.seen.settle()
+
+    def abandon(self) -> None:
+        """Leaves the page without a word, as a crash does."""
+        self.seen.run("Object.defineProperty(page.work, 'losesByLeaving', { value: false })")
+
+    def kept(self) -> List[List[str]]:
+        """The lines of each record that the browser keeps, the oldest first."""
+        return list(
+            self.seen.run_slowly(
+                'const done = arguments[arguments.length - 1];'
+                'page.work.around.store.all().then((all) => done(all.sort((one, other) => one.time - other.time)'
+                '.map(({ acts }) => acts.flatMap(({ lines }) => lines || []))));'
+            )
+        )
 
     def typed(self, line: str) -> None:
         self.do('#tab-script')
@@ -111,7 +132,9 @@ class Editing(WithEditor):
         made = self.example('plan.dgn')
         self.open(made)
         lines = ['color 5 %d' % it for it in range(1, 6)] + ['color 1 4', 'move 6 5 5']
-        self.seen.run('arguments[0].forEach((it) => page.work.addTyped([it])); page.work.undo();', lines)
+        self.seen.run(
+            "arguments[0].forEach((it) => page.work.apply({ why: 'typed', lines: [it] })); page.work.undo();", lines
+        )
         self.seen.wait('!page.work.isDoing')
         self.compare(made, lines[:-1])
 
@@ -221,7 +244,7 @@ class Editing(WithEditor):
         self.seen.type('#make-height', '0.6')
         self.draw((400, 100))
         self.seen.settle()
-        lines = self.seen.run('return page.work.session.lines')
+        lines = self.seen.run('return page.work.document.lines')
         self.assertEqual([it.split()[0] for it in lines], ['line', 'shape', 'text'])
         self.assertTrue(lines[0].startswith('line 1 3 0 0 '))
         # 0.6 m are 60 units of resolution, and a multiplier counts 6 thousandths of one
@@ -422,20 +445,19 @@ class Fences(WithEditor):
 class Files(WithEditor):
     """Second files, and what is saved."""
 
-    def second(self, name: str, path: str) -> None:
-        """Does what stands in the menu with a file that is chosen for it."""
-        self.seen.run("document.getElementById('second-file').click = () => {}")
-        self.more(name)
-        self.seen.choose_file('#second-file', path)
-        self.seen.settle()
+    def import_file(self, path: str, x: str = '0') -> None:
+        """Imports a drawing, moved to the right by so much."""
+        self.second('import', path)
+        self.seen.wait(IS_ASKED)
+        self.seen.type('#asked-x', x)
+        self.dialog('Import')
 
     def test_a_second_drawing_is_imported(self) -> None:
         made = self.example('plan.dgn')
         self.open(made)
-        self.seen.type('#by-x', '50')
-        self.second('import', str(EXAMPLES / 'valve.dgn'))
-        self.seen.wait('page.work.session.lines.length === 1')
-        self.assertEqual(self.script_lines(), ['import valve.dgn 50 0'])
+        self.seen.type('#by-x', '70')
+        self.import_file(str(EXAMPLES / 'valve.dgn'), '50')
+        self.assertEqual(self.script_lines(), ['import valve.dgn 50 0'], 'the fields of a move are another matter')
         here = os.getcwd()
         os.chdir(EXAMPLES)
         self.addCleanup(os.chdir, here)
@@ -443,9 +465,9 @@ class Files(WithEditor):
 
     def test_an_import_that_is_refused_is_told(self) -> None:
         self.open(str(EXAMPLES / 'plan.dgn'))
-        self.second('import', self.put('solid.dgn', drawings.DRAWINGS['a line of three axes']))
+        self.import_file(self.put('solid.dgn', drawings.DRAWINGS['a line of three axes']))
         self.assertIn('another number of dimensions', self.notice())
-        self.second('import', self.put('notes.dgn', b'hello'))
+        self.import_file(self.put('notes.dgn', b'hello'))
         self.assertIn('notes.dgn doesn’t open', self.notice())
         self.assertEqual(self.script_lines(), [])
 
@@ -461,7 +483,7 @@ class Files(WithEditor):
         self.assertEqual(Path(patch).read_bytes(), Path(self.path('wanted.patch')).read_bytes())
         self.open(made)
         self.second('apply', patch)
-        self.seen.wait('page.work.session.steps.length === 1')
+        self.seen.wait('page.work.document.before.length === 1')
         self.typed('delete 9')
         self.said_by('apply', made, patch, self.path('mid.dgn'))
         self.said_by('edit', self.path('mid.dgn'), self.put('del.txt', 'delete 9\n'), self.path('end.dgn'))
@@ -479,7 +501,7 @@ class Files(WithEditor):
         self.assertIn('entry 1 doesn’t find the bytes', self.notice())
         self.second('apply', self.put('bad.patch', b'DGNPAT01\1\0\0\0'))
         self.assertIn('first bad piece begins at byte 12', self.notice())
-        self.assertEqual(self.seen.run('return page.work.session.steps.length'), 0)
+        self.assertEqual(self.seen.run('return page.work.document.before.length'), 0)
 
     def test_broken_trees_are_mended_edited_and_saved(self) -> None:
         made = self.example('street.dgn')
@@ -487,7 +509,7 @@ class Files(WithEditor):
         self.more('mend')
         said = self.dialog('Mend')
         self.assertIn('complex chain 17 on level 12: member mark (bit C) cleared, now with 2 members', said)
-        self.seen.wait('page.work.session.steps.length === 1')
+        self.seen.wait('page.work.document.before.length === 1')
         self.typed('move 17 0 100')
         self.said('mend', made, self.path('wanted.patch'))
         self.said_by('apply', made, self.path('wanted.patch'), self.path('mid.dgn'))
@@ -500,7 +522,7 @@ class Files(WithEditor):
         self.open(made)
         self.more('mend')
         self.dialog('Mend')
-        self.seen.wait('page.work.session.steps.length === 1')
+        self.seen.wait('page.work.document.before.length === 1')
         self.seen.settle()
         # the first corner of a parcel's ring, the member behind its cell, by the program's listing
         self.said_by('apply', made, self.wanted_patch(made), self.path('mid.dgn'))
@@ -526,12 +548,12 @@ class Files(WithEditor):
     def test_two_files_of_one_name_are_imported(self) -> None:
         made = self.example('plan.dgn')
         self.open(made)
-        self.second('import', str(EXAMPLES / 'valve.dgn'))
+        self.import_file(str(EXAMPLES / 'valve.dgn'))
         other = Path(self.path('other'))
         other.mkdir()
         (other / 'valve.dgn').write_bytes(drawings.drawing(plan.line(1, (0, 0), (500, 900))))
-        self.second('import', str(other / 'valve.dgn'))
-        self.seen.wait('page.work.session.lines.length === 2')
+        self.import_file(str(other / 'valve.dgn'))
+        self.seen.wait('page.work.document.lines.length === 2')
         lines = self.script_lines()
         self.assertEqual(lines, ['import valve.dgn', 'import other-valve.dgn'])
         here = os.getcwd()
@@ -546,11 +568,10 @@ class Files(WithEditor):
         self.open(made)
         self.do('#tab-script')
         self.seen.type('#typed', 'import valve.dgn')
-        self.seen.run("document.getElementById('second-file').click = () => {}")
         self.seen.click('#typed-add')
-        self.assertIn('imports valve.dgn', self.dialog('Choose it'))
-        self.seen.choose_file('#second-file', str(EXAMPLES / 'valve.dgn'))
-        self.seen.wait('page.work.session.lines.length === 1')
+        self.assertIn('imports valve.dgn', self.asked())
+        self.seen.choose_file('#asked-file', str(EXAMPLES / 'valve.dgn'))
+        self.seen.wait('page.work.document.lines.length === 1')
         here = os.getcwd()
         os.chdir(EXAMPLES)
         self.addCleanup(os.chdir, here)
@@ -595,30 +616,33 @@ class Keeping(WithEditor):
         self.open(made)
         self.typed('color 5 1')
         self.typed('move 6 10 10')
-        self.seen.run('page.work.session.isSaved = true')
+        self.abandon()
         self.seen.open(str(self.app))
         self.seen.choose_file('#open-file', made)
-        self.assertIn('A script of 2 lines', self.dialog('Continue'))
-        self.seen.wait('page.work.session.lines.length === 2')
+        self.assertIn('2 lines', self.dialog('Continue'))
+        self.seen.wait('page.work.document.lines.length === 2')
         self.compare(made, ['color 5 1', 'move 6 10 10'])
+        self.confirm()
         self.seen.open(str(self.app))
         self.choose(made)
-        self.assertFalse(self.seen.run("return document.getElementById('asking').open"), 'what is saved is not kept')
+        self.assertFalse(self.is_asked(), 'what is saved is not kept')
 
     def test_mended_work_is_offered_again(self) -> None:
         made = self.example('street.dgn')
         self.open(made)
         self.more('mend')
         self.dialog('Mend')
-        self.seen.wait('page.work.session.steps.length === 1')
+        self.seen.wait('page.work.document.before.length === 1')
         self.typed('move 17 0 100')
-        wanted = self.seen.run('return [...page.work.session.lines, page.work.session.steps.length]')
-        self.seen.run('page.work.session.isSaved = true')
+        wanted = self.seen.run('return [...page.work.document.lines, page.work.document.before.length]')
+        self.abandon()
         self.seen.open(str(self.app))
         self.seen.choose_file('#open-file', made)
         self.dialog('Continue')
-        self.seen.wait('page.work.session.lines.length === 1')
-        self.assertEqual(self.seen.run('return [...page.work.session.lines, page.work.session.steps.length]'), wanted)
+        self.seen.wait('page.work.document.lines.length === 1')
+        self.assertEqual(
+            self.seen.run('return [...page.work.document.lines, page.work.document.before.length]'), wanted
+        )
 
     def test_another_drawing_is_not_offered_it(self) -> None:
         self.open(str(EXAMPLES / 'plan.dgn'))
@@ -627,7 +651,7 @@ class Keeping(WithEditor):
         self.dialog('Open the other drawing')
         self.seen.wait("page.drawing.name === 'valve.dgn'")
         self.seen.settle()
-        self.assertFalse(self.seen.run("return document.getElementById('asking').open"))
+        self.assertFalse(self.is_asked())
         self.assertEqual(self.script_lines(), [])
 
     def test_work_is_thrown_away(self) -> None:
@@ -636,14 +660,16 @@ class Keeping(WithEditor):
         self.typed('color 5 1')
         self.more('throw-away')
         self.dialog('Throw it away')
-        self.seen.wait('page.work.session.lines.length === 0')
-        self.assertEqual(self.seen.run('return localStorage.length'), 0)
+        self.seen.wait('page.work.document.lines.length === 0')
+        self.assertEqual(self.kept(), [])
 
     def test_a_full_store_is_told(self) -> None:
         self.open(str(EXAMPLES / 'plan.dgn'))
-        self.seen.run("Storage.prototype.setItem = () => { throw new DOMException('full', 'QuotaExceededError'); }")
+        self.seen.run(
+            "page.work.around.store.put = async () => { throw new DOMException('full', 'QuotaExceededError'); }"
+        )
         self.typed('color 5 1')
-        self.assertIn('doesn’t let the page keep the script', self.notice())
+        self.assertIn('no room to keep this work', self.seen.text('#keeping'))
 
     def test_leaving_is_asked_about_until_it_is_saved(self) -> None:
         made = self.example('plan.dgn')
@@ -656,13 +682,15 @@ class Keeping(WithEditor):
         self.typed('color 5 1')
         self.assertTrue(self.seen.run(leaves))
         self.saved_drawing(made)
+        self.assertTrue(self.seen.run(leaves), 'nobody has said yet that the file is there')
+        self.confirm()
         self.assertFalse(self.seen.run(leaves))
 
     def test_a_run_is_stopped(self) -> None:
         made = self.example('plan.dgn')
         self.open(made)
         self.typed('color 5 1')
-        self.seen.run("page.work.addTyped(new Array(60000).fill('elements'))")
+        self.seen.run("page.work.apply({ why: 'typed', lines: new Array(60000).fill('elements') })")
         self.seen.wait("!document.getElementById('busy').hidden")
         self.assertEqual(self.seen.run('return 1 + 1'), 2, 'the page answers meanwhile')
         self.seen.click('#stop')

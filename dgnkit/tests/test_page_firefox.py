@@ -20,15 +20,15 @@ MADE = '''
 const done = arguments[arguments.length - 1];
 const look = () => {
     const { page } = window.wrappedJSObject || window, work = page && page.work;
-    if (!work || work.isDoing || work.session.answers.length < 5) {
+    if (!work || work.isDoing || work.document === null || work.document.answers.length < 5) {
         setTimeout(look, 50);
         return;
     }
     let text = '';
-    for (const byte of work.engine.made) {
+    for (const byte of work.document.made.bytes) {
         text += String.fromCharCode(byte);
     }
-    done([document.title, work.session.answers.filter((it) => it !== null && it.cause !== null).length, btoa(text)]);
+    done([document.title, work.document.answers.filter((it) => it !== null && it.cause !== null).length, btoa(text)]);
 };
 look();
 '''

@@ -1,0 +1,121 @@
+/* Saves the drawing, the script, and patch files. */
+
+import { NotRun, scriptOf } from './making.js';
+import { namesOf } from './saving.js';
+
+/** @typedef {import('./acts.js').Act} Act */
+/** @typedef {import('./document.js').Document} Document */
+/** @typedef {import('./work.js').Ended} Ended */
+/** @typedef {import('./work.js').Left} Left */
+
+/**
+ * A file that is to be written. `put` ends with true when the file is known to be whole, and with false where the
+ * browser has only taken the bytes over.
+ * @typedef {{ name: string, put: (bytes: Uint8Array) => Promise<boolean> }} Target
+ */
+
+/**
+ * How a file is saved: `target` asks where, and gives none where that is cancelled; `confirm` asks, beside the drawing,
+ * whether a file that the browser has taken over is there.
+ * @typedef {object} Saving
+ * @property {(name: string) => Promise<Target | null>} target
+ * @property {(name: string, act: () => void) => void} confirm
+ */
+
+/** @typedef {'drawing' | 'script'} What what is saved, with which all that was done is in a file */
+
+export class Saver {
+    /**
+     * @param {import('./work.js').Work} work
+     * @param {Saving} saving
+     */
+    constructor(work, saving) {
+        this.work = work;
+        this.saving = saving;
+    }
+
+    /** The names of files beside the drawing that is open. */
+    get names() {
+        return namesOf(/** @type {Document} */ (this.work.document).original.name);
+    }
+
+    /** Saves the drawing as it is when the place was chosen. @returns {Ended} */
+    saveDrawing() {
+        return this.save(this.names.out, 'drawing', async (document) => document.made.bytes);
+    }
+
+    /** Saves the script as it stands. @returns {Ended} */
+    saveScript() {
+        return this.save(this.names.script, 'script', async (document) => scriptOf(document.lines));
+    }
+
+    /** Saves what the script does as a patch file, which the program makes. @returns {Ended} */
+    savePatch() {
+        return this.save(this.names.patch, 'none', async (document, signal) => {
+            const { program } = this.work.around, { base, lines } = document.made;
+            if (program === null) {
+                throw new Error('this browser can’t run the program');
+            }
+            const packed = await program.pack(base.bytes, scriptOf(lines), document.files, signal);
+            if (packed.file === null) {
+                throw new NotRun(packed);
+            }
+            return packed.file;
+        });
+    }
+
+    /**
+     * Saves bytes of the document as it is when the place has been chosen.
+     * @param {string} name
+     * @param {What | 'none'} what
+     * @param {(document: Document, signal: AbortSignal) => Promise<Uint8Array>} bytesOf
+     * @returns {Ended}
+     */
+    async save(name, what, bytesOf) {
+        const { work } = this, asked = work.document, target = await this.saving.target(name);
+        if (target === null || asked !== null && work.document?.original !== asked.original) {
+            return false;
+        }
+        return work.stepOn('Saving ' + target.name, 'save', async (document, step) => {
+            const bytes = await bytesOf(document, step.signal);
+            step.settle();
+            const isWhole = await target.put(bytes), sum = what === 'drawing' ? await work.around.digest(bytes) : '';
+            const holdsAll = what === 'drawing' || (what === 'script' && document.before.length === 0);
+            if (isWhole) {
+                return this.saved(document, document.last, holdsAll, target.name, sum);
+            }
+            if (holdsAll) {
+                this.saving.confirm(target.name, () => this.confirm(document, target.name, sum));
+            }
+            return { document: document.with({ savedDigest: sum || document.savedDigest }), keeping: 'nothing',
+                said: 'The browser was given ' + target.name + ' to save' + (sum === '' ? '.' : ', SHA-256 ' + sum) };
+        });
+    }
+
+    /**
+     * What a file that is whole leaves: all that was done up to an act is in it.
+     * @param {Document} document
+     * @param {Act | null} last
+     * @param {boolean} holdsAll
+     * @param {string} name
+     * @param {string} sum
+     * @returns {Left}
+     */
+    saved(document, last, holdsAll, name, sum) {
+        const said = 'Saved as ' + name + (sum === '' ? '.' : ', SHA-256 ' + sum);
+        return holdsAll ? { document: document.with({ saved: last, savedDigest: sum || document.savedDigest }), said,
+            keeping: document.last === last ? 'drop' : 'nothing' } : { document, said, keeping: 'nothing' };
+    }
+
+    /**
+     * A person says that a file is there that was saved of a document.
+     * @param {Document} of
+     * @param {string} name
+     * @param {string} sum
+     * @returns {Ended}
+     */
+    confirm(of, name, sum) {
+        return this.work.stepOn('Noting that ' + name + ' is saved', 'save', async (document) => (
+            document.original === of.original ? this.saved(document, of.last, true, name, sum) : null));
+    }
+}
