@@ -15,10 +15,24 @@ from typing import Any, Iterator
 
 COMMAND = shutil.which('firefox-esr') or shutil.which('firefox')
 PATIENCE = 60.0
-SETTINGS = '\n'.join(
-    'user_pref("%s", %s);' % it
-    for it in (('marionette.port', '0'), ('browser.shell.checkDefaultBrowser', 'false'), ('app.update.auto', 'false'))
+SETTINGS = (
+    ('marionette.port', '0'),
+    ('browser.shell.checkDefaultBrowser', 'false'),
+    ('app.update.auto', 'false'),
+    ('browser.download.folderList', '2'),
+    ('browser.download.start_downloads_in_tmp_dir', 'false'),
+    ('browser.download.alwaysOpenPanel', 'false'),
 )
+# Tells whether an expression comes true in time.
+WAIT = '''
+const [condition, done] = arguments, until = performance.now() + 1000 * 50, holds = new Function('return ' + condition);
+const look = () => {
+    if (holds()) done(true);
+    else if (performance.now() > until) done(false);
+    else setTimeout(look, 30);
+};
+look();
+'''
 
 
 class Firefox:
@@ -52,18 +66,37 @@ class Firefox:
     def open(self, path: str) -> None:
         self.ask('WebDriver:Navigate', {'url': 'file://' + path})
 
-    def run(self, script: str) -> Any:
+    def run(self, script: str, *words: Any) -> Any:
         """What a script gives by its last argument, a function."""
-        return self.ask('WebDriver:ExecuteAsyncScript', {'script': script, 'args': [], 'sandbox': None})['value']
+        return self.ask('WebDriver:ExecuteAsyncScript', {'script': script, 'args': list(words), 'sandbox': None})[
+            'value'
+        ]
+
+    def find(self, css: str) -> str:
+        found = self.ask('WebDriver:FindElement', {'using': 'css selector', 'value': css})['value']
+        return str(next(iter(found.values())))
+
+    def click(self, css: str) -> None:
+        self.ask('WebDriver:ElementClick', {'id': self.find(css)})
+
+    def type(self, css: str, text: str) -> None:
+        """Types in a field, or chooses a file in one."""
+        self.ask('WebDriver:ElementSendKeys', {'id': self.find(css), 'text': text})
+
+    def wait(self, condition: str) -> None:
+        """Waits until an expression is true."""
+        if not self.run(WAIT, condition):
+            raise AssertionError('%s is not so within %s seconds' % (condition, PATIENCE))
 
 
 @contextmanager
-def firefox() -> Iterator[Firefox]:
-    """Begins a browser with a profile of its own, and ends it."""
+def firefox(downloads: str = '/dev/null') -> Iterator[Firefox]:
+    """Begins a browser with a profile of its own, which saves into a folder, and ends it."""
     assert COMMAND is not None
     profile = tempfile.mkdtemp(prefix='dgnkit-firefox-')
     with open(os.path.join(profile, 'user.js'), 'w', encoding='ascii') as file:
-        file.write(SETTINGS)
+        for name, value in (*SETTINGS, ('browser.download.dir', json.dumps(downloads))):
+            file.write('user_pref("%s", %s);\n' % (name, value))
     words = [COMMAND, '--headless', '--marionette', '--no-remote', '--profile', profile]
     browser = subprocess.Popen(words, stdout=subprocess.DEVNULL, stderr=subprocess.DEVNULL)
     try:

@@ -7,6 +7,7 @@ import base64
 import os
 import subprocess
 import sys
+import time
 import unittest
 from pathlib import Path
 from unittest import mock
@@ -53,6 +54,43 @@ class InFirefox(WithProgram):
             title, refused, content = seen.run(MADE)
         self.assertEqual((title, refused), ('plan.dgn – 12 elements', 0))
         self.assertEqual(base64.b64decode(content), Path(made).read_bytes())
+
+    def test_a_drawing_is_opened_edited_kept_and_saved(self) -> None:
+        assert PROGRAM
+        drawing, made = self.example('plan.dgn'), self.path('made.dgn')
+        app, lines = made_app(self.path('')), ['color 5 1', 'move 6 10 10']
+        script = self.put('script.txt', ''.join(line + '\n' for line in lines))
+        subprocess.run([PROGRAM, 'edit', drawing, script, made], check=True, stdout=subprocess.DEVNULL)
+        with firefox.firefox(self.path('')) as seen:
+            seen.open(str(app))
+            seen.wait('document.documentElement.dataset.started')
+            seen.type('#open-file', drawing)
+            seen.wait("page.drawing !== null && page.drawing.name === 'plan.dgn' && !page.work.isDoing")
+            seen.click('#tab-script')
+            for count, line in enumerate(lines, 1):
+                seen.type('#typed', line)
+                seen.click('#typed-add')
+                seen.wait('page.work.document.lines.length === %d && !page.work.isDoing' % count)
+            seen.run("Object.defineProperty(page.work, 'losesByLeaving', { value: false }); arguments[0]()")
+            seen.open(str(app))
+            seen.wait('document.documentElement.dataset.started')
+            seen.type('#open-file', drawing)
+            seen.wait("document.getElementById('asking') !== null")
+            seen.click('#asking-buttons button')
+            seen.wait('page.work.document.lines.length === 2 && !page.work.isDoing')
+            seen.click('#undo')
+            seen.wait('page.work.document.lines.length === 1 && !page.work.isDoing')
+            seen.click('#redo')
+            seen.wait('page.work.document.lines.length === 2 && !page.work.isDoing')
+            seen.click('#save')
+            seen.wait("document.querySelector('#confirms button') !== null")
+            saved = Path(self.path('plan-new.dgn'))
+            until = time.monotonic() + 20
+            while not (saved.exists() and saved.stat().st_size) and time.monotonic() < until:
+                time.sleep(0.05)
+            seen.click('#confirms button')
+            seen.wait('!page.work.losesByLeaving && !page.work.isDoing')
+        self.assertEqual(saved.read_bytes(), Path(made).read_bytes())
 
 
 if __name__ == '__main__':
