@@ -34,7 +34,10 @@ export class App {
     constructor(engine) {
         /** @type {import('./drawing.js').Drawing | null} */
         this.drawing = null;
-        /** @type {Scene} */
+        /**
+         * What is seen of the drawing; there is none before one is open.
+         * @type {any}
+         */
         this.scene = null;
         /**
          * The colours of the table as they are drawn on the ground.
@@ -43,6 +46,10 @@ export class App {
         this.colours = [];
         /** @type {Record<string, string>} */
         this.pens = {};
+        /**
+         * A place of the drawing that is marked.
+         * @type {number[] | null}
+         */
         this.place = null;
         /** What is told of changes, by their records, while two drawings are compared. */
         this.changes = new Map();
@@ -68,10 +75,18 @@ export class App {
         this.scriptPanel = new ScriptPanel(this);
         this.changesPanel = new ChangesPanel(this);
         this.search = new Search(this);
+        this.begin(engine !== null);
+    }
+
+    /**
+     * Begins what listens to the person.
+     * @param {boolean} hasProgram
+     */
+    begin(hasProgram) {
         this.menu = new Menu(this);
         this.keptPanel = new KeptPanel(this);
         new Pointer(byId('marks'), this);
-        document.body.dataset.program = String(engine !== null);
+        document.body.dataset.program = String(hasProgram);
     }
 
     get isAsking() {
@@ -109,14 +124,21 @@ export class App {
         this.show();
     }
 
-    /** Shows what a script makes of the drawing that it runs on. */
+    /**
+     * Shows what a script makes of the drawing that it runs on.
+     * @param {import('./document.js').Made} made
+     */
     showMade({ base, changes }) {
         const isChanged = changes !== null && (changes.starts.length > 0 || changes.appended.length > 0);
         this.tools.fence.clear();
         this.showAfter(isChanged ? base.after(changes) : null);
     }
 
-    /** Shows another drawing, in the same view where it is of the same file. */
+    /**
+     * Shows another drawing, in the same view where it is of the same file.
+     * @param {import('./drawing.js').Drawing} drawing
+     * @param {boolean} isOther
+     */
     takeInView(drawing, isOther) {
         const seen = this.view.copy();
         this.take(drawing);
@@ -160,7 +182,10 @@ export class App {
         byId('marks').focus({ preventScroll: true });
     }
 
-    /** Shows the state that a script leaves behind the drawing, or the drawing alone. */
+    /**
+     * Shows the state that a script leaves behind the drawing, or the drawing alone.
+     * @param {import('./state.js').State | null} after
+     */
     showAfter(after) {
         const { scene } = this;
         if (!after || scene.mode === 'before') {
@@ -263,13 +288,17 @@ export class App {
         return [this.view.toDrawingX(left), this.view.toDrawingY(top)];
     }
 
-    /** The place as whole units, as a script takes it. */
+    /**
+     * The place as whole units, as a script takes it.
+     * @param {number[]} place
+     */
     wholePlace(place) {
         return this.drawingPlace(place).map((value) => Math.min(Math.max(Math.round(value), LEAST), GREATEST) || 0);
     }
 
     /* Saying. */
 
+    /** @param {string} text */
     say(text) {
         byId('said').textContent = text;
     }

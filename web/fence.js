@@ -2,18 +2,12 @@
 
 import { byId, setHidden } from './dom.js';
 import { fenceLines, probesOfFence } from './lines.js';
+import { isRefused } from './work.js';
 
 export class Fence {
     /** @param {import('./app.js').App} app */
     constructor(app) {
         this.app = app;
-        this.clear();
-        byId('fence-mode').addEventListener('change', () => this.ask());
-        byId('fence-clear').addEventListener('click', () => app.tools.clearFence());
-        byId('fence-choose').addEventListener('click', () => this.takeOver());
-    }
-
-    clear() {
         /** @type {number[][] | null} */
         this.corners = null;
         /** @type {number[]} */
@@ -24,7 +18,21 @@ export class Fence {
          */
         this.causes = new Map();
         this.isKnown = false;
-        /** Tells the last asking from those before it. */
+        /**
+         * Tells the last asking from those before it.
+         * @type {object | null}
+         */
+        this.asked = null;
+        byId('fence-mode').addEventListener('change', () => this.ask());
+        byId('fence-clear').addEventListener('click', () => app.tools.clearFence());
+        byId('fence-choose').addEventListener('click', () => this.takeOver());
+    }
+
+    clear() {
+        this.corners = null;
+        this.chosen = [];
+        this.causes.clear();
+        this.isKnown = false;
         this.asked = null;
     }
 
@@ -36,23 +44,29 @@ export class Fence {
         return byId('fence-mode').value;
     }
 
-    /** Sets the corners; without a word from the program there is no fence. */
+    /**
+     * Sets the corners; without a word from the program there is no fence.
+     * @param {number[][]} corners
+     */
     async set(corners) {
         this.clear();
         this.corners = corners;
         await this.ask();
     }
 
-    /** The lines that set this fence, behind the script or alone. */
+    /**
+     * The lines that set this fence, behind the script or alone.
+     * @param {readonly string[]} script
+     */
     lines(script) {
-        return fenceLines(script, this.corners, this.app.scene.levels);
+        return this.corners === null ? [] : fenceLines(script, this.corners, this.app.scene.levels);
     }
 
     /** Asks the program what the fence takes of what is shown, and which edits of it would be refused. What was known
         of it before, as of another mode, isn't any more. */
     async ask() {
-        const { app, corners } = this;
-        if (corners === null || !app.hasProgram) {
+        const { app, corners } = this, { document } = app.work;
+        if (corners === null || document === null || !app.hasProgram) {
             return;
         }
         this.isKnown = false;
@@ -63,29 +77,35 @@ export class Fence {
         if (answers === null || this.corners !== corners || this.asked !== asked) {
             return;
         }
-        const [set, chosen, ...probes] = answers.slice(lines.length - 1);
-        if (set.cause !== null) {
+        if (isRefused(answers[lines.length - 1])) {
             this.clear();
-            app.tellRefusal({ document: app.work.document, lines: all, answers, index: lines.length - 1 });
+            app.tellRefusal({ document, lines: all, answers, index: lines.length - 1 });
             return;
         }
+        const [chosen, ...probes] = answers.slice(lines.length);
         this.isKnown = true;
-        this.chosen = chosen.listed.map(Number);
-        ['move', 'copy', 'sym', 'delete'].forEach((edit, index) => {
-            const cause = probes[2 * index].cause;
-            if (cause !== null) {
-                this.causes.set(edit, cause);
-            }
-        });
+        this.chosen = chosen === null ? [] : chosen.listed.map(Number);
+        ['move', 'copy', 'sym', 'delete'].forEach((edit, index) => this.noteCause(edit, probes[2 * index]));
         app.show();
         app.stage.request();
+    }
+
+    /**
+     * Notes why an edit of the fence would be refused, where it would be.
+     * @param {string} edit
+     * @param {import('./answers.js').Answer | null} answer
+     */
+    noteCause(edit, answer) {
+        if (answer !== null && answer.cause !== null) {
+            this.causes.set(edit, answer.cause);
+        }
     }
 
     /** Chooses the trees of the fence one by one. */
     takeOver() {
         const { chosen, corners, mode } = this, { choice, scene } = this.app;
         this.app.tools.clearFence();
-        choice.choose(chosen, { corners, mode, levels: scene.levels.slice() });
+        choice.choose(chosen, corners === null ? null : { corners, mode, levels: scene.levels.slice() });
     }
 
     show() {

@@ -53,10 +53,11 @@ export async function readFile(file) {
  */
 export async function partOf(id) {
     const part = document.getElementById(id);
-    if (part === null || part.textContent.trim() === '') {
+    const text = part === null || part.textContent === null ? '' : part.textContent.trim();
+    if (text === '') {
         return null;
     }
-    const packed = Uint8Array.from(atob(part.textContent.trim()), (sign) => sign.charCodeAt(0));
+    const packed = Uint8Array.from(atob(text), (sign) => sign.charCodeAt(0));
     // @ts-ignore: older lists of what a browser has leave it out
     const stream = new Blob([packed]).stream().pipeThrough(new DecompressionStream('gzip'));
     return new Uint8Array(await new Response(stream).arrayBuffer());

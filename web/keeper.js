@@ -32,22 +32,28 @@ export class Keeper {
         this.gone = [];
         /** Why the work can't be kept, or nothing. */
         this.fault = '';
+        /** Whether the record is in the store. */
         this.isThere = false;
-        this.begin();
-    }
-
-    /** Begins a record of its own for what is done from now on. */
-    begin() {
         this.id = crypto.randomUUID();
-        /** @type {{ id: string, time: number } | null} */
+        /**
+         * The record that this one goes on from.
+         * @type {{ id: string, time: number } | null}
+         */
         this.from = null;
-        this.fault = '';
-        this.isThere = false;
         /**
          * The SHA-256 of second drawings.
          * @type {Map<Uint8Array, string>}
          */
         this.digests = new Map();
+    }
+
+    /** Begins a record of its own for what is done from now on. */
+    begin() {
+        this.id = crypto.randomUUID();
+        this.from = null;
+        this.fault = '';
+        this.isThere = false;
+        this.digests.clear();
     }
 
     /**

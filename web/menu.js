@@ -169,7 +169,10 @@ function stateSaid({ original, hasWork }) {
     return original.name + (hasWork ? ' as it is now' : ' as it was opened');
 }
 
-/** The numbers of the other drawing of which rows tell. */
+/**
+ * The numbers of the other drawing of which rows tell.
+ * @param {{ after: number | null, more: number }[]} rows
+ */
 function toldNumbers(rows) {
     const told = new Set();
     for (const { after, more } of rows) {

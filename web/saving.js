@@ -10,7 +10,8 @@ export function namesOf(name) {
     const stem = name.replace(/\.dgn$/i, ''), end = name.slice(stem.length) || '.dgn';
     return {
         script: stem + '-edit.txt', out: stem + '-new' + end, patch: stem + '-edit.patch', mend: stem + '-mend.patch',
-        between: (index) => stem + '-' + index + end, scriptBefore: (index) => stem + '-edit-' + index + '.txt',
+        between: (/** @type {number} */ index) => stem + '-' + index + end,
+        scriptBefore: (/** @type {number} */ index) => stem + '-edit-' + index + '.txt',
     };
 }
 

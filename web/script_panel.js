@@ -9,14 +9,21 @@ import { LINES_MOST, LISTED_MOST } from './limits.js';
 import { namesOf } from './saving.js';
 import { shellWord } from './lines.js';
 
+/** @typedef {import('./answers.js').Answer} Answer */
+/** @typedef {import('./document.js').Document} Document */
+
 export class ScriptPanel {
     /** @param {import('./app.js').App} app */
     constructor(app) {
         this.app = app;
-        /** What the panel shows, so that it is made anew only where that has changed. */
+        /**
+         * What the panel shows, so that it is made anew only where that has changed.
+         * @type {Document | null}
+         */
         this.document = null;
+        /** @type {import('./refusals.js').Refusals | null} */
         this.refusals = null;
-        byId('typing').addEventListener('submit', (event) => {
+        byId('typing').addEventListener('submit', (/** @type {Event} */ event) => {
             event.preventDefault();
             this.addTyped();
         });
@@ -48,23 +55,31 @@ export class ScriptPanel {
         const hidden = first === 0 ? [] : [make('li', { class: 'note' }, counted(first, 'line') + ' before these')];
         fill(byId('script'), ...hidden, ...rows);
         this.showBefore(document.before);
-        this.showCheck();
+        this.showCheck(document);
     }
 
-    /** What was done before the script, which its lines stand on. */
+    /**
+     * What was done before the script, which its lines stand on.
+     * @param {import('./acts.js').Stage[]} stages
+     */
     showBefore(stages) {
-        const said = stages.flatMap(({ lines, patch }) => [...(lines.length > 0
-            ? ['a script of ' + counted(lines.length, 'line')] : []), 'the patch file ' + patch.name]);
+        const said = stages.flatMap(({ lines, patch }) => [
+            ...(lines.length > 0 ? ['a script of ' + counted(lines.length, 'line')] : []),
+            ...(patch === null ? [] : ['the patch file ' + patch.name])]);
         fill(byId('steps'), ...(said.length === 0 ? [] : [make('h3', {}, 'Done before'),
             make('ol', { class: 'steps' }, ...said.map((it) => make('li', {}, it)))]));
     }
 
+    /**
+     * @param {string} line
+     * @param {Answer | null} answer
+     * @param {number} index
+     */
     rowOf(line, answer, index) {
-        const { work, refusals } = this.app, isRefused = answer !== null && answer.cause !== null;
-        const { document } = this;
-        const said = answer === null ? [] : [make('span', { class: 'answer' }, isRefused
-            ? answer.said + ': ' + refusals.sentence(line, answer.cause, document.doneBefore(index))
-            : answer.said)];
+        const { work, refusals } = this.app, { document } = this, isRefused = answer !== null && answer.cause !== null;
+        const why = answer === null || answer.cause === null || document === null ? ''
+            : ': ' + refusals.sentence(line, answer.cause, document.doneBefore(index));
+        const said = answer === null ? [] : [make('span', { class: 'answer' }, answer.said + why)];
         const name = 'Remove line ' + (index + 1);
         const button = make('button', { 'type': 'button', 'class': 'remove', 'aria-label': name, 'title': name }, '×');
         button.addEventListener('click', () => work.remove(index));
@@ -72,9 +87,12 @@ export class ScriptPanel {
             ...listedOf(answer));
     }
 
-    /** The commands that make the same drawing, and the sums that tell that it is the same. */
-    showCheck() {
-        const { document } = this, { original, savedDigest } = document;
+    /**
+     * The commands that make the same drawing, and the sums that tell that it is the same.
+     * @param {Document} document
+     */
+    showCheck(document) {
+        const { original, savedDigest } = document;
         if (!document.hasWork) {
             fill(byId('check'));
             return;
@@ -92,7 +110,7 @@ export class ScriptPanel {
     }
 
     async copyText() {
-        const text = this.document.lines.map((line) => lineSaid(line) + '\n').join('');
+        const text = this.document === null ? '' : this.document.lines.map((line) => lineSaid(line) + '\n').join('');
         try {
             await navigator.clipboard.writeText(text);
             this.app.say('The script was copied.');
@@ -102,7 +120,10 @@ export class ScriptPanel {
     }
 }
 
-/** What a listing has in front of its last line. */
+/**
+ * What a listing has in front of its last line.
+ * @param {Answer | null} answer
+ */
 function listedOf(answer) {
     if (answer === null || answer.listed.length === 0) {
         return [];
@@ -113,7 +134,7 @@ function listedOf(answer) {
 
 /**
  * The commands that do on disk what was done here.
- * @param {import('./document.js').Document} document
+ * @param {Document} document
  */
 function commandsOf({ original, acts }) {
     const names = namesOf(original.name), stages = stagesOf(acts);
@@ -128,6 +149,7 @@ function commandsOf({ original, acts }) {
     });
 }
 
+/** @param {string[]} those */
 function words(...those) {
     return ['dgnedit', ...those.map(shellWord)].join(' ');
 }

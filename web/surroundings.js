@@ -35,7 +35,9 @@ function sentenceOf(text) {
  * @param {Uint8Array} bytes
  */
 export function whyNotOpened({ word, at }, bytes) {
-    return word === 'not-design' ? 'It is ' + KIND_SAID[kindOf(bytes)] + '.' : sentenceOf(faultSaid(word, at));
+    const kind = kindOf(bytes);
+    return word === 'not-design' && kind !== 'design' ? 'It is ' + KIND_SAID[kind] + '.'
+        : sentenceOf(faultSaid(word, at));
 }
 
 /**
@@ -108,7 +110,7 @@ export function surroundingsOf(app, program) {
 function tellFault(app, why, isOpen) {
     if (why instanceof Stopped) {
         app.say('Stopped. Nothing has changed.');
-    } else if (why instanceof NotRun && isOpen) {
+    } else if (why instanceof NotRun && isOpen && app.refusals) {
         const said = app.refusals.notRun(why.status, why.said);
         app.notice(why.name === '' ? said : why.name + ': ' + said);
     } else {

@@ -65,7 +65,8 @@ const DOES = {
 
 self.onmessage = ({ data }) => {
     try {
-        const answer = DOES[data.does](data);
+        /** @type {Record<string, (asked: any) => any>} */
+        const does = DOES, answer = does[data.does](data);
         postMessage({ answer }, answer.file ? { transfer: [answer.file.buffer] } : undefined);
     } catch (why) {
         postMessage({ fault: String(why) });
