@@ -1,6 +1,6 @@
 /* Reads elements out of their bytes into records. */
 
-import { arcPoints } from './arcs.js';
+import { fillAt } from './fills.js';
 import { CLASS, CLASS_OF, DRAWN, DRAWN_OF, FLAG, LOCKED, TYPE } from './format.js';
 import { longAt, rangeNumberAt, wordAt } from './numbers.js';
 import { cellName } from './radix50.js';
@@ -35,6 +35,7 @@ export function readElement(records, bytes, at, number, flags) {
     records.points[record] = 0;
     if (isSilent) {
         records.colour[record] = records.weight[record] = records.style[record] = records.group[record] = 0;
+        records.fill[record] = 0;
         records.box.fill(0, record * 4, record * 4 + 4);
         return record;
     }
@@ -42,11 +43,9 @@ export function readElement(records, bytes, at, number, flags) {
     records.weight[record] = bytes[at + 34] >> 3;
     records.style[record] = bytes[at + 34] & 7;
     records.group[record] = wordAt(bytes, at + 28);
+    records.fill[record] = fillAt(bytes, at, records.size[record]);
     readRange(records, bytes, at, record);
     readPoints(records, bytes, at, record, type);
-    if (records.axes === 2 && CLASS_OF[type] === CLASS.floating) {
-        readArc(records, bytes, at, record, type);
-    }
     records.setBox(record, type === TYPE.text ? textAt(bytes, at, records.axes) : null);
     return record;
 }
@@ -111,22 +110,6 @@ function readPoints(records, bytes, at, record, type) {
         coordinates[to] = longAt(bytes, from);
     }
     records.pointCount += count;
-}
-
-/**
- * Reads an arc or an ellipse as the points that it is drawn by.
- * @param {Records} records
- * @param {Uint8Array} bytes
- * @param {number} at
- * @param {number} record
- * @param {number} type
- */
-function readArc(records, bytes, at, record, type) {
-    const points = arcPoints(bytes, at, type, records.size[record], records.rangeOf(record));
-    records.reservePoints(points.length / 2);
-    records.coordinates.set(points, records.pointCount * 2);
-    records.points[record] = points.length / 2;
-    records.pointCount += points.length / 2;
 }
 
 /**
