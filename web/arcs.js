@@ -50,11 +50,11 @@ export function arcOf(element, axes, range) {
     const arc = {
         x: vaxDoubleAt(element, places.origin), y: vaxDoubleAt(element, places.origin + 8),
         alongX: first * turn[0], alongY: first * turn[1], upX: second * turn[2], upY: second * turn[3],
-        ...(type === TYPE.arc ? spanOf(element) : { start: 0, sweep: WHOLE }),
+        start: type === TYPE.arc ? longAt(element, 36) * ANGLE_UNIT : 0,
+        sweep: type === TYPE.arc ? sweepOf(longAt(element, 40)) : WHOLE,
     };
-    const near = RANGE_NEAR + RANGE_SHARE * Math.max(Math.abs(first), Math.abs(second)), box = boxOfArc(arc);
-    return [range[0], range[1], range[axes], range[axes + 1]].every((value, side) => (
-        Math.abs(box[side] - value) <= near)) ? arc : null;
+    const near = RANGE_NEAR + RANGE_SHARE * Math.max(Math.abs(first), Math.abs(second));
+    return isItsRange(arc, axes, range, near) ? arc : null;
 }
 
 /**
@@ -84,35 +84,41 @@ export function projectionAt(element, at) {
 }
 
 /**
- * Where an arc begins, and how far it goes round. The highest bit of its sweep is the sign of what is left, and a sweep
- * of 0 is all the way round.
- * @param {Uint8Array} element
+ * How far an arc goes round. The highest bit is the sign of what is left, and 0 is all the way round.
+ * @param {number} sweep as it stands in the file
  */
-function spanOf(element) {
-    const sweep = longAt(element, 40), size = Math.min((sweep & 0x7FFFFFFF) * ANGLE_UNIT, WHOLE);
-    return { start: longAt(element, 36) * ANGLE_UNIT, sweep: size === 0 ? WHOLE : sweep < 0 ? -size : size };
+function sweepOf(sweep) {
+    const size = Math.min((sweep & 0x7FFFFFFF) * ANGLE_UNIT, WHOLE);
+    return size === 0 ? WHOLE : sweep < 0 ? -size : size;
 }
 
 /**
- * The least box of an arc: its ends, and where it turns back in x or in y.
+ * Whether a stored range is the least box of an arc, or nearly so.
  * @param {Arc} arc
- * @returns {number[]} low x, low y, high x, high y
+ * @param {number} axes
+ * @param {Int32Array} range
+ * @param {number} near
  */
-export function boxOfArc(arc) {
-    const { x, y, alongX, alongY, upX, upY, start, sweep } = arc;
-    const angles = [start, start + sweep];
-    for (const turning of [Math.atan2(upX, alongX), Math.atan2(upY, alongY)]) {
-        for (const angle of [turning, turning + Math.PI]) {
-            const from = sweep < 0 ? start + sweep : start;
-            const behind = ((angle - from) % WHOLE + WHOLE) % WHOLE;
-            if (behind <= Math.abs(sweep)) {
-                angles.push(from + behind);
-            }
-        }
-    }
-    const xs = angles.map((angle) => x + alongX * Math.cos(angle) + upX * Math.sin(angle));
-    const ys = angles.map((angle) => y + alongY * Math.cos(angle) + upY * Math.sin(angle));
-    return [Math.min(...xs), Math.min(...ys), Math.max(...xs), Math.max(...ys)];
+function isItsRange({ x, y, alongX, alongY, upX, upY, start, sweep }, axes, range, near) {
+    return Math.abs(range[0] + highOf(-x, -alongX, -upX, start, sweep)) <= near
+        && Math.abs(range[1] + highOf(-y, -alongY, -upY, start, sweep)) <= near
+        && Math.abs(range[axes] - highOf(x, alongX, upX, start, sweep)) <= near
+        && Math.abs(range[axes + 1] - highOf(y, alongY, upY, start, sweep)) <= near;
+}
+
+/**
+ * The greatest value of an arc in one axis: where it turns back there, or else at one of its ends.
+ * @param {number} middle
+ * @param {number} along
+ * @param {number} up
+ * @param {number} start
+ * @param {number} sweep
+ */
+function highOf(middle, along, up, start, sweep) {
+    const end = start + sweep, turning = Math.atan2(up, along);
+    const behind = ((turning - Math.min(start, end)) % WHOLE + WHOLE) % WHOLE;
+    return middle + (behind <= Math.abs(sweep) ? Math.sqrt(along * along + up * up)
+        : Math.max(along * Math.cos(start) + up * Math.sin(start), along * Math.cos(end) + up * Math.sin(end)));
 }
 
 /**
