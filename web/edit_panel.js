@@ -2,6 +2,7 @@
 
 import { counted } from './describing.js';
 import { byId, fill, make, setHidden } from './dom.js';
+import { encodingOf, spellingFault } from './encoding.js';
 import { newLine, probesOf } from './lines.js';
 import { TEXT_UNIT } from './reading.js';
 
@@ -93,7 +94,13 @@ export class EditPanel {
             return;
         }
         const { app } = this, z = new Array(app.drawing.axes - 2).fill(0);
-        const line = newLine(word, this.makingOf(), points.map((point) => [...point, ...z]));
+        const fault = word === 'text' ? spellingFault(byId('make-words').value, app.drawing) : '';
+        if (fault !== '') {
+            app.notice(fault);
+            return;
+        }
+        const places = points.map((point) => [...point, ...z]);
+        const line = newLine(word, this.makingOf(), places, encodingOf(app.drawing));
         await app.work.add([line]);
     }
 
