@@ -12,7 +12,7 @@ const LEAST_TEXT = 3.5;           // pixels of a text's height below which it is
 const LEAST_CROSS = 14;           // pixels of a cell's range below which its origin isn't marked
 export const BOX_DASH = [4, 3];
 const EM = 100;                   // pixels of the font that texts are measured and drawn in
-const CAPITAL = 0.72;             // height of a capital letter in it, of an em
+const CAPITAL = 0.7;              // height of a capital letter in it, of an em, where a browser doesn't measure that
 const FONT = EM + 'px "Helvetica Neue", Arial, "Liberation Sans", sans-serif';
 
 /** @typedef {import('./records.js').Records} Records */
@@ -32,6 +32,7 @@ export class Painter {
         this.view = new View(0, 0);
         this.ratio = 1;
         this.width = this.alpha = this.inPath = 0;
+        this.capital = CAPITAL * EM;
         /** @type {string | null} */
         this.stroke = null;
         /** @type {string | null} */
@@ -64,6 +65,7 @@ export class Painter {
         this.context.lineCap = 'butt';
         this.context.font = FONT;
         this.context.textBaseline = 'alphabetic';
+        this.capital = this.context.measureText('H').actualBoundingBoxAscent || CAPITAL * EM;
     }
 
     finish() {
@@ -307,7 +309,7 @@ export class Painter {
     turnTo(left, top, text) {
         const { context, ratio, view } = this;
         text.natural = text.natural || context.measureText(text.characters).width || 1;
-        const up = text.height * view.scale / (EM * CAPITAL);
+        const up = text.height * view.scale / this.capital;
         const along = text.width !== 0 ? text.width * view.scale / text.natural : Math.abs(up);
         const cosine = Math.cos(text.angle), sine = Math.sin(text.angle);
         context.setTransform(ratio * along * cosine, -ratio * along * sine, ratio * up * sine, ratio * up * cosine,
