@@ -67,21 +67,33 @@ function slopeOf(chords, at) {
 }
 
 /**
- * The box that holds a curve: that of the corners between which each of its cubics stays.
- * @param {Float64Array} rows
+ * A box that holds a curve, and is hardly larger: each of its cubics stays between its ends and two corners, a third of
+ * its chord away from them. As the slope at a point lies between those of the two chords there, the corner lies between
+ * a place of its own chord and one in the direction of the other chord.
+ * @param {Int32Array} coordinates
+ * @param {number} first the place of its first coordinate
+ * @param {number} count of its points
+ * @param {number} axes
  * @returns {number[]} low x, low y, high x, high y
  */
-export function boxOfCurve(rows) {
-    const box = [Infinity, Infinity, -Infinity, -Infinity];
-    for (let at = 0; at < rows.length; at += ROW) {
-        const behind = at + ROW < rows.length ? rows[at + 4] / 3 : 0, before = at > 0 ? rows[at - 1] / 3 : 0;
-        for (const axis of [0, 1]) {
-            const value = rows[at + axis], slope = rows[at + 2 + axis];
-            box[axis] = Math.min(box[axis], value, value + slope * behind, value - slope * before);
-            box[axis + 2] = Math.max(box[axis + 2], value, value + slope * behind, value - slope * before);
-        }
+export function boxOfCurve(coordinates, first, count, axes) {
+    const start = first + 2 * axes, end = first + (count - 3) * axes, depth = axes - 2;
+    let lowX = coordinates[start], highX = lowX, lowY = coordinates[start + 1], highY = lowY;
+    for (let at = start; at <= end; at += axes) {
+        const x = coordinates[at], y = coordinates[at + 1];
+        const toX = x - coordinates[at - axes], toY = y - coordinates[at + 1 - axes];
+        const toZ = depth * (coordinates[at + axes - 1] - coordinates[at - 1]);
+        const fromX = coordinates[at + axes] - x, fromY = coordinates[at + axes + 1] - y;
+        const fromZ = depth * (coordinates[at + 2 * axes - 1] - coordinates[at + axes - 1]);
+        const to = toX * toX + toY * toY + toZ * toZ, from = fromX * fromX + fromY * fromY + fromZ * fromZ;
+        const share = to > 0 && from > 0 ? Math.sqrt(from / to) / 3 : 0;
+        const ahead = at < end ? share : 0, back = at > start && share > 0 ? 1 / (9 * share) : 0;
+        lowX = Math.min(lowX, x, x + toX * ahead, x - fromX * back);
+        highX = Math.max(highX, x, x + toX * ahead, x - fromX * back);
+        lowY = Math.min(lowY, y, y + toY * ahead, y - fromY * back);
+        highY = Math.max(highY, y, y + toY * ahead, y - fromY * back);
     }
-    return box;
+    return [lowX, lowY, highX, highY];
 }
 
 /**

@@ -1,6 +1,6 @@
 /* The elements as columns, a row each; a row is called a record. */
 
-import { LEAST_OF_CURVE, boxOfCurve, knotsOfCurve } from './curves.js';
+import { LEAST_OF_CURVE, boxOfCurve } from './curves.js';
 import { FLAG, GREATEST, LEAST, TYPE } from './format.js';
 import { Outlines } from './outlines.js';
 import { labelAt } from './reading.js';
@@ -225,7 +225,7 @@ export class Records {
      */
     setBoxOfCurve(record, at) {
         const { coordinates, axes } = this;
-        const box = boxOfCurve(knotsOfCurve(coordinates, this.first[record] * axes, this.points[record], axes));
+        const box = boxOfCurve(coordinates, this.first[record] * axes, this.points[record], axes);
         for (const side of [0, 1]) {
             this.box[at + side] = Math.max(Math.floor(box[side]), LEAST);
             this.box[at + side + 2] = Math.min(Math.ceil(box[side + 2]), GREATEST);
