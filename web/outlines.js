@@ -4,7 +4,7 @@
 import { arcOf, arcPoints } from './arcs.js';
 import { curvePoints, knotsOfCurve } from './curves.js';
 import { TYPE } from './format.js';
-import { runSize, splineOf } from './splines.js';
+import { polesOf, runSize, splineOf } from './splines.js';
 import { splinePoints } from './stroking.js';
 
 /** @typedef {import('./records.js').Records} Records */
@@ -129,8 +129,10 @@ export class Outlines {
         if (spline === null) {
             return NONE;
         }
+        // it lies between its poles, so where these are in the range it is
         const box = [range[0], range[1], range[axes], range[axes + 1]];
-        return isWithin(splinePoints(spline, CHECK_STEPS), box) ? splinePoints(spline, steps) : NONE;
+        return isWithin(polesOf(spline), box) || isWithin(splinePoints(spline, CHECK_STEPS), box)
+            ? splinePoints(spline, steps) : NONE;
     }
 }
 
@@ -141,6 +143,10 @@ export class Outlines {
  */
 function isWithin(points, [lowX, lowY, highX, highY]) {
     const near = SPLINE_NEAR + SPLINE_SHARE * Math.max(highX - lowX, highY - lowY);
-    return points.every((value, at) => (at % 2 === 0 ? value >= lowX - near && value <= highX + near
-        : value >= lowY - near && value <= highY + near));
+    let isIn = true;
+    for (let at = 0; at < points.length && isIn; at += 2) {
+        isIn = points[at] >= lowX - near && points[at] <= highX + near && points[at + 1] >= lowY - near
+            && points[at + 1] <= highY + near;
+    }
+    return isIn;
 }

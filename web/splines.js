@@ -193,12 +193,27 @@ function weighed({ poles, weights }, isRational, count) {
     const made = new Float64Array(3 * count);
     for (let pole = 0; pole < count; pole++) {
         const weight = isRational ? weights[pole] : 1;
-        made.set([poles[2 * pole] * weight, poles[2 * pole + 1] * weight, weight], 3 * pole);
+        made[3 * pole] = poles[2 * pole] * weight;
+        made[3 * pole + 1] = poles[2 * pole + 1] * weight;
+        made[3 * pole + 2] = weight;
         if (!(weight > 0)) {
             return null;
         }
     }
     return made;
+}
+
+/**
+ * The poles of a B-spline, x and y one behind the other.
+ * @param {Spline} spline
+ */
+export function polesOf({ poles }) {
+    const places = new Float64Array(poles.length / 3 * 2);
+    for (let from = 0, to = 0; from < poles.length; from += 3, to += 2) {
+        places[to] = poles[from] / poles[from + 2];
+        places[to + 1] = poles[from + 1] / poles[from + 2];
+    }
+    return places;
 }
 
 /**

@@ -89,13 +89,15 @@ function parametersAlong(way, steps) {
  * @param {Float64Array} poles
  * @param {number} first the place of its first pole in `poles`
  * @param {number} stride from one pole to the next
- * @returns {Float64Array}
+ * @returns {number[]}
  */
 function pointOn(way, { at, span }, poles, first, stride) {
     const { order, knots } = way, held = new Float64Array(3 * order);
     for (let pole = 0; pole < order; pole++) {
         const place = first + (span - order + 1 + pole) % way.poles * stride;
-        held.set(poles.subarray(place, place + 3), 3 * pole);
+        held[3 * pole] = poles[place];
+        held[3 * pole + 1] = poles[place + 1];
+        held[3 * pole + 2] = poles[place + 2];
     }
     for (let round = 1; round < order; round++) {
         for (let pole = order - 1; pole >= round; pole--) {
@@ -103,7 +105,7 @@ function pointOn(way, { at, span }, poles, first, stride) {
             mix(held, pole, high > low ? (at - low) / (high - low) : 0);
         }
     }
-    return held.subarray(3 * (order - 1));
+    return [held[3 * order - 3], held[3 * order - 2], held[3 * order - 1]];
 }
 
 /**
