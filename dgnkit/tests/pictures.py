@@ -71,12 +71,12 @@ class Picture:
         rows = range(math.floor(top) - 1, math.floor(top) + 2)
         return [any(self.alpha(at, row) > 100 for row in rows) for at in range(math.ceil(left), math.floor(right))]
 
-    def missing(self, lines: Iterable[Line], within: float = 1.5) -> List[Point]:
-        """The places along lines of the drawing that no dot is near to."""
+    def missing(self, lines: Iterable[Line], within: float = 1.5, least: int = 60) -> List[Point]:
+        """The places along lines of the drawing that no dot is near to whose alpha is enough."""
         lost = []
         for x, y in (it for line in lines for it in sampled(line, 1 / self.scale)):
             left, top = self.place(x, y)
-            if not any(self.alpha(*dot) >= 60 for dot in disc(left, top, within)):
+            if not any(self.alpha(*dot) >= least for dot in disc(left, top, within)):
                 lost.append((x, y))
         return lost
 

@@ -9,6 +9,7 @@ import unittest
 from typing import List, Sequence, Tuple
 
 import curved
+from app import HAS_PROGRAM, NO_PROGRAM
 from held import Case, WithGdal, in_rows, say_what_is_missing
 from pictures import Line, Picture, Point
 from samples import drawings, plan
@@ -203,6 +204,33 @@ class Paths(WithGdal):
             self.seen.key('Escape')
         self.click_at(200, 1790)
         self.assertEqual(self.number(), 'element', 'a pole is no place of the curve')
+
+
+@unittest.skipUnless(HAS_PROGRAM, NO_PROGRAM)
+class Edited(WithGdal):
+    """What an edit leaves is drawn by its own points, too."""
+
+    def test_curved_elements_after_edits(self) -> None:
+        four = [(0, 0), (200, 800), (600, -300), (900, 500)]
+        line = curved.spline_line(four, 4, [0] * 4 + [1] * 4)
+        arc, round_ = curved.arc((1500, 300), (400, 250), 30, 200, 20)
+        wave = [(-200, 1000), (-100, 1050), *[(300 * it, 1000 + 300 * (it % 2)) for it in range(8)]]
+        wave += [(2200, 1350), (2300, 1300)]
+        _, read = self.show(curved.spline(four, 4, line), arc, curved.curve(wave))
+        lines = ['delete 1', 'color 3 3', 'copy 4 0 600']
+        answers = self.seen.run_slowly('page.work.add(arguments[0]).then(arguments[arguments.length - 1])', lines)
+        self.assertTrue(answers, 'all of them are done')
+        moved = [(x, y + 600) for x, y in read[4].lines[0]]
+        paths = [line, round_, read[4].lines[0], moved]
+        self.seen.run("document.getElementById('mode-after').click()")
+        self.seen.click('#show-deleted')
+        self.seen.click('#fit')
+        picture = Picture(self.seen)
+        self.assertEqual(picture.missing(paths, least=25), [], 'what is marked deleted is faint')
+        self.assertEqual(picture.astray(paths), [])
+        x, y = line[len(line) // 3]
+        self.click_at(x, y)
+        self.assertEqual(self.number(), 'element 1')
 
 
 class Fitting(WithGdal):
