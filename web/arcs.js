@@ -62,7 +62,7 @@ export function arcOf(element, axes, range) {
  * @param {number} angle as it stands in the file
  * @returns {number[]}
  */
-function turnOf(angle) {
+export function turnOf(angle) {
     const cosine = Math.cos(angle * ANGLE_UNIT), sine = Math.sin(angle * ANGLE_UNIT);
     return [cosine, sine, -sine, cosine];
 }

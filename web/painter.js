@@ -285,11 +285,11 @@ export class Painter {
     drawText(record, colour) {
         const { view, context } = this;
         const text = /** @type {TextLabel} */ (this.records.labelOf(record));
-        const left = this.x(record), top = this.y(record);
-        if (Math.abs(text.height * view.scale) < LEAST_TEXT) {
+        const left = this.x(record), top = this.y(record), [alongX, alongY, upX, upY] = text.turn;
+        if (Math.abs(text.height * (alongX * upY - alongY * upX) * view.scale) < LEAST_TEXT) {
             this.setPen(colour, 1, DASHES[0]);
             const along = text.width < 0 ? Math.min(text.width * view.scale, -2) : Math.max(text.width * view.scale, 2);
-            this.traceSegment(left, top, left + along * Math.cos(text.angle), top - along * Math.sin(text.angle));
+            this.traceSegment(left, top, left + along * alongX, top - along * alongY);
             return;
         }
         this.finish();
@@ -311,8 +311,8 @@ export class Painter {
         text.natural = text.natural || context.measureText(text.characters).width || 1;
         const up = text.height * view.scale / this.capital;
         const along = text.width !== 0 ? text.width * view.scale / text.natural : Math.abs(up);
-        const cosine = Math.cos(text.angle), sine = Math.sin(text.angle);
-        context.setTransform(ratio * along * cosine, -ratio * along * sine, ratio * up * sine, ratio * up * cosine,
+        const [alongX, alongY, upX, upY] = text.turn;
+        context.setTransform(ratio * along * alongX, -ratio * along * alongY, -ratio * up * upX, ratio * up * upY,
             ratio * left, ratio * top);
     }
 

@@ -5,6 +5,7 @@ import { Path } from './path.js';
 
 const PIXELS_WITHIN = 8;          // about how many pixels of the screen the distance is that is picked within
 const SHARE_OF_FILL = 0.9;        // of that distance that the inside of what is filled has
+const EDGE_ON = 0.01;             // of its area of which a text is seen that is pointed at as a line
 const SIZE_OF_NEAREST = 1000;     // pixels that a record is taken to have where no distance is given
 
 /**
@@ -148,8 +149,11 @@ export class Picker {
         const { records } = this.scene;
         const text = /** @type {import('./records.js').TextLabel} */ (records.labelOf(record));
         const offX = x - records.coordinate(record, 0, 0), offY = y - records.coordinate(record, 0, 1);
-        const along = offX * Math.cos(text.angle) + offY * Math.sin(text.angle);
-        const up = offY * Math.cos(text.angle) - offX * Math.sin(text.angle);
+        const [alongX, alongY, upX, upY] = text.turn, area = alongX * upY - alongY * upX;
+        if (Math.abs(area) < EDGE_ON) {
+            return squareFromSegment(offX, offY, 0, 0, text.width * alongX, text.width * alongY);
+        }
+        const along = (offX * upY - offY * upX) / area, up = (offY * alongX - offX * alongY) / area;
         const beyond = distanceBeyond(along, text.width), over = distanceBeyond(up, text.height);
         const share = Math.min(0.2 + Math.abs(text.height) / (within + 1) / 12, 0.9);
         return Math.max(beyond * beyond + over * over, (share * within) ** 2);

@@ -1,5 +1,6 @@
 /* Reads elements out of their bytes into records. */
 
+import { projectionAt, turnOf } from './arcs.js';
 import { fillAt } from './fills.js';
 import { CLASS, CLASS_OF, DRAWN, DRAWN_OF, FLAG, LOCKED, TYPE } from './format.js';
 import { longAt, rangeNumberAt, wordAt } from './numbers.js';
@@ -157,7 +158,7 @@ function textAt(bytes, at, axes) {
         font: bytes[at + 36],
         justification: bytes[at + 37],
         width: [...characters].length * wide,
-        angle: degrees * Math.PI / 180,
+        turn: axes === 2 ? turnOf(longAt(bytes, at + 46)) : projectionAt(bytes, at + 46) || [1, 0, 0, 1],
         natural: 0,
     };
 }

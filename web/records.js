@@ -30,9 +30,10 @@ const COLUMNS = Object.freeze({
 const COLUMN_NAMES = Object.freeze(Object.keys(COLUMNS));
 
 /**
- * A text as it is drawn: its characters, how wide and high a sign is in units of resolution, its angle in degrees and
- * in radians, font and justification, how wide all of it is, and how wide it came out when it was measured.
- * @typedef {{ characters: string, wide: number, height: number, degrees: number, angle: number, font: number,
+ * A text as it is drawn: its characters, how wide and high a sign is in units of resolution, its angle in degrees, what
+ * its turn makes of its two axes as they are seen (x and y of each), font and justification, how wide all of it is, and
+ * how wide it came out when it was measured.
+ * @typedef {{ characters: string, wide: number, height: number, degrees: number, turn: number[], font: number,
  *     justification: number, width: number, natural: number }} TextLabel
  */
 
@@ -250,10 +251,10 @@ const TEXT_ABOVE = 1.3;
  */
 function widenByText(box, at, text) {
     const x = box[at], y = box[at + 1];
-    const cosine = Math.cos(text.angle), sine = Math.sin(text.angle);
+    const [alongX, alongY, upX, upY] = text.turn;
     const low = -TEXT_BELOW * text.height, high = TEXT_ABOVE * text.height;
     for (const [along, up] of [[0, low], [text.width, low], [0, high], [text.width, high]]) {
-        const cornerX = x + along * cosine - up * sine, cornerY = y + along * sine + up * cosine;
+        const cornerX = x + along * alongX + up * upX, cornerY = y + along * alongY + up * upY;
         box[at] = Math.max(Math.min(box[at], Math.floor(cornerX)), LEAST);
         box[at + 1] = Math.max(Math.min(box[at + 1], Math.floor(cornerY)), LEAST);
         box[at + 2] = Math.min(Math.max(box[at + 2], Math.ceil(cornerX)), GREATEST);

@@ -4,6 +4,7 @@ fills. Their paths are found from their definition, by other ways than the page'
 from __future__ import annotations
 
 import math
+import random
 import struct
 from typing import Callable, List, Optional, Sequence, Tuple
 
@@ -148,6 +149,13 @@ def text(
     return element(17, [place], behind)
 
 
+def text_of_space(place: Tuple[int, int], characters: bytes, wide: float, high: float, quaternion: Numbers) -> bytes:
+    """A text of three axes that is turned by a quaternion."""
+    behind = bytes([1, 0]) + longs(wide * 1000 / 6, high * 1000 / 6, *(it * Whole for it in quaternion), *place, 0)
+    behind += bytes([len(characters), 0]) + characters + bytes(len(characters) % 2)
+    return element(17, [place], behind, axes=3)
+
+
 # B-splines.
 
 
@@ -207,3 +215,19 @@ def surface(rows: Sequence[Sequence[Tuple[int, int]]], orders: Tuple[int, int], 
         points = struct.pack('<H', len(row)) + longs(*(it for pole in row for it in pole))
         made += element(21, row, points, member=True)
     return made
+
+
+def at_random(chance: random.Random, axes: int) -> bytes:
+    """A curved element, or a part of a B-spline, with any numbers in its fields, which opens: the range is the whole
+    plane or any."""
+    kind = chance.choice([11, 15, 16, 21, 21, 24, 26, 27, 27, 28])
+    body = bytearray(chance.choice([0, 255, chance.randrange(256)]) for _ in range(2 * chance.randrange(4, 60)))
+    if kind in (11, 21):
+        body[:2] = struct.pack('<H', min(chance.randrange(14), (len(body) - 2) // (4 * axes)))
+    if kind in (24, 27):
+        body += bytes(24)
+        for place in (4, 12):
+            body[place : place + 4] = bytes([chance.choice([0, 1, 2, 0x42, 0x82, 0xC2]), 0, chance.randrange(8), 0])
+            body[place + 4 : place + 6] = bytes([chance.choice([0, 0, chance.randrange(6)]), 0])
+    line = [(-(2**31), -(2**31)), (2**31 - 1, 2**31 - 1)] if chance.random() < 0.7 else [(-5, 7), (900, 800)]
+    return element(kind, line, bytes(body), axes, member=kind in (21, 26, 28))

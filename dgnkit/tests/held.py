@@ -68,12 +68,16 @@ class WithGdal(WithBrowser):
 
     path_to: str
 
-    def show(self, *elements: bytes, axes: int = 2) -> Tuple[Picture, Dict[int, Reading]]:
-        """Opens a drawing of these elements, and gives its picture and what GDAL reads of each."""
+    def draw(self, *elements: bytes, axes: int = 2) -> Picture:
+        """Opens a drawing of these elements, and gives its picture."""
         file = with_units(drawings.drawing(*elements, axes=axes), 1, 1, ('m', 'cm'), (0, 0, 0))
         self.path_to = self.put('true.dgn', file)
         self.open(self.path_to)
-        return Picture(self.seen), self.read()
+        return Picture(self.seen)
+
+    def show(self, *elements: bytes, axes: int = 2) -> Tuple[Picture, Dict[int, Reading]]:
+        """The same, with what GDAL reads of each."""
+        return self.draw(*elements, axes=axes), self.read()
 
     def read(self) -> Dict[int, Reading]:
         asked = 'SELECT FID AS number, *, OGR_STYLE AS ogr_style FROM elements'

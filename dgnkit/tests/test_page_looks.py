@@ -234,6 +234,25 @@ class Texts(WithGdal):
                 self.assertEqual(self.number(), 'element %d' % (index + 1))
                 self.seen.key('Escape')
 
+    def test_three_axes(self) -> None:
+        """Seen along z, a text is turned by its quaternion, lower where it is tilted, and mirrored from below; GDAL
+        leaves the quaternion of a text out."""
+        turns = [(curved.turned(it), float(it), 210.0) for it in (0, 40, 200)]
+        turns += [(curved.tilted(60), 0, 105), (curved.tilted(180), 0, -210)]
+        turns.append((curved.times(curved.tilted(60), curved.turned(30)), 30, 105))
+        places = [in_rows(1500, 3, it) for it in range(len(turns))]
+        made = [
+            curved.text_of_space(place, b'HHH', 150, 210, quaternion)
+            for place, (quaternion, _, _) in zip(places, turns)
+        ]
+        picture, read = self.show(*made, axes=3)
+        for index, (place, (_, angle, high)) in enumerate(zip(places, turns)):
+            with self.subTest(angle=angle, high=high):
+                self.assertEqual(read[index + 1].lines, [[place]])
+                self.assertEqual((read[index + 1].size, read[index + 1].styled('a')), (210, ''))
+                wanted = (10, min(high, 0), 440, max(high, 0))
+                self.assert_frame(self.frame(picture, place, angle, 700), wanted, 25)
+
     def is_seen(self, picture: Picture, place: Point, offset: Point) -> bool:
         x, y = place[0] + offset[0], place[1] + offset[1]
         return any(picture.boxes((x - 20, y - 20), (x + 20, y + 20)))

@@ -5,6 +5,7 @@ browser or no ogr2ogr."""
 from __future__ import annotations
 
 import math
+import random
 import unittest
 from typing import List, Sequence, Tuple
 
@@ -190,6 +191,17 @@ class Paths(WithGdal):
                 self.assertEqual(picture.astray(sides), [])
                 self.assertGreater(len(picture.missing(sides)), 100, 'it has gaps')
                 self.assertGreater(sum(1 for _ in picture.marked()), 200)
+
+    def test_fields_at_random(self) -> None:
+        """Whatever stands in the fields of what is curved, the page draws the rest, and complains of nothing."""
+        chance = random.Random(11)
+        for axes in (2, 3):
+            odd = b''.join(curved.at_random(chance, axes) for _ in range(1500))
+            picture = self.draw(odd, axes=axes)
+            self.assertGreater(sum(1 for _ in picture.marked()), 200)
+            self.seen.run('page.view.scale *= 1000; page.stage.moved()')
+            self.seen.settle()
+            self.click_at(*self.seen.run('return [page.view.x, page.view.y]'))
 
     def test_what_is_drawn_is_picked(self) -> None:
         wave = [(-200, 0), (-100, 50), *[(300 * it, 300 * (it % 2)) for it in range(8)], (2200, 350), (2300, 300)]
