@@ -1,6 +1,6 @@
 /* Fills: a user linkage of a shape or an ellipse says that it is filled, and with which colour. */
 
-import { LINKED, TYPE } from './format.js';
+import { FLAG, LINKED, TYPE } from './format.js';
 import { wordAt } from './numbers.js';
 
 const FILL = 0x0041;              // the word of a linkage behind its head that says that it is one of a fill
@@ -30,4 +30,29 @@ export function fillAt(bytes, at, size) {
         place += length;
     }
     return 0;
+}
+
+/**
+ * The records of the holes in a filled shape: of a group that it is in the shapes behind it that are marked as holes. A
+ * hole itself isn't filled.
+ * @param {import('./records.js').Records} records
+ * @param {number} record
+ * @returns {number[]}
+ */
+export function holesIn(records, record) {
+    const holes = [];
+    for (let at = record + 1; records.has(record, FLAG.bitC) && at < records.length
+        && records.has(at, FLAG.hole | FLAG.bitC) && records.number[at] === records.number[at - 1] + 1; at++) {
+        holes.push(at);
+    }
+    return holes;
+}
+
+/**
+ * Whether a record is filled.
+ * @param {import('./records.js').Records} records
+ * @param {number} record
+ */
+export function isFilled(records, record) {
+    return records.fill[record] > 0 && !records.has(record, FLAG.hole);
 }

@@ -1,6 +1,7 @@
 /* Draws records on a canvas. */
 
 import { cutArea, cutSegment } from './cutting.js';
+import { holesIn, isFilled } from './fills.js';
 import { DASHES, DRAWN, DRAWN_OF } from './format.js';
 import { Path, middleOfDot } from './path.js';
 import { View } from './view.js';
@@ -143,8 +144,13 @@ export class Painter {
         if (right - left < 1.2 && bottom - top < 1.2 && drawn !== DRAWN.cell && drawn !== DRAWN.node) {
             this.drawDot(left, top, colour, width);
         } else if (drawn === DRAWN.path || drawn === DRAWN.box) {
-            if (this.path.take(record, Math.max(right - left, bottom - top))) {
-                this.drawPath(colour, width, dash, fill, left < -FAR || top < -FAR || right > FAR || bottom > FAR);
+            const size = Math.max(right - left, bottom - top);
+            const isFar = left < -FAR || top < -FAR || right > FAR || bottom > FAR;
+            if (fill !== null && isFilled(records, record)) {
+                this.fillArea(record, size, fill, isFar);
+            }
+            if (this.path.take(record, size)) {
+                this.drawPath(colour, width, dash, isFar);
             } else {
                 this.setPen(colour, width, BOX_DASH);
                 this.traceBox(left, top, right, bottom);
@@ -177,18 +183,14 @@ export class Painter {
      * @param {string} colour
      * @param {number} width
      * @param {readonly number[]} dash
-     * @param {string | null} fill
      * @param {boolean} isFar
      */
-    drawPath(colour, width, dash, fill, isFar) {
+    drawPath(colour, width, dash, isFar) {
         const { context, path, view } = this;
         if (path.count === 1) {
             const [left, top] = path.corners(view);
             this.drawDot(left - 1, top - 1, colour, width + 1);
             return;
-        }
-        if (fill !== null) {
-            this.fillPath(fill, isFar);
         }
         this.setPen(colour, width, dash);
         if (isFar) {
@@ -204,24 +206,36 @@ export class Painter {
     }
 
     /**
-     * Fills the path's area; of what reaches far beyond the screen only what is seen.
+     * Fills the area of a record but its holes; of what reaches far beyond the screen only what is seen.
+     * @param {number} record
+     * @param {number} size
      * @param {string} fill
      * @param {boolean} isFar
      */
-    fillPath(fill, isFar) {
-        const { context, path, view } = this;
+    fillArea(record, size, fill, isFar) {
+        const { context, path, records, view } = this;
         this.finish();
         this.setFill(fill);
         context.beginPath();
-        if (isFar) {
-            const cut = cutArea(path.corners(view), this.rectangle);
-            for (let at = 0; at < cut.length; at += 2) {
-                context.lineTo(cut[at], cut[at + 1]);
+        for (const it of [record, ...holesIn(records, record)]) {
+            if (path.take(it, size) && isFar) {
+                this.traceCorners(cutArea(path.corners(view), this.rectangle));
+            } else if (path.count > 0) {
+                path.trace(context, view);
             }
-        } else {
-            path.trace(context, view);
         }
         context.fill('evenodd');
+    }
+
+    /** @param {number[]} corners of an area, x and y one behind the other */
+    traceCorners(corners) {
+        for (let at = 0; at < corners.length; at += 2) {
+            if (at === 0) {
+                this.context.moveTo(corners[0], corners[1]);
+            } else {
+                this.context.lineTo(corners[at], corners[at + 1]);
+            }
+        }
     }
 
     /** A path that reaches far beyond the screen: each of its segments, cut there. */

@@ -1,5 +1,6 @@
 /* Finds what is under the pointer. */
 
+import { holesIn, isFilled } from './fills.js';
 import { DRAWN, DRAWN_OF } from './format.js';
 import { Path } from './path.js';
 
@@ -126,15 +127,52 @@ export class Picker {
         if (!path.take(record, within > 0 ? side / within * PIXELS_WITHIN : SIZE_OF_NEAREST)) {
             return DRAWN_OF[records.type[record]] === DRAWN.box ? this.squareFromBox(record, x, y) : Infinity;
         }
-        const { points, from, to, step } = path;
-        let least = Infinity, isInside = false;
-        for (let place = from, before = path.isClosed || path.count === 1 ? to - step : from; place < to;
-            before = place, place += step) {
-            const startX = points[before], startY = points[before + 1], endX = points[place], endY = points[place + 1];
-            least = Math.min(least, squareFromSegment(x, y, startX, startY, endX, endY));
-            isInside = crosses(x, y, startX, startY, endX, endY) ? !isInside : isInside;
+        const least = this.squareFromTaken(x, y);
+        return isFilled(records, record) && this.isInArea(record, x, y)
+            ? Math.min(least, (SHARE_OF_FILL * within) ** 2) : least;
+    }
+
+    /**
+     * The square of a place's distance from the path that was taken.
+     * @param {number} x
+     * @param {number} y
+     */
+    squareFromTaken(x, y) {
+        const { points, from, to, step, isClosed, count } = this.path;
+        let least = Infinity;
+        for (let place = from, before = isClosed || count === 1 ? to - step : from; place < to; place += step) {
+            least = Math.min(least, squareFromSegment(x, y, points[before], points[before + 1], points[place],
+                points[place + 1]));
+            before = place;
         }
-        return isInside && records.fill[record] > 0 ? Math.min(least, (SHARE_OF_FILL * within) ** 2) : least;
+        return least;
+    }
+
+    /**
+     * Whether a place is in the area of a record, and in none of its holes. Its own path was taken.
+     * @param {number} record
+     * @param {number} x
+     * @param {number} y
+     */
+    isInArea(record, x, y) {
+        const { records } = this.scene;
+        return this.isInTaken(x, y) && !holesIn(records, record).some((hole) => (
+            this.path.take(hole, SIZE_OF_NEAREST) && this.isInTaken(x, y)));
+    }
+
+    /**
+     * Whether a place is in the area of the path that was taken.
+     * @param {number} x
+     * @param {number} y
+     */
+    isInTaken(x, y) {
+        const { points, from, to, step } = this.path;
+        let isInside = false;
+        for (let place = from, before = to - step; place < to; before = place, place += step) {
+            isInside = crosses(x, y, points[before], points[before + 1], points[place], points[place + 1])
+                ? !isInside : isInside;
+        }
+        return isInside;
     }
 
     /**

@@ -2,7 +2,7 @@
 
 import { projectionAt, turnOf } from './arcs.js';
 import { fillAt } from './fills.js';
-import { CLASS, CLASS_OF, DRAWN, DRAWN_OF, FLAG, LOCKED, TYPE } from './format.js';
+import { CLASS, CLASS_OF, DRAWN, DRAWN_OF, FLAG, HOLE, LOCKED, TYPE } from './format.js';
 import { longAt, rangeNumberAt, wordAt } from './numbers.js';
 import { cellName } from './radix50.js';
 import { readable } from './texts.js';
@@ -26,12 +26,13 @@ export function readElement(records, bytes, at, number, flags) {
     const record = records.length++, type = bytes[at + 1] & 0x7F;
     const isSilent = CLASS_OF[type] === CLASS.silent;
     const isLocked = !isSilent && wordAt(bytes, at + 32) & LOCKED;
+    const isHole = type === TYPE.shape && wordAt(bytes, at + 32) & HOLE;
     records.type[record] = type;
     records.level[record] = bytes[at] & 0x3F;
     records.size[record] = 4 + 2 * wordAt(bytes, at + 2);
     records.number[record] = number;
     records.flags[record] = flags | (bytes[at] & 0x80 ? FLAG.bitC : 0) | (bytes[at + 1] & 0x80 ? FLAG.deleted : 0)
-        | (isLocked ? FLAG.locked : 0);
+        | (isLocked ? FLAG.locked : 0) | (isHole ? FLAG.hole : 0);
     records.first[record] = records.pointCount;
     records.points[record] = 0;
     if (isSilent) {

@@ -10,7 +10,7 @@ from typing import List, Sequence, Tuple
 import curved
 from held import Reading, WithGdal, in_rows, say_what_is_missing
 from pictures import Picture, Point
-from samples import plan
+from samples import drawings, plan
 
 
 def setUpModule() -> None:
@@ -115,6 +115,21 @@ class Looks(WithGdal):
         painted = picture.boxes((-60, -60), (960, 960))
         self.assertGreater(len(painted), 0.97 * (900 * picture.scale) ** 2, 'it is filled to its edges')
         self.assertLess(max(x for x, _ in painted), 900 + 3 / picture.scale)
+
+    def test_holes_of_a_fill(self) -> None:
+        """Shapes that are marked as holes behind a filled one in its cell; one that isn't marked is no hole."""
+        square = [(0, 0), (900, 0), (900, 900), (0, 900), (0, 0)]
+        hole = [(100, 100), (400, 100), (400, 800), (100, 800), (100, 100)]
+        other = [(x + 400, y) for x, y in hole]
+        members = [curved.filled(plan.path(6, 1, square), 3), plan.path(6, 1, hole, 0x8000), plan.path(6, 1, other)]
+        self.show(drawings.cell(*(drawings.with_bit_c(it) for it in members)), plan.line(1, (-100, -100), (1000, -100)))
+        picture = Picture(self.seen)
+        for place, dots in (((50, 450), (255, 0, 0, 255)), ((250, 450), (0, 0, 0, 0)), ((650, 450), (255, 0, 0, 255))):
+            self.assertEqual(picture.at(*(round(it) for it in picture.place(*place))), dots)
+        self.click_at(250, 450)
+        self.assertEqual(self.number(), 'element', 'nothing is drawn in the hole')
+        self.click_at(50, 450)
+        self.assertEqual(self.number(), 'element 1')
 
     def test_a_fill_far_beyond_the_screen(self) -> None:
         wide = 2000000000
