@@ -74,7 +74,6 @@ export class App {
         this.editPanel = new EditPanel(this);
         this.scriptPanel = new ScriptPanel(this);
         this.changesPanel = new ChangesPanel(this);
-        this.search = new Search(this);
         this.begin(engine !== null);
     }
 
@@ -83,6 +82,7 @@ export class App {
      * @param {boolean} hasProgram
      */
     begin(hasProgram) {
+        this.search = new Search(this);
         this.menu = new Menu(this);
         this.keptPanel = new KeptPanel(this);
         new Pointer(byId('marks'), this);

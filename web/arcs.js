@@ -1,70 +1,138 @@
-/* Arcs and ellipses of two axes, as points to draw: their fields are floating numbers, which no edit reads. */
+/* Arcs and ellipses as they are seen: their fields are floating numbers, which no edit reads. */
 
+import { TYPE } from './format.js';
 import { longAt, vaxDoubleAt } from './numbers.js';
 
-const ELLIPSE = 15;
-const ARC = 16;
-const ARC_STEP = 5;                   // degrees from point to point
-const RANGE_NEAR = 2;                   // units of resolution by which the stored range may differ
+const WHOLE = 2 * Math.PI;
+const ANGLE_UNIT = Math.PI / 180 / 360000;       // an angle of the file in radians
+// By how much the stored range may differ: by so many units of resolution, and by such a share of the longer axis.
+const RANGE_NEAR = 2;
+const RANGE_SHARE = 0.001;
 
-/** Where the fields of each type begin: both axes, the turn, the origin, and the element's end. */
+/**
+ * Where the fields of each type begin, in two and in three axes: both axes, the turn, the origin, the element's end.
+ * @type {Readonly<Record<number, Record<number, { axes: number, turn: number, origin: number, end: number }>>>}
+ */
 const PLACES = Object.freeze({
-    [ELLIPSE]: { axes: 36, turn: 52, origin: 56, end: 72 }, [ARC]: { axes: 44, turn: 60, origin: 64, end: 80 },
+    [TYPE.ellipse]: Object.freeze({
+        2: { axes: 36, turn: 52, origin: 56, end: 72 }, 3: { axes: 36, turn: 52, origin: 68, end: 92 },
+    }),
+    [TYPE.arc]: Object.freeze({
+        2: { axes: 44, turn: 60, origin: 64, end: 80 }, 3: { axes: 44, turn: 60, origin: 76, end: 100 },
+    }),
 });
 
 /**
- * The points of an arc or an ellipse, x and y one behind the other; none where its fields don't lie in its range, and
- * so may stand for something else.
- * @param {Uint8Array} bytes
- * @param {number} at
- * @param {number} type
- * @param {number} size
- * @param {Int32Array} range low x, low y, high x, high y
+ * An arc as it is seen: at the angle t it is at x + alongX · cos t + upX · sin t, and likewise in y. It begins at the
+ * angle `start`, and goes round by `sweep`, against the clock where that is positive; both in radians.
+ * @typedef {{ x: number, y: number, alongX: number, alongY: number, upX: number, upY: number, start: number,
+ *     sweep: number }} Arc
+ */
+
+/**
+ * The arc or the ellipse that an element is; null where its fields don't lie in its range, and so may stand for
+ * something else.
+ * @param {Uint8Array} element
+ * @param {number} axes
+ * @param {Int32Array} range its stored range, low corner and high corner
+ * @returns {Arc | null}
+ */
+export function arcOf(element, axes, range) {
+    const type = element[1] & 0x7F, places = PLACES[type]?.[axes];
+    if (places === undefined || element.length < places.end) {
+        return null;
+    }
+    const turn = axes === 2 ? turnOf(longAt(element, places.turn)) : projectionAt(element, places.turn);
+    if (turn === null) {
+        return null;
+    }
+    const first = vaxDoubleAt(element, places.axes), second = vaxDoubleAt(element, places.axes + 8);
+    const arc = {
+        x: vaxDoubleAt(element, places.origin), y: vaxDoubleAt(element, places.origin + 8),
+        alongX: first * turn[0], alongY: first * turn[1], upX: second * turn[2], upY: second * turn[3],
+        start: type === TYPE.arc ? longAt(element, 36) * ANGLE_UNIT : 0,
+        sweep: type === TYPE.arc ? sweepOf(longAt(element, 40)) : WHOLE,
+    };
+    const near = RANGE_NEAR + RANGE_SHARE * Math.max(Math.abs(first), Math.abs(second));
+    return isItsRange(arc, axes, range, near) ? arc : null;
+}
+
+/**
+ * What a turn against the clock makes of the two axes: x and y of the first, x and y of the second.
+ * @param {number} angle as it stands in the file
  * @returns {number[]}
  */
-export function arcPoints(bytes, at, type, size, range) {
-    const places = PLACES[type];
-    if (places === undefined || size < places.end) {
-        return [];
-    }
-    const [first, second] = [0, 8].map((more) => vaxDoubleAt(bytes, at + places.axes + more));
-    const [x, y] = [0, 8].map((more) => vaxDoubleAt(bytes, at + places.origin + more));
-    const turn = radians(longAt(bytes, at + places.turn));
-    const { start, sweep } = type === ARC ? spanOf(bytes, at) : { start: 0, sweep: 360 };
-    const count = Math.max(Math.ceil(Math.abs(sweep) / ARC_STEP), 1), points = [];
+export function turnOf(angle) {
+    const cosine = Math.cos(angle * ANGLE_UNIT), sine = Math.sin(angle * ANGLE_UNIT);
+    return [cosine, sine, -sine, cosine];
+}
+
+/**
+ * What a quaternion of four longs, the real part first, makes of the two axes, as seen along z; null where it is zero.
+ * It turns the drawing's axes to the element's, so the element is turned by its inverse.
+ * @param {Uint8Array} element
+ * @param {number} at
+ * @returns {number[] | null}
+ */
+export function projectionAt(element, at) {
+    const [w, x, y, z] = [0, 4, 8, 12].map((more) => longAt(element, at + more));
+    const size = w * w + x * x + y * y + z * z;
+    return size === 0 ? null : [
+        (w * w + x * x - y * y - z * z) / size, 2 * (x * y - w * z) / size,
+        2 * (x * y + w * z) / size, (w * w - x * x + y * y - z * z) / size,
+    ];
+}
+
+/**
+ * How far an arc goes round. The highest bit is the sign of what is left, and 0 is all the way round.
+ * @param {number} sweep as it stands in the file
+ */
+function sweepOf(sweep) {
+    const size = Math.min((sweep & 0x7FFFFFFF) * ANGLE_UNIT, WHOLE);
+    return size === 0 ? WHOLE : sweep < 0 ? -size : size;
+}
+
+/**
+ * Whether a stored range is the least box of an arc, or nearly so.
+ * @param {Arc} arc
+ * @param {number} axes
+ * @param {Int32Array} range
+ * @param {number} near
+ */
+function isItsRange({ x, y, alongX, alongY, upX, upY, start, sweep }, axes, range, near) {
+    return Math.abs(range[0] + highOf(-x, -alongX, -upX, start, sweep)) <= near
+        && Math.abs(range[1] + highOf(-y, -alongY, -upY, start, sweep)) <= near
+        && Math.abs(range[axes] - highOf(x, alongX, upX, start, sweep)) <= near
+        && Math.abs(range[axes + 1] - highOf(y, alongY, upY, start, sweep)) <= near;
+}
+
+/**
+ * The greatest value of an arc in one axis: where it turns back there, or else at one of its ends.
+ * @param {number} middle
+ * @param {number} along
+ * @param {number} up
+ * @param {number} start
+ * @param {number} sweep
+ */
+function highOf(middle, along, up, start, sweep) {
+    const end = start + sweep, turning = Math.atan2(up, along);
+    const behind = ((turning - Math.min(start, end)) % WHOLE + WHOLE) % WHOLE;
+    return middle + (behind <= Math.abs(sweep) ? Math.sqrt(along * along + up * up)
+        : Math.max(along * Math.cos(start) + up * Math.sin(start), along * Math.cos(end) + up * Math.sin(end)));
+}
+
+/**
+ * Points of an arc, x and y one behind the other.
+ * @param {Arc} arc
+ * @param {number} steps to a whole turn
+ */
+export function arcPoints(arc, steps) {
+    const count = Math.max(Math.ceil(Math.abs(arc.sweep) / WHOLE * steps - 1e-9), 1);
+    const points = new Float64Array(2 * (count + 1));
     for (let step = 0; step <= count; step++) {
-        const angle = (start + sweep * step / count) * Math.PI / 180;
-        const along = first * Math.cos(angle), up = second * Math.sin(angle);
-        points.push(Math.round(x + along * Math.cos(turn) - up * Math.sin(turn)),
-            Math.round(y + along * Math.sin(turn) + up * Math.cos(turn)));
+        const angle = arc.start + arc.sweep * step / count, cosine = Math.cos(angle), sine = Math.sin(angle);
+        points[2 * step] = arc.x + arc.alongX * cosine + arc.upX * sine;
+        points[2 * step + 1] = arc.y + arc.alongY * cosine + arc.upY * sine;
     }
-    return isInRange(points, range, Math.max(first, second)) ? points : [];
-}
-
-/** @param {number} value an angle as it stands in the file */
-function radians(value) {
-    return value / 360000 * Math.PI / 180;
-}
-
-/**
- * Where an arc begins, and how far it goes round, in degrees. The highest bit of its sweep is the sign of what is left,
- * and a sweep of 0 is all the way round.
- */
-function spanOf(bytes, at) {
-    const sweep = longAt(bytes, at + 40), size = (sweep & 0x7FFFFFFF) / 360000;
-    return { start: longAt(bytes, at + 36) / 360000, sweep: size === 0 ? 360 : sweep < 0 ? -size : size };
-}
-
-/**
- * Whether the least box of points is the stored range, or nearly so: points between those that are drawn may reach
- * further, by no more than a chord's height.
- * @param {number[]} points
- * @param {Int32Array | number[]} range
- * @param {number} radius
- */
-function isInRange(points, range, radius) {
-    const xs = points.filter((_, at) => at % 2 === 0), ys = points.filter((_, at) => at % 2 === 1);
-    const box = [Math.min(...xs), Math.min(...ys), Math.max(...xs), Math.max(...ys)];
-    const near = RANGE_NEAR + radius * (1 - Math.cos(ARC_STEP * Math.PI / 360));
-    return box.every((value, side) => Math.abs(value - range[side]) <= near);
+    return points;
 }

@@ -47,7 +47,8 @@ export class Drawing {
         this.bodyLength = offsets[this.count];
         this.axes = axesOf(bytes);
         this.units = unitsOf(bytes);
-        this.records = new Records(this.axes, this.count + ROOM, (record) => this.bytesOf(record));
+        this.records = new Records(this.axes, this.count + ROOM, (record) => this.bytesOf(record),
+            (record) => this.runOf(record));
         this.nesting = nestingOf(bytes, offsets, true);
         for (let number = 0; number < this.count; number++) {
             readElement(this.records, bytes, offsets[number], number, this.nesting.flags[number]);
@@ -62,6 +63,7 @@ export class Drawing {
     /** Forgets what edits made. */
     forget() {
         this.records.cut(this.ends);
+        this.isBeside = false;
         /** Bytes of the elements that edits made, where each begins in these, by their records behind the drawing's. */
         this.madeBytes = new Uint8Array(0);
         /** @type {number[]} */
@@ -184,6 +186,18 @@ export class Drawing {
     }
 
     /**
+     * The bytes of a record and of all behind it, which a header's parts are among. No edit changes where the parts of
+     * an element of the drawing lie, so they are read where they were; those of an appended header follow it.
+     * @param {number} record
+     */
+    runOf(record) {
+        const number = this.records.number[record];
+        return record >= this.count && (this.isBeside || number >= this.count)
+            ? this.madeBytes.subarray(this.madePlaces[record - this.count])
+            : this.bytes.subarray(this.offsets[number], this.bodyLength);
+    }
+
+    /**
      * The byte of the file at which the element of a record begins.
      * @param {number} record
      */
@@ -200,6 +214,7 @@ export class Drawing {
     beside(other, told) {
         this.forget();
         this.madeBytes = other.bytes;
+        this.isBeside = true;
         const record = new Uint32Array(other.count);
         for (let number = 0; number < other.count; number++) {
             if (number < this.count && !told.has(number) && this.isSame(other, number)) {

@@ -2,6 +2,7 @@
 
 import { counted } from './describing.js';
 import { byId, fill, make, setHidden } from './dom.js';
+import { spellingFault } from './encoding.js';
 import { probesOf } from './lines.js';
 import { TEXT_UNIT } from './reading.js';
 
@@ -92,8 +93,13 @@ export class EditPanel {
             byId('make-words').focus();
             return false;
         }
-        const z = new Array(this.app.drawing.axes - 2).fill(0);
-        return this.app.editing.make(word, this.makingOf(), points.map((point) => [...point, ...z]));
+        const { app } = this, fault = word === 'text' ? spellingFault(byId('make-words').value, app.drawing) : '';
+        if (fault !== '') {
+            app.notice(fault);
+            return false;
+        }
+        const z = new Array(app.drawing.axes - 2).fill(0);
+        return app.editing.make(word, this.makingOf(), points.map((point) => [...point, ...z]));
     }
 
     makingOf() {

@@ -3,6 +3,7 @@
 import { described } from './describing.js';
 import { joined } from './choice.js';
 import { Drawing, isEqual } from './drawing.js';
+import { encodingOf } from './encoding.js';
 import { editLine, fenceEditLine, fenceLines, newLine } from './lines.js';
 import { NotRun } from './making.js';
 import { lineSaid } from './surroundings.js';
@@ -141,7 +142,8 @@ export class Editing {
      * @param {number[][]} points
      */
     async make(word, of, points) {
-        const { document } = this.work, lineOf = (/** @type {number[][]} */ some) => newLine(word, of, some);
+        const { document } = this.work, encoding = encodingOf(this.app.drawing);
+        const lineOf = (/** @type {number[][]} */ some) => newLine(word, of, some, encoding);
         if (document === null) {
             return false;
         }

@@ -70,7 +70,11 @@ function boxOf(records, from, to, isTaken) {
     return box[0] <= box[2] ? box : null;
 }
 
-/** Whether a record is a path without points, which is drawn nowhere. */
+/**
+ * Whether a record is a path without points, which is drawn nowhere.
+ * @param {import('./records.js').Records} records
+ * @param {number} record
+ */
 function isEmptyPath(records, record) {
     return DRAWN_OF[records.type[record]] === DRAWN.path && records.points[record] === 0;
 }

@@ -1,7 +1,9 @@
 /* What stands for what: flags of elements, classes of types, and what a type is drawn as. */
 
 /** Bits of the column `flags`. */
-export const FLAG = Object.freeze({ deleted: 1, locked: 2, bitC: 4, orphan: 8, loose: 16, group: 32, run: 64 });
+export const FLAG = Object.freeze({
+    deleted: 1, locked: 2, bitC: 4, orphan: 8, loose: 16, group: 32, run: 64, hole: 128,
+});
 
 /** What a type's class says of an element: which of it is read. */
 export const CLASS = Object.freeze({
@@ -12,7 +14,8 @@ export const CLASS = Object.freeze({
 export const DRAWN = Object.freeze({ nothing: 0, path: 1, text: 2, cell: 3, node: 4, group: 5, box: 6 });
 
 export const TYPE = Object.freeze({
-    cell: 2, line: 3, data: 5, shape: 6, node: 7, text: 17, definition: 34,
+    cell: 2, line: 3, data: 5, shape: 6, node: 7, curve: 11, ellipse: 15, arc: 16, text: 17, surface: 24, spline: 27,
+    definition: 34,
 });
 
 export const LEAST = -2147483648;
@@ -20,6 +23,7 @@ export const GREATEST = 2147483647;
 export const TCB_SIZE = 1536;
 export const LINKED = 0x0800;
 export const LOCKED = 0x0100;
+export const HOLE = 0x8000;
 
 /**
  * A table of 128 places, from lists of types.

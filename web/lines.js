@@ -1,7 +1,7 @@
 /* The lines of a script that the page writes. */
 
 import { wordOf } from './answers.js';
-import { typed } from './byte_strings.js';
+import { spelledIn } from './encoding.js';
 
 /** Spans of levels as `levels` takes them: 'all', 'none', or '1-5 8'. */
 export function spansOf(levels) {
@@ -98,12 +98,13 @@ export function probesOfFence(mode, axes) {
  * @param {'line' | 'string' | 'shape' | 'text'} word
  * @param {Record<'level' | 'colour' | 'weight' | 'style' | 'font' | 'size' | 'words', string>} of
  * @param {number[][]} points
+ * @param {import('./encoding.js').Encoding} encoding of a text
  */
-export function newLine(word, of, points) {
+export function newLine(word, of, points, encoding) {
     const front = [word, of.level, of.colour, of.weight, of.style];
     const places = points.map((point) => point.join(','));
-    return word === 'text' ? [...front, of.font, '0', of.size, of.size, places[0], typed(of.words)].join(' ')
-        : [...front, ...places].join(' ');
+    return word !== 'text' ? [...front, ...places].join(' ')
+        : [...front, of.font, '0', of.size, of.size, places[0], spelledIn(of.words, encoding)].join(' ');
 }
 
 /** A file's name as a shell takes it. */

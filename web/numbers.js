@@ -33,15 +33,12 @@ export function rangeNumberAt(bytes, at) {
  * @param {number} at
  */
 export function vaxDoubleAt(bytes, at) {
-    let bits = 0n;
-    for (let word = 0; word < 4; word++) {
-        bits = bits << 16n | BigInt(wordAt(bytes, at + 2 * word));
-    }
-    const exponent = Number(bits >> 55n & 0xFFn);
+    const first = wordAt(bytes, at), exponent = first >> 7 & 0xFF;
     if (exponent === 0) {
         return 0;
     }
-    const fraction = bits & (1n << 55n) - 1n | 1n << 55n;
-    const value = Number(fraction) * 2 ** (exponent - 128 - 56);
-    return bits >> 63n ? -value : value;
+    // the three lower words have 48 bits, which is exact; only the sum with the highest is rounded
+    const low = wordAt(bytes, at + 6) + 0x10000 * (wordAt(bytes, at + 4) + 0x10000 * wordAt(bytes, at + 2));
+    const value = ((first & 0x7F | 0x80) * 2 ** 48 + low) * 2 ** (exponent - 128 - 56);
+    return first & 0x8000 ? -value : value;
 }

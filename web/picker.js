@@ -1,8 +1,23 @@
 /* Finds what is under the pointer. */
 
-import { DRAWN, DRAWN_OF, TYPE } from './format.js';
+import { holesIn, isFilled } from './fills.js';
+import { DRAWN, DRAWN_OF } from './format.js';
+import { Path } from './path.js';
 
-/** The square of a point's distance from a segment. */
+const PIXELS_WITHIN = 8;          // about how many pixels of the screen the distance is that is picked within
+const SHARE_OF_FILL = 0.9;        // of that distance that the inside of what is filled has
+const EDGE_ON = 0.01;             // of its area of which a text is seen that is pointed at as a line
+const SIZE_OF_NEAREST = 1000;     // pixels that a record is taken to have where no distance is given
+
+/**
+ * The square of a point's distance from a segment.
+ * @param {number} x
+ * @param {number} y
+ * @param {number} startX
+ * @param {number} startY
+ * @param {number} endX
+ * @param {number} endY
+ */
 function squareFromSegment(x, y, startX, startY, endX, endY) {
     const along = endX - startX, up = endY - startY;
     const square = along * along + up * up;
@@ -13,14 +28,21 @@ function squareFromSegment(x, y, startX, startY, endX, endY) {
 
 /** Picks records of a scene by a place of the drawing. */
 export class Picker {
+    /** @param {import('./scene.js').Scene} scene */
     constructor(scene) {
         this.scene = scene;
+        this.path = new Path(scene.records);
     }
 
-    /** The nearest record that is drawn within a distance, in units of resolution; of equals the last; or -1. */
+    /**
+     * The nearest record that is drawn within a distance, in units of resolution; of equals the last; or -1.
+     * @param {number} x
+     * @param {number} y
+     * @param {number} within
+     */
     pick(x, y, within) {
         let nearest = -1, least = within * within;
-        this.scene.query([x - within, y - within, x + within, y + within], (record) => {
+        this.scene.query([x - within, y - within, x + within, y + within], (/** @type {number} */ record) => {
             const square = this.squareFrom(record, x, y, within);
             if (square < least || (square === least && this.isAbove(record, nearest))) {
                 nearest = record;
@@ -30,9 +52,14 @@ export class Picker {
         return nearest;
     }
 
-    /** The records that are nearest to a place, with their distances in units of resolution, the nearest first. */
+    /**
+     * The records that are nearest to a place, with their distances in units of resolution, the nearest first.
+     * @param {number[]} place
+     * @param {number} count
+     */
     nearest([x, y], count) {
         const { records, order } = this.scene;
+        /** @type {{ record: number, square: number }[]} */
         let found = [];
         for (const record of order) {
             const drawn = DRAWN_OF[records.type[record]];
@@ -45,25 +72,40 @@ export class Picker {
         return found.map(({ record, square }) => ({ record, distance: Math.sqrt(square) }));
     }
 
-    /** The square of a place's distance from the box of a record, which is no more than that from the record. */
+    /**
+     * The square of a place's distance from the box of a record, which is no more than that from the record.
+     * @param {number} record
+     * @param {number} x
+     * @param {number} y
+     */
     squareFromBounds(record, x, y) {
         const { box } = this.scene.records, at = record * 4;
         const offX = Math.max(box[at] - x, x - box[at + 2], 0), offY = Math.max(box[at + 1] - y, y - box[at + 3], 0);
         return offX * offX + offY * offY;
     }
 
+    /**
+     * @param {number} record
+     * @param {number} other
+     */
     isAbove(record, other) {
         const isMarked = this.scene.isAbove(record), isOtherMarked = other >= 0 && this.scene.isAbove(other);
         return isMarked === isOtherMarked ? record > other : isMarked;
     }
 
+    /**
+     * The square of a place's distance from a record; a distance that is picked within says how large it is seen.
+     * @param {number} record
+     * @param {number} x
+     * @param {number} y
+     * @param {number} within
+     */
     squareFrom(record, x, y, within) {
         const { records } = this.scene;
         switch (DRAWN_OF[records.type[record]]) {
-            case DRAWN.path: return this.squareFromPath(record, x, y);
+            case DRAWN.path: return this.squareFromPath(record, x, y, within);
             case DRAWN.text: return this.squareFromText(record, x, y, within);
-            case DRAWN.box: return records.points[record] > 0 ? this.squareFromPath(record, x, y)
-                : this.squareFromBox(record, x, y);
+            case DRAWN.box: return this.squareFromPath(record, x, y, within);
             default: {
                 const offX = x - records.coordinate(record, 0, 0), offY = y - records.coordinate(record, 0, 1);
                 return (offX * offX + offY * offY) * 4 + within * within / 64;
@@ -71,32 +113,95 @@ export class Picker {
         }
     }
 
-    squareFromPath(record, x, y) {
-        const { coordinates, axes, first, points, type } = this.scene.records;
-        const start = first[record] * axes, count = points[record];
+    /**
+     * From the path that a record is drawn by, or else from its range. Within what is filled it isn't quite at it, so
+     * that a line there can be pointed at.
+     * @param {number} record
+     * @param {number} x
+     * @param {number} y
+     * @param {number} within
+     */
+    squareFromPath(record, x, y, within) {
+        const { records } = this.scene, { path } = this, { box } = records, at = record * 4;
+        const side = Math.max(box[at + 2] - box[at], box[at + 3] - box[at + 1]);
+        if (!path.take(record, within > 0 ? side / within * PIXELS_WITHIN : SIZE_OF_NEAREST)) {
+            return DRAWN_OF[records.type[record]] === DRAWN.box ? this.squareFromBox(record, x, y) : Infinity;
+        }
+        const least = this.squareFromTaken(x, y);
+        return isFilled(records, record) && this.isInArea(record, x, y)
+            ? Math.min(least, (SHARE_OF_FILL * within) ** 2) : least;
+    }
+
+    /**
+     * The square of a place's distance from the path that was taken.
+     * @param {number} x
+     * @param {number} y
+     */
+    squareFromTaken(x, y) {
+        const { points, from, to, step, isClosed, count } = this.path;
         let least = Infinity;
-        const last = type[record] === TYPE.shape || count === 1 ? count : count - 1;
-        for (let point = 0; point < last; point++) {
-            const one = start + point * axes, next = start + (point + 1 === count ? 0 : point + 1) * axes;
-            least = Math.min(least, squareFromSegment(x, y, coordinates[one], coordinates[one + 1], coordinates[next],
-                coordinates[next + 1]));
+        for (let place = from, before = isClosed || count === 1 ? to - step : from; place < to; place += step) {
+            least = Math.min(least, squareFromSegment(x, y, points[before], points[before + 1], points[place],
+                points[place + 1]));
+            before = place;
         }
         return least;
     }
 
-    /** Within a text's characters it isn't quite at the text, so that a line there can be pointed at: the larger the
-        text, the less a line has to be met. */
+    /**
+     * Whether a place is in the area of a record, and in none of its holes. Its own path was taken.
+     * @param {number} record
+     * @param {number} x
+     * @param {number} y
+     */
+    isInArea(record, x, y) {
+        const { records } = this.scene;
+        return this.isInTaken(x, y) && !holesIn(records, record).some((hole) => (
+            this.path.take(hole, SIZE_OF_NEAREST) && this.isInTaken(x, y)));
+    }
+
+    /**
+     * Whether a place is in the area of the path that was taken.
+     * @param {number} x
+     * @param {number} y
+     */
+    isInTaken(x, y) {
+        const { points, from, to, step } = this.path;
+        let isInside = false;
+        for (let place = from, before = to - step; place < to; before = place, place += step) {
+            isInside = crosses(x, y, points[before], points[before + 1], points[place], points[place + 1])
+                ? !isInside : isInside;
+        }
+        return isInside;
+    }
+
+    /**
+     * Within a text's characters it isn't quite at the text, so that a line there can be pointed at: the larger the
+     * text, the less a line has to be met.
+     * @param {number} record
+     * @param {number} x
+     * @param {number} y
+     * @param {number} within
+     */
     squareFromText(record, x, y, within) {
         const { records } = this.scene;
-        const text = records.labelOf(record);
+        const text = /** @type {import('./records.js').TextLabel} */ (records.labelOf(record));
         const offX = x - records.coordinate(record, 0, 0), offY = y - records.coordinate(record, 0, 1);
-        const along = offX * Math.cos(text.angle) + offY * Math.sin(text.angle);
-        const up = offY * Math.cos(text.angle) - offX * Math.sin(text.angle);
-        const beyond = Math.max(-along, along - text.width, 0), over = Math.max(-up, up - text.height, 0);
+        const [alongX, alongY, upX, upY] = text.turn, area = alongX * upY - alongY * upX;
+        if (Math.abs(area) < EDGE_ON) {
+            return squareFromSegment(offX, offY, 0, 0, text.width * alongX, text.width * alongY);
+        }
+        const along = (offX * upY - offY * upX) / area, up = (offY * alongX - offX * alongY) / area;
+        const beyond = distanceBeyond(along, text.width), over = distanceBeyond(up, text.height);
         const share = Math.min(0.2 + Math.abs(text.height) / (within + 1) / 12, 0.9);
         return Math.max(beyond * beyond + over * over, (share * within) ** 2);
     }
 
+    /**
+     * @param {number} record
+     * @param {number} x
+     * @param {number} y
+     */
     squareFromBox(record, x, y) {
         const { box } = this.scene.records;
         const at = record * 4;
@@ -105,4 +210,26 @@ export class Picker {
             squareFromSegment(x, y, lowX, lowY, highX, lowY), squareFromSegment(x, y, highX, lowY, highX, highY),
             squareFromSegment(x, y, highX, highY, lowX, highY), squareFromSegment(x, y, lowX, highY, lowX, lowY));
     }
+}
+
+/**
+ * Whether a segment crosses what lies to the right of a place.
+ * @param {number} x
+ * @param {number} y
+ * @param {number} startX
+ * @param {number} startY
+ * @param {number} endX
+ * @param {number} endY
+ */
+function crosses(x, y, startX, startY, endX, endY) {
+    return (startY > y) !== (endY > y) && x < startX + (y - startY) / (endY - startY) * (endX - startX);
+}
+
+/**
+ * How far a place lies beyond a length that goes from 0, forwards or back.
+ * @param {number} place
+ * @param {number} length
+ */
+function distanceBeyond(place, length) {
+    return Math.max(Math.min(length, 0) - place, place - Math.max(length, 0), 0);
 }

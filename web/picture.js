@@ -86,7 +86,8 @@ export class Picture {
             painter.draw(record, pen, width + 1.2, mark === MARK.deleted ? DASHES[2] : dash);
         } else {
             painter.setAlpha(isDeleted || scene.mode === 'both' ? FAINT : 1);
-            painter.draw(record, colours[records.colour[record]], width, dash);
+            const fill = records.fill[record];
+            painter.draw(record, colours[records.colour[record]], width, dash, fill > 0 ? colours[fill - 1] : null);
         }
     }
 }

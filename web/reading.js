@@ -1,7 +1,8 @@
 /* Reads elements out of their bytes into records. */
 
-import { arcPoints } from './arcs.js';
-import { CLASS, CLASS_OF, DRAWN, DRAWN_OF, FLAG, LOCKED, TYPE } from './format.js';
+import { projectionAt, turnOf } from './arcs.js';
+import { fillAt } from './fills.js';
+import { CLASS, CLASS_OF, DRAWN, DRAWN_OF, FLAG, HOLE, LOCKED, TYPE } from './format.js';
 import { longAt, rangeNumberAt, wordAt } from './numbers.js';
 import { cellName } from './radix50.js';
 import { readable } from './texts.js';
@@ -25,16 +26,18 @@ export function readElement(records, bytes, at, number, flags) {
     const record = records.length++, type = bytes[at + 1] & 0x7F;
     const isSilent = CLASS_OF[type] === CLASS.silent;
     const isLocked = !isSilent && wordAt(bytes, at + 32) & LOCKED;
+    const isHole = type === TYPE.shape && wordAt(bytes, at + 32) & HOLE;
     records.type[record] = type;
     records.level[record] = bytes[at] & 0x3F;
     records.size[record] = 4 + 2 * wordAt(bytes, at + 2);
     records.number[record] = number;
     records.flags[record] = flags | (bytes[at] & 0x80 ? FLAG.bitC : 0) | (bytes[at + 1] & 0x80 ? FLAG.deleted : 0)
-        | (isLocked ? FLAG.locked : 0);
+        | (isLocked ? FLAG.locked : 0) | (isHole ? FLAG.hole : 0);
     records.first[record] = records.pointCount;
     records.points[record] = 0;
     if (isSilent) {
         records.colour[record] = records.weight[record] = records.style[record] = records.group[record] = 0;
+        records.fill[record] = 0;
         records.box.fill(0, record * 4, record * 4 + 4);
         return record;
     }
@@ -42,11 +45,9 @@ export function readElement(records, bytes, at, number, flags) {
     records.weight[record] = bytes[at + 34] >> 3;
     records.style[record] = bytes[at + 34] & 7;
     records.group[record] = wordAt(bytes, at + 28);
+    records.fill[record] = fillAt(bytes, at, records.size[record]);
     readRange(records, bytes, at, record);
     readPoints(records, bytes, at, record, type);
-    if (records.axes === 2 && CLASS_OF[type] === CLASS.floating) {
-        readArc(records, bytes, at, record, type);
-    }
     records.setBox(record, type === TYPE.text ? textAt(bytes, at, records.axes) : null);
     return record;
 }
@@ -114,22 +115,6 @@ function readPoints(records, bytes, at, record, type) {
 }
 
 /**
- * Reads an arc or an ellipse as the points that it is drawn by.
- * @param {Records} records
- * @param {Uint8Array} bytes
- * @param {number} at
- * @param {number} record
- * @param {number} type
- */
-function readArc(records, bytes, at, record, type) {
-    const points = arcPoints(bytes, at, type, records.size[record], records.rangeOf(record));
-    records.reservePoints(points.length / 2);
-    records.coordinates.set(points, records.pointCount * 2);
-    records.points[record] = points.length / 2;
-    records.pointCount += points.length / 2;
-}
-
-/**
  * The characters of a text with how they are drawn, or the name of a cell.
  * @param {Uint8Array} bytes
  * @param {number} at
@@ -174,7 +159,7 @@ function textAt(bytes, at, axes) {
         font: bytes[at + 36],
         justification: bytes[at + 37],
         width: [...characters].length * wide,
-        angle: degrees * Math.PI / 180,
+        turn: axes === 2 ? turnOf(longAt(bytes, at + 46)) : projectionAt(bytes, at + 46) || [1, 0, 0, 1],
         natural: 0,
     };
 }

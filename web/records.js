@@ -1,6 +1,8 @@
 /* The elements as columns, a row each; a row is called a record. */
 
+import { LEAST_OF_CURVE, boxOfCurve } from './curves.js';
 import { FLAG, GREATEST, LEAST, TYPE } from './format.js';
+import { Outlines } from './outlines.js';
 import { labelAt } from './reading.js';
 
 /**
@@ -23,32 +25,36 @@ export function grown(array, length) {
 const COLUMNS = Object.freeze({
     type: Uint8Array, level: Uint8Array, colour: Uint8Array, weight: Uint8Array, style: Uint8Array,
     flags: Uint8Array, size: Uint32Array, number: Uint32Array, first: Uint32Array, points: Uint32Array,
-    group: Uint16Array,
+    group: Uint16Array, fill: Uint16Array,
 });
 const COLUMN_NAMES = Object.freeze(Object.keys(COLUMNS));
 
 /**
- * A text as it is drawn: its characters, how wide and high a sign is in units of resolution, its angle in degrees and
- * in radians, font and justification, how wide all of it is, and how wide it came out when it was measured.
- * @typedef {{ characters: string, wide: number, height: number, degrees: number, angle: number, font: number,
+ * A text as it is drawn: its characters, how wide and high a sign is in units of resolution, its angle in degrees, what
+ * its turn makes of its two axes as they are seen (x and y of each), font and justification, how wide all of it is, and
+ * how wide it came out when it was measured.
+ * @typedef {{ characters: string, wide: number, height: number, degrees: number, turn: number[], font: number,
  *     justification: number, width: number, natural: number }} TextLabel
  */
 
 /**
  * Records of elements in columns. A record has its element's head and look, its place in `coordinates` (`first`,
- * counted in points, and how many `points`), its range, low corner and high corner, and the box that it is drawn in.
- * Texts and names of cells are read from the bytes when they are first asked for.
+ * counted in points, and how many `points`), its range, low corner and high corner, the box that it is drawn in, and
+ * the colour that it is filled with and one more, 0 where it is hollow. Texts, names of cells and the outlines of what
+ * is curved are read from the bytes when they are first asked for.
  */
 export class Records {
     /**
      * @param {number} axes
      * @param {number} room how many records there will be, as far as that is known
      * @param {(record: number) => Uint8Array} bytesOf gives the bytes of a record
+     * @param {(record: number) => Uint8Array} runOf gives those of a header of a B-spline and of its parts
      */
-    constructor(axes, room, bytesOf) {
+    constructor(axes, room, bytesOf, runOf) {
         this.axes = axes;
         this.length = 0;
         this.bytesOf = bytesOf;
+        this.outlines = new Outlines(this, runOf);
         /**
          * The texts and names that were asked for, by their records.
          * @type {Map<number, string | TextLabel>}
@@ -69,6 +75,7 @@ export class Records {
         this.first = new Uint32Array(room);
         this.points = new Uint32Array(room);
         this.group = new Uint16Array(room);
+        this.fill = new Uint16Array(room);
     }
 
     /**
@@ -78,8 +85,9 @@ export class Records {
     reserve(records) {
         const length = this.length + records;
         if (length > this.type.length) {
+            const columns = /** @type {Record<string, any>} */ (this);
             for (const name of COLUMN_NAMES) {
-                this[name] = grown(this[name], length);
+                columns[name] = grown(columns[name], length);
             }
             this.range = grown(this.range, length * 2 * this.axes);
             this.box = grown(this.box, length * 4);
@@ -106,6 +114,7 @@ export class Records {
     cut(ends) {
         this.length = ends.length;
         this.pointCount = ends.pointCount;
+        this.outlines.forget();
         for (const record of this.labels.keys()) {
             if (record >= ends.length) {
                 this.labels.delete(record);
@@ -174,7 +183,9 @@ export class Records {
     setBox(record, text) {
         const { box } = this;
         const at = record * 4;
-        if (this.points[record] > 0) {
+        if (this.type[record] === TYPE.curve && this.points[record] >= LEAST_OF_CURVE) {
+            this.setBoxOfCurve(record, at);
+        } else if (this.points[record] > 0) {
             this.setBoxOfPoints(record, at);
         } else {
             const range = this.rangeOf(record);
@@ -209,11 +220,28 @@ export class Records {
         box[at + 3] = highY;
     }
 
+    /**
+     * @param {number} record
+     * @param {number} at
+     */
+    setBoxOfCurve(record, at) {
+        const { coordinates, axes } = this;
+        const box = boxOfCurve(coordinates, this.first[record] * axes, this.points[record], axes);
+        for (const side of [0, 1]) {
+            this.box[at + side] = Math.max(Math.floor(box[side]), LEAST);
+            this.box[at + side + 2] = Math.min(Math.ceil(box[side + 2]), GREATEST);
+        }
+    }
+
     /** @param {number} record */
     isDeleted(record) {
         return (this.flags[record] & FLAG.deleted) !== 0;
     }
 }
+
+// How far the characters of a text reach below its origin and above the height of its capitals, as a share of this.
+const TEXT_BELOW = 0.3;
+const TEXT_ABOVE = 1.3;
 
 /**
  * Widens a text's box, which is its origin, by the corners of its characters, to whole units within the plane.
@@ -223,9 +251,10 @@ export class Records {
  */
 function widenByText(box, at, text) {
     const x = box[at], y = box[at + 1];
-    const cosine = Math.cos(text.angle), sine = Math.sin(text.angle);
-    for (const [along, up] of [[text.width, 0], [0, text.height], [text.width, text.height]]) {
-        const cornerX = x + along * cosine - up * sine, cornerY = y + along * sine + up * cosine;
+    const [alongX, alongY, upX, upY] = text.turn;
+    const low = -TEXT_BELOW * text.height, high = TEXT_ABOVE * text.height;
+    for (const [along, up] of [[0, low], [text.width, low], [0, high], [text.width, high]]) {
+        const cornerX = x + along * alongX + up * upX, cornerY = y + along * alongY + up * upY;
         box[at] = Math.max(Math.min(box[at], Math.floor(cornerX)), LEAST);
         box[at + 1] = Math.max(Math.min(box[at + 1], Math.floor(cornerY)), LEAST);
         box[at + 2] = Math.min(Math.max(box[at + 2], Math.ceil(cornerX)), GREATEST);

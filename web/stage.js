@@ -6,6 +6,9 @@ import { Overlay } from './overlay.js';
 import { Renderer } from './renderer.js';
 import { GREATEST_SCALE } from './view.js';
 
+const MARGIN_OF_FIT = 32;         // pixels that are left at each side where all is shown
+const CLEAR = 14;                 // pixels that are left to what floats above the drawing
+
 export class Stage {
     /** @param {import('./app.js').App} app */
     constructor(app) {
@@ -88,10 +91,12 @@ export class Stage {
 
     /* The view. */
 
-    /** Shows all that is drawn, and says where origins of cells lie outside of it. */
+    /** Shows all that is drawn, clear of what floats above it, and says where origins of cells lie outside of it. */
     fit() {
-        const { box, outside } = this.app.scene.extent();
-        this.app.view.fit(box);
+        const { box, outside } = this.app.scene.extent(), room = byId('stage').getBoundingClientRect();
+        const top = Math.max(byId('tools').getBoundingClientRect().bottom - room.top, 0) + CLEAR;
+        const foot = Math.max(room.bottom - byId('scale-text').getBoundingClientRect().top, 0) + CLEAR;
+        this.app.view.fit(box, GREATEST_SCALE, MARGIN_OF_FIT, top, foot);
         if (outside > 0) {
             this.app.say(outside === 1 ? 'The origin of 1 cell lies outside of the view.'
                 : 'The origins of ' + outside + ' cells lie outside of the view.');

@@ -15,13 +15,20 @@ export function decoded(characters) {
 /** @param {Uint8Array} characters */
 function decodedBy(characters) {
     const latin = latinOf(characters);
-    if (!LATIN1.test(latin)) {
-        return { text: latin, isLatin: true };
-    }
+    const isLatin = !LATIN1.test(latin) || !isUtf8(characters);
+    return { text: isLatin ? latin : UTF8.decode(characters), isLatin };
+}
+
+/**
+ * Whether characters are valid UTF-8.
+ * @param {Uint8Array} characters
+ */
+export function isUtf8(characters) {
     try {
-        return { text: UTF8.decode(characters), isLatin: false };
+        UTF8.decode(characters);
+        return true;
     } catch {
-        return { text: latin, isLatin: true };
+        return false;
     }
 }
 

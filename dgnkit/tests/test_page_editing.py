@@ -249,7 +249,7 @@ class Editing(WithEditor):
         self.assertTrue(lines[0].startswith('line 1 3 0 0 '))
         # 0.6 m are 60 units of resolution, and a multiplier counts 6 thousandths of one
         self.assertEqual(lines[2].split()[5:9], ['1', '0', '10000', '10000'])
-        self.assertTrue(lines[2].endswith('Straße 7'.encode('utf-8').decode('latin-1')))
+        self.assertTrue(lines[2].endswith('Straße 7'), 'in Latin-1, a byte each')
         script = self.put('made.txt', ''.join(line + '\n' for line in lines).encode('latin-1'))
         subprocess.run(
             [str(PROGRAM), 'edit', made, script, self.path('out.dgn')], check=True, stdout=subprocess.DEVNULL
