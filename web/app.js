@@ -5,6 +5,7 @@ import { Choice } from './choice.js';
 import { byId, setHidden, make, fill } from './dom.js';
 import { EditPanel } from './edit_panel.js';
 import { Editing } from './editing.js';
+import { Exports } from './exports.js';
 import { ElementPanel } from './element_panel.js';
 import { GREATEST, LEAST } from './format.js';
 import { KeptPanel } from './kept_panel.js';
@@ -83,6 +84,7 @@ export class App {
      */
     begin(hasProgram) {
         this.search = new Search(this);
+        this.exports = new Exports(this);
         this.menu = new Menu(this);
         this.keptPanel = new KeptPanel(this);
         new Pointer(byId('marks'), this);

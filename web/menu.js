@@ -24,7 +24,8 @@ export class Menu {
             'mend': () => this.mend(), 'import': () => this.import(), 'apply': () => this.applyFile(),
             'compare': () => this.compare(), 'open-script': () => this.openScript(),
             'save-script': () => saver.saveScript(), 'save-patch': () => saver.savePatch(),
-            'print': () => app.stage.print(), 'throw-away': () => opener.throwAway(),
+            'export': () => app.exports.export(), 'print': () => app.exports.print(),
+            'throw-away': () => opener.throwAway(),
         };
         for (const [id, act] of Object.entries(does)) {
             byId(id).addEventListener('click', () => {

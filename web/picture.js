@@ -1,12 +1,10 @@
 /* A picture of a scene by one view. */
 
 import { Dots } from './dots.js';
-import { DASHES, widthOf } from './format.js';
-import { BOX_DASH, Painter } from './painter.js';
-import { MARK } from './scene.js';
+import { drawLook } from './look.js';
+import { Painter } from './painter.js';
 
 const MARGIN = 0.25;              // of the screen that is drawn beyond each of its edges
-const FAINT = 0.45;               // how much is left of what hasn't changed where it is compared
 
 /** A picture of the scene by a view, with a margin around it, drawn in slices. */
 export class Picture {
@@ -71,23 +69,8 @@ export class Picture {
         return this.isDone;
     }
 
+    /** @param {number} record */
     drawRecord(record) {
-        const { scene, painter, colours, pens } = this;
-        const { records } = scene;
-        const mark = scene.markOf(record);
-        const isDeleted = records.isDeleted(record);
-        const dash = DASHES[records.style[record]], width = widthOf(records.weight[record]);
-        if (mark === MARK.old) {
-            painter.setAlpha(0.75);
-            painter.draw(record, pens.old, 0.8, BOX_DASH);
-        } else if (mark !== MARK.none) {
-            painter.setAlpha(1);
-            const pen = mark === MARK.added ? pens.added : mark === MARK.deleted ? pens.deleted : pens.changed;
-            painter.draw(record, pen, width + 1.2, mark === MARK.deleted ? DASHES[2] : dash);
-        } else {
-            painter.setAlpha(isDeleted || scene.mode === 'both' ? FAINT : 1);
-            const fill = records.fill[record];
-            painter.draw(record, colours[records.colour[record]], width, dash, fill > 0 ? colours[fill - 1] : null);
-        }
+        drawLook(this, record);
     }
 }

@@ -76,8 +76,7 @@ export class Questions {
  * @param {(reply: Reply) => void} end
  */
 function dialogParts({ title, said, list = [], fields = [], accept, buttons }, end) {
-    /** @type {HTMLInputElement[]} */
-    const inputs = fields.map(({ name, value }) => make('input', { id: 'asked-' + name, inputmode: 'decimal', value }));
+    const inputs = fields.map(fieldOf);
     /** @param {string} button @param {NamedFile | null} file */
     const reply = (button, file = null) => end({
         button, file, values: Object.fromEntries(fields.map(({ name }, at) => [name, inputs[at].value])),
@@ -91,6 +90,20 @@ function dialogParts({ title, said, list = [], fields = [], accept, buttons }, e
         ...(accept === undefined ? [] : [fileField(accept, (file) => reply('', file))]),
         make('div', { id: 'asking-buttons', class: 'row' }, ...pressed),
     ];
+}
+
+/**
+ * A field of a question: a number or a word, or one of some words.
+ * @param {{ name: string, value: string, options?: string[] }} field
+ * @returns {HTMLInputElement | HTMLSelectElement}
+ */
+function fieldOf({ name, value, options }) {
+    if (options === undefined) {
+        return make('input', { id: 'asked-' + name, inputmode: 'decimal', value });
+    }
+    const select = make('select', { id: 'asked-' + name }, ...options.map((it) => make('option', { value: it }, it)));
+    select.value = value;
+    return select;
 }
 
 /**

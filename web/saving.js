@@ -9,6 +9,7 @@ import { make } from './dom.js';
 export function namesOf(name) {
     const stem = name.replace(/\.dgn$/i, ''), end = name.slice(stem.length) || '.dgn';
     return {
+        picture: stem + '.png', svg: stem + '.svg', features: stem + '.geojson',
         script: stem + '-edit.txt', out: stem + '-new' + end, patch: stem + '-edit.patch', mend: stem + '-mend.patch',
         between: (/** @type {number} */ index) => stem + '-' + index + end,
         scriptBefore: (/** @type {number} */ index) => stem + '-edit-' + index + '.txt',

@@ -186,21 +186,4 @@ export class Stage {
     showNothing() {
         setHidden(byId('nothing'), this.app.scene.order.length > 0);
     }
-
-    /** Prints what is seen, on a light ground. */
-    print() {
-        const { ground } = this;
-        this.setGround('light');
-        this.app.scene.version++;
-        const draw = () => {
-            if (this.renderer.frame()) {
-                requestAnimationFrame(draw);
-            } else {
-                window.print();
-                this.setGround(ground);
-                this.request();
-            }
-        };
-        draw();
-    }
 }

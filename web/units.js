@@ -1,6 +1,9 @@
 /* Displacements in words. */
 
-// What two characters are known to stand for, in metres, each as a fraction; a foot is the international one.
+/**
+ * What two characters are known to stand for, in metres, each as a fraction; a foot is the international one.
+ * @type {Readonly<Record<string, readonly number[]>>}
+ */
 const METRES = Object.freeze({
     'm': [1, 1], 'km': [1000, 1], 'dm': [1, 10], 'cm': [1, 100], 'mm': [1, 1000], 'um': [1, 1000000],
     'ft': [3048, 10000], "'": [3048, 10000], 'in': [254, 10000], '"': [254, 10000], 'yd': [9144, 10000],
@@ -28,6 +31,16 @@ export function shiftSaid({ subunits, resolution, master }, shift) {
     const more = over === under ? ''
         : ', or ' + listed(ways.map(({ by }) => shortest(by * over / (under * inMaster)) + ' m'));
     return listed(masters) + more + ' (' + said + ')';
+}
+
+/**
+ * How many metres a unit of resolution is, where the name of the master unit is known; else null.
+ * @param {import('./tcb.js').Units} units
+ * @returns {number | null}
+ */
+export function metresOfUnit({ subunits, resolution, master }) {
+    const metres = METRES[master.toLowerCase()];
+    return metres === undefined || subunits * resolution === 0 ? null : metres[0] / metres[1] / (subunits * resolution);
 }
 
 /**

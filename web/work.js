@@ -23,7 +23,7 @@ import { namedFile, missingNames } from './second_files.js';
 /**
  * What is asked of a person: a text, a list, buttons, a file or numbers that are wanted.
  * @typedef {{ title: string, said: string[], list?: string[], buttons: string[], accept?: string,
- *     fields?: { name: string, label: string, value: string }[] }} Question
+ *     fields?: { name: string, label: string, value: string, options?: string[] }[] }} Question
  */
 
 /**

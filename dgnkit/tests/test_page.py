@@ -353,14 +353,6 @@ class Opening(WithBrowser):
         self.assertEqual(self.seen.title, 'dropped.dgn – 5 elements')
         self.assertGreater(self.dot(250, 0)[3], 100)
 
-    def test_it_is_printed_on_a_light_ground(self) -> None:
-        self.page(str(EXAMPLES / 'plan.dgn'))
-        self.seen.run("page.stage.setGround('dark'); window.print = () => { window.printed = page.stage.ground; }")
-        self.seen.run("document.getElementById('print').click()")
-        self.seen.wait("window.printed === 'light'")
-        self.seen.settle()
-        self.assertEqual(self.seen.run('return page.stage.ground'), 'dark')
-
     def test_what_is_no_drawing_is_told_by_name(self) -> None:
         self.assertIn('DGN version 8', self.fault('new.dgn', bytes.fromhex('d0cf11e0a1b11ae1') + bytes(2000)))
         self.assertIn('a MicroStation cell library', self.fault('cells.cel', bytes.fromhex('08051700') + bytes(2000)))

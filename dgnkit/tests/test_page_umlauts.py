@@ -44,7 +44,7 @@ class Umlauts(WithEditor):
         self.seen.type('#make-height', '100')
         self.click_at(1000, 2000)
         self.seen.settle()
-        return list(self.seen.run('return page.work.session.lines'))
+        return list(self.seen.run('return page.work.document.lines'))
 
     def test_a_new_text_is_spelled_as_the_others_are(self) -> None:
         for name, (file, encoding) in DRAWINGS.items():
