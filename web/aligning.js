@@ -2,7 +2,7 @@
    byte, and stand once in each drawing are anchors; between two anchors elements are paired by type and size. */
 
 import { byteString } from './byte_strings.js';
-import { isEqual } from './drawing.js';
+import { isEqual } from './bytes.js';
 import { matching, matchingOfMany } from './matching.js';
 
 const MANY = 1000000;             // more pairs than that aren't compared one by one

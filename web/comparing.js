@@ -3,7 +3,7 @@
 import { pairsOf } from './aligning.js';
 import { colourSaid } from './colour_table.js';
 import { counted, described, quoted } from './describing.js';
-import { isEqual } from './drawing.js';
+import { isEqual } from './bytes.js';
 import { fieldName, pointsSpan } from './fields.js';
 import { CLASS, CLASS_OF, FLAG, TYPE } from './format.js';
 import { longAt, rangeNumberAt, wordAt } from './numbers.js';

@@ -2,7 +2,7 @@
 
 import { counted } from './describing.js';
 import { byId, fill, make, termed } from './dom.js';
-import { DRAWN, DRAWN_OF, FLAG } from './format.js';
+import { isLeaf } from './showing.js';
 
 export class LevelsPanel {
     /** @param {import('./app.js').App} app */
@@ -20,30 +20,14 @@ export class LevelsPanel {
     /** Counts the elements of the state that is seen, and lists the levels of all. */
     show() {
         const { state, before, after } = this.app.scene;
-        this.counts = this.countsOf(state);
+        this.counts = state.counts;
         const others = [before, after].filter((other) => other !== null && other !== state);
         const used = this.counts.levels.slice();
         for (const other of others) {
-            this.countsOf(other).levels.forEach((count, level) => { used[level] += count; });
+            other.counts.levels.forEach((count, level) => { used[level] += count; });
         }
         this.fillLevels(used);
         this.fillTypes();
-    }
-
-    /** How much each level shows alone, how many elements each type has, and how many are marked deleted. */
-    countsOf(state) {
-        const { records } = this.app.scene, hidden = state.hiddenByHeaders(false);
-        const levels = new Array(64).fill(0), types = new Array(128).fill(0);
-        let deleted = 0;
-        for (let number = 0; number < state.count; number++) {
-            const record = state.record[number];
-            types[records.type[record]]++;
-            deleted += records.isDeleted(record) ? 1 : 0;
-            if (!hidden[number] && isLeaf(records, record)) {
-                levels[records.level[record]]++;
-            }
-        }
-        return { levels, types, deleted };
     }
 
     fillLevels(used) {
@@ -117,9 +101,4 @@ export class LevelsPanel {
         }
         this.app.sceneChanged();
     }
-}
-
-/** Whether a record is shown by its own level, not by what stands below it. */
-function isLeaf(records, record) {
-    return DRAWN_OF[records.type[record]] !== DRAWN.nothing && !(records.flags[record] & (FLAG.group | FLAG.loose));
 }

@@ -54,7 +54,8 @@ export class Picker {
 
     isAbove(record, other) {
         const isMarked = this.scene.isAbove(record), isOtherMarked = other >= 0 && this.scene.isAbove(other);
-        return isMarked === isOtherMarked ? record > other : isMarked;
+        return isMarked === isOtherMarked ? other < 0 || this.scene.placeOf(record) > this.scene.placeOf(other)
+            : isMarked;
     }
 
     squareFrom(record, x, y, within) {

@@ -3,7 +3,7 @@
 import { Dots } from './dots.js';
 import { DASHES, widthOf } from './format.js';
 import { BOX_DASH, Painter } from './painter.js';
-import { MARK } from './scene.js';
+import { MARK } from './marking.js';
 
 const MARGIN = 0.25;              // of the screen that is drawn beyond each of its edges
 const FAINT = 0.45;               // how much is left of what hasn't changed where it is compared

@@ -2,7 +2,7 @@
 
 import { answersOf, wordOf } from './answers.js';
 import { byteString, bytesOf } from './byte_strings.js';
-import { isEqual } from './drawing.js';
+import { isEqual } from './bytes.js';
 import { LISTED_MOST } from './limits.js';
 
 /** @typedef {import('./answers.js').Answer} Answer */

@@ -179,7 +179,7 @@ export class Stage {
 
     /** Says where nothing is to be seen. */
     showNothing() {
-        setHidden(byId('nothing'), this.app.scene.order.length > 0);
+        setHidden(byId('nothing'), this.app.scene.drawn > 0);
     }
 
     /** Prints what is seen, on a light ground. */

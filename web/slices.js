@@ -1,0 +1,85 @@
+/* Long work in slices, between which the page answers to its user. */
+
+const LONGEST_SLICE = 30;         // milliseconds
+/** So many elements are a piece of work: the clock is looked at behind each. */
+export const PIECE = 16384;
+
+/**
+ * Work that can be left behind each of its pieces, and what comes out of it.
+ * @template T
+ * @typedef {Generator<void, T, void>} Pieces
+ */
+
+/**
+ * Does all of a work at once.
+ * @template T
+ * @param {Pieces<T>} work
+ * @returns {T}
+ */
+export function atOnce(work) {
+    let step = work.next();
+    while (!step.done) {
+        step = work.next();
+    }
+    return step.value;
+}
+
+/**
+ * Does a work in slices. Where the signal comes it is left, and the promise is broken with the signal's reason.
+ * @template T
+ * @param {Pieces<T>} work
+ * @param {AbortSignal | null} signal
+ * @returns {Promise<T>}
+ */
+export async function inSlices(work, signal = null) {
+    const turns = new Turns();
+    try {
+        let step = sliceOf(work);
+        while (!step.done) {
+            await turns.next();
+            if (signal !== null && signal.aborted) {
+                throw signal.reason;
+            }
+            step = sliceOf(work);
+        }
+        return step.value;
+    } finally {
+        turns.end();
+    }
+}
+
+/**
+ * Works for the time of a slice.
+ * @template T
+ * @param {Pieces<T>} work
+ */
+function sliceOf(work) {
+    const end = performance.now() + LONGEST_SLICE;
+    let step = work.next();
+    while (!step.done && performance.now() < end) {
+        step = work.next();
+    }
+    return step;
+}
+
+/** Turns of the event loop: a message comes behind what waits already, and without the pause that timers have. */
+class Turns {
+    constructor() {
+        this.channel = new MessageChannel();
+        /** @type {() => void} */
+        this.go = () => {};
+        this.channel.port1.onmessage = () => this.go();
+    }
+
+    /** @returns {Promise<void>} */
+    next() {
+        return new Promise((resolve) => {
+            this.go = resolve;
+            this.channel.port2.postMessage(null);
+        });
+    }
+
+    end() {
+        this.channel.port1.close();
+    }
+}
