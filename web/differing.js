@@ -113,3 +113,37 @@ function addRest(spans, from, to) {
     }
     spans.push([from, to]);
 }
+
+/**
+ * The records that the numbers of spans have in the drawing as it was opened and in two states, each once.
+ * @param {State} origin
+ * @param {State | null} one
+ * @param {State | null} other
+ * @param {Span[]} spans
+ */
+export function recordsOf(origin, one, other, spans) {
+    /** @type {number[]} */
+    const found = [];
+    for (const [from, to] of spans) {
+        for (let number = from; number < to; number++) {
+            const opened = recordIn(origin, null, number), old = recordIn(origin, one, number);
+            addUnless(found, opened, -1, -1);
+            addUnless(found, old, opened, -1);
+            addUnless(found, recordIn(origin, other, number), opened, old);
+        }
+    }
+    return found;
+}
+
+/**
+ * Adds a record, if there is one, unless it is one of two others.
+ * @param {number[]} records
+ * @param {number} record
+ * @param {number} one
+ * @param {number} other
+ */
+function addUnless(records, record, one, other) {
+    if (record >= 0 && record !== one && record !== other) {
+        records.push(record);
+    }
+}

@@ -1,6 +1,6 @@
 /* What is to be seen: the records of one or two states, under levels, with their marks. */
 
-import { recordIn, spansBetween } from './differing.js';
+import { recordIn, recordsOf, spansBetween } from './differing.js';
 import { extentOf, hasPlace, widenBox } from './extent.js';
 import { DRAWN, DRAWN_OF } from './format.js';
 import { GrowingGrid } from './grid.js';
@@ -128,7 +128,7 @@ export class Scene {
             this.showAll();
             return;
         }
-        const touched = this.recordsIn(spans, last, next), were = touched.map((record) => this.lookOf(record));
+        const touched = recordsOf(this.before, last, next, spans), were = touched.map((record) => this.lookOf(record));
         change();
         touched.forEach((record) => { this.shown[record] = this.marks[record] = 0; });
         this.markIn(spans);
@@ -144,27 +144,6 @@ export class Scene {
         });
         this.version++;
         this.changed.add(this.version, isAll ? null : boxes);
-    }
-
-    /**
-     * The records that numbers have in the drawing as it was and in two states, each once.
-     * @param {import('./differing.js').Span[]} spans
-     * @param {State | null} last
-     * @param {State | null} next
-     */
-    recordsIn(spans, last, next) {
-        /** @type {number[]} */
-        const found = [];
-        for (const [from, to] of spans) {
-            for (let number = from; number < to; number++) {
-                const own = recordIn(this.before, null, number), old = recordIn(this.before, last, number);
-                const made = recordIn(this.before, next, number);
-                addOther(found, own, -1, -1);
-                addOther(found, old, own, -1);
-                addOther(found, made, own, old);
-            }
-        }
-        return found;
     }
 
     /**
@@ -269,12 +248,20 @@ export class Scene {
 
     /** The records that are drawn, in their order. */
     get order() {
+        return this.ordered(this.shown);
+    }
+
+    /**
+     * Of the records that have a 1 in a row those that are drawn, in the order to draw them in.
+     * @param {Uint8Array} taken
+     */
+    ordered(taken) {
         const found = new Uint32Array(this.drawn);
         /** @type {number[]} */
         const above = [];
         let count = 0;
         for (let record = 0; record < this.records.length; record++) {
-            if (this.isDrawn(record)) {
+            if (taken[record] === 1 && this.isDrawn(record)) {
                 if (record < this.base && this.markOf(record) === MARK.none) {
                     found[count++] = record;
                 } else {
@@ -283,7 +270,7 @@ export class Scene {
             }
         }
         found.set(this.sorted(above), count);
-        return found;
+        return found.subarray(0, count + above.length);
     }
 
     /**
@@ -296,6 +283,16 @@ export class Scene {
             const number = place % MADE, isMade = place % MARKED >= MADE;
             return isMade && after !== null ? after.record[number] : number;
         });
+    }
+
+    /**
+     * The records that are drawn and whose boxes meet one of these rectangles, each once, in the order to draw them in.
+     * @param {number[][]} rectangles
+     */
+    within(rectangles) {
+        const taken = new Uint8Array(this.shown.length);
+        rectangles.forEach((it) => this.query(it, (record) => { taken[record] = 1; }));
+        return this.ordered(taken);
     }
 
     /**
@@ -369,17 +366,4 @@ export class Scene {
  */
 function epochOf(state) {
     return state === null ? 0 : state.edited === null ? -1 : state.edited.epoch;
-}
-
-/**
- * Adds a record, if there is one, unless it is one of two others.
- * @param {number[]} records
- * @param {number} record
- * @param {number} one
- * @param {number} other
- */
-function addOther(records, record, one, other) {
-    if (record >= 0 && record !== one && record !== other) {
-        records.push(record);
-    }
 }

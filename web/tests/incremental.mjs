@@ -1,6 +1,6 @@
 /* Applies changes by chance, one after another, and holds what is told anew of what has changed alone against a drawing
-   and a scene that are made anew of the same bytes. It prints how often that was, and ends with 1 at the first time that
-   they differ. The first word is where chance begins, the second how many drawings are tried. */
+   and a scene that are made anew of the same bytes. It prints how often that was, and ends with 1 at the first time
+   that they differ. The first word is where chance begins, the second how many drawings are tried. */
 
 import assert from 'node:assert';
 
@@ -56,7 +56,7 @@ class Work {
         return made;
     }
 
-    /** A changed byte of an element: its look, its mark of deletion, its level, a coordinate, or the bytes of its text. */
+    /** A changed byte of an element: its look, its mark of deletion, its level, a coordinate, or a byte of its text. */
     edit() {
         const { chance, drawing: { offsets, count, bytes } } = this, number = 1 + chance.below(count - 1);
         const start = offsets[number], size = offsets[number + 1] - start;
@@ -149,7 +149,8 @@ function round(chance) {
         }
         const out = work.out(), { version } = scene, before = looks(drawing, scene);
         const mode = chance.of(['after', 'after', 'after', 'both', 'before']);
-        const state = chance.next() < 0.1 ? null : drawing.after(changesBetween(drawing.bytes, drawing.bodyLength, out));
+        const changes = changesBetween(drawing.bytes, drawing.bodyLength, out);
+        const state = chance.next() < 0.1 ? null : drawing.after(changes);
         show(scene, state, state === null ? 'before' : mode);
         const boxes = scene.changed.between(version, scene.version);
         compare(drawing, scene, out);

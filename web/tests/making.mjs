@@ -57,8 +57,8 @@ export function part(chance, [x, y], isMember) {
     if (kind === 1) {
         const characters = [...'pipe ' + chance.below(50)].map((sign) => sign.charCodeAt(0)).slice(0, 7);
         const full = [...characters, ...new Array(8 - characters.length).fill(32)];
-        return element({ ...head, type: 17 }, [1, 0, ...long(9000), ...long(9000), ...long(0), ...points([[x, y]]), 8, 0,
-            ...full]);
+        const font = [1, 0, ...long(9000), ...long(9000), ...long(0)];
+        return element({ ...head, type: 17 }, [...font, ...points([[x, y]]), 8, 0, ...full]);
     }
     if (kind === 2) {
         return element({ ...head, type: 33 }, word(0));
