@@ -15,6 +15,7 @@ export class Dots {
     constructor() {
         this.canvas = document.createElement('canvas');
         this.context = contextOf(this.canvas);
+        this.width = this.height = 1;
         this.image = this.context.createImageData(1, 1);
         /** The dots, each as four bytes in the order of the image. */
         this.values = new Uint32Array(this.image.data.buffer);
@@ -35,7 +36,9 @@ export class Dots {
      * @param {number} height
      */
     start(width, height) {
-        if (this.image.width !== width || this.image.height !== height) {
+        if (this.width !== width || this.height !== height) {
+            this.width = width;
+            this.height = height;
             this.canvas.width = width;
             this.canvas.height = height;
             this.image = this.context.createImageData(width, height);
@@ -55,9 +58,20 @@ export class Dots {
      * @param {number} alpha
      */
     set(left, top, size, colour, alpha) {
-        const { width, height } = this.image;
-        const value = colour === this.colour && alpha === this.alpha ? this.value : this.valueOf(colour, alpha);
-        const right = Math.min(left + size, width), bottom = Math.min(top + size, height), { values } = this;
+        this.put(left, top, size, colour === this.colour && alpha === this.alpha ? this.value
+            : this.valueOf(colour, alpha));
+    }
+
+    /**
+     * Sets a square of dots to a value.
+     * @param {number} left
+     * @param {number} top
+     * @param {number} size
+     * @param {number} value
+     */
+    put(left, top, size, value) {
+        const { width, height, values } = this;
+        const right = Math.min(left + size, width), bottom = Math.min(top + size, height);
         for (let y = Math.max(top, 0); y < bottom; y++) {
             for (let x = Math.max(left, 0); x < right; x++) {
                 values[y * width + x] = value;
@@ -89,7 +103,7 @@ export class Dots {
      * Puts what is set on another canvas of this size.
      * @param {CanvasRenderingContext2D} context
      */
-    put(context) {
+    show(context) {
         if (this.isEmpty) {
             return;
         }

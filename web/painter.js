@@ -5,7 +5,7 @@ import { DASHES, DRAWN, DRAWN_OF, TYPE } from './format.js';
 const FAR = 8000;                 // pixels beyond which a path is cut at the edge of the screen
 const MOST_IN_PATH = 256;         // points that are stroked at once
 const LEAST_TEXT = 3.5;           // pixels of a text's height below which it is drawn as a line
-const LEAST_CROSS = 14;           // pixels of a cell's range below which its origin isn't marked
+export const LEAST_CROSS = 14;           // pixels of a cell's range below which its origin isn't marked
 export const BOX_DASH = [4, 3];
 const EM = 100;                   // pixels of the font that texts are measured and drawn in
 const CAPITAL = 0.72;             // height of a capital letter in it, of an em

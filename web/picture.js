@@ -1,15 +1,17 @@
 /* A picture of a scene by one view. */
 
 import { contextOf } from './dots.js';
-import { DASHES, widthOf } from './format.js';
+import { DASHES, DRAWN, DRAWN_OF, FLAG, widthOf } from './format.js';
 import { MARK } from './marking.js';
-import { BOX_DASH, Painter } from './painter.js';
+import { BOX_DASH, LEAST_CROSS, Painter } from './painter.js';
 import { Tiles } from './tiles.js';
 import { View } from './view.js';
 
 const MARGIN = 0.25;              // of the screen that is drawn beyond each of its edges
 const FAINT = 0.45;               // how much is left of what hasn't changed where it is compared
 const REACH_OF_LINES = 24;        // pixels that what is drawn may reach beyond its box
+const SMALL = 1.2;                // pixels below which something is drawn as a dot
+const AT_ONCE = 512;              // records that are drawn before the clock is looked at
 const MOST_MENDED = 0.5;          // of a picture, and of what is drawn, where more is drawn as a whole
 
 /** @typedef {import('./dots.js').Dots} Dots */
@@ -45,6 +47,8 @@ export class Picture {
         this.colours = [];
         /** @type {Record<string, string>} */
         this.pens = {};
+        /** Dots of each colour, and those of what is hardly seen. */
+        this.values = this.faintValues = new Uint32Array(0);
     }
 
     /**
@@ -122,6 +126,8 @@ export class Picture {
             this.context.clearRect(0, 0, width, height);
         }
         this.dots.start(width, height);
+        this.values = Uint32Array.from(this.colours, (colour) => this.dots.valueOf(colour, 1));
+        this.faintValues = Uint32Array.from(this.colours, (colour) => this.dots.valueOf(colour, FAINT));
     }
 
     /**
@@ -187,19 +193,51 @@ export class Picture {
     draw(budget) {
         const start = performance.now(), { list } = this;
         while (this.next < list.length && performance.now() - start < budget) {
-            const end = Math.min(this.next + 128, list.length);
+            const end = Math.min(this.next + AT_ONCE, list.length);
             for (; this.next < end; this.next++) {
-                if (this.scene.isDrawn(list[this.next])) {
+                if (this.scene.isDrawn(list[this.next]) && !this.drawAsDot(list[this.next])) {
                     this.drawRecord(list[this.next]);
                 }
             }
         }
         this.painter.finish();
         if (this.isDone) {
-            this.dots.put(this.context);
+            this.dots.show(this.context);
         }
         this.spent += performance.now() - start;
         return this.isDone;
+    }
+
+    /**
+     * Draws what is hardly larger than a dot, and isn't marked, as one, and says whether it did: of a large drawing
+     * that is nearly all.
+     * @param {number} record
+     */
+    drawAsDot(record) {
+        const { view, ratio, dots, scene } = this, { box, type, flags, colour, weight } = scene.records;
+        const drawn = DRAWN_OF[type[record]], at = 4 * record;
+        if (drawn === DRAWN.cell || drawn === DRAWN.node) {
+            return this.isWithoutCross(record);
+        }
+        if ((box[at + 2] - box[at]) * view.scale >= SMALL || (box[at + 3] - box[at + 1]) * view.scale >= SMALL
+            || scene.markOf(record) !== MARK.none) {
+            return false;
+        }
+        const isFaint = (flags[record] & FLAG.deleted) !== 0 || scene.mode === 'both';
+        const size = Math.max(Math.round(widthOf(weight[record]) * ratio), 1);
+        dots.put(Math.round(view.toScreenX(box[at]) * ratio), Math.round(view.toScreenY(box[at + 3]) * ratio), size,
+            (isFaint ? this.faintValues : this.values)[colour[record]]);
+        return true;
+    }
+
+    /**
+     * Whether a cell or a text node is too small for its origin to be marked.
+     * @param {number} record
+     */
+    isWithoutCross(record) {
+        const { view: { scale }, scene: { records: { range, axes } } } = this, at = 2 * axes * record;
+        return (range[at + axes] - range[at]) * scale < LEAST_CROSS
+            && (range[at + axes + 1] - range[at + 1]) * scale < LEAST_CROSS;
     }
 
     /** @param {number} record */
