@@ -2,6 +2,9 @@
 
 import { DRAWN, DRAWN_OF, TYPE } from './format.js';
 
+/** Half the side of a square that holds the plane, whatever its centre. */
+const GREATEST_HALF = 2 ** 34;
+
 /** The square of a point's distance from a segment. */
 function squareFromSegment(x, y, startX, startY, endX, endY) {
     const along = endX - startX, up = endY - startY;
@@ -30,19 +33,39 @@ export class Picker {
         return nearest;
     }
 
-    /** The records that are nearest to a place, with their distances in units of resolution, the nearest first. */
-    nearest([x, y], count) {
-        const { records, order } = this.scene;
-        let found = [];
-        for (const record of order) {
-            const drawn = DRAWN_OF[records.type[record]];
-            const last = found.length < count ? Infinity : found[count - 1].square;
-            if (drawn !== DRAWN.cell && drawn !== DRAWN.node && this.squareFromBounds(record, x, y) < last) {
-                found.push({ record, square: this.squareFrom(record, x, y, 0) });
-                found = found.sort((one, other) => one.square - other.square).slice(0, count);
-            }
+    /**
+     * The records that are nearest to a place, with their distances in units of resolution, the nearest first.
+     * @param {number[]} place
+     * @param {number} count
+     */
+    nearest(place, count) {
+        let half = 1, found = [];
+        while (half < GREATEST_HALF && (found.length < count || found[count - 1].square > half * half)) {
+            half *= 2;
+            found = this.nearestWithin(place, half, count);
         }
         return found.map(({ record, square }) => ({ record, distance: Math.sqrt(square) }));
+    }
+
+    /**
+     * The nearest of the records in a square around a place, with the squares of their distances.
+     * @param {number[]} place
+     * @param {number} half of its side
+     * @param {number} count
+     */
+    nearestWithin([x, y], half, count) {
+        const { records } = this.scene;
+        let found = [];
+        this.scene.query([x - half, y - half, x + half, y + half], (record) => {
+            const drawn = DRAWN_OF[records.type[record]];
+            const last = found.length < count ? Infinity : found[count - 1].square;
+            if (drawn !== DRAWN.cell && drawn !== DRAWN.node && this.squareFromBounds(record, x, y) <= last) {
+                found.push({ record, square: this.squareFrom(record, x, y, 0) });
+                found = found.sort((one, other) => one.square - other.square || one.record - other.record)
+                    .slice(0, count);
+            }
+        });
+        return found;
     }
 
     /** The square of a place's distance from the box of a record, which is no more than that from the record. */

@@ -10,6 +10,8 @@ const LEAST_SLICE = 2;
 const MOST_SLICE = 9;
 const LONG_FRAME = 25;
 const PAUSE = 200;
+/** How much of the margin around a picture is used while the view moves, until the next one is begun. */
+const USED = 0.6;
 
 /** @typedef {import('./scene.js').Scene} Scene */
 /** @typedef {import('./view.js').View} View */
@@ -86,8 +88,12 @@ export class Renderer {
         if (this.making === null && this.isFresh(this.whole)) {
             return this.compose();
         }
+        const isMoving = this.lastView !== null && !this.lastView.equals(this.view), budget = this.budget(isMoving);
+        if (isMoving && this.making === null && this.isEnough(this.whole)) {
+            this.compose();
+            return true;
+        }
         const making = this.making === null || this.isUseless(this.making) ? this.begin() : this.making;
-        const budget = this.budget();
         if (making.draw(this.isQuick ? STILL_SLICE : budget)) {
             this.isQuick = making.isMending ? this.isQuick : making.spent < MOST_SLICE;
             this.spare = this.whole;
@@ -98,10 +104,23 @@ export class Renderer {
         return true;
     }
 
-    /** How long to draw in this frame: less while the view moves, and then as much as lets the frames come in time. */
-    budget() {
+    /**
+     * Whether a picture has all that is seen, and some of what comes next.
+     * @param {Picture | null} picture
+     */
+    isEnough(picture) {
+        const { view, scene } = this;
+        return picture !== null && picture.version === scene.version && picture.view.scale === view.scale
+            && 2 * Math.abs(view.x - picture.view.x) * view.scale < USED * (picture.view.width - view.width)
+            && 2 * Math.abs(view.y - picture.view.y) * view.scale < USED * (picture.view.height - view.height);
+    }
+
+    /**
+     * How long to draw in this frame: less while the view moves, and then as much as lets the frames come in time.
+     * @param {boolean} isMoving
+     */
+    budget(isMoving) {
         const now = performance.now(), interval = now - this.lastFrame;
-        const isMoving = this.lastView !== null && !this.lastView.equals(this.view);
         this.lastFrame = now;
         this.lastView = this.view.copy();
         if (!isMoving) {

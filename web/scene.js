@@ -10,6 +10,7 @@ import { ChangedBoxes, addBox } from './redrawn.js';
 import { Showing } from './showing.js';
 
 const MADE = 2 ** 32;             // what is added to a place in the order for what edits made
+const MOST_SORTED = 4096;                 // records that are sorted, and not found again by going through all
 const MARKED = 2 ** 33;           // and for what is marked, which stands above the rest
 
 /** @typedef {import('./records.js').Records} Records */
@@ -290,8 +291,14 @@ export class Scene {
      * @param {number[][]} rectangles
      */
     within(rectangles) {
+        /** @type {number[]} */
+        const found = [];
+        rectangles.forEach((it) => this.query(it, (record) => found.push(record)));
+        if (found.length < MOST_SORTED) {
+            return this.sorted(found).filter((record, at, all) => record !== all[at - 1]);
+        }
         const taken = new Uint8Array(this.shown.length);
-        rectangles.forEach((it) => this.query(it, (record) => { taken[record] = 1; }));
+        found.forEach((record) => { taken[record] = 1; });
         return this.ordered(taken);
     }
 

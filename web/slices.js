@@ -49,6 +49,25 @@ export async function inSlices(work, signal = null) {
 }
 
 /**
+ * Does a work while the page has nothing else to do, until a signal comes.
+ * @param {Pieces<void>} work
+ * @param {AbortSignal} signal
+ */
+export function whenIdle(work, signal) {
+    const go = (/** @type {IdleDeadline} */ deadline) => {
+        while (!signal.aborted && deadline.timeRemaining() > 2) {
+            if (work.next().done) {
+                return;
+            }
+        }
+        if (!signal.aborted) {
+            requestIdleCallback(go);
+        }
+    };
+    requestIdleCallback(go);
+}
+
+/**
  * Works for the time of a slice.
  * @template T
  * @param {Pieces<T>} work

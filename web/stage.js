@@ -126,7 +126,10 @@ export class Stage {
         this.moved();
     }
 
-    /** Goes to a place and marks it; what was chosen elsewhere isn't any more. */
+    /**
+     * Goes to a place and marks it; what was chosen elsewhere isn't any more.
+     * @param {number[]} place
+     */
     goToPlace([x, y]) {
         const { view, scene, words } = this.app;
         const [lowX, lowY, highX, highY] = scene.extent().box;
