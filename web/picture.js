@@ -126,6 +126,11 @@ export class Picture {
             this.context.clearRect(0, 0, width, height);
         }
         this.dots.start(width, height);
+        this.prepareDots();
+    }
+
+    /** Finds the dots of each colour. */
+    prepareDots() {
         this.values = Uint32Array.from(this.colours, (colour) => this.dots.valueOf(colour, 1));
         this.faintValues = Uint32Array.from(this.colours, (colour) => this.dots.valueOf(colour, FAINT));
     }
@@ -214,7 +219,7 @@ export class Picture {
      * @param {number} record
      */
     drawAsDot(record) {
-        const { view, ratio, dots, scene } = this, { box, type, flags, colour, weight } = scene.records;
+        const { view, ratio, dots, scene } = this, { box, type, flags, colour } = scene.records;
         const drawn = DRAWN_OF[type[record]], at = 4 * record;
         if (drawn === DRAWN.cell || drawn === DRAWN.node) {
             return this.isWithoutCross(record);
@@ -224,10 +229,17 @@ export class Picture {
             return false;
         }
         const isFaint = (flags[record] & FLAG.deleted) !== 0 || scene.mode === 'both';
-        const size = Math.max(Math.round(widthOf(weight[record]) * ratio), 1);
-        dots.put(Math.round(view.toScreenX(box[at]) * ratio), Math.round(view.toScreenY(box[at + 3]) * ratio), size,
-            (isFaint ? this.faintValues : this.values)[colour[record]]);
+        dots.put(Math.round(view.toScreenX(box[at]) * ratio), Math.round(view.toScreenY(box[at + 3]) * ratio),
+            this.dotSizeOf(record), (isFaint ? this.faintValues : this.values)[colour[record]]);
         return true;
+    }
+
+    /**
+     * How many dots a side what is hardly larger than one is drawn with.
+     * @param {number} record
+     */
+    dotSizeOf(record) {
+        return Math.max(Math.round(widthOf(this.scene.records.weight[record]) * this.ratio), 1);
     }
 
     /**

@@ -133,9 +133,13 @@ export class Renderer {
         return this.slice;
     }
 
+    newPicture() {
+        return new Picture(this.scene, this.dots);
+    }
+
     /** Begins a picture: on that which is there, where it is of the same view and little has changed since. */
     begin() {
-        const { whole, scene, view } = this, picture = this.making || this.spare || new Picture(this.scene, this.dots);
+        const { whole, scene, view } = this, picture = this.making || this.spare || this.newPicture();
         this.spare = null;
         this.making = picture;
         if (whole === null || !whole.seen.equals(view) || !picture.mend(scene, whole)) {
@@ -158,14 +162,18 @@ export class Renderer {
             || factor < 0.5 || seen.width !== this.view.width || seen.height !== this.view.height;
     }
 
+    clear() {
+        this.context.setTransform(1, 0, 0, 1, 0, 0);
+        this.context.clearRect(0, 0, this.canvas.width, this.canvas.height);
+    }
+
     /** Puts the newest picture on the canvas, where the view has it. */
     compose() {
         const picture = this.whole || this.making, { context, view, ratio } = this;
         if (picture === null) {
             return false;
         }
-        context.setTransform(1, 0, 0, 1, 0, 0);
-        context.clearRect(0, 0, this.canvas.width, this.canvas.height);
+        this.clear();
         const factor = view.scale / picture.view.scale;
         let left = (view.toScreenX(picture.view.x) - picture.view.width / 2 * factor) * ratio;
         let top = (view.toScreenY(picture.view.y) - picture.view.height / 2 * factor) * ratio;
