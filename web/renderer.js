@@ -101,7 +101,7 @@ export class Renderer {
             this.making = null;
         }
         this.compose();
-        return true;
+        return this.making !== null || !this.isFresh(this.whole);
     }
 
     /**
