@@ -34,13 +34,10 @@ export function atOnce(work) {
 export async function inSlices(work, signal = null) {
     const turns = new Turns();
     try {
-        let step = sliceOf(work);
+        let step = sliceOf(work, signal);
         while (!step.done) {
             await turns.next();
-            if (signal !== null && signal.aborted) {
-                throw signal.reason;
-            }
-            step = sliceOf(work);
+            step = sliceOf(work, signal);
         }
         return step.value;
     } finally {
@@ -68,11 +65,15 @@ export function whenIdle(work, signal) {
 }
 
 /**
- * Works for the time of a slice.
+ * Works for the time of a slice, unless the signal has come.
  * @template T
  * @param {Pieces<T>} work
+ * @param {AbortSignal | null} signal
  */
-function sliceOf(work) {
+function sliceOf(work, signal) {
+    if (signal !== null && signal.aborted) {
+        throw signal.reason;
+    }
     const end = performance.now() + LONGEST_SLICE;
     let step = work.next();
     while (!step.done && performance.now() < end) {
