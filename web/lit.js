@@ -100,6 +100,14 @@ export class LitLayer extends Renderer {
         return of.scene === scene && of.numbers === numbers && of.pen === pen && of.version === scene.version;
     }
 
+    /**
+     * While the view moves it has a third of the time, and the drawing the rest.
+     * @param {boolean} isMoving
+     */
+    budget(isMoving) {
+        return isMoving ? super.budget(isMoving) / 3 : super.budget(isMoving);
+    }
+
     newPicture() {
         return new LitPicture(this.scene, this.dots);
     }

@@ -49,6 +49,11 @@ export class Scene {
         this.version = 0;
         this.changed = new ChangedBoxes();
         /**
+         * The order of a version and a mode.
+         * @type {{ version: number, mode: Mode, order: Uint32Array }}
+         */
+        this.kept = { version: -1, mode: 'before', order: new Uint32Array(0) };
+        /**
          * Under what all was told last.
          * @type {{ mode: Mode, levels: Uint8Array, withDeleted: boolean }}
          */
@@ -247,9 +252,12 @@ export class Scene {
             + (this.markOf(record) === MARK.none ? 0 : MARKED);
     }
 
-    /** The records that are drawn, in their order. */
+    /** The records that are drawn, in their order; it is kept until something changes. */
     get order() {
-        return this.ordered(this.shown);
+        if (this.kept.version !== this.version || this.kept.mode !== this.mode) {
+            this.kept = { version: this.version, mode: this.mode, order: this.ordered(this.shown) };
+        }
+        return this.kept.order;
     }
 
     /**

@@ -144,10 +144,10 @@ function round(chance) {
     for (let step = 0; step < STEPS; step++) {
         work.step();
         settle(scene, chance);
+        const out = work.out(), { version } = scene, before = looks(drawing, scene);
         if (chance.next() < 0.05) {
             drawing.edited.forget();
         }
-        const out = work.out(), { version } = scene, before = looks(drawing, scene);
         const mode = chance.of(['after', 'after', 'after', 'both', 'before']);
         const changes = changesBetween(drawing.bytes, drawing.bodyLength, out);
         const state = chance.next() < 0.1 ? null : drawing.after(changes);
