@@ -13,7 +13,10 @@ const NEAR = 16;                  // units of four bytes that are the same and s
  * @returns {Changes}
  */
 export function changesBetween(before, bodyLength, after) {
-    const starts = [], lengths = [];
+    /** @type {number[]} */
+    const starts = [];
+    /** @type {number[]} */
+    const lengths = [];
     let total = 0;
     for (const [start, end] of pieces(before, after, bodyLength)) {
         starts.push(start);

@@ -42,12 +42,17 @@ export class Choice {
         this.source = null;
     }
 
+    /** @param {number[] | null} place of the screen, or none */
     point(place) {
         this.pointer = place;
         this.app.tools.point(place === null ? null : this.app.wholePlace(place));
         this.app.stage.request();
     }
 
+    /**
+     * @param {number[]} place
+     * @param {number} reach in pixels
+     */
     pickAt(place, reach) {
         const [x, y] = this.app.drawingPlace(place);
         return this.app.picker.pick(x, y, reach / this.app.view.scale);
@@ -70,7 +75,12 @@ export class Choice {
         }
     }
 
-    /** A click: the tree that is there, at a second click its member; with Shift the tree besides what is chosen. */
+    /**
+     * A click: the tree that is there, at a second click its member; with Shift the tree besides what is chosen.
+     * @param {number[]} place
+     * @param {number} reach
+     * @param {boolean} isMore
+     */
     click(place, reach, isMore) {
         const record = this.pickAt(place, reach);
         if (record < 0) {
@@ -87,7 +97,10 @@ export class Choice {
         this.choose([isInTree && this.last !== number ? number : root]);
     }
 
-    /** The number of a record in the state that numbers are looked up in. What is gone there is looked up before. */
+    /**
+     * The number of a record in the state that numbers are looked up in. What is gone there is looked up before.
+     * @param {number} record
+     */
     numberOf(record) {
         const { app } = this, { scene } = app, number = scene.records.number[record];
         if (scene.mode === 'before' || !app.became.has(record)) {
@@ -101,7 +114,11 @@ export class Choice {
         return became;
     }
 
-    /** Chooses elements, and nothing else; `source` is the fence that took them. */
+    /**
+     * Chooses elements, and nothing else; `source` is the fence that took them.
+     * @param {number[]} numbers
+     * @param {import('./editing.js').Source | null} source
+     */
     choose(numbers, source = null) {
         const { app } = this, { scene } = app;
         if (numbers.some((it) => it >= scene.state.count)) {
@@ -128,7 +145,10 @@ export class Choice {
         }
     }
 
-    /** Chooses the next or the previous tree that is shown. */
+    /**
+     * Chooses the next or the previous tree that is shown.
+     * @param {number} by
+     */
     step(by) {
         const { state, shown } = this.app.scene;
         const from = this.last < 0 ? (by > 0 ? 0 : state.count) : state.rootOf(this.last);
@@ -139,7 +159,10 @@ export class Choice {
         }
     }
 
-    /** Goes to an element: its part, and its old place where it is changed. */
+    /**
+     * Goes to an element: its part, and its old place where it is changed.
+     * @param {number} number
+     */
     goTo(number) {
         const { scene, stage } = this.app;
         if (number >= 0) {
@@ -154,15 +177,30 @@ export class Choice {
         stage.goToBox(joined(this.numbers.map((it) => this.boxIn(scene.state, it))));
     }
 
-    /** The box of a part in a state, or null where there is none. */
+    /**
+     * The box of a part in a state, or null where there is none.
+     * @param {import('./state.js').State | null} state
+     * @param {number | null} number
+     */
     boxIn(state, number) {
         return state && number !== null && number < state.count ? this.app.scene.boxOfPart(state, number) : null;
     }
 }
 
-/** The least box that holds all of these, or null where none is there. */
+/**
+ * The least box that holds all of these, or null where none is there.
+ * @param {(number[] | null)[]} boxes
+ * @returns {number[] | null}
+ */
 export function joined(boxes) {
-    const there = boxes.filter((box) => box !== null);
-    return there.length === 0 ? null : there.reduce(([a, b, c, d], [e, f, g, h]) => (
-        [Math.min(a, e), Math.min(b, f), Math.max(c, g), Math.max(d, h)]));
+    const all = [Infinity, Infinity, -Infinity, -Infinity];
+    for (const box of boxes) {
+        if (box !== null) {
+            all[0] = Math.min(all[0], box[0]);
+            all[1] = Math.min(all[1], box[1]);
+            all[2] = Math.max(all[2], box[2]);
+            all[3] = Math.max(all[3], box[3]);
+        }
+    }
+    return all[0] <= all[2] ? all : null;
 }

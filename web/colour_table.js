@@ -37,10 +37,15 @@ export function usualColours() {
 }
 
 /**
+ * What is read of the heads of elements, by their numbers.
+ * @typedef {{ length: number, type: Uint8Array, level: Uint8Array, size: Uint32Array, flags: Uint8Array }} Heads
+ */
+
+/**
  * The drawing's own table: an element of type 5 on level 1. Its first three bytes are the last colour, the ground's.
  * @param {Uint8Array} bytes
  * @param {Uint32Array} offsets
- * @param {import('./records.js').Records} records
+ * @param {Heads} records
  */
 function ownColours(bytes, offsets, records) {
     for (let number = 0; number < records.length; number++) {
@@ -73,7 +78,7 @@ export function colourSaid(table, colour) {
  * The colours 0 to 255 as `#rrggbb`, and whether they are the drawing's own.
  * @param {Uint8Array} bytes
  * @param {Uint32Array} offsets
- * @param {import('./records.js').Records} records
+ * @param {Heads} records
  */
 export function coloursOf(bytes, offsets, records) {
     const own = ownColours(bytes, offsets, records);

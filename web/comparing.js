@@ -2,17 +2,19 @@
 
 import { pairsOf } from './aligning.js';
 import { colourSaid } from './colour_table.js';
+import { Contents } from './contents.js';
 import { counted, described, quoted } from './describing.js';
-import { isEqual } from './drawing.js';
+import { isEqual } from './bytes.js';
 import { fieldName, pointsSpan } from './fields.js';
 import { CLASS, CLASS_OF, FLAG, TYPE } from './format.js';
 import { longAt, rangeNumberAt, wordAt } from './numbers.js';
 import { cellName } from './radix50.js';
 import { charactersAt, textPlace } from './reading.js';
+import { PIECE } from './slices.js';
 import { decoded } from './texts.js';
 import { shiftSaid } from './units.js';
 
-/** @typedef {import('./drawing.js').Drawing} Drawing */
+/** @typedef {import('./contents.js').Comparable} Comparable */
 
 /**
  * A change: the number before and after, null where there is none, 'changed', 'added' or 'deleted', what the element
@@ -23,53 +25,82 @@ import { shiftSaid } from './units.js';
 
 /**
  * The elements that differ, in the order of the first drawing, and then what the second has more.
- * @param {Drawing} first
- * @param {Drawing} second
+ * @param {Comparable} first
+ * @param {Comparable} second
+ * @param {(share: number) => void} tell is told now and then how much is done, from 0 to 1
  * @returns {Change[]}
  */
-export function compared(first, second) {
+export function compared(first, second, tell = () => {}) {
     /** @type {Change[]} */
     const rows = [];
-    for (const [before, after] of pairsOf(first, second)) {
-        if (before === null || after === null || !isEqual(first.bytesOf(before), second.bytesOf(after))) {
-            join(rows, changeOf(first, second, before, after));
+    const contents = new Contents(first, second);
+    tell(0.1);
+    const { olds, news, count } = pairsOf(contents);
+    for (let at = 0; at < count; at++) {
+        const before = olds[at] < 0 ? null : olds[at], after = news[at] < 0 ? null : news[at];
+        if (before === null || after === null || !contents.isSame(before, after)) {
+            add(rows, first, second, before, after);
+        }
+        if (at % PIECE === 0) {
+            tell(0.3 + 0.7 * at / count);
         }
     }
     return rows;
 }
 
-/** Adds a change, or counts it with the one before where it says the same of the element behind. */
-function join(rows, change) {
-    const last = rows[rows.length - 1];
-    if (last && last.kind === change.kind && last.words === change.words && last.type === change.type
-        && follows(last.before, change.before, last.more + 1) && follows(last.after, change.after, last.more + 1)) {
+/**
+ * Adds a change, or counts it with the one before where it says the same of the element behind.
+ * @param {Change[]} rows
+ * @param {Comparable} first
+ * @param {Comparable} second
+ * @param {number | null} before
+ * @param {number | null} after
+ */
+function add(rows, first, second, before, after) {
+    const { kind, words } = changeOf(first, second, before, after), last = rows[rows.length - 1];
+    const type = before !== null ? first.records.type[before] : after !== null ? second.records.type[after] : 0;
+    if (last && last.kind === kind && last.words === words && last.type === type
+        && follows(last.before, before, last.more + 1) && follows(last.after, after, last.more + 1)) {
         last.more++;
     } else {
-        rows.push(change);
+        const said = before !== null ? described(first, before) : after !== null ? described(second, after) : '';
+        rows.push({ before, after, kind, described: said, words, more: 0, type });
     }
 }
 
+/**
+ * @param {number | null} first
+ * @param {number | null} number
+ * @param {number} place
+ */
 function follows(first, number, place) {
     return first === null ? number === null : number === first + place;
 }
 
-/** @returns {Change} */
+/**
+ * What kind of change it is, and what is said of it.
+ * @param {Comparable} first
+ * @param {Comparable} second
+ * @param {number | null} before
+ * @param {number | null} after
+ */
 function changeOf(first, second, before, after) {
-    if (before === null) {
-        return { before, after, kind: 'added', described: described(second, after), words: 'appended', more: 0,
-            type: second.records.type[after] };
-    }
-    const front = { before, after, described: described(first, before), more: 0, type: first.records.type[before] };
-    if (after === null) {
-        return { ...front, kind: 'deleted', words: 'gone' };
+    if (before === null || after === null) {
+        return before === null ? { kind: 'added', words: 'appended' } : { kind: 'deleted', words: 'gone' };
     }
     const { words, isDeleted } = new Comparison(first, second, before, after).difference();
-    return { ...front, kind: isDeleted ? 'deleted' : 'changed', words: words.join('; ') };
+    return { kind: isDeleted ? 'deleted' : 'changed', words: words.join('; ') };
 }
 
 /** What differs between two elements of one type and size. Each known change takes the bytes that it explains away;
     what is left is told as bytes. */
 class Comparison {
+    /**
+     * @param {Comparable} first
+     * @param {Comparable} second
+     * @param {number} before
+     * @param {number} after
+     */
     constructor(first, second, before, after) {
         this.units = first.units;
         this.palette = first.colours.table;
@@ -78,48 +109,52 @@ class Comparison {
         this.isSilent = CLASS_OF[this.type] === CLASS.silent;
         this.old = first.bytesOf(before);
         this.new = second.bytesOf(after);
-        this.flags = [first.records.flags[before], second.records.flags[after]];
-        this.places = new Set();
-        this.old.forEach((value, at) => {
-            if (value !== this.new[at]) {
-                this.places.add(at);
+        this.isLocked = (second.records.flags[after] & FLAG.locked) !== 0;
+        /**
+         * Where bytes differ that aren't explained yet, rising.
+         * @type {number[]}
+         */
+        this.places = [];
+        for (let at = 0; at < this.old.length; at++) {
+            if (this.old[at] !== this.new[at]) {
+                this.places.push(at);
             }
-        });
+        }
+        /** @type {string[]} */
         this.words = [];
         this.isDeleted = false;
     }
 
     difference() {
-        for (const step of ['marks', 'looks', 'characters', 'name', 'total', 'place', 'range', 'points', 'rest']) {
-            if (this.places.size > 0) {
-                this[step]();
+        const steps = [this.marks, this.looks, this.characters, this.name, this.total, this.place, this.range,
+            this.points, this.rest];
+        for (const step of steps) {
+            if (this.places.length > 0) {
+                step.call(this);
             }
         }
         return this;
     }
 
-    /** Whether bytes from `start` to before `end` differ; they are explained. */
+    /**
+     * Whether bytes from `start` to before `end` differ; they are explained.
+     * @param {number} start
+     * @param {number} end
+     */
     take(start, end) {
-        let isFound = false;
-        for (const at of this.places) {
-            if (at >= start && at < end) {
-                this.places.delete(at);
-                isFound = true;
-            }
-        }
+        const left = this.places.filter((at) => at < start || at >= end), isFound = left.length < this.places.length;
+        this.places = left;
         return isFound;
     }
 
     /** Level, bit C, deleted, locked. */
     marks() {
-        const { old, new: made, places, words } = this;
-        if (places.has(1) && (old[1] ^ made[1]) === 0x80) {
-            places.delete(1);
+        const { old, new: made, words } = this;
+        if ((old[1] ^ made[1]) === 0x80 && this.take(1, 2)) {
             this.isDeleted = (made[1] & 0x80) !== 0;
             words.push(this.isDeleted ? 'deleted' : 'no longer deleted');
         }
-        if (places.has(0) && ((old[0] ^ made[0]) & 0x40) === 0) {
-            places.delete(0);
+        if (((old[0] ^ made[0]) & 0x40) === 0 && this.take(0, 1)) {
             if ((old[0] ^ made[0]) & 0x3F) {
                 words.push('level ' + (old[0] & 0x3F) + ' to ' + (made[0] & 0x3F));
             }
@@ -127,9 +162,8 @@ class Comparison {
                 words.push('member mark (bit C) ' + (made[0] & 0x80 ? 'set' : 'cleared'));
             }
         }
-        if (places.has(33) && !this.isSilent && (old[33] ^ made[33]) === 1) {
-            places.delete(33);
-            words.push(this.flags[1] & FLAG.locked ? 'locked' : 'unlocked');
+        if (!this.isSilent && (old[33] ^ made[33]) === 1 && this.take(33, 34)) {
+            words.push(this.isLocked ? 'locked' : 'unlocked');
         }
     }
 
@@ -173,25 +207,37 @@ class Comparison {
         }
     }
 
-    get span() {
-        return [this.old, this.new].map((content) => pointsSpan({ content, type: this.type, axes: this.axes }));
+    /**
+     * Where the points of the old or the new element begin and end.
+     * @param {Uint8Array} content
+     */
+    spanOf(content) {
+        return pointsSpan({ content, type: this.type, axes: this.axes });
     }
 
-    /** The points of both. */
-    bothPoints() {
-        return [this.old, this.new].map((content, at) => pointsIn(content, ...this.span[at], this.axes, longAt));
+    /**
+     * The points of the old or the new element.
+     * @param {Uint8Array} content
+     */
+    pointsOf(content) {
+        const [start, end] = this.spanOf(content);
+        return pointsIn(content, start, end, this.axes, longAt);
     }
 
-    /** The corners of both ranges; of a silent element there are none. */
-    bothCorners() {
+    /**
+     * The corners of its range; of a silent element there are none.
+     * @param {Uint8Array} content
+     */
+    cornersOf(content) {
         const { axes } = this;
-        return [this.old, this.new].map((content) => (this.isSilent ? [] : [4, 16].flatMap((at) => (
-            pointsIn(content, at, at + 4 * axes, axes, rangeNumberAt)))));
+        return this.isSilent ? [] : [4, 16].flatMap((at) => (
+            pointsIn(content, at, at + 4 * axes, axes, rangeNumberAt)));
     }
 
     /** A displacement of all points, and of the range with them. */
     place() {
-        const [olds, news] = this.bothPoints(), ranges = shiftOf(...this.bothCorners());
+        const olds = this.pointsOf(this.old), news = this.pointsOf(this.new);
+        const ranges = shiftOf(this.cornersOf(this.old), this.cornersOf(this.new));
         let shift = shiftOf(olds, news);
         if (shift === null && olds.length === 0 && !this.isSilent) {
             shift = ranges;
@@ -199,8 +245,8 @@ class Comparison {
         if (shift === null || shift.every((it) => it === 0)) {
             return;
         }
-        this.take(...this.span[0]);
-        if (ranges !== null && ranges.every((it, axis) => it === shift[axis])) {
+        this.take(...this.spanOf(this.old));
+        if (ranges !== null && String(ranges) === String(shift)) {
             this.takeRange();
         }
         this.words.push('moved ' + shiftSaid(this.units, shift));
@@ -217,7 +263,7 @@ class Comparison {
         if (this.isSilent || !this.takeRange()) {
             return;
         }
-        const [[low, high], [newLow, newHigh]] = this.bothCorners();
+        const [low, high] = this.cornersOf(this.old), [newLow, newHigh] = this.cornersOf(this.new);
         const isWider = low.every((it, axis) => it >= newLow[axis]) && high.every((it, axis) => it <= newHigh[axis]);
         const what = isWider ? 'range widened' : 'range changed';
         this.words.push(what + ' from ' + low + ' ' + high + ' to ' + newLow + ' ' + newHigh);
@@ -225,8 +271,8 @@ class Comparison {
 
     /** Single points, where they have not all moved by the same. */
     points() {
-        const [olds, news] = this.bothPoints();
-        if (olds.length !== news.length || !this.take(...this.span[0])) {
+        const olds = this.pointsOf(this.old), news = this.pointsOf(this.new);
+        if (olds.length !== news.length || !this.take(...this.spanOf(this.old))) {
             return;
         }
         const changed = olds.map((_, at) => at).filter((at) => olds[at].some((it, axis) => it !== news[at][axis]));
@@ -237,21 +283,33 @@ class Comparison {
 
     /** Any other bytes, by their places in the element. */
     rest() {
-        const places = [...this.places].sort((one, other) => one - other);
+        const { places } = this;
         const element = { content: this.old, type: this.type, axes: this.axes };
-        const names = [...new Set(places.map((it) => fieldName(element, it)))].sort();
+        const names = Array.from(new Set(places.map((it) => fieldName(element, it)))).sort();
         this.words.push('other bytes at ' + places.slice(0, 8).join(', ') + (places.length > 8 ? ' ..' : '') + ' ('
             + counted(places.length, 'byte') + ': ' + names.join(', ') + ')');
     }
 }
 
-/** The points that stand in an element from one place to before another. */
+/**
+ * The points that stand in an element from one place to before another.
+ * @param {Uint8Array} content
+ * @param {number} start
+ * @param {number} end
+ * @param {number} axes
+ * @param {(content: Uint8Array, at: number) => number} read
+ * @returns {number[][]}
+ */
 function pointsIn(content, start, end, axes, read) {
     return Array.from({ length: (end - start) / (4 * axes) }, (_, point) => (
         Array.from({ length: axes }, (__, axis) => read(content, start + 4 * (point * axes + axis)))));
 }
 
-/** By what all points have moved, null where they haven't moved by the same. */
+/**
+ * By what all points have moved, null where they haven't moved by the same.
+ * @param {number[][]} olds
+ * @param {number[][]} news
+ */
 function shiftOf(olds, news) {
     if (olds.length === 0 || olds.length !== news.length) {
         return null;

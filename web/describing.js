@@ -7,7 +7,7 @@ import { typeName } from './types.js';
 
 /**
  * An element of a drawing: what it is, its number, its name or its characters, its level.
- * @param {import('./drawing.js').Drawing} drawing
+ * @param {import('./contents.js').Comparable} drawing
  * @param {number} number
  */
 export function described(drawing, number) {

@@ -1,19 +1,21 @@
 /* A drawing as it is read from its bytes, and as edits have left it. */
 
+import { isEqual } from './bytes.js';
 import { coloursOf } from './colour_table.js';
-import { FLAG, LINKED } from './format.js';
+import { EditedElements } from './edited.js';
+import { LINKED } from './format.js';
 import { linkagesOf } from './linkages.js';
-import { nestingOf } from './nesting.js';
+import { nestingIn } from './nesting.js';
 import { wordAt } from './numbers.js';
-import { Fault, offsetsOf } from './opening.js';
+import { Fault, offsetsIn } from './opening.js';
 import { Records } from './records.js';
 import { readElement } from './reading.js';
+import { PIECE, atOnce, inSlices } from './slices.js';
 import { State } from './state.js';
 import { axesOf, unitsOf } from './tcb.js';
 
 /** Records for what edits make, before the columns have to grow. */
 const ROOM = 4096;
-const PLACE_FLAGS = FLAG.orphan | FLAG.loose | FLAG.group | FLAG.run;
 
 /**
  * What a run of the program changed in the body of a drawing: its new bytes in pieces, each from a place on, and what
@@ -30,16 +32,56 @@ export class Drawing {
      * @returns {Drawing | Fault}
      */
     static open(name, bytes) {
-        const offsets = offsetsOf(bytes);
-        return offsets instanceof Fault ? offsets : new Drawing(name, bytes, offsets);
+        return atOnce(Drawing.opening(name, bytes));
+    }
+
+    /**
+     * The same in slices, between which the page answers, and with all made ready that is asked of a drawing which is
+     * shown. Where the signal comes it is left, and the promise is broken with the signal's reason.
+     * @param {string} name
+     * @param {Uint8Array} bytes
+     * @param {AbortSignal | null} signal
+     * @returns {Promise<Drawing | Fault>}
+     */
+    static read(name, bytes, signal = null) {
+        return inSlices(Drawing.preparing(name, bytes), signal);
+    }
+
+    /**
+     * @param {string} name
+     * @param {Uint8Array} bytes
+     * @returns {import('./slices.js').Pieces<Drawing | Fault>}
+     */
+    static *opening(name, bytes) {
+        const offsets = yield* offsetsIn(bytes);
+        if (offsets instanceof Fault) {
+            return offsets;
+        }
+        const nesting = yield* nestingIn(bytes, offsets, true);
+        return new Drawing(name, bytes, offsets, nesting, yield* recordsIn(bytes, offsets, nesting.flags));
+    }
+
+    /**
+     * @param {string} name
+     * @param {Uint8Array} bytes
+     * @returns {import('./slices.js').Pieces<Drawing | Fault>}
+     */
+    static *preparing(name, bytes) {
+        const drawing = yield* Drawing.opening(name, bytes);
+        if (drawing instanceof Drawing) {
+            yield* drawing.before.preparing();
+        }
+        return drawing;
     }
 
     /**
      * @param {string} name
      * @param {Uint8Array} bytes
      * @param {Uint32Array} offsets
+     * @param {import('./nesting.js').Nesting} nesting
+     * @param {Records} records of its elements
      */
-    constructor(name, bytes, offsets) {
+    constructor(name, bytes, offsets, nesting, records) {
         this.name = name;
         this.bytes = bytes;
         this.offsets = offsets;
@@ -47,82 +89,26 @@ export class Drawing {
         this.bodyLength = offsets[this.count];
         this.axes = axesOf(bytes);
         this.units = unitsOf(bytes);
-        this.records = new Records(this.axes, this.count + ROOM, (record) => this.bytesOf(record),
-            (record) => this.runOf(record));
-        this.nesting = nestingOf(bytes, offsets, true);
-        for (let number = 0; number < this.count; number++) {
-            readElement(this.records, bytes, offsets[number], number, this.nesting.flags[number]);
-        }
-        const own = Uint32Array.from({ length: this.count }, (_, number) => number);
-        this.before = new State(this.records, own, this.nesting.parent, this.nesting.end);
-        this.ends = this.records.ends();
-        this.colours = coloursOf(bytes, offsets, this.records);
-        this.forget();
-    }
-
-    /** Forgets what edits made. */
-    forget() {
-        this.records.cut(this.ends);
-        this.isBeside = false;
-        /** Bytes of the elements that edits made, where each begins in these, by their records behind the drawing's. */
-        this.madeBytes = new Uint8Array(0);
-        /** @type {number[]} */
-        this.madePlaces = [];
-        /**
-         * Where in the file each of them begins.
-         * @type {number[]}
-         */
-        this.madeFilePlaces = [];
+        this.records = records;
+        this.records.bytesOf = (record) => this.bytesOf(record);
+        this.records.outlines.runOf = (record) => this.runOf(record);
+        this.nesting = nesting;
+        const own = new Uint32Array(this.count);
+        own.forEach((_, number) => { own[number] = number; });
+        this.before = new State(this.records, own, nesting.parent, nesting.end);
+        this.colours = coloursOf(bytes, offsets, records);
+        /** What edits made. */
+        this.edited = new EditedElements(this);
     }
 
     /**
-     * Reads anew what a run of the program changed, and gives the state that it left.
+     * Reads what a run of the program changed, but for what is as it was the last time, and gives the state that it
+     * left. States that it gave before aren't valid any more.
      * @param {Changes} changes
      * @returns {State}
      */
     after(changes) {
-        this.forget();
-        const { appended } = changes, numbers = this.takeBytes(this.touched(changes), changes);
-        const offsets = appended.length > 0 ? appendedOffsets(appended) : new Uint32Array([0]);
-        const count = offsets.length - 1, nesting = nestingOf(appended, offsets, false);
-        const record = new Uint32Array(this.count + count);
-        record.set(this.before.record);
-        this.records.reserve(numbers.length + count);
-        numbers.forEach((number, index) => {
-            record[number] = readElement(this.records, this.madeBytes, this.madePlaces[index], number,
-                this.records.flags[number] & PLACE_FLAGS);
-        });
-        const appendedFrom = this.madeBytes.length - appended.length;
-        for (let index = 0; index < count; index++) {
-            this.madePlaces.push(appendedFrom + offsets[index]);
-            this.madeFilePlaces.push(this.bodyLength + offsets[index]);
-            record[this.count + index] = readElement(this.records, appended, offsets[index], this.count + index,
-                nesting.flags[index]);
-        }
-        const parent = new Int32Array(record.length), end = new Uint32Array(record.length);
-        parent.set(this.nesting.parent);
-        end.set(this.nesting.end);
-        for (let index = 0; index < count; index++) {
-            parent[this.count + index] = nesting.parent[index] < 0 ? -1 : this.count + nesting.parent[index];
-            end[this.count + index] = this.count + nesting.end[index];
-        }
-        return new State(this.records, record, parent, end);
-    }
-
-    /**
-     * The numbers of the elements that a piece of what has changed reaches into.
-     * @param {Changes} changes
-     */
-    touched({ starts, lengths }) {
-        /** @type {number[]} */
-        const numbers = [];
-        starts.forEach((start, index) => {
-            let number = Math.max(this.numberAt(start), numbers.length > 0 ? numbers[numbers.length - 1] + 1 : 0);
-            for (; number < this.count && this.offsets[number] < start + lengths[index]; number++) {
-                numbers.push(number);
-            }
-        });
-        return numbers;
+        return this.edited.after(changes);
     }
 
     /**
@@ -143,58 +129,22 @@ export class Drawing {
     }
 
     /**
-     * Puts the bytes of these elements, as they were left, one behind the other, and behind them what is appended;
-     * gives the numbers of those that have changed indeed.
-     * @param {number[]} numbers
-     * @param {Changes} changes
-     */
-    takeBytes(numbers, { starts, lengths, bytes, appended }) {
-        const size = numbers.reduce((sum, number) => sum + this.offsets[number + 1] - this.offsets[number], 0);
-        const made = new Uint8Array(size + appended.length);
-        let to = 0, piece = 0, from = 0;
-        const changed = numbers.filter((number) => {
-            const start = this.offsets[number], end = this.offsets[number + 1];
-            made.set(this.bytes.subarray(start, end), to);
-            while (piece < starts.length && starts[piece] + lengths[piece] <= start) {
-                from += lengths[piece++];
-            }
-            for (let it = piece, at = from; it < starts.length && starts[it] < end; at += lengths[it++]) {
-                const low = Math.max(starts[it], start), high = Math.min(starts[it] + lengths[it], end);
-                made.set(bytes.subarray(at + low - starts[it], at + high - starts[it]), to + low - start);
-            }
-            if (isEqual(made.subarray(to, to + end - start), this.bytes.subarray(start, end))) {
-                return false;
-            }
-            this.madePlaces.push(to);
-            this.madeFilePlaces.push(start);
-            to += end - start;
-            return true;
-        });
-        made.set(appended, to);
-        this.madeBytes = made.subarray(0, to + appended.length);
-        return changed;
-    }
-
-    /**
      * The bytes of a record.
      * @param {number} record
      */
     bytesOf(record) {
-        const isMade = record >= this.count, source = isMade ? this.madeBytes : this.bytes;
-        const at = isMade ? this.madePlaces[record - this.count] : this.offsets[record];
-        return source.subarray(at, at + this.records.size[record]);
+        const at = this.offsets[record];
+        return record < this.count ? this.bytes.subarray(at, at + this.records.size[record])
+            : this.edited.bytesOf(record);
     }
 
     /**
-     * The bytes of a record and of all behind it, which a header's parts are among. No edit changes where the parts of
-     * an element of the drawing lie, so they are read where they were; those of an appended header follow it.
+     * The bytes of a record and of all behind it, which a header's parts are among.
      * @param {number} record
      */
     runOf(record) {
-        const number = this.records.number[record];
-        return record >= this.count && (this.isBeside || number >= this.count)
-            ? this.madeBytes.subarray(this.madePlaces[record - this.count])
-            : this.bytes.subarray(this.offsets[number], this.bodyLength);
+        return record < this.count ? this.bytes.subarray(this.offsets[record], this.bodyLength)
+            : this.edited.runOf(record);
     }
 
     /**
@@ -202,7 +152,7 @@ export class Drawing {
      * @param {number} record
      */
     placeOf(record) {
-        return record < this.count ? this.offsets[record] : this.madeFilePlaces[record - this.count];
+        return record < this.count ? this.offsets[record] : this.edited.placeOf(record);
     }
 
     /**
@@ -212,22 +162,7 @@ export class Drawing {
      * @returns {State}
      */
     beside(other, told) {
-        this.forget();
-        this.madeBytes = other.bytes;
-        this.isBeside = true;
-        const record = new Uint32Array(other.count);
-        for (let number = 0; number < other.count; number++) {
-            if (number < this.count && !told.has(number) && this.isSame(other, number)) {
-                record[number] = number;
-            } else {
-                this.records.reserve(1);
-                this.madePlaces.push(other.offsets[number]);
-                this.madeFilePlaces.push(other.offsets[number]);
-                record[number] = readElement(this.records, other.bytes, other.offsets[number], number,
-                    other.nesting.flags[number]);
-            }
-        }
-        return new State(this.records, record, other.nesting.parent, other.nesting.end);
+        return this.edited.beside(other, told);
     }
 
     /**
@@ -252,16 +187,21 @@ export class Drawing {
 }
 
 /**
- * Whether two rows of bytes are the same.
- * @param {Uint8Array} one
- * @param {Uint8Array} other
+ * Reads all elements into records, in pieces.
+ * @param {Uint8Array} bytes
+ * @param {Uint32Array} offsets
+ * @param {Uint8Array} flags of their places in their trees
+ * @returns {import('./slices.js').Pieces<Records>}
  */
-export function isEqual(one, other) {
-    let at = one.length === other.length ? 0 : -1;
-    while (at >= 0 && at < one.length && one[at] === other[at]) {
-        at++;
+function* recordsIn(bytes, offsets, flags) {
+    const records = new Records(axesOf(bytes), flags.length + ROOM, () => bytes, () => bytes);
+    for (let number = 0; number < flags.length; number++) {
+        readElement(records, bytes, offsets[number], number, flags[number]);
+        if (number % PIECE === 0) {
+            yield;
+        }
     }
-    return at === one.length && at === other.length;
+    return records;
 }
 
 /**
@@ -270,16 +210,4 @@ export function isEqual(one, other) {
  */
 export function linkagePlace(element) {
     return wordAt(element, 32) & LINKED ? 32 + 2 * wordAt(element, 30) : element.length;
-}
-
-/**
- * Where elements begin that the program has appended one behind the other.
- * @param {Uint8Array} bytes
- */
-function appendedOffsets(bytes) {
-    const offsets = [];
-    for (let at = 0; at < bytes.length; at += 4 + 2 * wordAt(bytes, at + 2)) {
-        offsets.push(at);
-    }
-    return Uint32Array.from([...offsets, bytes.length]);
 }

@@ -2,7 +2,8 @@
 
 import { described } from './describing.js';
 import { joined } from './choice.js';
-import { Drawing, isEqual } from './drawing.js';
+import { isEqual } from './bytes.js';
+import { Drawing } from './drawing.js';
 import { encodingOf } from './encoding.js';
 import { editLine, fenceEditLine, fenceLines, newLine } from './lines.js';
 import { NotRun } from './making.js';

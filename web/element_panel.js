@@ -3,7 +3,7 @@
 import { whyBroken } from './broken.js';
 import { counted } from './describing.js';
 import { byId, fill, linkTo, make, swatchOf, termed } from './dom.js';
-import { CLASS, CLASS_OF, DRAWN, DRAWN_OF, FLAG, STYLE_NAMES, TYPE } from './format.js';
+import { CLASS, CLASS_OF, DRAWN, DRAWN_OF, FLAG, STYLE_NAMES } from './format.js';
 
 const MOST_MEMBERS = 200;
 
@@ -140,7 +140,7 @@ export class ElementPanel {
         const { records } = scene, { axes } = records;
         const range = [...records.rangeOf(record)];
         const text = records.labelOf(record);
-        if (records.type[record] === TYPE.text) {
+        if (text !== null && typeof text === 'object') {
             list.append(...termed('size', this.sizeSaid(text)),
                 ...termed('angle', Number(text.degrees.toFixed(4)) + '°'),
                 ...termed('font', text.font + ', justification ' + text.justification));

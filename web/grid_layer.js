@@ -2,6 +2,10 @@
 
 /** One grid of square cells, and the records of each cell one behind the other. */
 export class GridLayer {
+    /**
+     * @param {number[]} extent low x, low y, high x, high y
+     * @param {number} size the side of a cell
+     */
     constructor(extent, size) {
         this.size = size;
         this.lowX = extent[0];
@@ -9,21 +13,32 @@ export class GridLayer {
         this.columns = Math.floor((extent[2] - extent[0]) / size) + 1;
         this.rows = Math.floor((extent[3] - extent[1]) / size) + 1;
         this.starts = new Uint32Array(this.columns * this.rows + 1);
-        this.held = null;
+        this.held = new Uint32Array(0);
     }
 
+    /**
+     * @param {Int32Array} box
+     * @param {number} record
+     */
     cellOf(box, record) {
         return this.rowOf(box[record * 4 + 1]) * this.columns + this.columnOf(box[record * 4]);
     }
 
+    /** @param {number} x */
     columnOf(x) {
         return Math.min(Math.max(Math.floor((x - this.lowX) / this.size), 0), this.columns - 1);
     }
 
+    /** @param {number} y */
     rowOf(y) {
         return Math.min(Math.max(Math.floor((y - this.lowY) / this.size), 0), this.rows - 1);
     }
 
+    /**
+     * Counts a record in its cell.
+     * @param {Int32Array} box
+     * @param {number} record
+     */
     tally(box, record) {
         this.starts[this.cellOf(box, record)]++;
     }
@@ -38,10 +53,21 @@ export class GridLayer {
         this.held = new Uint32Array(sum);
     }
 
+    /**
+     * Puts a record into its cell.
+     * @param {Int32Array} box
+     * @param {number} record
+     */
     put(box, record) {
         this.held[--this.starts[this.cellOf(box, record)]] = record;
     }
 
+    /**
+     * Calls `visit` with each record whose box meets a rectangle.
+     * @param {Int32Array} box
+     * @param {number[]} rectangle low x, low y, high x, high y
+     * @param {(record: number) => void} visit
+     */
     query(box, [lowX, lowY, highX, highY], visit) {
         if (this.held.length === 0) {
             return;
@@ -58,5 +84,18 @@ export class GridLayer {
                 }
             }
         }
+    }
+
+    /**
+     * Of how many records a query looks at the box.
+     * @param {number[]} rectangle
+     */
+    reach([lowX, lowY, highX, highY]) {
+        const left = this.columnOf(lowX - this.size), right = this.columnOf(highX), top = this.rowOf(highY);
+        let count = 0;
+        for (let row = this.rowOf(lowY - this.size); row <= top; row++) {
+            count += this.starts[row * this.columns + right + 1] - this.starts[row * this.columns + left];
+        }
+        return count;
     }
 }

@@ -2,15 +2,28 @@
 
 import { counted } from './describing.js';
 import { byId, fill, make, termed } from './dom.js';
-import { DRAWN, DRAWN_OF, FLAG, GREATEST, LEAST } from './format.js';
+import { GREATEST, LEAST } from './format.js';
+import { isLeaf } from './showing.js';
+import { typeName } from './types.js';
 
 const WHOLE_PLANE = Object.freeze([[LEAST, LEAST], [GREATEST, LEAST], [GREATEST, GREATEST], [LEAST, GREATEST]]);
+
+/**
+ * A level in the list: its row, the box that switches it, and how many items it shows.
+ * @typedef {{ row: HTMLElement, box: HTMLInputElement, count: HTMLElement }} LevelRow
+ */
 
 export class LevelsPanel {
     /** @param {import('./app.js').App} app */
     constructor(app) {
         this.app = app;
-        this.boxes = new Map();
+        /**
+         * The rows of the levels that are used, by these.
+         * @type {Map<number, LevelRow>}
+         */
+        this.rows = new Map();
+        /** Of what types are listed, and how many of each. */
+        this.typesSaid = '';
         byId('levels-all').addEventListener('click', () => this.setAll(1));
         byId('levels-none').addEventListener('click', () => this.setAll(0));
         byId('show-deleted').addEventListener('change', () => {
@@ -21,48 +34,42 @@ export class LevelsPanel {
 
     /** Counts the elements of the state that is seen, and lists the levels of all. */
     show() {
-        const { state, before, after } = this.app.scene;
-        this.counts = this.countsOf(state);
-        const others = [before, after].filter((other) => other !== null && other !== state);
-        const used = this.counts.levels.slice();
-        for (const other of others) {
-            this.countsOf(other).levels.forEach((count, level) => { used[level] += count; });
-        }
-        this.fillLevels(used);
-        this.fillTypes();
-    }
-
-    /** How much each level shows alone, how many elements each type has, and how many are marked deleted. */
-    countsOf(state) {
-        const { records } = this.app.scene, hidden = state.hiddenByHeaders(false);
-        const levels = new Array(64).fill(0), types = new Array(128).fill(0);
-        let deleted = 0;
-        for (let number = 0; number < state.count; number++) {
-            const record = state.record[number];
-            types[records.type[record]]++;
-            deleted += records.isDeleted(record) ? 1 : 0;
-            if (!hidden[number] && isLeaf(records, record)) {
-                levels[records.level[record]]++;
+        const { state, before, after } = this.app.scene, { counts } = state;
+        const used = counts.levels.slice();
+        for (const other of [before, after]) {
+            if (other !== null && other !== state) {
+                other.counts.levels.forEach((count, level) => { used[level] += count; });
             }
         }
-        return { levels, types, deleted };
+        this.showLevels(used, counts.levels);
+        this.showTypes(counts.types);
+        byId('deleted-count').textContent = String(counts.deleted);
     }
 
-    fillLevels(used) {
-        const rows = [];
-        used.forEach((count, level) => {
-            if (count > 0) {
-                rows.push(this.rowOf(level, this.counts.levels[level]));
-            }
-        });
-        fill(byId('levels'), ...rows);
-        byId('deleted-count').textContent = String(this.counts.deleted);
+    /**
+     * Lists the levels that are used; where these are as before their rows stay.
+     * @param {Uint32Array} used
+     * @param {Uint32Array} counts
+     */
+    showLevels(used, counts) {
+        const levels = Array.from(used.keys()).filter((level) => used[level] > 0);
+        if (String(levels) !== String(Array.from(this.rows.keys()))) {
+            this.rows = new Map(levels.map((level) => [level, this.rowOf(level)]));
+            fill(byId('levels'), ...Array.from(this.rows.values()).map(({ row }) => row));
+        }
+        for (const [level, { box, count }] of this.rows) {
+            box.checked = this.app.scene.levels[level] === 1;
+            count.textContent = String(counts[level]);
+            count.title = counted(counts[level], 'element') + ' shown on it';
+        }
     }
 
-    rowOf(level, count) {
-        const box = make('input', { type: 'checkbox', id: 'level-' + level });
-        box.checked = this.app.scene.levels[level] === 1;
-        this.boxes.set(level, box);
+    /**
+     * @param {number} level
+     * @returns {LevelRow}
+     */
+    rowOf(level) {
+        const box = /** @type {HTMLInputElement} */ (make('input', { type: 'checkbox', id: 'level-' + level }));
         box.addEventListener('change', () => {
             this.app.scene.levels[level] = box.checked ? 1 : 0;
             this.app.sceneChanged();
@@ -73,57 +80,54 @@ export class LevelsPanel {
         const all = 'Select all on level ' + level;
         const choose = make('button', { 'type': 'button', 'class': 'only', 'aria-label': all }, 'select');
         choose.addEventListener('click', () => this.chooseAll(level));
-        return make('li', {}, make('label', {}, box, make('span', { class: 'level' }, String(level)),
-            make('span', { class: 'count', title: counted(count, 'element') + ' shown on it' }, String(count))), only,
-        choose);
+        const count = make('span', { class: 'count' });
+        const label = make('label', {}, box, make('span', { class: 'level' }, String(level)), count);
+        return { row: make('li', {}, label, only, choose), box, count };
     }
 
-    /** Chooses all trees that show something of a level. */
+    /**
+     * Chooses all trees that show something of a level.
+     * @param {number} level
+     */
     chooseAll(level) {
         const { scene, choice, tools } = this.app, { state, records, shown } = scene;
-        const roots = new Set();
+        /** @type {number[]} */
+        const roots = [];
         for (let number = 0; number < state.count; number++) {
-            const record = state.record[number];
-            if (shown[record] && records.level[record] === level && isLeaf(records, record)) {
-                roots.add(state.rootOf(number));
+            const record = state.record[number], last = roots.length > 0 ? roots[roots.length - 1] : -1;
+            if (shown[record] && records.level[record] === level && isLeaf(records, record)
+                && (last < 0 || number >= state.end[last])) {
+                roots.push(state.rootOf(number));
             }
         }
         tools.clearFence();
         const levels = new Uint8Array(64);
         levels[level] = 1;
-        choice.choose([...roots], { corners: WHOLE_PLANE, mode: 'overlap', levels });
+        choice.choose(roots, { corners: WHOLE_PLANE, mode: 'overlap', levels });
     }
 
-    fillTypes() {
-        const rows = [];
-        this.counts.types.forEach((count, type) => {
-            if (count > 0) {
-                rows.push(...termed(this.app.words.typeOf(type), String(count)));
-            }
-        });
-        fill(byId('types'), ...rows);
+    /**
+     * Lists how many elements each type has, unless that is listed already.
+     * @param {Uint32Array} counts
+     */
+    showTypes(counts) {
+        if (this.typesSaid !== String(counts)) {
+            this.typesSaid = String(counts);
+            const types = Array.from(counts.keys()).filter((type) => counts[type] > 0);
+            fill(byId('types'), ...types.flatMap((type) => termed(typeName(type), String(counts[type]))));
+        }
     }
 
+    /** @param {number} value */
     setAll(value) {
         this.app.scene.levels.fill(value);
-        this.takeOver();
+        this.app.sceneChanged();
     }
 
+    /** @param {number} level */
     setOnly(level) {
         this.app.scene.levels.fill(0);
         this.app.scene.levels[level] = 1;
-        this.takeOver();
-    }
-
-    takeOver() {
-        for (const [level, box] of this.boxes) {
-            box.checked = this.app.scene.levels[level] === 1;
-        }
         this.app.sceneChanged();
     }
-}
-
-/** Whether a record is shown by its own level, not by what stands below it. */
-function isLeaf(records, record) {
-    return DRAWN_OF[records.type[record]] !== DRAWN.nothing && !(records.flags[record] & (FLAG.group | FLAG.loose));
 }

@@ -2,9 +2,10 @@
 
 import { DASHES, widthOf } from './format.js';
 import { BOX_DASH } from './painter.js';
-import { MARK } from './scene.js';
+import { MARK } from './marking.js';
 
-const FAINT = 0.45;               // how much is left of what hasn't changed where it is compared
+/** How much is left of what hasn't changed where it is compared. */
+export const FAINT = 0.45;
 
 /**
  * What a record is drawn with.

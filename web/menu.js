@@ -1,6 +1,5 @@
 /* What is done with files: save, import, apply, mend, compare, print. */
 
-import { compared } from './comparing.js';
 import { counted, described } from './describing.js';
 import { byId } from './dom.js';
 import { Drawing } from './drawing.js';
@@ -10,7 +9,8 @@ import { changeSaid, mendingOf } from './mending.js';
 import { Fault } from './opening.js';
 import { patchOf } from './patch.js';
 import { namesOf } from './saving.js';
-import { whyNotOpened } from './surroundings.js';
+import { endedBy, readOf } from './stopping.js';
+import { busy, whyNotOpened } from './surroundings.js';
 
 /** @typedef {import('./document.js').Document} Document */
 
@@ -136,15 +136,16 @@ export class Menu {
      * @param {Uint8Array} bytes
      */
     compareWith(name, bytes) {
-        const { app } = this;
-        return app.work.stepOn('Comparing with ' + name, 'read', async (document) => {
-            const other = Drawing.open(name, bytes), drawing = drawingNow(document);
+        const { app } = this, title = 'Comparing with ' + name;
+        return app.work.stepOn(title, 'read', async (document, { signal }) => {
+            const drawing = await readNow(document, signal), other = await readOf(name, bytes, signal);
             if (other instanceof Fault) {
                 app.notice(name + ' doesn’t open: ' + whyNotOpened(other, bytes));
             } else if (drawing !== null && other.axes !== drawing.axes) {
                 app.notice(name + ' has ' + other.axes + ' dimensions, and this drawing has ' + drawing.axes + '.');
             } else if (drawing !== null) {
-                const rows = compared(drawing, other);
+                const tell = (/** @type {number} */ share) => busy.tell(title + ', ' + Math.round(100 * share) + ' %');
+                const rows = await endedBy(signal, app.changesPanel.find(drawing, other, tell, signal));
                 app.takeInView(drawing, false);
                 app.compareWith(other, rows, drawing.beside(other, toldNumbers(rows)), stateSaid(document));
             }
@@ -159,6 +160,16 @@ export class Menu {
  */
 function drawingNow({ original, made }) {
     const drawing = made.bytes === made.base.bytes ? made.base : Drawing.open(original.name, made.bytes);
+    return drawing instanceof Fault ? null : drawing;
+}
+
+/**
+ * The same, read in slices.
+ * @param {Document} document
+ * @param {AbortSignal} signal
+ */
+async function readNow({ original, made }, signal) {
+    const { bytes, base } = made, drawing = bytes === base.bytes ? base : await readOf(original.name, bytes, signal);
     return drawing instanceof Fault ? null : drawing;
 }
 

@@ -2,6 +2,7 @@
 
 import { CLASS, CLASS_OF, FLAG, TYPE } from './format.js';
 import { wordAt } from './numbers.js';
+import { PIECE, atOnce } from './slices.js';
 
 /** Types of the parts of a B-spline. */
 export const PARTS_OF_SPLINES = new Set([21, 25, 26, 28]);
@@ -54,8 +55,11 @@ class NestingWalk {
         return this.bytes[this.offsets[number] + 1] & 0x7F;
     }
 
-    /** @returns {Nesting} */
-    nesting() {
+    /**
+     * Finds it in pieces.
+     * @returns {import('./slices.js').Pieces<Nesting>}
+     */
+    *nesting() {
         /** @type {{ header: number, end: number, isParts: boolean }[]} */
         const open = [];
         if (this.first === 1) {
@@ -73,6 +77,9 @@ class NestingWalk {
             if (end > at + 1) {
                 const isParts = CLASS_OF[this.typeOf(at)] === CLASS.run && !this.isDefinition(at);
                 open.push({ header: at, end, isParts });
+            }
+            if (at % PIECE === 0) {
+                yield;
             }
         }
         const { flags, depth, parent, end, runEnds } = this;
@@ -151,8 +158,19 @@ class NestingWalk {
  * @param {Uint8Array} bytes
  * @param {Uint32Array} offsets where each element begins, and behind the last where they end
  * @param {boolean} hasTcb whether the first of them is the TCB
+ * @returns {import('./slices.js').Pieces<Nesting>}
+ */
+export function nestingIn(bytes, offsets, hasTcb) {
+    return new NestingWalk(bytes, offsets, hasTcb).nesting();
+}
+
+/**
+ * The same at once.
+ * @param {Uint8Array} bytes
+ * @param {Uint32Array} offsets
+ * @param {boolean} hasTcb
  * @returns {Nesting}
  */
 export function nestingOf(bytes, offsets, hasTcb) {
-    return new NestingWalk(bytes, offsets, hasTcb).nesting();
+    return atOnce(nestingIn(bytes, offsets, hasTcb));
 }

@@ -2,6 +2,7 @@
 
 import { CLASS, CLASS_OF, LINKED } from './format.js';
 import { wordAt } from './numbers.js';
+import { PIECE } from './slices.js';
 import { axesOf, kindOf } from './tcb.js';
 
 /** What keeps a file from opening, and the byte at which the element begins that it is found at. */
@@ -17,11 +18,11 @@ export class Fault {
 }
 
 /**
- * Where each element begins, and behind the last where they end; or the first fault.
+ * Where each element begins, and behind the last where they end; or the first fault. It is found in pieces.
  * @param {Uint8Array} bytes
- * @returns {Uint32Array | Fault}
+ * @returns {import('./slices.js').Pieces<Uint32Array | Fault>}
  */
-export function offsetsOf(bytes) {
+export function* offsetsIn(bytes) {
     if (kindOf(bytes) !== 'design') {
         return new Fault('not-design', 0);
     }
@@ -43,9 +44,12 @@ export function offsetsOf(bytes) {
         }
         offsets[count++] = at;
         at += size;
+        if (count % PIECE === 0) {
+            yield;
+        }
     }
     offsets[count] = at;
-    return offsets.subarray(0, count + 1);
+    return offsets.slice(0, count + 1);
 }
 
 /**

@@ -8,6 +8,8 @@ const PIXELS_WITHIN = 8;          // about how many pixels of the screen the dis
 const SHARE_OF_FILL = 0.9;        // of that distance that the inside of what is filled has
 const EDGE_ON = 0.01;             // of its area of which a text is seen that is pointed at as a line
 const SIZE_OF_NEAREST = 1000;     // pixels that a record is taken to have where no distance is given
+/** Half the side of a square that holds the plane, whatever its centre. */
+const GREATEST_HALF = 2 ** 34;
 
 /**
  * The square of a point's distance from a segment.
@@ -57,19 +59,34 @@ export class Picker {
      * @param {number[]} place
      * @param {number} count
      */
-    nearest([x, y], count) {
-        const { records, order } = this.scene;
-        /** @type {{ record: number, square: number }[]} */
-        let found = [];
-        for (const record of order) {
-            const drawn = DRAWN_OF[records.type[record]];
-            const last = found.length < count ? Infinity : found[count - 1].square;
-            if (drawn !== DRAWN.cell && drawn !== DRAWN.node && this.squareFromBounds(record, x, y) < last) {
-                found.push({ record, square: this.squareFrom(record, x, y, 0) });
-                found = found.sort((one, other) => one.square - other.square).slice(0, count);
-            }
+    nearest(place, count) {
+        let half = 1, found = [];
+        while (half < GREATEST_HALF && (found.length < count || found[count - 1].square > half * half)) {
+            half *= 2;
+            found = this.nearestWithin(place, half, count);
         }
         return found.map(({ record, square }) => ({ record, distance: Math.sqrt(square) }));
+    }
+
+    /**
+     * The nearest of the records in a square around a place, with the squares of their distances.
+     * @param {number[]} place
+     * @param {number} half of its side
+     * @param {number} count
+     */
+    nearestWithin([x, y], half, count) {
+        const { records } = this.scene;
+        let found = [];
+        this.scene.query([x - half, y - half, x + half, y + half], (record) => {
+            const drawn = DRAWN_OF[records.type[record]];
+            const last = found.length < count ? Infinity : found[count - 1].square;
+            if (drawn !== DRAWN.cell && drawn !== DRAWN.node && this.squareFromBounds(record, x, y) <= last) {
+                found.push({ record, square: this.squareFrom(record, x, y, 0) });
+                found = found.sort((one, other) => one.square - other.square || one.record - other.record)
+                    .slice(0, count);
+            }
+        });
+        return found;
     }
 
     /**
@@ -90,7 +107,8 @@ export class Picker {
      */
     isAbove(record, other) {
         const isMarked = this.scene.isAbove(record), isOtherMarked = other >= 0 && this.scene.isAbove(other);
-        return isMarked === isOtherMarked ? record > other : isMarked;
+        return isMarked === isOtherMarked ? other < 0 || this.scene.placeOf(record) > this.scene.placeOf(other)
+            : isMarked;
     }
 
     /**

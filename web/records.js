@@ -149,6 +149,19 @@ export class Records {
     }
 
     /**
+     * The same, read from the bytes and not kept.
+     * @param {number} record
+     */
+    readWords(record) {
+        const type = this.type[record];
+        if (type !== TYPE.text && type !== TYPE.cell) {
+            return '';
+        }
+        const label = labelAt(this.bytesOf(record), 0, type, this.axes);
+        return typeof label === 'string' ? label : label.characters;
+    }
+
+    /**
      * Whether a record has all of these flags.
      * @param {number} record
      * @param {number} flags

@@ -1,9 +1,13 @@
 /* The search field: a number, a text, a cell's name, or a place. */
 
 import { byId, fill, linkTo, make, setHidden } from './dom.js';
+import { inSlices, whenIdle } from './slices.js';
+import { TextIndex } from './text_index.js';
 
 const MOST_FOUND = 100;
 const MOST_NEAR = 8;
+
+/** @typedef {{ text: string, go: () => void }} Entry what was found, in words, and what goes there */
 
 export class Search {
     /** @param {import('./app.js').App} app */
@@ -11,31 +15,59 @@ export class Search {
         this.app = app;
         this.field = byId('search-field');
         this.list = byId('search-list');
-        this.found = [];
+        /**
+         * What was found: places, and behind them the numbers of elements.
+         * @type {Entry[]}
+         */
+        this.places = [];
+        /** @type {number[]} */
+        this.numbers = [];
         this.at = -1;
+        /** @type {TextIndex | null} */
+        this.index = null;
+        /** Ends the work for a drawing, and the search that goes on, and when that has ended. */
+        this.working = new AbortController();
+        this.looking = new AbortController();
+        /** @type {Promise<void>} */
+        this.looked = Promise.resolve();
         this.field.addEventListener('input', () => this.look());
-        this.field.addEventListener('focus', () => setHidden(this.list, this.found.length === 0));
-        this.field.addEventListener('keydown', (event) => this.key(event));
-        byId('search').addEventListener('submit', (event) => event.preventDefault());
-        byId('search').addEventListener('focusout', (event) => {
+        this.field.addEventListener('focus', () => setHidden(this.list, this.count === 0));
+        this.field.addEventListener('keydown', (/** @type {KeyboardEvent} */ event) => this.key(event));
+        byId('search').addEventListener('submit', (/** @type {Event} */ event) => event.preventDefault());
+        byId('search').addEventListener('focusout', (/** @type {FocusEvent} */ event) => {
             if (!byId('search').contains(event.relatedTarget)) {
                 setHidden(this.list, true);
             }
         });
     }
 
-    /** Forgets what was found, for another drawing. */
-    clear() {
-        this.field.value = '';
-        this.found = [];
-        setHidden(this.list, true);
+    /** How many were found. */
+    get count() {
+        return this.places.length + this.numbers.length;
     }
 
+    /** Forgets what was found, for another drawing, and takes in its words when nothing else is to do. */
+    clear() {
+        const { records, base } = this.app.scene;
+        this.field.value = '';
+        this.places = [];
+        this.numbers = [];
+        setHidden(this.list, true);
+        this.working.abort();
+        this.looking.abort();
+        this.working = new AbortController();
+        this.index = new TextIndex(records, base);
+        whenIdle(this.index.building(), this.working.signal);
+    }
+
+    /** @param {KeyboardEvent} event */
     key(event) {
         if (event.key === 'Enter') {
-            this.take(this.at + (event.shiftKey ? -1 : 1));
-            setHidden(this.list, this.found.length > 0);
-        } else if (event.key === 'ArrowDown' && this.found.length > 0) {
+            this.looked.then(() => {
+                this.take(this.at + (event.shiftKey ? -1 : 1));
+                setHidden(this.list, this.count > 0);
+            });
+        } else if (event.key === 'ArrowDown' && this.count > 0) {
             event.preventDefault();
             this.list.querySelector('button').focus();
         } else if (event.key === 'Escape') {
@@ -45,26 +77,56 @@ export class Search {
         }
     }
 
-    /** Finds what the field asks for, and lists it. */
+    /** Finds what the field asks for, and lists it. A search that goes on is ended. */
     look() {
-        const asked = this.field.value.trim();
-        this.found = asked === '' ? [] : this.places(asked).concat(this.matches(asked).map((it) => this.entryOf(it)));
+        const asked = this.field.value.trim(), { state } = this.app.scene;
+        this.looking.abort();
+        this.looking = new AbortController();
+        if (asked === '' || this.index === null) {
+            this.show(asked, []);
+            return;
+        }
+        const work = this.index.numbersWith(state, asked.toLowerCase());
+        this.looked = inSlices(work, this.looking.signal).then((numbers) => this.show(asked, numbers), () => {});
+    }
+
+    /**
+     * Lists what was found: the number itself first, then texts and names that hold what was asked for, whole ones
+     * first.
+     * @param {string} asked
+     * @param {number[]} numbers
+     */
+    show(asked, numbers) {
+        const isNumber = /^\d+$/.test(asked) && Number(asked) < this.app.scene.state.count;
+        this.places = asked === '' ? [] : this.placesOf(asked);
+        this.numbers = isNumber ? [Number(asked), ...numbers.filter((it) => it !== Number(asked))] : numbers;
         this.at = -1;
         setHidden(this.list, asked === '');
-        const more = this.found.length > MOST_FOUND ? ', the first ' + MOST_FOUND + ' are listed' : '';
-        fill(this.list, make('p', { class: 'note' }, this.found.length + ' found' + more), this.rows());
+        const more = this.count > MOST_FOUND ? ', the first ' + MOST_FOUND + ' are listed' : '';
+        fill(this.list, make('p', { class: 'note' }, this.count + ' found' + more), this.rows());
     }
 
     rows() {
         const list = make('ul');
-        this.found.slice(0, MOST_FOUND).forEach(({ text }, index) => {
-            const row = linkTo(text, () => this.take(index));
-            row.addEventListener('keydown', (event) => this.keyInList(event, row));
+        for (let index = 0; index < Math.min(this.count, MOST_FOUND); index++) {
+            const row = linkTo(this.entryAt(index).text, () => this.take(index));
+            row.addEventListener('keydown', (/** @type {KeyboardEvent} */ event) => this.keyInList(event, row));
             list.append(make('li', {}, row));
-        });
+        }
         return list;
     }
 
+    /** @param {number} index */
+    entryAt(index) {
+        const { places, numbers } = this;
+        return index < places.length ? places[index] : this.entryOf(numbers[index - places.length]);
+    }
+
+    /**
+     * @param {number} number
+     * @param {string} behind
+     * @returns {Entry}
+     */
     entryOf(number, behind = '') {
         const { app } = this;
         return {
@@ -76,8 +138,12 @@ export class Search {
         };
     }
 
-    /** A place, as 1500,560: in master units where they are known, in units of resolution, and what is near it. */
-    places(asked) {
+    /**
+     * A place, as 1500,560: in master units where they are known, in units of resolution, and what is near it.
+     * @param {string} asked
+     * @returns {Entry[]}
+     */
+    placesOf(asked) {
         const found = /^(-?\d+(?:\.\d+)?)\s*[,; ]\s*(-?\d+(?:\.\d+)?)$/.exec(asked);
         if (!found) {
             return [];
@@ -87,6 +153,11 @@ export class Search {
         return asked.includes('.') ? master : master.concat(this.placeEntries(values, 'units'));
     }
 
+    /**
+     * @param {number[]} place
+     * @param {string} unit
+     * @returns {Entry[]}
+     */
     placeEntries(place, unit) {
         const { app } = this;
         const near = app.picker.nearest(place, MOST_NEAR).map(({ record, distance }) => {
@@ -97,41 +168,36 @@ export class Search {
         return [{ text, go: () => app.stage.goToPlace(place) }, ...near];
     }
 
+    /**
+     * @param {KeyboardEvent} event
+     * @param {HTMLElement} row
+     */
     keyInList(event, row) {
-        const { nextElementSibling, previousElementSibling } = row.parentElement;
-        const next = { ArrowDown: nextElementSibling, ArrowUp: previousElementSibling };
-        if (event.key in next) {
+        const { nextElementSibling: next, previousElementSibling: last } = /** @type {Element} */ (row.parentElement);
+        if (event.key === 'ArrowDown' || event.key === 'ArrowUp') {
             event.preventDefault();
-            (next[event.key] ? next[event.key].firstElementChild : this.field).focus();
+            const other = event.key === 'ArrowDown' ? next : last;
+            /** @type {HTMLElement} */ (other ? other.firstElementChild : this.field).focus();
         } else if (event.key === 'Escape') {
             this.field.focus();
         }
     }
 
-    /** The number itself first, then texts and names that hold what was asked for, whole ones first. */
-    matches(asked) {
-        const { state, records } = this.app.scene;
-        const wanted = asked.toLowerCase(), whole = [], part = [];
-        if (/^\d+$/.test(asked) && Number(asked) < state.count) {
-            whole.push(Number(asked));
-        }
-        for (let number = 0; number < state.count; number++) {
-            const text = records.wordsOf(state.record[number]).toLowerCase();
-            if (text.includes(wanted)) {
-                (text === wanted ? whole : part).push(number);
-            }
-        }
-        return whole.concat(part);
-    }
-
-    /** Goes to one of what was found; behind the last comes the first. */
+    /**
+     * Goes to one of what was found; behind the last comes the first.
+     * @param {number} index
+     */
     take(index) {
-        if (this.found.length === 0) {
+        if (this.numbers.some((it) => it >= this.app.scene.state.count)) {
+            this.show(this.field.value.trim(), []);
+        }
+        if (this.count === 0) {
             this.app.say(this.field.value.trim() === '' ? '' : 'Nothing found.');
             return;
         }
-        this.at = (index + this.found.length) % this.found.length;
-        this.found[this.at].go();
-        this.app.say(this.at + 1 + ' of ' + this.found.length + ': ' + this.found[this.at].text);
+        this.at = (index + this.count) % this.count;
+        const entry = this.entryAt(this.at);
+        entry.go();
+        this.app.say(this.at + 1 + ' of ' + this.count + ': ' + entry.text);
     }
 }

@@ -1,7 +1,7 @@
 /* The second drawings that a script imports, by the names that it uses. */
 
 import { wordOf } from './answers.js';
-import { isEqual } from './drawing.js';
+import { isEqual } from './bytes.js';
 
 /** @typedef {{ name: string, bytes: Uint8Array }} NamedFile */
 

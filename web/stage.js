@@ -131,7 +131,10 @@ export class Stage {
         this.moved();
     }
 
-    /** Goes to a place and marks it; what was chosen elsewhere isn't any more. */
+    /**
+     * Goes to a place and marks it; what was chosen elsewhere isn't any more.
+     * @param {number[]} place
+     */
     goToPlace([x, y]) {
         const { view, scene, words } = this.app;
         const [lowX, lowY, highX, highY] = scene.extent().box;
@@ -184,6 +187,6 @@ export class Stage {
 
     /** Says where nothing is to be seen. */
     showNothing() {
-        setHidden(byId('nothing'), this.app.scene.order.length > 0);
+        setHidden(byId('nothing'), this.app.scene.drawn > 0);
     }
 }

@@ -1,8 +1,19 @@
 /* One state of a drawing: its elements by number, and how they nest. */
 
-import { DRAWN, DRAWN_OF, FLAG } from './format.js';
+import { spansBetween } from './differing.js';
+import { FLAG } from './format.js';
+import { Grid } from './grid.js';
+import { Counting, Counts, Showing } from './showing.js';
+import { atOnce } from './slices.js';
 
 /** @typedef {import('./records.js').Records} Records */
+
+/**
+ * What edits made a state of: the drawing as it was opened, and the numbers of those of its elements that have records
+ * of their own now, in rising order; and a number from 1 on for the records that edits made, which are forgotten at
+ * times.
+ * @typedef {{ origin: State, numbers: Uint32Array, epoch: number }} Edited
+ */
 
 /**
  * A state of the drawing, before or after edits. `record` gives the record of each number, `parent` the number of the
@@ -14,13 +25,65 @@ export class State {
      * @param {Uint32Array} record
      * @param {Int32Array} parent
      * @param {Uint32Array} end
+     * @param {Edited | null} edited where it is the work of edits
      */
-    constructor(records, record, parent, end) {
+    constructor(records, record, parent, end, edited = null) {
         this.records = records;
         this.count = record.length;
         this.record = record;
         this.parent = parent;
         this.end = end;
+        this.edited = edited;
+        /** @type {Counts | null} */
+        this.ownCounts = null;
+        /** @type {Grid | null} */
+        this.ownGrid = null;
+    }
+
+    /** How much there is of all: of a state that edits left it is told from the trees that they changed. */
+    get counts() {
+        if (this.ownCounts === null) {
+            this.ownCounts = new Counts();
+            if (this.edited === null) {
+                atOnce(new Counting(this, this.ownCounts).all());
+            } else {
+                this.countBeside(this.edited.origin, this.ownCounts);
+            }
+        }
+        return this.ownCounts;
+    }
+
+    /**
+     * @param {State} origin
+     * @param {Counts} counts
+     */
+    countBeside(origin, counts) {
+        counts.take(origin.counts);
+        const olds = new Counting(origin, counts), news = new Counting(this, counts);
+        for (const [from, to] of spansBetween(origin, null, this)) {
+            olds.add(from, Math.min(to, origin.count), -1);
+            news.add(from, Math.min(to, this.count), 1);
+        }
+    }
+
+    /** The grid of the records that have the numbers of the elements, as those of a drawing that was opened do. */
+    get grid() {
+        if (this.ownGrid === null) {
+            this.ownGrid = new Grid(this.records, 0, this.count);
+        }
+        return this.ownGrid;
+    }
+
+    /**
+     * Makes ready in pieces what is asked of a drawing that is shown.
+     * @returns {import('./slices.js').Pieces<void>}
+     */
+    *preparing() {
+        const counts = new Counts(), grid = new Grid(this.records, 0, this.count, false);
+        yield* new Counting(this, counts).all();
+        this.ownCounts = counts;
+        yield* grid.filling();
+        this.ownGrid = grid;
     }
 
     /** @param {number} number */
@@ -104,40 +167,12 @@ export class State {
     }
 
     /**
-     * Marks in `shown`, which has a place a record, what a display shows under a mask of levels: a leaf on a level that
-     * is on; a header with members that show something; nothing that is deleted or below it, unless it is asked for.
+     * Marks in `shown`, which has a place a record, what a display shows under a mask of levels.
      * @param {Uint8Array} shown
      * @param {Uint8Array} levels
      * @param {boolean} withDeleted
      */
     show(shown, levels, withDeleted) {
-        const hidden = this.hiddenByHeaders(withDeleted), { record: recordOf, parent } = this;
-        const filled = new Uint8Array(this.count), { type, flags, level } = this.records;
-        for (let number = this.count - 1; number >= 0; number--) {
-            const record = recordOf[number], flag = flags[record];
-            const isShown = !hidden[number] && DRAWN_OF[type[record]] !== DRAWN.nothing && !(flag & FLAG.loose)
-                && (flag & FLAG.group ? filled[number] : levels[level[record]]) === 1;
-            if (isShown) {
-                shown[record] = 1;
-                if (parent[number] >= 0) {
-                    filled[parent[number]] = 1;
-                }
-            }
-        }
-    }
-
-    /**
-     * What is deleted itself, or stands below a deleted header or in a run, of which no part is shown.
-     * @param {boolean} withDeleted
-     */
-    hiddenByHeaders(withDeleted) {
-        const hidden = new Uint8Array(this.count), { record, parent: parentOf } = this, { flags } = this.records;
-        const own = withDeleted ? 0 : FLAG.deleted;
-        for (let number = 0; number < this.count; number++) {
-            const parent = parentOf[number];
-            const isPart = parent >= 0 && (hidden[parent] || flags[record[parent]] & FLAG.run);
-            hidden[number] = isPart || flags[record[number]] & own ? 1 : 0;
-        }
-        return hidden;
+        new Showing(this, levels, withDeleted).mark(shown, 0, this.count);
     }
 }

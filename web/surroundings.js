@@ -1,11 +1,11 @@
 /* What stands around the work in the app: who is asked, what is said, and how a step's document comes to be seen. */
 
-import { Drawing } from './drawing.js';
 import { byId, setHidden } from './dom.js';
 import { keptSaid } from './opener.js';
 import { Fault } from './opening.js';
 import { NotRun } from './making.js';
 import { Stopped } from './queue.js';
+import { readOf } from './stopping.js';
 import { faultSaid } from './refusals.js';
 import { sha256 } from './saving.js';
 import { BrowserStore } from './store.js';
@@ -59,11 +59,19 @@ class Busy {
         this.isAsking = false;
     }
 
+    /**
+     * Says how far the step is that runs.
+     * @param {string} text
+     */
+    tell(text) {
+        byId('busy-text').textContent = text;
+    }
+
     show() {
         const isBusy = !this.isAsking && (this.step !== '' || this.running > 0);
         document.documentElement.dataset.busy = String(isBusy);
         clearTimeout(this.timer);
-        byId('busy-text').textContent = (this.step || 'The program is working') + ' …';
+        this.tell((this.step || 'The program is working') + ' …');
         if (!isBusy) {
             setHidden(byId('busy'), true);
         } else {
@@ -83,7 +91,7 @@ export const busy = new Busy();
 export function surroundingsOf(app, program) {
     return {
         program, store: new BrowserStore(), digest: sha256, now: () => Date.now(),
-        read: async (name, bytes) => Drawing.open(name, bytes),
+        read: readOf,
         ask: (question, signal) => app.questions.ask(question, signal),
         show: (document, former) => app.showDocument(document, former),
         busy: (queue) => {
