@@ -6,6 +6,7 @@ import { byId, setHidden, make, fill } from './dom.js';
 import { EditPanel } from './edit_panel.js';
 import { Editing } from './editing.js';
 import { Exports } from './exports.js';
+import { Finder } from './finder.js';
 import { ElementPanel } from './element_panel.js';
 import { GREATEST, LEAST } from './format.js';
 import { KeptPanel } from './kept_panel.js';
@@ -85,6 +86,7 @@ export class App {
     begin(hasProgram) {
         this.search = new Search(this);
         this.exports = new Exports(this);
+        this.finder = new Finder(this);
         this.menu = new Menu(this);
         this.keptPanel = new KeptPanel(this);
         new Pointer(byId('marks'), this);

@@ -62,8 +62,8 @@ export class Fence {
         return this.corners === null ? [] : fenceLines(script, this.corners, this.app.scene.levels);
     }
 
-    /** Asks the program what the fence takes of what is shown, and which edits of it would be refused. What was known
-        of it before, as of another mode, isn't any more. */
+    /** Asks the program what the fence takes of what is shown, and then which edits of it would be refused. What was
+        known of it before, as of another mode, isn't any more. */
     async ask() {
         const { app, corners } = this, { document } = app.work;
         if (corners === null || document === null || !app.hasProgram) {
@@ -71,23 +71,38 @@ export class Fence {
         }
         this.isKnown = false;
         this.causes.clear();
-        const asked = this.asked = {}, lines = this.lines([]), { mode } = this;
-        const all = [...lines, 'select ' + mode, ...probesOfFence(mode, app.drawing.axes)];
-        const answers = await app.work.ask(all);
-        if (answers === null || this.corners !== corners || this.asked !== asked) {
+        const asked = this.asked = {}, { mode } = this, lines = [...this.lines([]), 'select ' + mode];
+        const answers = await app.work.ask(lines);
+        if (answers === null || this.asked !== asked) {
             return;
         }
-        if (isRefused(answers[lines.length - 1])) {
+        if (isRefused(answers[lines.length - 2])) {
             this.clear();
-            app.tellRefusal({ document, lines: all, answers, index: lines.length - 1 });
+            app.tellRefusal({ document, lines, answers, index: lines.length - 2 });
             return;
         }
-        const [chosen, ...probes] = answers.slice(lines.length);
+        const chosen = answers[lines.length - 1];
         this.isKnown = true;
         this.chosen = chosen === null ? [] : chosen.listed.map(Number);
-        ['move', 'copy', 'sym', 'delete'].forEach((edit, index) => this.noteCause(edit, probes[2 * index]));
         app.show();
         app.stage.request();
+        await this.askCauses(asked, lines.slice(0, -1), mode);
+    }
+
+    /**
+     * Asks which edits of the fence would be refused.
+     * @param {object} asked
+     * @param {string[]} lines that set it
+     * @param {string} mode
+     */
+    async askCauses(asked, lines, mode) {
+        const { app } = this, probes = probesOfFence(mode, app.work.document?.made.base.axes || 2);
+        const answers = await app.work.ask([...lines, ...probes]);
+        if (answers !== null && this.asked === asked) {
+            ['move', 'copy', 'sym', 'delete'].forEach((edit, index) => (
+                this.noteCause(edit, answers[lines.length + 2 * index])));
+            app.show();
+        }
     }
 
     /**

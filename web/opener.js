@@ -60,7 +60,9 @@ export class Opener {
         if (!await this.mayLeave(step)) {
             return null;
         }
+        // the sum is made while the program checks, in the browser's own threads
         const { around } = this.work, bytes = await bytesOf(), base = await around.read(name, bytes, step.signal);
+        const summing = around.digest(bytes);
         const checked = around.program === null ? null : await around.program.check(bytes, step.signal);
         if (checked !== null && checked.status !== 0) {
             around.tellNotOpened(name, new NotRun(checked, name), bytes);
@@ -70,8 +72,7 @@ export class Opener {
             around.tellNotOpened(name, base, bytes);
             return null;
         }
-        const digest = await around.digest(bytes);
-        return { document: Document.of(Object.freeze({ name, bytes, digest }), base), said: '' };
+        return { document: Document.of(Object.freeze({ name, bytes, digest: await summing }), base), said: '' };
     }
 
     /**

@@ -15,7 +15,7 @@ export class Path {
          * Coordinates, of which the path's lie from one place to before another, a step from point to point.
          * @type {Int32Array | Float64Array}
          */
-        this.points = records.coordinates;
+        this.points = new Int32Array(0);
         this.from = this.to = 0;
         this.step = 2;
         this.isClosed = false;
