@@ -6,6 +6,7 @@ import { Engine, canRun } from './engine.js';
 import { partOf } from './files.js';
 import { Incoming } from './incoming.js';
 import { linesOf } from './making.js';
+import { StartPage } from './start_page.js';
 import { busy } from './surroundings.js';
 
 const NO_PROGRAM = 'This browser can show drawings, but can’t run the program that edits them: it lacks Memory64 of '
@@ -35,6 +36,9 @@ async function start() {
         setHidden(byId('start-fault'), false);
     }
     await openOwn(app);
+    if (app.drawing === null) {
+        await new StartPage(app).show();
+    }
     if (!canRun() && app.drawing !== null) {
         app.notice(NO_PROGRAM);
     }

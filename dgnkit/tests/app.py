@@ -53,7 +53,7 @@ class WithBrowser(WithProgram):
     seen: ClassVar[Browser]
     saved: ClassVar[str]
     app: ClassVar[Path]
-    scripts: ClassVar[int] = 5 if HAS_PROGRAM else 3  # scripts of a page with a drawing, its data among them
+    scripts: ClassVar[int] = 6 if HAS_PROGRAM else 4  # scripts of a page with a drawing, its data among them
 
     @classmethod
     def setUpClass(cls) -> None:

@@ -353,6 +353,22 @@ class Opening(WithBrowser):
         self.assertEqual(self.seen.title, 'dropped.dgn – 5 elements')
         self.assertGreater(self.dot(250, 0)[3], 100)
 
+    def test_the_example_is_seen_and_opened(self) -> None:
+        self.leave()
+        self.seen.open(str(self.app))
+        dark = self.seen.run(
+            "const canvas = document.getElementById('start-picture'), { width, height } = canvas;"
+            'const dots = canvas.getContext("2d").getImageData(0, 0, width, height).data;'
+            'let count = 0; for (let at = 0; at < dots.length; at += 4) count += dots[at + 1] < 128 ? 1 : 0;'
+            'return count;'
+        )
+        self.assertGreater(dark, 1000, 'it shows a drawing')
+        self.seen.click('#start-example')
+        self.seen.wait("page.drawing !== null && page.drawing.name === 'town.dgn'")
+        self.seen.settle()
+        made = self.seen.run('return btoa(String.fromCharCode(...page.drawing.bytes))')
+        self.assertEqual(base64.b64decode(made), (EXAMPLES / 'town.dgn').read_bytes())
+
     def test_what_is_no_drawing_is_told_by_name(self) -> None:
         self.assertIn('DGN version 8', self.fault('new.dgn', bytes.fromhex('d0cf11e0a1b11ae1') + bytes(2000)))
         self.assertIn('a MicroStation cell library', self.fault('cells.cel', bytes.fromhex('08051700') + bytes(2000)))

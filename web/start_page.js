@@ -1,0 +1,46 @@
+/* The page before a drawing is open: a picture of the example, and what opens it. */
+
+import { byId, setHidden } from './dom.js';
+import { Drawing } from './drawing.js';
+import { partOf } from './files.js';
+import { Scene } from './scene.js';
+import { drawSheet, sheetOf } from './sheet.js';
+
+const WIDTH = 560, HEIGHT = 300;  // pixels of the picture
+const MILLIMETRES = 25.4 / 96;    // of a pixel
+const NAME = 'town.dgn';
+
+export class StartPage {
+    /** @param {import('./app.js').App} app */
+    constructor(app) {
+        this.app = app;
+        /** @type {Uint8Array | null} */
+        this.example = null;
+        for (const id of ['start-example', 'start-picture']) {
+            byId(id).addEventListener('click', () => this.open());
+        }
+    }
+
+    /** Shows the example, where the app has one. */
+    async show() {
+        this.example = await partOf('example-part');
+        const drawing = this.example === null ? null : Drawing.open(NAME, this.example);
+        if (!(drawing instanceof Drawing)) {
+            return;
+        }
+        const canvas = byId('start-picture'), ratio = Math.min(window.devicePixelRatio || 1, 3);
+        const scene = new Scene(drawing.records, drawing.before);
+        canvas.width = WIDTH * ratio;
+        canvas.height = HEIGHT * ratio;
+        const sheet = sheetOf({ box: scene.extent().box, width: WIDTH * MILLIMETRES, height: HEIGHT * MILLIMETRES,
+            scale: null, hasFrame: false, titleOf: () => '' });
+        await drawSheet(scene, drawing.colours.table, canvas.getContext('2d'), sheet, ratio);
+        setHidden(byId('start-shown'), false);
+    }
+
+    /** Opens the example. */
+    open() {
+        const { example } = this;
+        return example === null ? Promise.resolve(false) : this.app.opener.open(NAME, async () => example.slice());
+    }
+}
