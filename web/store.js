@@ -2,6 +2,7 @@
 
 const DATABASE = 'dgnedit';
 const RECORDS = 'kept';
+const PATIENCE = 5000;            // milliseconds that an answer of the store may take
 
 /**
  * What keeps records under their `id`. Each call may fail.
@@ -22,6 +23,19 @@ function resultOf(request) {
     return new Promise((resolve, reject) => {
         request.onsuccess = () => resolve(request.result);
         request.onerror = () => reject(request.error);
+    });
+}
+
+/**
+ * What a promise gives, where that comes in time: a store that doesn't answer must not hold up the work.
+ * @template T
+ * @param {Promise<T>} promise
+ * @returns {Promise<T>}
+ */
+function inTime(promise) {
+    return new Promise((resolve, reject) => {
+        const timer = setTimeout(() => reject(new DOMException('the store doesn’t answer', 'TimeoutError')), PATIENCE);
+        promise.then(resolve, reject).finally(() => clearTimeout(timer));
     });
 }
 
@@ -47,7 +61,7 @@ export class BrowserStore {
     async open() {
         this.opened = this.opened || this.openNow();
         try {
-            return await this.opened;
+            return await inTime(this.opened);
         } catch (why) {
             this.opened = null;
             throw why;
@@ -67,7 +81,7 @@ export class BrowserStore {
 
     async all() {
         const database = await this.open();
-        return resultOf(database.transaction(RECORDS, 'readonly').objectStore(RECORDS).getAll());
+        return inTime(resultOf(database.transaction(RECORDS, 'readonly').objectStore(RECORDS).getAll()));
     }
 
     /** @param {{ id: string }} record */
@@ -106,6 +120,6 @@ export class BrowserStore {
         const transaction = database.transaction(RECORDS, 'readwrite', { durability: 'strict' });
         const ended = endOf(transaction);
         act(transaction.objectStore(RECORDS));
-        await ended;
+        await inTime(ended);
     }
 }

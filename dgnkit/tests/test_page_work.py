@@ -232,6 +232,14 @@ class Kept(WithWork):
         self.drop(str(EXAMPLES / 'valve.dgn'))
         self.assertIn('It is kept in this browser', self.dialog('Stay'))
 
+    def test_a_store_that_never_answers_holds_up_nothing(self) -> None:
+        made = self.example('plan.dgn')
+        self.open(made)
+        self.seen.run('page.work.around.store.opened = null; IDBFactory.prototype.open = () => ({});')
+        self.typed('color 5 1')
+        self.assertIn('doesn’t let the page keep this work', self.seen.text('#keeping'))
+        self.compare(made, ['color 5 1'])
+
     def test_the_oldest_goes_where_there_is_no_room_and_it_is_said(self) -> None:
         made = self.worked('color 5 1')
         self.again(made)
