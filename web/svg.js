@@ -1,6 +1,6 @@
 /* A picture as SVG: a canvas of which each stroke, area and text becomes an element of a file. */
 
-const NAMESPACE = 'http://www.w3.org/2000/svg';
+import { byId } from './dom.js';
 
 /** @param {number} value */
 function short(value) {
@@ -126,7 +126,8 @@ export class SvgCanvas {
  * @param {Record<string, string | null>} attributes
  */
 function svgElement(name, attributes) {
-    const element = document.createElementNS(NAMESPACE, name);
+    // the page has an empty SVG, whose namespace is the one that is wanted
+    const element = document.createElementNS(byId('no-picture').namespaceURI, name);
     for (const [key, value] of Object.entries(attributes)) {
         if (value !== null) {
             element.setAttribute(key, value);

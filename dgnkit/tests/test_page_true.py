@@ -230,7 +230,9 @@ class Edited(WithGdal):
         wave += [(2200, 1350), (2300, 1300)]
         _, read = self.show(curved.spline(four, 4, line), arc, curved.curve(wave))
         lines = ['delete 1', 'color 3 3', 'copy 4 0 600']
-        answers = self.seen.run_slowly('page.work.add(arguments[0]).then(arguments[arguments.length - 1])', lines)
+        answers = self.seen.run_slowly(
+            "page.work.apply({ why: 'edit', lines: arguments[0] }).then(arguments[1])", lines
+        )
         self.assertTrue(answers, 'all of them are done')
         moved = [(x, y + 600) for x, y in read[4].lines[0]]
         paths = [line, round_, read[4].lines[0], moved]
