@@ -57,7 +57,7 @@ export class Opener {
      * @returns {Promise<Left | null>}
      */
     async opened(name, bytesOf, step) {
-        if (!await this.mayLeave(step)) {
+        if (!await this.mayLeave(step, name, OPEN_OTHER)) {
             return null;
         }
         // the sum is made while the program checks, in the browser's own threads
@@ -78,8 +78,10 @@ export class Opener {
     /**
      * Asks about work that isn't saved; without any it may be left.
      * @param {Step} step
+     * @param {string} other what would take its place
+     * @param {string} button
      */
-    async mayLeave({ signal }) {
+    async mayLeave({ signal }, other, button) {
         const { document, keeper, around } = this.work;
         if (document === null || !document.isUnsaved) {
             return true;
@@ -87,10 +89,10 @@ export class Opener {
         const isKept = keeper.isThere && keeper.fault === '';
         const kept = isKept ? 'It is kept in this browser, and offered when you open that drawing again.'
             : 'It isn’t kept in this browser: it is lost then.';
-        const answer = await around.ask({ title: 'Your work isn’t saved', buttons: [OPEN_OTHER, 'Stay'],
-            said: ['Another drawing would take the place of ' + document.original.name + ', and of what you did to it. '
-                + kept] }, signal);
-        return answer !== null && answer.button === OPEN_OTHER;
+        const said = other + ' would take the place of what you did to ' + document.original.name + '. ' + kept;
+        const answer = await around.ask({ title: 'Your work isn’t saved', said: [said], buttons: [button, 'Stay'] },
+            signal);
+        return answer !== null && answer.button === button;
     }
 
     /**
@@ -149,7 +151,8 @@ export class Opener {
      */
     goOn(record) {
         return this.work.stepOn('Continuing', 'open', async (document, step) => (
-            await this.mayLeave(step) ? this.continued(document, record, step) : null));
+            await this.mayLeave(step, 'The kept work', 'Continue with the kept work')
+                ? this.continued(document, record, step) : null));
     }
 
     /**
