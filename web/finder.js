@@ -2,7 +2,8 @@
 
 import { counted } from './describing.js';
 import { byId } from './dom.js';
-import { testsOf, treesThatMeet } from './conditions.js';
+import { numbersOf, testsOf, treesThatMeet } from './conditions.js';
+import { levelsFence } from './levels_panel.js';
 import { inSlices } from './slices.js';
 import { typeName } from './types.js';
 
@@ -21,6 +22,13 @@ export class Finder {
     get types() {
         const { types } = this.app.scene.state.counts;
         return [ANY, ...[...types.keys()].filter((type) => types[type] > 0).map((type) => type + ' ' + typeName(type))];
+    }
+
+    /** The fence that takes what was asked for, where that is levels alone. */
+    get source() {
+        const { level, type, ...rest } = this.asked;
+        const isLevels = level !== '' && type === ANY && Object.values(rest).every((text) => text.trim() === '');
+        return isLevels ? levelsFence(numbersOf(level) || []) : null;
     }
 
     /** Asks for conditions, and selects the trees that are shown in which an element meets all of them. */
@@ -56,7 +64,7 @@ export class Finder {
         }
         const before = isMore ? choice.numbers.map((it) => state.rootOf(it)) : [];
         app.tools.clearFence();
-        choice.choose([...new Set([...before, ...found])]);
+        choice.choose([...new Set([...before, ...found])], before.length === 0 ? this.source : null);
         choice.goToAll();
         app.say(counted(found.length, 'tree') + ' found');
     }

@@ -9,6 +9,19 @@ import { typeName } from './types.js';
 const WHOLE_PLANE = Object.freeze([[LEAST, LEAST], [GREATEST, LEAST], [GREATEST, GREATEST], [LEAST, GREATEST]]);
 
 /**
+ * The fence that takes all that is on some levels.
+ * @param {Iterable<number>} numbers
+ * @returns {import('./editing.js').Source}
+ */
+export function levelsFence(numbers) {
+    const levels = new Uint8Array(64);
+    for (const level of numbers) {
+        levels[level] = 1;
+    }
+    return { corners: WHOLE_PLANE, mode: 'overlap', levels };
+}
+
+/**
  * A level in the list: its row, the box that switches it, and how many items it shows.
  * @typedef {{ row: HTMLElement, box: HTMLInputElement, count: HTMLElement }} LevelRow
  */
@@ -101,9 +114,7 @@ export class LevelsPanel {
             }
         }
         tools.clearFence();
-        const levels = new Uint8Array(64);
-        levels[level] = 1;
-        choice.choose(roots, { corners: WHOLE_PLANE, mode: 'overlap', levels });
+        choice.choose(roots, levelsFence([level]));
     }
 
     /**
