@@ -72,7 +72,7 @@ export class Fence {
         this.isKnown = false;
         this.causes.clear();
         const asked = this.asked = {}, lines = this.lines([]), { mode } = this;
-        const all = [...lines, 'select ' + mode, ...probesOfFence(mode, app.drawing.axes)];
+        const all = [...lines, 'select ' + mode, ...probesOfFence(mode, app.open.drawing.axes)];
         const answers = await app.work.ask(all);
         if (answers === null || this.corners !== corners || this.asked !== asked) {
             return;

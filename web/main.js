@@ -20,7 +20,7 @@ async function engineOf() {
         return null;
     }
     const program = await WebAssembly.compile(/** @type {BufferSource} */ (part));
-    return new Engine(byId('worker-part').textContent, program, (running) => {
+    return new Engine(byId('worker-part').textContent || '', program, (running) => {
         busy.running = running;
         busy.show();
     });
@@ -59,7 +59,7 @@ async function openOwn(app) {
     if (other !== null) {
         await app.menu.compareWith(byId('after-part').dataset.name || '', other);
     }
-    if (lines.length > 0 && app.scene !== null && app.scene.after !== null) {
+    if (lines.length > 0 && app.drawing !== null && app.scene.after !== null) {
         app.modes.set('both');
         app.tabs.show('script');
     }

@@ -65,6 +65,7 @@ export class BrowserStore {
         return database;
     }
 
+    /** @returns {Promise<unknown[]>} */
     async all() {
         const database = await this.open();
         return resultOf(database.transaction(RECORDS, 'readonly').objectStore(RECORDS).getAll());
