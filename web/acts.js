@@ -78,20 +78,21 @@ function isLine(it) {
 
 /**
  * Whether something that was kept is an act.
- * @param {any} it
+ * @param {unknown} it
  * @returns {it is Act}
  */
 export function isAct(it) {
     if (typeof it !== 'object' || it === null) {
         return false;
     }
-    switch (it.why) {
+    const { why, lines, name, bytes, index, line } = /** @type {Record<string, unknown>} */ (it);
+    switch (why) {
         case 'edit': case 'typed': case 'import': case 'opened':
-            return Array.isArray(it.lines) && it.lines.length > 0 && it.lines.every(isLine);
+            return Array.isArray(lines) && lines.length > 0 && lines.every(isLine);
         case 'patch':
-            return typeof it.name === 'string' && it.bytes instanceof Uint8Array;
+            return typeof name === 'string' && bytes instanceof Uint8Array;
         case 'remove':
-            return Number.isSafeInteger(it.index) && it.index >= 0 && isLine(it.line);
+            return Number.isSafeInteger(index) && Number(index) >= 0 && isLine(line);
         default:
             return false;
     }

@@ -1,6 +1,9 @@
 /* What the program prints, apart by the lines of the script (docs/EDITING.md, Answers). */
 
-/** The word with which a listing ends, by the command's. */
+/**
+ * The word with which a listing ends, by the command's.
+ * @type {Readonly<Record<string, string | undefined>>}
+ */
 const LAST_WORDS = Object.freeze({
     show: 'shown', tree: 'tree', elements: 'elements', refs: 'refs', links: 'links', audit: 'audit', select: 'selected',
 });

@@ -31,16 +31,22 @@ import { View } from './view.js';
 import { Words } from './words.js';
 import { Work } from './work.js';
 
+/** @typedef {import('./comparing.js').Change} Change */
+/** @typedef {Pick<Change, 'kind' | 'words'>} Told how an element has changed */
+/** @typedef {import('./document.js').Document} Document */
+/** @typedef {import('./drawing.js').Drawing} Drawing */
+/** @typedef {import('./state.js').State} State */
+
+/**
+ * A drawing that is open, and what is seen, said and picked of it.
+ * @typedef {{ drawing: Drawing, scene: Scene, words: Words, picker: Picker, refusals: Refusals }} Open
+ */
+
 export class App {
     /** @param {import('./engine.js').Engine | null} engine the program, where the browser can run it */
     constructor(engine) {
-        /** @type {import('./drawing.js').Drawing | null} */
-        this.drawing = null;
-        /**
-         * What is seen of the drawing; there is none before one is open.
-         * @type {any}
-         */
-        this.scene = null;
+        /** @type {Open | null} */
+        this.opened = null;
         /**
          * The colours of the table as they are drawn on the ground.
          * @type {string[]}
@@ -54,9 +60,9 @@ export class App {
          */
         this.place = null;
         /** What is told of changes, by their records, while two drawings are compared. */
-        this.changes = new Map();
-        /** What the numbers before became, by their records, where they aren't kept. */
-        this.became = new Map();
+        this.changes = /** @type {Map<number, Told>} */ (new Map());
+        /** What the numbers before became, by their records, where they aren't kept; null where they are gone. */
+        this.became = /** @type {Map<number, number | null>} */ (new Map());
         this.view = new View(0, 0);
         this.choice = new Choice(this);
         this.tools = new Tools(this);
@@ -76,21 +82,41 @@ export class App {
         this.editPanel = new EditPanel(this);
         this.scriptPanel = new ScriptPanel(this);
         this.changesPanel = new ChangesPanel(this);
-        this.begin(engine !== null);
-    }
-
-    /**
-     * Begins what listens to the person.
-     * @param {boolean} hasProgram
-     */
-    begin(hasProgram) {
         this.search = new Search(this);
         this.exports = new Exports(this);
         this.finder = new Finder(this);
         this.menu = new Menu(this);
         this.keptPanel = new KeptPanel(this);
         new Pointer(byId('marks'), this);
-        document.body.dataset.program = String(hasProgram);
+    }
+
+    /** What is open, for all that is done with an open drawing alone. */
+    get open() {
+        if (this.opened === null) {
+            throw new Error('no drawing is open');
+        }
+        return this.opened;
+    }
+
+    /** The drawing that is open, or null. */
+    get drawing() {
+        return this.opened === null ? null : this.opened.drawing;
+    }
+
+    get scene() {
+        return this.open.scene;
+    }
+
+    get words() {
+        return this.open.words;
+    }
+
+    get picker() {
+        return this.open.picker;
+    }
+
+    get refusals() {
+        return this.open.refusals;
     }
 
     get isAsking() {
@@ -108,8 +134,8 @@ export class App {
 
     /**
      * Shows a document after a step: all that is seen of the drawing follows from it.
-     * @param {import('./document.js').Document} document
-     * @param {import('./document.js').Document | null} former
+     * @param {Document} document
+     * @param {Document | null} former
      */
     showDocument(document, former) {
         const { made, original } = document, isOther = former === null || former.original !== original;
@@ -140,7 +166,7 @@ export class App {
 
     /**
      * Shows another drawing, in the same view where it is of the same file.
-     * @param {import('./drawing.js').Drawing} drawing
+     * @param {Drawing} drawing
      * @param {boolean} isOther
      */
     takeInView(drawing, isOther) {
@@ -162,21 +188,18 @@ export class App {
 
     /**
      * Shows a drawing from now on.
-     * @param {import('./drawing.js').Drawing} drawing
+     * @param {Drawing} drawing
      */
     take(drawing) {
-        this.drawing = drawing;
+        const scene = new Scene(drawing.records, drawing.before), words = new Words(drawing, scene);
+        this.opened = { drawing, scene, words, picker: new Picker(scene), refusals: new Refusals(drawing) };
         this.place = null;
         this.choice.clear();
         this.endCompare();
-        this.scene = new Scene(drawing.records, drawing.before);
-        this.words = new Words(drawing, this.scene);
-        this.picker = new Picker(this.scene);
-        this.refusals = new Refusals(drawing);
         document.body.dataset.state = 'open';
         document.title = drawing.name + ' – ' + drawing.count + (drawing.count === 1 ? ' element' : ' elements');
         byId('title').textContent = drawing.name;
-        byId('summary').textContent = this.words.summary();
+        byId('summary').textContent = words.summary();
         setHidden(byId('notice'), true);
         this.editPanel.take();
         this.search.clear();
@@ -188,7 +211,7 @@ export class App {
 
     /**
      * Shows the state that a script leaves behind the drawing, or the drawing alone.
-     * @param {import('./state.js').State | null} after
+     * @param {State | null} after
      */
     showAfter(after) {
         const { scene } = this;
@@ -232,7 +255,13 @@ export class App {
 
     /* Comparing. */
 
-    /** Shows another drawing behind this one, with what differs; `said` tells which state of this one it is. */
+    /**
+     * Shows another drawing behind this one, with what differs.
+     * @param {Drawing} other
+     * @param {Change[]} changes
+     * @param {State} after the other drawing's, beside this one
+     * @param {string} said which state of this one it is
+     */
     compareWith(other, changes, after, said) {
         this.changesPanel.take(other, changes, said);
         this.readChanges(changes, after);
@@ -263,7 +292,11 @@ export class App {
         }
     }
 
-    /** Changes by the record that they are of, and what the numbers before became where they aren't kept. */
+    /**
+     * Changes by the record that they are of, and what the numbers before became where they aren't kept.
+     * @param {Change[]} changes
+     * @param {State} after
+     */
     readChanges(changes, after) {
         for (const { before, after: now, kind, words, more } of changes) {
             for (let place = 0; place <= more; place++) {
@@ -273,6 +306,12 @@ export class App {
         }
     }
 
+    /**
+     * @param {Told} change
+     * @param {number | null} old the number before, which is the record's, too
+     * @param {number | null} record of the number after
+     * @param {number | null} made the number after
+     */
     readChange(change, old, record, made) {
         if (record !== null) {
             this.changes.set(record, change);
@@ -344,6 +383,7 @@ export class App {
      */
     confirm(name, act) {
         const said = name + ' was given to the browser to save. Is it there?';
+        /** @type {HTMLElement} */
         const row = make('div', { class: 'confirm' }, make('p', {}, said),
             buttonOf('It is saved', () => {
                 row.remove();

@@ -66,7 +66,7 @@ export class Choice {
         byId('under').textContent = said;
         const label = byId('hover');
         setHidden(label, said === '');
-        if (said !== '') {
+        if (said !== '' && pointer !== null) {
             label.textContent = said;
             const isRight = pointer[0] > app.view.width / 2;
             label.style.left = isRight ? 'auto' : pointer[0] + 14 + 'px';
@@ -103,10 +103,10 @@ export class Choice {
      */
     numberOf(record) {
         const { app } = this, { scene } = app, number = scene.records.number[record];
-        if (scene.mode === 'before' || !app.became.has(record)) {
+        const became = app.became.get(record);
+        if (scene.mode === 'before' || became === undefined) {
             return number;
         }
-        const became = app.became.get(record);
         if (became === null) {
             app.modes.set('before');
             return number;

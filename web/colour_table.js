@@ -59,6 +59,7 @@ function ownColours(bytes, offsets, records) {
     return null;
 }
 
+/** @type {Readonly<Record<string, string | undefined>>} */
 const COLOUR_NAMES = Object.freeze({
     '#ffffff': 'white', '#0000ff': 'blue', '#00ff00': 'green', '#ff0000': 'red', '#ffff00': 'yellow',
     '#ff00ff': 'magenta', '#ff7f00': 'orange', '#00ffff': 'cyan', '#404040': 'dark grey', '#c0c0c0': 'light grey',

@@ -20,7 +20,7 @@ import { byId } from './dom.js';
  * @returns {Promise<Change[]>}
  */
 export function compareInWorker(before, after, onProgress = () => {}, signal = null) {
-    const source = new Blob([byId('comparer-part').textContent], { type: 'text/javascript' });
+    const source = new Blob([byId('comparer-part').textContent || ''], { type: 'text/javascript' });
     const place = URL.createObjectURL(source), worker = new Worker(place);
     URL.revokeObjectURL(place);
     const stopped = new AbortController();

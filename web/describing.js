@@ -18,6 +18,7 @@ export function described(drawing, number) {
     return typeName(type) + ' ' + number + more + ' on level ' + records.level[number];
 }
 
+/** @type {Readonly<Record<string, string | undefined>>} */
 const ESCAPES = Object.freeze({ '\\': '\\\\', '\n': '\\n', '\r': '\\r', '\t': '\\t' });
 const UNPRINTED = /[\\\p{Cc}\p{Cf}\p{Cs}\p{Co}\p{Cn}\p{Zl}\p{Zp}]|(?! )\p{Zs}/gu;
 
@@ -27,13 +28,13 @@ const UNPRINTED = /[\\\p{Cc}\p{Cf}\p{Cs}\p{Co}\p{Cn}\p{Zl}\p{Zp}]|(?! )\p{Zs}/gu
  */
 export function quoted(text) {
     const mark = text.includes("'") && !text.includes('"') ? '"' : "'";
-    const said = text.replace(UNPRINTED, (sign) => ESCAPES[sign] || escaped(sign.codePointAt(0)));
+    const said = text.replace(UNPRINTED, (sign) => ESCAPES[sign] || escaped(sign));
     return mark + (mark === "'" ? said.replaceAll("'", "\\'") : said) + mark;
 }
 
-/** @param {number} code */
-function escaped(code) {
-    const digits = code.toString(16);
+/** @param {string} sign */
+function escaped(sign) {
+    const code = Number(sign.codePointAt(0)), digits = code.toString(16);
     return code < 256 ? '\\x' + digits.padStart(2, '0') : code < 65536 ? '\\u' + digits.padStart(4, '0')
         : '\\U' + digits.padStart(8, '0');
 }

@@ -1,20 +1,42 @@
 /* Small helpers for what stands beside the drawing. What a drawing holds is put there as text, never as markup. */
 
 /**
+ * A row of buttons.
+ * @typedef {{ readonly children: HTMLCollectionOf<HTMLButtonElement> } & HTMLElement} Buttons
+ */
+
+/**
+ * The elements of app.html of which more is used than any element has, by their names.
+ * @typedef {Record<'open' | 'start-open' | 'undo' | 'redo' | 'save' | 'mend' | 'import' | 'apply' | 'compare'
+ *     | 'open-script' | 'save-script' | 'save-patch' | 'throw-away' | 'previous' | 'next' | 'go' | 'fence-choose'
+ *     | 'fence-clear' | 'edit-move' | 'edit-copy' | 'edit-sym' | 'edit-delete' | 'drag-move' | 'drag-copy'
+ *     | 'typed-add' | 'script-copy', HTMLButtonElement>
+ *     & Record<'open-file' | 'second-file' | 'search-field' | 'show-deleted' | 'typed' | 'changes-filter' | 'by-x'
+ *     | 'by-y' | 'by-z' | 'new-color' | 'new-weight' | 'new-style' | 'make-level' | 'make-color' | 'make-weight'
+ *     | 'make-style' | 'make-words' | 'make-height' | 'make-font', HTMLInputElement>
+ *     & Record<'fence-mode' | 'by-unit', HTMLSelectElement> & Record<'edits' | 'making', HTMLFieldSetElement>
+ *     & Record<'drawing' | 'marks' | 'start-picture', HTMLCanvasElement> & Record<'modes' | 'tools', Buttons>
+ *     & { 'more': HTMLDetailsElement, 'kept-dialog': HTMLDialogElement }} Parts
+ */
+
+/**
  * The element of the page with this name.
- * @param {string} id
- * @returns {any} of the type that app.html gives it
+ * @template {string} Name
+ * @param {Name} id
+ * @returns {Name extends keyof Parts ? Parts[Name] : HTMLElement}
  */
 export function byId(id) {
-    return document.getElementById(id);
+    const element = /** @type {unknown} */ (document.getElementById(id));
+    return /** @type {Name extends keyof Parts ? Parts[Name] : HTMLElement} */ (element);
 }
 
 /**
  * A new element with these attributes, and with text or other elements in it.
- * @param {string} tag
+ * @template {keyof HTMLElementTagNameMap} Tag
+ * @param {Tag} tag
  * @param {Record<string, string | null>} attributes
  * @param {...(string | Node)} children
- * @returns {any} of the type that the tag has
+ * @returns {HTMLElementTagNameMap[Tag]}
  */
 export function make(tag, attributes = {}, ...children) {
     const element = document.createElement(tag);

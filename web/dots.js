@@ -84,6 +84,7 @@ export class Dots {
      * A colour as the four bytes of a dot: red, green, blue, and how much is seen of it.
      * @param {string} colour
      * @param {number} alpha
+     * @returns {number}
      */
     valueOf(colour, alpha) {
         const known = this.known.get(alpha) || new Map(), value = known.get(colour);

@@ -143,7 +143,7 @@ export class Editing {
      * @param {number[][]} points
      */
     async make(word, of, points) {
-        const { document } = this.work, encoding = encodingOf(this.app.drawing);
+        const { document } = this.work, encoding = encodingOf(this.app.open.drawing);
         const lineOf = (/** @type {number[][]} */ some) => newLine(word, of, some, encoding);
         if (document === null) {
             return false;

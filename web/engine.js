@@ -10,6 +10,11 @@ const WITH_MEMORY64 = Uint8Array.of(0, 0x61, 0x73, 0x6D, 1, 0, 0, 0, 5, 3, 1, 4,
 /** @typedef {import('./making.js').Ran} Ran */
 /** @typedef {import('./making.js').Edited} Edited */
 
+/**
+ * What a worker answers to each thing that it is asked.
+ * @typedef {{ check: Said, edit: Edited, ask: Said, pack: Ran, apply: Ran }} Answers
+ */
+
 /** Whether this browser can run the program. */
 export function canRun() {
     return typeof WebAssembly === 'object' && WebAssembly.validate(WITH_MEMORY64);
@@ -46,10 +51,11 @@ export class Engine {
     /**
      * Has a worker do one thing, and lets it go. It is given the drawing as a copy of its own, which is moved and not
      * copied once more. A signal ends it at once.
-     * @param {string} does
+     * @template {keyof Answers} Does
+     * @param {Does} does
      * @param {Record<string, unknown> & { bytes: Uint8Array }} words
      * @param {AbortSignal} signal
-     * @returns {Promise<any>} what the worker answers
+     * @returns {Promise<Answers[Does]>} what the worker answers
      */
     async once(does, words, signal) {
         if (signal.aborted) {
@@ -127,15 +133,16 @@ export class Engine {
 
 /**
  * What a worker answers to what it is asked.
+ * @template {keyof Answers} Does
  * @param {Worker} worker
- * @param {Record<string, unknown> & { bytes: Uint8Array }} asked its bytes are moved
+ * @param {Record<string, unknown> & { bytes: Uint8Array, does: Does }} asked its bytes are moved
  * @param {AbortSignal} signal
- * @returns {Promise<any>}
+ * @returns {Promise<Answers[Does]>}
  */
 function answerOf(worker, asked, signal) {
     return new Promise((resolve, reject) => {
         signal.addEventListener('abort', () => reject(new Stopped('stopped')), { once: true });
-        worker.onmessage = ({ data }) => {
+        worker.onmessage = (/** @type {MessageEvent<{ fault?: string, answer: Answers[Does] | {} }>} */ { data }) => {
             if (data.fault !== undefined) {
                 reject(new Error(data.fault));
             } else if ('status' in data.answer) {

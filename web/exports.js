@@ -1,6 +1,7 @@
 /* The drawing as a picture, as GeoJSON, and on paper. */
 
 import { byId, fill, setHidden } from './dom.js';
+import { contextOf } from './dots.js';
 import { featuresOf } from './features.js';
 import { namesOf, targetOf } from './saving.js';
 import { PIXELS_OF_MILLIMETRE, SHEETS, drawSheet, sheetOf } from './sheet.js';
@@ -43,8 +44,7 @@ export class Exports {
             return;
         }
         if (answer.values.format === 'GeoJSON') {
-            const { scene, words } = this.app;
-            const text = featuresOf(scene, /** @type {any} */ (words));
+            const { scene, words } = this.app, text = featuresOf(scene, words);
             await this.save('features', async () => new TextEncoder().encode(text));
             return;
         }
@@ -60,7 +60,7 @@ export class Exports {
      * @param {() => Promise<Uint8Array>} bytesOf
      */
     async save(kind, bytesOf) {
-        const { app } = this, target = await targetOf(namesOf(/** @type {any} */ (app.drawing).name)[kind]);
+        const { app } = this, target = await targetOf(namesOf(app.open.drawing.name)[kind]);
         if (target !== null) {
             const isWhole = await target.put(await bytesOf());
             app.say(target.name + (isWhole ? ' was saved.' : ' was given to the browser to save.'));
@@ -82,7 +82,7 @@ export class Exports {
      * @returns {number | null | undefined}
      */
     scaleOf(text = '') {
-        const metres = metresOfUnit(/** @type {any} */ (this.app.drawing).units);
+        const metres = metresOfUnit(this.app.open.drawing.units);
         const value = Number(text.replace(',', '.'));
         if (text.trim() === '' || metres === null) {
             return null;
@@ -99,7 +99,7 @@ export class Exports {
      * @param {number} scale
      */
     titleOf(scale) {
-        const { name, units } = /** @type {any} */ (this.app.drawing), metres = metresOfUnit(units);
+        const { name, units } = this.app.open.drawing, metres = metresOfUnit(units);
         return metres === null ? name
             : name + '   1 : ' + Number((metres * 1000 * PIXELS_OF_MILLIMETRE / scale).toPrecision(4));
     }
@@ -131,7 +131,7 @@ export class Exports {
         const canvas = document.createElement('canvas'), { app } = this;
         canvas.width = Math.ceil(sheet.width * PICTURE_RATIO);
         canvas.height = Math.ceil(sheet.height * PICTURE_RATIO);
-        await drawSheet(app.scene, this.table, canvas.getContext('2d'), sheet, PICTURE_RATIO);
+        await drawSheet(app.scene, this.table, contextOf(canvas), sheet, PICTURE_RATIO);
         /** @type {Blob | null} */
         const blob = await new Promise((resolve) => canvas.toBlob(resolve, 'image/png'));
         if (blob === null) {
@@ -149,7 +149,7 @@ export class Exports {
 
     /** The colours of the drawing. */
     get table() {
-        return /** @type {any} */ (this.app.drawing).colours.table;
+        return this.app.open.drawing.colours.table;
     }
 
     /** Asks for a sheet and a scale, and prints what is in the middle of the screen on it. */
@@ -167,8 +167,7 @@ export class Exports {
             return;
         }
         const { sheet: name, way, part } = answer.values;
-        const sides = SHEETS[/** @type {'A4'} */ (name)];
-        const [width, height] = way === 'across' ? [...sides].reverse() : sides;
+        const [short, long] = SHEETS[name], [width, height] = way === 'across' ? [long, short] : [short, long];
         await this.printSheet(sheetOf({ box: this.boxOf(part), width, height, scale, hasFrame: true,
             titleOf: (it) => this.titleOf(it) }), width, height);
     }

@@ -5,10 +5,13 @@ import { isCurved } from './outlines.js';
 
 const FINENESS = 4;               // of outlines of arcs, curves and B-splines
 
+/** @typedef {import('./records.js').Records} Records */
+/** @typedef {import('./words.js').Words} Words */
+
 /**
  * The features of what a scene shows, as the text of a file.
- * @param {any} scene
- * @param {import('./words.js').Words} words
+ * @param {Pick<import('./scene.js').Scene, 'records' | 'order'>} scene
+ * @param {Words} words
  */
 export function featuresOf(scene, words) {
     const rows = [];
@@ -22,7 +25,7 @@ export function featuresOf(scene, words) {
 }
 
 /**
- * @param {any} records
+ * @param {Records} records
  * @param {number} record
  */
 function propertiesOf(records, record) {
@@ -37,9 +40,9 @@ function propertiesOf(records, record) {
 
 /**
  * The geometry of a record, or null where it has none.
- * @param {any} records
+ * @param {Records} records
  * @param {number} record
- * @param {import('./words.js').Words} words
+ * @param {Words} words
  */
 function geometryOf(records, record, words) {
     const type = records.type[record], points = pointsOf(records, record).map((point) => inMaster(words, point));
@@ -59,7 +62,7 @@ function geometryOf(records, record, words) {
 
 /**
  * The points that a record is drawn by, x and y and, where it holds it, z.
- * @param {any} records
+ * @param {Records} records
  * @param {number} record
  * @returns {number[][]}
  */
@@ -76,7 +79,7 @@ function pointsOf(records, record) {
 
 /**
  * A point as the file has it.
- * @param {import('./words.js').Words} words
+ * @param {Words} words
  * @param {number[]} point
  */
 function inMaster(words, point) {

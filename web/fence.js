@@ -96,7 +96,7 @@ export class Fence {
      * @param {string} mode
      */
     async askCauses(asked, lines, mode) {
-        const { app } = this, probes = probesOfFence(mode, app.work.document?.made.base.axes || 2);
+        const { app } = this, probes = probesOfFence(mode, app.open.drawing.axes);
         const answers = await app.work.ask([...lines, ...probes]);
         if (answers !== null && this.asked === asked) {
             ['move', 'copy', 'sym', 'delete'].forEach((edit, index) => (

@@ -31,21 +31,32 @@ const SHAPE = 2;
 
 /**
  * Whether something that stands in the store is a record of this shape.
- * @param {any} it
+ * @param {unknown} it
  * @returns {it is Kept}
  */
 export function isKept(it) {
-    return typeof it === 'object' && it !== null && it.shape === SHAPE && typeof it.id === 'string'
-        && [it.digest, it.name].every((text) => typeof text === 'string') && /^[0-9a-f]{64}$/.test(it.digest)
-        && [it.size, it.time].every((value) => Number.isFinite(value) && value >= 0)
-        && [it.acts, it.undone].every((acts) => Array.isArray(acts) && acts.every(isAct))
-        && Array.isArray(it.imports) && it.imports.every(isImport)
-        && (it.from === null || (typeof it.from === 'object' && typeof it.from.id === 'string'));
+    const { shape, id, digest, name, size, time, acts, undone, imports, from } = heldIn(it);
+    return shape === SHAPE && typeof id === 'string' && typeof name === 'string'
+        && typeof digest === 'string' && /^[0-9a-f]{64}$/.test(digest)
+        && [size, time].every((value) => Number.isFinite(value) && Number(value) >= 0)
+        && [acts, undone].every((all) => Array.isArray(all) && all.every(isAct))
+        && Array.isArray(imports) && imports.every(isImport)
+        && (from === null || typeof heldIn(from).id === 'string');
 }
 
-/** @param {any} it */
+/** @param {unknown} it */
 function isImport(it) {
-    return typeof it === 'object' && it !== null && typeof it.name === 'string' && typeof it.digest === 'string';
+    const { name, digest } = heldIn(it);
+    return typeof name === 'string' && typeof digest === 'string';
+}
+
+/**
+ * What an object holds; of anything else nothing.
+ * @param {unknown} it
+ * @returns {Record<string, unknown>}
+ */
+function heldIn(it) {
+    return typeof it === 'object' && it !== null ? /** @type {Record<string, unknown>} */ (it) : {};
 }
 
 /**
@@ -59,7 +70,7 @@ export function sorted(all) {
     const continued = new Set(kept.flatMap(({ from }) => (from !== null && times.get(from.id) === from.time
         ? [from.id] : [])));
     const aside = all.filter((it) => !isKept(it)).map((it) => ({
-        id: String(/** @type {any} */ (it)?.id), why: 'it is damaged, or of another version of this page',
+        id: String(heldIn(it).id), why: 'it is damaged, or of another version of this page',
     }));
     return { kept: kept.filter(({ id }) => !continued.has(id)).sort((one, other) => other.time - one.time), aside };
 }

@@ -3,8 +3,12 @@
 import { wordOf } from './answers.js';
 import { spelledIn } from './encoding.js';
 
-/** Spans of levels as `levels` takes them: 'all', 'none', or '1-5 8'. */
+/**
+ * Spans of levels as `levels` takes them: 'all', 'none', or '1-5 8'.
+ * @param {Uint8Array} levels a 1 for each that is shown
+ */
 export function spansOf(levels) {
+    /** @type {[number, number][]} */
     const spans = [];
     for (let level = 0; level < 64; level++) {
         if (levels[level] && level > 0 && levels[level - 1]) {
@@ -20,7 +24,12 @@ export function spansOf(levels) {
     return isAll ? 'all' : spans.map(([low, high]) => (low === high ? String(low) : low + '-' + high)).join(' ');
 }
 
-/** The last line of a script that sets levels or a fence, or what holds without one. */
+/**
+ * The last line of a script that sets levels or a fence, or what holds without one.
+ * @param {readonly string[]} script
+ * @param {string[]} words of the commands that set it
+ * @param {string} otherwise
+ */
 function lastOf(script, words, otherwise) {
     return script.filter((line) => words.includes(wordOf(line))).pop() || otherwise;
 }
@@ -43,13 +52,18 @@ export function fenceLines(script, corners, levels) {
     return lines;
 }
 
-/** An edit of elements: 'move' or 'copy' by a displacement, 'sym' to a look, 'delete'.
+/**
+ * An edit of elements: 'move' or 'copy' by a displacement in units of resolution, 'sym' to a look (colour, weight and
+ * style, '-' for what stays), 'delete'.
  * @typedef {{ word: 'move' | 'copy' | 'sym' | 'delete', by?: number[], look?: string[] }} Edit
  */
 
-/** What stands behind the element or the mode in a line of an edit. */
+/**
+ * What stands behind the element or the mode in a line of an edit.
+ * @param {Edit} edit
+ */
 function restOf(edit) {
-    return (edit.by || edit.look || []).map((it) => ' ' + it).join('');
+    return /** @type {(number | string)[]} */ (edit.by || edit.look || []).map((it) => ' ' + it).join('');
 }
 
 /**
@@ -58,8 +72,9 @@ function restOf(edit) {
  * @param {number} number
  */
 export function editLine(edit, number) {
-    if (edit.word === 'sym' && edit.look[1] === '-' && edit.look[2] === '-' && edit.look[0] !== '-') {
-        return 'color ' + number + ' ' + edit.look[0];
+    const [colour, weight, style] = edit.look || [];
+    if (edit.word === 'sym' && weight === '-' && style === '-' && colour !== '-') {
+        return 'color ' + number + ' ' + colour;
     }
     return edit.word + ' ' + number + restOf(edit);
 }
@@ -83,12 +98,20 @@ function probes(axes) {
     return [{ word: 'move', by }, { word: 'copy', by }, { word: 'sym', look: ['-', '-', '-'] }, { word: 'delete' }];
 }
 
-/** Lines that ask whether elements can be edited: all of a kind, then all of the next one. */
+/**
+ * Lines that ask whether elements can be edited: all of a kind, then all of the next one.
+ * @param {readonly number[]} numbers
+ * @param {number} axes
+ */
 export function probesOf(numbers, axes) {
     return probes(axes).flatMap((edit) => numbers.map((number) => edit.word + ' ' + number + restOf(edit)));
 }
 
-/** The same of a fence; each edit is taken back before the next one. */
+/**
+ * The same of a fence; each edit is taken back before the next one.
+ * @param {string} mode
+ * @param {number} axes
+ */
 export function probesOfFence(mode, axes) {
     return probes(axes).flatMap((edit) => [fenceEditLine(edit, mode), 'undo']);
 }
@@ -107,7 +130,10 @@ export function newLine(word, of, points, encoding) {
         : [...front, of.font, '0', of.size, of.size, places[0], spelledIn(of.words, encoding)].join(' ');
 }
 
-/** A file's name as a shell takes it. */
+/**
+ * A file's name as a shell takes it.
+ * @param {string} name
+ */
 export function shellWord(name) {
     return /^[\w./+:@%-]+$/.test(name) ? name : "'" + name.replaceAll("'", "'\\''") + "'";
 }

@@ -8,9 +8,13 @@ import { Renderer } from './renderer.js';
 export const LIT_WIDER = 1.4;
 
 /** @typedef {import('./scene.js').Scene} Scene */
+/** @typedef {import('./picture.js').Scene} Drawable */
 /** @typedef {import('./view.js').View} View */
 
-/** The parts of elements that are shown, as a scene of their own. */
+/**
+ * The parts of elements that are shown, as a scene of their own.
+ * @implements {Drawable}
+ */
 class LitScene {
     /**
      * @param {Scene} scene
@@ -20,6 +24,7 @@ class LitScene {
         const { state: { end, record }, shown } = scene;
         this.scene = scene;
         this.records = scene.records;
+        /** @type {import('./scene.js').Mode} */
         this.mode = 'after';
         this.version = 0;
         this.changed = { between: () => null };
@@ -84,7 +89,8 @@ export class LitLayer extends Renderer {
      * @param {string} pen
      */
     constructor(canvas, scene, view, numbers, pen) {
-        super(canvas, /** @type {any} */ (new LitScene(scene, numbers)), view);
+        super(canvas, view);
+        this.take(new LitScene(scene, numbers));
         this.of = { scene, numbers, pen, version: scene.version };
         this.pens = { lit: pen };
     }

@@ -10,7 +10,7 @@ export const FAINT = 0.45;
 /**
  * What a record is drawn with.
  * @typedef {object} Drawn
- * @property {any} scene
+ * @property {Pick<import('./scene.js').Scene, 'records' | 'mode' | 'markOf'>} scene
  * @property {import('./painter.js').Painter} painter
  * @property {string[]} colours those of the table as they are drawn on the ground
  * @property {Record<string, string>} pens

@@ -21,7 +21,7 @@ async function engineOf() {
         return null;
     }
     const program = await WebAssembly.compile(/** @type {BufferSource} */ (part));
-    return new Engine(byId('worker-part').textContent, program, (running) => {
+    return new Engine(byId('worker-part').textContent || '', program, (running) => {
         busy.running = running;
         busy.show();
     });
@@ -31,6 +31,7 @@ async function start() {
     const app = new App(await engineOf());
     Object.assign(window, { page: app });
     new Incoming(app);
+    document.body.dataset.program = String(app.hasProgram);
     if (!app.hasProgram) {
         byId('start-fault').textContent = canRun() ? NO_PART : NO_PROGRAM;
         setHidden(byId('start-fault'), false);
@@ -63,7 +64,7 @@ async function openOwn(app) {
     if (other !== null) {
         await app.menu.compareWith(byId('after-part').dataset.name || '', other);
     }
-    if (lines.length > 0 && app.scene !== null && app.scene.after !== null) {
+    if (lines.length > 0 && app.drawing !== null && app.scene.after !== null) {
         app.modes.set('both');
         app.tabs.show('script');
     }

@@ -33,6 +33,11 @@ class MendingWalk {
          * @type {number[]}
          */
         this.loose = [];
+        /**
+         * Lists that are still to be walked, each from a number to before another; the next one is last.
+         * @type {[number, number, boolean][]}
+         */
+        this.lists = [[1, drawing.count, true]];
     }
 
     /** @param {number} number */
@@ -42,25 +47,30 @@ class MendingWalk {
 
     /** Walks the list of all elements, and those of members, each from a place to before an end. */
     all() {
-        /**
-         * Lists that are still to be walked, the next one last.
-         * @type {[number, number, boolean][]}
-         */
-        this.lists = [[1, this.drawing.count, true]];
-        while (this.lists.length > 0) {
-            const [at, end, isRoot] = this.lists.pop();
+        for (let list = this.lists.pop(); list !== undefined; list = this.lists.pop()) {
+            const [at, end, isRoot] = list;
             if (at < end) {
                 this.element(at, end, isRoot);
             }
         }
     }
 
-    /** Lets the walk go on with a list at a place; lists that are given later are walked first. */
+    /**
+     * Lets the walk go on with a list at a place; lists that are given later are walked first.
+     * @param {number} at
+     * @param {number} end
+     * @param {boolean} isRoot whether it is the list of all elements
+     */
     goOn(at, end, isRoot) {
         this.lists.push([at, end, isRoot]);
     }
 
-    /** Walks an element of a list that ends at `end`. */
+    /**
+     * Walks an element of a list that ends at `end`.
+     * @param {number} at
+     * @param {number} end
+     * @param {boolean} isRoot
+     */
     element(at, end, isRoot) {
         const type = this.records.type[at];
         if (isRoot && !this.hasC(at)) {
@@ -80,7 +90,11 @@ class MendingWalk {
         }
     }
 
-    /** Where the parts of a B-spline end. */
+    /**
+     * Where the parts of a B-spline end.
+     * @param {number} at
+     * @param {number} end
+     */
     behindSpline(at, end) {
         let behind = at + 1;
         while (behind < end && this.hasC(behind) && PARTS_OF_SPLINES.has(this.records.type[behind])) {
@@ -89,14 +103,22 @@ class MendingWalk {
         return behind;
     }
 
-    /** Walks what a shared cell definition holds, and then what stands behind it. */
+    /**
+     * Walks what a shared cell definition holds, and then what stands behind it.
+     * @param {number} at
+     * @param {number} end
+     */
     definition(at, end) {
         const behind = Math.min(this.runEnds[at + 1], end);
         this.goOn(behind, end, true);
         this.goOn(at + 1, behind, false);
     }
 
-    /** Tells of an orphan that is no header over counted members. */
+    /**
+     * Tells of an orphan that is no header over counted members.
+     * @param {number} number
+     * @param {boolean} isRoot
+     */
     orphan(number, isRoot) {
         if (isRoot && this.hasC(number)) {
             this.left.push({ number,
@@ -104,12 +126,17 @@ class MendingWalk {
         }
     }
 
-    /** Mends a counted header where it can, walks its members, and then what stands behind them. */
+    /**
+     * Mends a counted header where it can, walks its members, and then what stands behind them.
+     * @param {number} number
+     * @param {number} end
+     * @param {boolean} isRoot
+     */
     header(number, end, isRoot) {
         const reach = new Reach(this.drawing, number, end);
         const fitting = reach.countOf(reach.total) !== null ? reach.total : reach.fittingTotal();
         const members = fitting === null ? null : reach.countOf(fitting);
-        if (members === null) {
+        if (fitting === null || members === null) {
             this.goOn(this.stayLoose(number, reach, isRoot), end, isRoot);
             return;
         }
@@ -119,10 +146,18 @@ class MendingWalk {
         this.goOn(number + 1, behind, false);
     }
 
-    /** Makes the change of a header that wants one so that it holds the elements up to `behind`. What is locked stays,
-        and so does bit C of what may be a member of a loose header before it. */
+    /**
+     * Makes the change of a header that wants one so that it holds the elements up to `behind`. What is locked stays,
+     * and so does bit C of what may be a member of a loose header before it.
+     * @param {number} number
+     * @param {Reach} reach
+     * @param {number} total that the header is to have, in words
+     * @param {number} behind
+     * @param {boolean} isOrphan
+     */
     mend(number, reach, total, behind, isOrphan) {
         const offset = this.drawing.offsets[number];
+        /** @type {Change} */
         const change = { number, edits: new Map(), words: [], members: behind - number - 1 };
         if (total !== reach.total) {
             change.edits.set(offset + 36, total & 0xFF).set(offset + 37, total >> 8);
@@ -143,8 +178,11 @@ class MendingWalk {
         }
     }
 
-    /** Whether an orphan may be a member of a loose header before it, and then is left. A complex chain, shape, surface
-        or solid that doesn't lie in that header's range is none; GDAL sets bit C of each such at the root. */
+    /**
+     * Whether an orphan may be a member of a loose header before it, and then is left. A complex chain, shape, surface
+     * or solid that doesn't lie in that header's range is none; GDAL sets bit C of each such at the root.
+     * @param {number} number
+     */
     mayBelong(number) {
         if (this.loose.length === 0 || (COMPLEX.has(this.records.type[number])
             && !this.loose.some((it) => this.holds(it, number)))) {
@@ -155,13 +193,22 @@ class MendingWalk {
         return true;
     }
 
-    /** Whether an element's stored range lies in that of a header. */
+    /**
+     * Whether an element's stored range lies in that of a header.
+     * @param {number} header
+     * @param {number} number
+     */
     holds(header, number) {
         const { axes } = this.records, outer = this.records.rangeOf(header), inner = this.records.rangeOf(number);
         return outer.every((value, at) => (at < axes ? value <= inner[at] : value >= inner[at]));
     }
 
-    /** Tells of a header that stays loose, and gives where to go on. */
+    /**
+     * Tells of a header that stays loose, and gives where to go on.
+     * @param {number} number
+     * @param {Reach} reach
+     * @param {boolean} isRoot
+     */
     stayLoose(number, reach, isRoot) {
         this.left.push({ number, why: reach.whyLoose() });
         const members = reach.wrapped();

@@ -61,7 +61,7 @@ export class Menu {
         byId('save').classList.toggle('wanted', document.isUnsaved);
         byId('save-script').disabled = byId('save-patch').disabled = !hasLines;
         byId('throw-away').disabled = !document.hasWork;
-        for (const id of ['mend', 'import', 'apply', 'open-script', 'typed', 'typed-add']) {
+        for (const id of /** @type {const} */ (['mend', 'import', 'apply', 'open-script', 'typed', 'typed-add'])) {
             byId(id).disabled = !canEdit;
         }
     }

@@ -1,13 +1,16 @@
 /* The switch between the drawing before and after edits, and both. */
 
 import { byId, setHidden } from './dom.js';
+import { WAY_OF_KEY } from './tabs.js';
+
+/** @typedef {import('./scene.js').Mode} Mode */
 
 export class Modes {
     /** @param {import('./app.js').App} app */
     constructor(app) {
         this.app = app;
         for (const button of byId('modes').children) {
-            button.addEventListener('click', () => this.set(button.dataset.mode));
+            button.addEventListener('click', () => this.set(modeOf(button)));
             button.addEventListener('keydown', (event) => this.key(event, button));
         }
     }
@@ -22,17 +25,30 @@ export class Modes {
         }
     }
 
+    /** @param {Mode} mode */
     set(mode) {
         this.app.scene.mode = mode;
         this.app.sceneChanged();
     }
 
+    /**
+     * @param {KeyboardEvent} event
+     * @param {HTMLElement} button
+     */
     key(event, button) {
-        const next = { ArrowRight: button.nextElementSibling, ArrowLeft: button.previousElementSibling }[event.key];
+        const way = WAY_OF_KEY[event.key], next = /** @type {HTMLElement | null} */ (way ? button[way] : null);
         if (next) {
             event.preventDefault();
-            this.set(next.dataset.mode);
+            this.set(modeOf(next));
             next.focus();
         }
     }
+}
+
+/**
+ * The mode that a button of the switch is for.
+ * @param {HTMLElement} button
+ */
+function modeOf(button) {
+    return /** @type {Mode} */ (button.dataset.mode);
 }

@@ -4,10 +4,13 @@ import { contextOf } from './dots.js';
 import { DASHES, widthOf } from './format.js';
 import { LIT_WIDER, LitLayer } from './lit.js';
 import { Painter } from './painter.js';
+import { Records } from './records.js';
 
 const FEW_LIT = 1000;             // records that are lit in each frame anew
 const MOST_MADE = 4000;           // records that are drawn before the picture has them, or while they are dragged
 const MOST_FRAMES = 12;           // trees that are framed: of more the frames would hide the drawing
+
+const noBytes = () => new Uint8Array(0);
 
 /** Draws on a canvas of its own, in every frame that changes something of it. */
 export class Overlay {
@@ -20,7 +23,8 @@ export class Overlay {
         this.context = contextOf(canvas);
         this.app = app;
         this.ratio = 1;
-        this.painter = new Painter(null, this.context);
+        /** Each frame has one of its own: before the first it draws nothing. */
+        this.painter = new Painter(new Records(2, 0, noBytes, noBytes), this.context);
         /**
          * What is lit and much, by what it is.
          * @type {Map<string, LitLayer>}

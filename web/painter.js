@@ -10,7 +10,8 @@ const FAR = 8000;                 // pixels beyond which a path is cut at the ed
 const BEYOND = 100;               // pixels beyond the screen where it is cut
 const MOST_IN_PATH = 256;         // points that are stroked at once
 const LEAST_TEXT = 3.5;           // pixels of a text's height below which it is drawn as a line
-export const LEAST_CROSS = 14;           // pixels of a cell's range below which its origin isn't marked
+export const LEAST_DRAWN = 1.2;   // pixels of a box below which what is in it is drawn as a dot
+export const LEAST_CROSS = 14;    // pixels of a cell's range below which its origin isn't marked
 export const BOX_DASH = [4, 3];
 const EM = 100;                   // pixels of the font that texts are measured and drawn in
 const CAPITAL = 0.7;              // height of a capital letter in it, of an em, where a browser doesn't measure that
@@ -19,11 +20,36 @@ const FONT = EM + 'px "Helvetica Neue", Arial, "Liberation Sans", sans-serif';
 /** @typedef {import('./records.js').Records} Records */
 /** @typedef {import('./records.js').TextLabel} TextLabel */
 
+/**
+ * What is drawn on: as much of a browser's canvas as painters use, which pictures of another kind have, too.
+ * @typedef {object} Canvas
+ * @property {number} globalAlpha how much is seen of what is drawn, from 0 to 1
+ * @property {number} lineWidth
+ * @property {string} lineJoin
+ * @property {string} lineCap
+ * @property {string} font
+ * @property {string} textBaseline
+ * @property {string | CanvasGradient | CanvasPattern} strokeStyle painters give colours alone
+ * @property {string | CanvasGradient | CanvasPattern} fillStyle
+ * @property {(a: number, b: number, c: number, d: number, e: number, f: number) => void} setTransform
+ * @property {(dash: number[]) => void} setLineDash
+ * @property {(text: string) => TextMetrics} measureText
+ * @property {() => void} beginPath
+ * @property {(left: number, top: number) => void} moveTo
+ * @property {(left: number, top: number) => void} lineTo
+ * @property {() => void} closePath
+ * @property {() => void} stroke
+ * @property {(rule: 'evenodd' | 'nonzero') => void} fill
+ * @property {(left: number, top: number, width: number, height: number) => void} fillRect
+ * @property {(left: number, top: number, width: number, height: number) => void} strokeRect
+ * @property {(text: string, left: number, top: number) => void} fillText
+ */
+
 /** Draws records by a view. What has the same pen is stroked at once. Dots go to `dots`, where these are given. */
 export class Painter {
     /**
      * @param {Records} records
-     * @param {CanvasRenderingContext2D} context
+     * @param {Canvas} context
      * @param {import('./dots.js').Dots | null} dots
      */
     constructor(records, context, dots = null) {
@@ -141,7 +167,8 @@ export class Painter {
             return;
         }
         const drawn = DRAWN_OF[records.type[record]];
-        if (right - left < 1.2 && bottom - top < 1.2 && drawn !== DRAWN.cell && drawn !== DRAWN.node) {
+        const isSmall = right - left < LEAST_DRAWN && bottom - top < LEAST_DRAWN;
+        if (isSmall && drawn !== DRAWN.cell && drawn !== DRAWN.node) {
             this.drawDot(left, top, colour, width);
         } else if (drawn === DRAWN.path || drawn === DRAWN.box) {
             const size = Math.max(right - left, bottom - top);

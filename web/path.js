@@ -51,7 +51,7 @@ export class Path {
 
     /**
      * Adds it to what a canvas draws.
-     * @param {CanvasRenderingContext2D} context
+     * @param {Pick<import('./painter.js').Canvas, 'moveTo' | 'lineTo' | 'closePath'>} context
      * @param {View} view
      */
     trace(context, view) {
@@ -68,7 +68,7 @@ export class Path {
     /**
      * Adds it as a line of one dot's width: where it goes along an axis it goes through the middles of dots, so it is
      * sharp.
-     * @param {CanvasRenderingContext2D} context
+     * @param {Pick<import('./painter.js').Canvas, 'moveTo' | 'lineTo' | 'closePath'>} context
      * @param {View} view
      * @param {number} ratio dots to a pixel
      */

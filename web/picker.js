@@ -28,6 +28,11 @@ function squareFromSegment(x, y, startX, startY, endX, endY) {
     return offX * offX + offY * offY;
 }
 
+/**
+ * A record that is near a place, and the square of its distance in units of resolution.
+ * @typedef {{ record: number, square: number }} Near
+ */
+
 /** Picks records of a scene by a place of the drawing. */
 export class Picker {
     /** @param {import('./scene.js').Scene} scene */
@@ -60,7 +65,9 @@ export class Picker {
      * @param {number} count
      */
     nearest(place, count) {
-        let half = 1, found = [];
+        /** @type {Near[]} */
+        let found = [];
+        let half = 1;
         while (half < GREATEST_HALF && (found.length < count || found[count - 1].square > half * half)) {
             half *= 2;
             found = this.nearestWithin(place, half, count);
@@ -76,6 +83,7 @@ export class Picker {
      */
     nearestWithin([x, y], half, count) {
         const { records } = this.scene;
+        /** @type {Near[]} */
         let found = [];
         this.scene.query([x - half, y - half, x + half, y + half], (record) => {
             const drawn = DRAWN_OF[records.type[record]];

@@ -4,18 +4,22 @@ import { contextOf } from './dots.js';
 import { DRAWN, DRAWN_OF, FLAG, widthOf } from './format.js';
 import { FAINT, drawLook } from './look.js';
 import { MARK } from './marking.js';
-import { LEAST_CROSS, Painter } from './painter.js';
+import { LEAST_CROSS, LEAST_DRAWN, Painter } from './painter.js';
 import { Tiles } from './tiles.js';
 import { View } from './view.js';
 
 const MARGIN = 0.25;              // of the screen that is drawn beyond each of its edges
 const REACH_OF_LINES = 24;        // pixels that what is drawn may reach beyond its box
-const SMALL = 1.2;                // pixels below which something is drawn as a dot
 const AT_ONCE = 512;              // records that are drawn before the clock is looked at
 const MOST_MENDED = 0.5;          // of a picture, and of what is drawn, where more is drawn as a whole
 
 /** @typedef {import('./dots.js').Dots} Dots */
-/** @typedef {import('./scene.js').Scene} Scene */
+
+/**
+ * A scene, as much of it as pictures use.
+ * @typedef {Pick<import('./scene.js').Scene, 'records' | 'mode' | 'version' | 'order' | 'drawn' | 'reach' | 'within'
+ *     | 'isDrawn' | 'markOf'> & { changed: Pick<import('./redrawn.js').ChangedBoxes, 'between'> }} Scene
+ */
 
 /** A picture of the scene by a view, with a margin around it, drawn in slices: as a whole, or anew in tiles. */
 export class Picture {
@@ -224,8 +228,8 @@ export class Picture {
         if (drawn === DRAWN.cell || drawn === DRAWN.node) {
             return this.isWithoutCross(record);
         }
-        if ((box[at + 2] - box[at]) * view.scale >= SMALL || (box[at + 3] - box[at + 1]) * view.scale >= SMALL
-            || scene.markOf(record) !== MARK.none) {
+        if ((box[at + 2] - box[at]) * view.scale >= LEAST_DRAWN
+            || (box[at + 3] - box[at + 1]) * view.scale >= LEAST_DRAWN || scene.markOf(record) !== MARK.none) {
             return false;
         }
         const isFaint = (flags[record] & FLAG.deleted) !== 0 || scene.mode === 'both';

@@ -17,8 +17,12 @@ export class Questions {
         this.end = Promise.resolve();
         /** @type {HTMLDialogElement | null} */
         this.dialog = null;
-        /** Ends when the first question comes up. */
+        /**
+         * Ends when the first question comes up.
+         * @type {Promise<void>}
+         */
         this.first = new Promise((resolve) => {
+            /** @type {() => void} */
             this.tellFirst = resolve;
         });
     }
@@ -65,7 +69,7 @@ export class Questions {
             this.dialog = dialog;
             dialog.showModal();
             this.tell(true);
-            this.tellFirst(null);
+            this.tellFirst();
         });
     }
 }

@@ -48,7 +48,10 @@ export class Reach {
         return this.offsets[this.header + count + 1] - this.start;
     }
 
-    /** The number of the first element from the header's next on that begins at a byte or behind it. */
+    /**
+     * The number of the first element from the header's next on that begins at a byte or behind it.
+     * @param {number} place
+     */
     firstFrom(place) {
         let low = this.header + 1, high = this.end + 1;
         while (low < high) {
@@ -62,7 +65,10 @@ export class Reach {
         return low;
     }
 
-    /** With how many members the header has exactly as many bytes as a total asks for; null where with none. */
+    /**
+     * With how many members the header has exactly as many bytes as a total asks for; null where with none.
+     * @param {number} total in words
+     */
     countOf(total) {
         const place = this.start + bytesOfTotal(total), at = this.firstFrom(place);
         return at <= this.end && this.offsets[at] === place ? at - this.header - 1 : null;

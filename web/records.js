@@ -22,6 +22,8 @@ export function grown(array, length) {
     return larger;
 }
 
+/** @typedef {Uint8Array | Uint16Array | Uint32Array} Column a number for each record */
+
 const COLUMNS = Object.freeze({
     type: Uint8Array, level: Uint8Array, colour: Uint8Array, weight: Uint8Array, style: Uint8Array,
     flags: Uint8Array, size: Uint32Array, number: Uint32Array, first: Uint32Array, points: Uint32Array,
@@ -85,7 +87,7 @@ export class Records {
     reserve(records) {
         const length = this.length + records;
         if (length > this.type.length) {
-            const columns = /** @type {Record<string, any>} */ (this);
+            const columns = /** @type {Record<string, Column>} */ (/** @type {unknown} */ (this));
             for (const name of COLUMN_NAMES) {
                 columns[name] = grown(columns[name], length);
             }

@@ -7,6 +7,7 @@ import { mendingOf } from './mending.js';
 const TOO_LONG = ' Choose many elements by a fence or by their level: that is one line, however many they are. Or save'
     + ' the drawing, and go on in the saved one.';
 const PLANE_SAID = 'the design plane, -2147483648 to 2147483647';
+/** @type {Readonly<Record<string, string>>} */
 const FAULTS = Object.freeze({
     'not-design': 'it isn’t a design file of version 7',
     cut: 'the element that begins at byte K reaches past the end of the file: it was cut off, or is damaged',
@@ -51,8 +52,8 @@ export class Refusals {
      * @returns {Record<string, (rest: string, more: string[]) => string>}
      */
     explainers(words, done) {
-        const { axes, count } = this.drawing, whose = (rest) => this.named(rest) + this.whose(rest, words);
-        const corners = words.length - 1;
+        const { axes, count } = this.drawing, corners = words.length - 1;
+        const whose = (/** @type {string} */ rest) => this.named(rest) + this.whose(rest, words);
         return {
             'unknown': (rest) => 'there is no element ' + rest + ': the drawing has 0 to ' + (count - 1)
                 + ', and what the script appends is numbered after that',
@@ -90,18 +91,29 @@ export class Refusals {
         return ' was marked deleted by ' + (found ? 'line ' + found.at : 'an earlier line') + ' of the script';
     }
 
-    /** The element with a number, in words. */
+    /**
+     * The element with a number, in words.
+     * @param {string | number} number
+     */
     named(number) {
         return Number(number) < this.drawing.count ? described(this.drawing, Number(number))
             : 'element ' + number + ', which the script appends,';
     }
 
-    /** How the element of the cause stands to the one that the line names. */
+    /**
+     * How the element of the cause stands to the one that the line names.
+     * @param {string} number
+     * @param {string[]} words of the line
+     */
     whose(number, words) {
         return words.length < 2 || words[1] === number || !/^\d+$/.test(words[1]) ? ''
             : ', which is in the same tree as element ' + words[1] + ',';
     }
 
+    /**
+     * Why a tree is broken, and whether it can be mended.
+     * @param {number} number
+     */
     broken(number) {
         if (number >= this.drawing.count) {
             return 'its tree contains ' + this.named(number) + ' and is broken';
@@ -113,7 +125,12 @@ export class Refusals {
         return 'its tree is broken at ' + this.named(number) + ' (' + whyBroken(this.drawing, number) + '). ' + advice;
     }
 
-    /** Why a second drawing wasn't imported. */
+    /**
+     * Why a second drawing wasn't imported.
+     * @param {string} word of the cause
+     * @param {string} name of the drawing
+     * @param {string[]} more words behind it
+     */
     imported(word, name, more) {
         if (word in FAULTS) {
             return name + ' doesn’t open: ' + faultSaid(word, Number(more[1]));
@@ -132,7 +149,7 @@ export class Refusals {
      * @param {string} said
      */
     notRun(status, said) {
-        const last = said.split('\n').pop(), number = /\d+$/.exec(last);
+        const last = said.split('\n').pop() || '', number = /\d+$/.exec(last);
         switch (status) {
             case 3: return 'Line ' + number + ' isn’t a command of a script: a word or a number is wrong, missing or'
                 + ' too many. Nothing was run.';

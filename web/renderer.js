@@ -13,7 +13,7 @@ const PAUSE = 200;
 /** How much of the margin around a picture is used while the view moves, until the next one is begun. */
 const USED = 0.6;
 
-/** @typedef {import('./scene.js').Scene} Scene */
+/** @typedef {import('./picture.js').Scene} Scene */
 /** @typedef {import('./view.js').View} View */
 
 /** Keeps a canvas up to date: it shows the newest whole picture, moved to the view, until the next one is whole. Where
@@ -21,13 +21,16 @@ const USED = 0.6;
 export class Renderer {
     /**
      * @param {HTMLCanvasElement} canvas
-     * @param {Scene} scene
      * @param {View} view
      */
-    constructor(canvas, scene, view) {
+    constructor(canvas, view) {
         this.canvas = canvas;
         this.context = contextOf(canvas);
-        this.scene = scene;
+        /**
+         * What is shown; nothing is drawn before it is given.
+         * @type {Scene | null}
+         */
+        this.taken = null;
         this.view = view;
         this.dots = new Dots();
         /** @type {Picture | null} */
@@ -48,12 +51,20 @@ export class Renderer {
         this.pens = {};
     }
 
+    /** The scene that is shown. */
+    get scene() {
+        if (this.taken === null) {
+            throw new Error('nothing is shown yet');
+        }
+        return this.taken;
+    }
+
     /**
      * Shows another scene from now on.
      * @param {Scene} scene
      */
     take(scene) {
-        this.scene = scene;
+        this.taken = scene;
         this.whole = this.making = null;
     }
 

@@ -19,13 +19,23 @@ export function namesOf(name) {
 /** @typedef {import('./saver.js').Target} Target */
 
 /**
+ * A file that the browser lets the page write, and what asks for one: FileSystemFileHandle and showSaveFilePicker, as
+ * much of them as is used here.
+ * @typedef {{ write: (bytes: Uint8Array) => Promise<void>, close: () => Promise<void>,
+ *     abort: () => Promise<void> }} Stream
+ * @typedef {{ name: string, createWritable: () => Promise<Stream> }} FileHandle
+ * @typedef {(options: { suggestedName: string }) => Promise<FileHandle>} Picking
+ */
+
+/**
  * Asks where a file is to be saved, where the browser lets a page write files, and then writes it whole or not at all;
  * otherwise the browser saves it among what is loaded down. None where the person cancels.
  * @param {string} name
  * @returns {Promise<Target | null>}
  */
 export async function targetOf(name) {
-    const pick = /** @type {any} */ (globalThis).showSaveFilePicker;
+    // Not every browser has it, nor has the checker's list of what a browser has.
+    const { showSaveFilePicker: pick } = /** @type {{ showSaveFilePicker?: Picking }} */ (globalThis);
     if (typeof pick !== 'function') {
         return { name, put: async (bytes) => handOver(name, bytes) };
     }
@@ -42,7 +52,7 @@ export async function targetOf(name) {
 
 /**
  * Writes a file. It is whole when its stream has closed: until then what stood there before stays.
- * @param {any} handle a FileSystemFileHandle
+ * @param {FileHandle} handle
  * @param {Uint8Array} bytes
  */
 async function write(handle, bytes) {

@@ -47,7 +47,7 @@ export class ScriptPanel {
         }
         const { lines, answers } = document;
         this.document = document;
-        this.refusals = this.app.refusals;
+        this.refusals = refusals;
         byId('script-count').textContent = lines.length === 0 ? '' : String(lines.length);
         byId('script-copy').disabled = lines.length === 0;
         const first = Math.max(lines.length - LINES_MOST, 0);

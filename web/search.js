@@ -35,7 +35,7 @@ export class Search {
         this.field.addEventListener('keydown', (/** @type {KeyboardEvent} */ event) => this.key(event));
         byId('search').addEventListener('submit', (/** @type {Event} */ event) => event.preventDefault());
         byId('search').addEventListener('focusout', (/** @type {FocusEvent} */ event) => {
-            if (!byId('search').contains(event.relatedTarget)) {
+            if (!byId('search').contains(/** @type {Node | null} */ (event.relatedTarget))) {
                 setHidden(this.list, true);
             }
         });
@@ -69,7 +69,7 @@ export class Search {
             });
         } else if (event.key === 'ArrowDown' && this.count > 0) {
             event.preventDefault();
-            this.list.querySelector('button').focus();
+            this.list.querySelector('button')?.focus();
         } else if (event.key === 'Escape') {
             this.field.value = '';
             this.look();

@@ -10,7 +10,13 @@ const EDGE = 10;                // millimetres around the frame
 const TITLE = 8;                  // millimetres of the strip below it
 const EVERY = 20000;              // records that are drawn before the browser does something else
 
-/** Sheets of paper, upright, in millimetres. */
+/** @typedef {import('./painter.js').Canvas} Canvas */
+/** @typedef {import('./scene.js').Scene} Scene */
+
+/**
+ * Sheets of paper, upright, each its width and its height in millimetres.
+ * @type {Readonly<Record<string, readonly [number, number]>>}
+ */
 export const SHEETS = Object.freeze({
     A4: [210, 297], A3: [297, 420], A2: [420, 594], A1: [594, 841], A0: [841, 1189],
 });
@@ -45,9 +51,9 @@ export function sheetOf({ box, width, height, scale, hasFrame, titleOf }) {
 
 /**
  * Draws what a scene shows on a sheet, and its frame, in slices.
- * @param {any} scene
- * @param {string[]} table the colours of the drawing
- * @param {any} context a canvas, or what takes the same
+ * @param {Scene} scene
+ * @param {readonly string[]} table the colours of the drawing
+ * @param {Canvas} context
  * @param {Sheet} sheet
  * @param {number} ratio dots to a pixel
  */
@@ -74,7 +80,7 @@ export async function drawSheet(scene, table, context, sheet, ratio) {
 
 /**
  * A frame around the room, with white beyond it, and the strip below it.
- * @param {any} context
+ * @param {Canvas} context
  * @param {Sheet} sheet
  * @param {number} ratio
  */

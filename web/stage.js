@@ -9,13 +9,17 @@ import { GREATEST_SCALE } from './view.js';
 const MARGIN_OF_FIT = 32;         // pixels that are left at each side where all is shown
 const CLEAR = 14;                 // pixels that are left to what floats above the drawing
 
+/** @typedef {import('./colours.js').Ground} Ground */
+
 export class Stage {
     /** @param {import('./app.js').App} app */
     constructor(app) {
         this.app = app;
         this.showsCentre = false;
         this.isWaiting = false;
-        this.renderer = new Renderer(byId('drawing'), app.scene, app.view);
+        /** @type {Ground} */
+        this.ground = 'dark';
+        this.renderer = new Renderer(byId('drawing'), app.view);
         this.overlay = new Overlay(byId('marks'), app);
         this.setGround(matchMedia('(prefers-color-scheme: light)').matches ? 'light' : 'dark');
         byId('zoom-in').addEventListener('click', () => this.zoom(1.5));
@@ -104,6 +108,7 @@ export class Stage {
         this.moved();
     }
 
+    /** @param {number} factor above 1 for larger, around the middle of the screen */
     zoom(factor) {
         this.app.view.zoom(factor);
         this.moved();
@@ -167,6 +172,7 @@ export class Stage {
         byId('scale-text').textContent = Number(length.toPrecision(3)) + ' ' + name;
     }
 
+    /** @param {Ground} ground */
     setGround(ground) {
         const { app } = this;
         this.ground = ground;

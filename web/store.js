@@ -79,6 +79,7 @@ export class BrowserStore {
         return database;
     }
 
+    /** @returns {Promise<unknown[]>} */
     async all() {
         const database = await this.open();
         return inTime(resultOf(database.transaction(RECORDS, 'readonly').objectStore(RECORDS).getAll()));

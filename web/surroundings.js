@@ -118,7 +118,7 @@ export function surroundingsOf(app, program) {
 function tellFault(app, why, isOpen) {
     if (why instanceof Stopped) {
         app.say('Stopped. Nothing has changed.');
-    } else if (why instanceof NotRun && isOpen && app.refusals) {
+    } else if (why instanceof NotRun && isOpen && app.drawing !== null) {
         const said = app.refusals.notRun(why.status, why.said);
         app.notice(why.name === '' ? said : why.name + ': ' + said);
     } else {

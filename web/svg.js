@@ -2,6 +2,8 @@
 
 import { byId } from './dom.js';
 
+/** @typedef {import('./painter.js').Canvas} Canvas */
+
 /** @param {number} value */
 function short(value) {
     return String(Math.round(value * 100) / 100);
@@ -10,6 +12,7 @@ function short(value) {
 /**
  * Takes what a painter draws, as far as a painter does, and makes elements of it. What a drawing holds becomes text of
  * these, never markup.
+ * @implements {Canvas}
  */
 export class SvgCanvas {
     /**

@@ -2,7 +2,16 @@
 
 import { byId, setHidden } from './dom.js';
 
+/** @typedef {'edit' | 'script' | 'changes'} TabName */
+
+/** @type {readonly TabName[]} */
 const NAMES = Object.freeze(['edit', 'script', 'changes']);
+
+/**
+ * Where each key goes from a button in a row of buttons.
+ * @type {Readonly<Record<string, 'nextElementSibling' | 'previousElementSibling' | undefined>>}
+ */
+export const WAY_OF_KEY = Object.freeze({ ArrowRight: 'nextElementSibling', ArrowLeft: 'previousElementSibling' });
 
 export class Tabs {
     /** @param {import('./app.js').App} app */
@@ -16,6 +25,7 @@ export class Tabs {
         this.show('edit');
     }
 
+    /** @param {TabName} name */
     show(name) {
         for (const it of NAMES) {
             byId('tab-' + it).setAttribute('aria-selected', String(it === name));
@@ -24,9 +34,12 @@ export class Tabs {
         }
     }
 
+    /**
+     * @param {KeyboardEvent} event
+     * @param {HTMLElement} tab
+     */
     key(event, tab) {
-        const step = { ArrowRight: 'nextElementSibling', ArrowLeft: 'previousElementSibling' }[event.key];
-        const next = step ? tab[step] : null;
+        const way = WAY_OF_KEY[event.key], next = /** @type {HTMLElement | null} */ (way ? tab[way] : null);
         if (next && !next.hidden) {
             event.preventDefault();
             next.click();

@@ -10,6 +10,12 @@ export const KIND_SAID = Object.freeze({
     other: 'not a design file of version 7: it doesn’t begin like one',
 });
 
+/** @typedef {'design' | 'v8' | 'library' | 'empty' | 'other'} Kind */
+
+/**
+ * Kinds of files, and the bytes that they begin with.
+ * @type {readonly (readonly [Kind, readonly number[]])[]}
+ */
 const FRONTS = Object.freeze([
     ['design', [0x08, 0x09, 0xFE, 0x02]], ['design', [0xC8, 0x09, 0xFE, 0x02]], ['v8', [0xD0, 0xCF, 0x11, 0xE0]],
     ['library', [0x08, 0x05, 0x17, 0x00]],
@@ -18,11 +24,11 @@ const FRONTS = Object.freeze([
 /**
  * What a file's first bytes say that it is.
  * @param {Uint8Array} bytes
- * @returns {'design' | 'v8' | 'library' | 'empty' | 'other'}
+ * @returns {Kind}
  */
 export function kindOf(bytes) {
-    const found = FRONTS.find(([, front]) => /** @type {number[]} */ (front).every((it, at) => bytes[at] === it));
-    return /** @type {any} */ (found ? found[0] : bytes.length > 0 ? 'other' : 'empty');
+    const found = FRONTS.find(([, front]) => front.every((it, at) => bytes[at] === it));
+    return found ? found[0] : bytes.length > 0 ? 'other' : 'empty';
 }
 
 /**

@@ -1,5 +1,6 @@
 /* Types of elements in words. */
 
+/** @type {Readonly<Record<number, string>>} */
 const TYPE_NAMES = Object.freeze({
     0: 'nothing', 1: 'cell library header', 2: 'cell', 3: 'line', 4: 'line string', 5: 'group data', 6: 'shape',
     7: 'text node', 8: 'digitizer setup', 9: 'design file header', 10: 'level symbology', 11: 'curve',

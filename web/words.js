@@ -5,6 +5,10 @@ import { typeName } from './types.js';
 
 /** Numbers, places and names of a drawing as a person reads them. */
 export class Words {
+    /**
+     * @param {import('./drawing.js').Drawing} drawing
+     * @param {import('./scene.js').Scene} scene
+     */
     constructor(drawing, scene) {
         this.drawing = drawing;
         this.scene = scene;
@@ -35,37 +39,59 @@ export class Words {
         return this.drawing.units.master || 'master units';
     }
 
+    /**
+     * A coordinate in master units.
+     * @param {number} value in units of resolution
+     * @param {number} axis 0 for x, 1 for y, 2 for z
+     */
     toMaster(value, axis) {
         return (value - this.drawing.units.origin[axis]) / this.unitsOfMaster;
     }
 
-    /** A place in master units as one in units of resolution. */
+    /**
+     * A place in master units as one in units of resolution.
+     * @param {number[]} values
+     */
     fromMaster(values) {
         return values.map((value, axis) => value * this.unitsOfMaster + this.drawing.units.origin[axis]);
     }
 
-    /** A coordinate in master units, without their name. */
+    /**
+     * A coordinate in master units, without their name.
+     * @param {number} value in units of resolution
+     * @param {number} axis
+     */
     masterOf(value, axis) {
         return this.toMaster(value, axis).toFixed(this.digits);
     }
 
-    /** A length in master units with their name. */
+    /**
+     * A length in master units with their name.
+     * @param {number} units of resolution
+     */
     lengthOf(units) {
         return (units / this.unitsOfMaster).toFixed(this.digits) + ' ' + this.master;
     }
 
-    /** A place in units of resolution, and in master units where these are known. */
+    /**
+     * A place in units of resolution, and in master units where these are known.
+     * @param {number[]} point
+     */
     placeOf(point) {
         const plain = point.map((value) => String(Math.round(value))).join(',');
         const master = point.map((value, axis) => this.masterOf(value, axis)).join(', ');
         return this.hasMaster ? plain + '  =  ' + master + ' ' + this.master : plain;
     }
 
+    /** @param {number} type */
     typeOf(type) {
         return typeName(type);
     }
 
-    /** An element in a few words: its number, its type, its text or its cell's name. */
+    /**
+     * An element in a few words: its number, its type, its text or its cell's name.
+     * @param {number} record
+     */
     nameOf(record) {
         const { records } = this.scene;
         const label = records.labelOf(record);
@@ -76,7 +102,10 @@ export class Words {
         return words + (typeof label === 'string' ? ' ' + label : ' “' + label.characters + '”');
     }
 
-    /** What is said of what is under the pointer. */
+    /**
+     * What is said of what is under the pointer.
+     * @param {number} record
+     */
     hoverOf(record) {
         const { records } = this.scene;
         const parts = [this.nameOf(record), 'level ' + records.level[record], 'colour ' + records.colour[record]];
@@ -87,7 +116,10 @@ export class Words {
         return parts.join(' · ');
     }
 
-    /** The number and the name of the outermost header above a record, or null. */
+    /**
+     * The number and the name of the outermost header above a record, or null.
+     * @param {number} record
+     */
     cellAbove(record) {
         const state = this.stateOf(record);
         const headers = state.above(this.scene.records.number[record]);
@@ -97,17 +129,24 @@ export class Words {
         return this.nameOf(state.record[headers[0]]);
     }
 
-    /** The state that a record stands in. */
+    /**
+     * The state that a record stands in.
+     * @param {number} record
+     */
     stateOf(record) {
         const { before, after, records } = this.scene;
         const number = records.number[record];
         return after && number < after.count && after.record[number] === record ? after : before;
     }
 
-    /** How long a row of places is, its last part and all of it. */
+    /**
+     * How long a row of places is, its last part and all of it.
+     * @param {number[][]} points in units of resolution
+     */
     measured(points) {
         const lengths = points.slice(1).map(([x, y], at) => Math.hypot(x - points[at][0], y - points[at][1]));
-        const said = (length) => (this.hasMaster ? this.lengthOf(length) + '  =  ' : '') + length.toFixed(1) + ' units';
+        const said = (/** @type {number} */ length) => (this.hasMaster ? this.lengthOf(length) + '  =  ' : '')
+            + length.toFixed(1) + ' units';
         const all = lengths.reduce((sum, length) => sum + length, 0);
         return said(lengths[lengths.length - 1]) + (lengths.length > 1 ? ', in total ' + said(all) : '');
     }

@@ -8,6 +8,15 @@ import { run } from './module.js';
  * @typedef {{ bytes: Uint8Array, files?: Map<string, Uint8Array> }} Given
  */
 
+/**
+ * What the page asks, with as much of what stands here as that wants: the program at first, and then one thing of a
+ * drawing.
+ * @typedef {Given & { does: keyof typeof DOES, program: WebAssembly.Module, bodyLength: number, script: Uint8Array,
+ *     patch: Uint8Array }} Asked
+ */
+
+/** @typedef {Partial<import('./making.js').Edited>} Answer what the program says and makes, none to the first */
+
 /** @type {WebAssembly.Module} */
 let program;
 
@@ -63,10 +72,10 @@ const DOES = {
     },
 };
 
-self.onmessage = ({ data }) => {
+self.onmessage = (/** @type {MessageEvent<Asked>} */ { data }) => {
     try {
-        /** @type {Record<string, (asked: any) => any>} */
-        const does = DOES, answer = does[data.does](data);
+        /** @type {Answer} */
+        const answer = DOES[data.does](data);
         postMessage({ answer }, answer.file ? { transfer: [answer.file.buffer] } : undefined);
     } catch (why) {
         postMessage({ fault: String(why) });
