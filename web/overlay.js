@@ -41,6 +41,7 @@ export class Overlay {
         this.drawOutline();
         this.drawBox();
         this.drawDrag();
+        tools.snap.draw(this.painter, this.ratio);
         if (app.stage.showsCentre) {
             this.drawCross(...app.stage.centre(), pens.hover);
         }
