@@ -22,6 +22,14 @@ export function lengthOf(points) {
 }
 
 /**
+ * A row of points without those that lie where the one before does.
+ * @param {readonly (readonly number[])[]} points
+ */
+export function partsOfWay(points) {
+    return points.filter((point, at) => at === 0 || point[0] !== points[at - 1][0] || point[1] !== points[at - 1][1]);
+}
+
+/**
  * The area within points, the last of which is joined to the first, as seen along z. What is gone around twice in one
  * direction counts twice, and what is gone around in both directions not at all.
  * @param {readonly (readonly number[])[]} points

@@ -3,7 +3,7 @@
 import { CoordinateField } from './coordinate_field.js';
 import { byId, setHidden } from './dom.js';
 import { Fence } from './fence.js';
-import { areaMeasured, measuredSaid } from './measuring.js';
+import { areaMeasured, measuredSaid, partsOfWay } from './measuring.js';
 import { REACH } from './pointer.js';
 import { SNAP_REACH, SnapTool } from './snap_tool.js';
 
@@ -159,8 +159,9 @@ export class Tools {
         if (this.isMeasured) {
             return areaMeasured(words, points);
         }
-        if (this.tool === 'measure' && points.length + (pointer === null ? 0 : 1) > 1 && points.length > 0) {
-            return measuredSaid(words, pointer === null ? points : [...points, pointer]);
+        const way = partsOfWay(pointer === null || points.length === 0 ? points : [...points, pointer]);
+        if (this.tool === 'measure' && way.length > 1) {
+            return measuredSaid(words, way);
         }
         return this.draws ? this.draws.hint : DRAG_HINTS[this.tool] || '';
     }
