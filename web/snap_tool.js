@@ -92,16 +92,32 @@ export class SnapTool {
         return [atX, atY, ...(z === null ? [] : [z])].map((value) => Math.round(value) || 0);
     }
 
+    /**
+     * Marks the first point of an outline, at which the pointer closes it.
+     * @param {number[]} point
+     */
+    markFirst([x, y]) {
+        this.found = { kind: 'end', x, y, z: null, record: -1, other: -1 };
+    }
+
     /** What it has snapped to, in words. */
     said() {
         const { found, app } = this, words = /** @type {import('./words.js').Words} */ (app.words);
-        if (found === null) {
-            return '';
+        if (found === null || found.record < 0) {
+            return found === null ? '' : 'closes it';
         }
         const { records } = app.scene;
         const names = [found.record, found.other].filter((it) => it >= 0)
             .map((it) => words.typeOf(records.type[it]) + ' ' + records.number[it]);
         return BEFORE_NAME[found.kind] + ' ' + [...new Set(names)].join(' and ');
+    }
+
+    /** Says that a point was set at what it has snapped to. */
+    tell() {
+        const { found } = this;
+        if (found !== null && found.record >= 0) {
+            this.app.say((found.kind === 'on' ? 'Set ' : 'Set at the ') + this.said() + '.');
+        }
     }
 
     /**

@@ -30,7 +30,7 @@ import { Path } from './path.js';
 /** What goes first: of equal ones it is the nearest. */
 export const SNAP_RANK = Object.freeze({ end: 0, vertex: 0, crossing: 1, middle: 2, centre: 3, origin: 3, on: 4 });
 
-const MOST_RECORDS = 4000;        // records around the pointer that are looked at
+const MOST_RECORDS = 20000;       // records around the pointer that are looked at
 const MOST_SNAP_POINTS = 60000;   // and their points
 const MOST_CROSSED = 160;         // segments, the nearest ones, whose crossings are looked for
 const MOST_MET = 32;              // arcs whose centres are known, those that the pointer met last

@@ -203,7 +203,11 @@ export class Tools {
             return this.snap.take(place, Math.max(reach, SNAP_REACH));
         }
         this.snap.found = null;
-        return this.takesPoints ? this.points[0] : this.app.wholePlace(place);
+        if (!this.takesPoints) {
+            return this.app.wholePlace(place);
+        }
+        this.snap.markFirst(this.points[0]);
+        return this.points[0];
     }
 
     click(place, reach, isMore) {
@@ -211,15 +215,13 @@ export class Tools {
             this.app.choice.click(place, reach, isMore);
             return;
         }
-        const point = this.placeAt(place, reach), [first] = this.points, said = this.snap.said();
+        const point = this.placeAt(place, reach), [first] = this.points;
         if (this.canClose && point[0] === first[0] && point[1] === first[1]) {
             this.close();
         } else {
             this.addPoint(point);
         }
-        if (said !== '') {
-            this.app.say('Set at the ' + said + '.');
-        }
+        this.snap.tell();
         this.showHint();
     }
 

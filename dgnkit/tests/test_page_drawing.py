@@ -196,7 +196,7 @@ class Snapping(WithPoints):
         self.assertIn('end of line 2', self.hint())
         self.do('#level-2')
         self.seen.hover(self.near((900, 500), 3))
-        self.assertNotIn('end', self.hint().split('·')[-1].replace('ends', ''))
+        self.assertNotIn('end of', self.hint())
 
     def test_it_is_switched_off_by_the_button_the_key_and_alt(self) -> None:
         self.open(self.put('one.dgn', drawings.drawing(plan.line(1, (0, 0), (4000, 0)))))
@@ -254,6 +254,8 @@ class Snapping(WithPoints):
         for corner in SHAPE[:-1]:
             self.seen.drag(self.near(corner))
         self.assertEqual(self.seen.run('return page.tools.points'), [list(it) for it in SHAPE[:-1]])
+        self.seen.hover(self.near(SHAPE[0], 2, 2))
+        self.assertIn('closes it', self.hint())
         self.seen.drag(self.near(SHAPE[0], 2, 2))
         self.seen.wait('page.tools.fence.isKnown')
         self.assertEqual(self.seen.run('return page.tools.fence.corners'), [list(it) for it in SHAPE[:-1]])
@@ -266,6 +268,38 @@ class Snapping(WithPoints):
         self.assertEqual(self.last_line(1), 'line 1 0 0 0 100,50,25 107,50,25')
         self.enter('1,2,3', '@1,1,-9')
         self.assertEqual(self.last_line(2), 'line 1 0 0 0 1,2,3 2,3,-6')
+
+    def test_a_finger_sets_a_point_and_two_zoom(self) -> None:
+        self.open(self.put('sheet.dgn', sheet()))
+        self.tool('string')
+        place = self.near((2600, 1600), 9, 9)
+        self.seen.pinch((place, place))
+        self.seen.settle()
+        self.assertEqual(self.seen.run('return page.tools.points'), [[2600, 1600]])
+        self.assertIn('Set at the vertex of line string 3', self.seen.text('#said'))
+        scale = self.seen.run('return page.view.scale')
+        left, top = self.screen(1500, 0)
+        self.seen.pinch(((left - 40, top), (left - 90, top)), ((left + 40, top), (left + 90, top)))
+        self.seen.settle()
+        self.assertGreater(self.seen.run('return page.view.scale'), 1.5 * scale)
+        x = self.seen.run('return page.view.x')
+        left, top = self.screen(1500, 0)
+        self.seen.pinch(((left, top), (left + 60, top)))
+        self.seen.settle()
+        self.assertLess(self.seen.run('return page.view.x'), x, 'one finger pans')
+        self.assertEqual(self.seen.run('return page.tools.points'), [[2600, 1600]])
+
+    def test_what_has_just_been_drawn_is_snapped_to(self) -> None:
+        self.open(self.put('one.dgn', drawings.drawing(plan.line(1, (0, 0), (4000, 0)))))
+        self.tool('line')
+        self.enter('100,900', '3000,700')
+        self.last_line(1)
+        self.seen.hover(self.near((3000, 700)))
+        self.assertIn('end of line 2', self.hint())
+        self.assertIn('3000,700', self.seen.text('#place'))
+        self.do('#undo')
+        self.seen.hover(self.near((3000, 700), 3))
+        self.assertNotIn('end of', self.hint())
 
     def test_by_keys_alone(self) -> None:
         self.open(self.put('one.dgn', drawings.drawing(plan.line(1, (0, 0), (4000, 0)))))
