@@ -229,6 +229,7 @@ export class App {
         this.choice.keepShown();
         this.modes.show();
         this.levelsPanel.show();
+        this.tools.pointAgain();
         if (this.tools.fence.isSet) {
             this.tools.fence.ask();
         }

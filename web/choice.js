@@ -45,7 +45,7 @@ export class Choice {
     /** @param {number[] | null} place of the screen, or none */
     point(place) {
         this.pointer = place;
-        this.app.tools.point(place === null ? null : this.app.wholePlace(place));
+        this.app.tools.point(place);
         this.app.stage.request();
     }
 
@@ -61,7 +61,7 @@ export class Choice {
     hover() {
         const { app, pointer } = this;
         this.hovered = pointer === null || app.tools.isBusy ? -1 : this.pickAt(pointer, REACH.mouse);
-        byId('place').textContent = pointer === null ? '' : app.words.placeOf(app.drawingPlace(pointer));
+        byId('place').textContent = pointer === null ? '' : app.words.placeOf(app.tools.seenAt(pointer));
         const said = this.hovered < 0 ? '' : app.words.hoverOf(this.hovered);
         byId('under').textContent = said;
         const label = byId('hover');

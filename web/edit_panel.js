@@ -1,5 +1,6 @@
 /* Edits of what is chosen or of what a fence takes, and new elements. */
 
+import { unitsIn } from './coordinates.js';
 import { counted } from './describing.js';
 import { byId, fill, make, setHidden } from './dom.js';
 import { spellingFault } from './encoding.js';
@@ -8,6 +9,11 @@ import { TEXT_UNIT } from './reading.js';
 
 const EDITS = Object.freeze([['move', 'Move'], ['copy', 'Copy'], ['sym', 'Set look'], ['delete', 'Delete']]);
 const FIELDS = Object.freeze(['by-x', 'by-y', 'by-z', 'by-unit', 'new-color', 'new-weight', 'new-style']);
+/** What Enter does in a field. */
+const ENTERS = Object.freeze({
+    'by-x': 'edit-move', 'by-y': 'edit-move', 'by-z': 'edit-move', 'new-color': 'edit-sym', 'new-weight': 'edit-sym',
+    'new-style': 'edit-sym',
+});
 const MOST_PROBED = 200;          // chosen trees of which is asked beforehand what would be refused
 const REST = 120;                 // milliseconds before it is asked
 const MAKING_NAMES = Object.freeze({ line: 'line', string: 'line string', shape: 'shape', text: 'text' });
@@ -28,6 +34,10 @@ export class EditPanel {
         byId('edit-delete').addEventListener('click', () => this.edit({ word: 'delete' }));
         for (const id of FIELDS) {
             byId(id).addEventListener('input', () => this.show());
+        }
+        for (const [id, button] of Object.entries(ENTERS)) {
+            byId(id).addEventListener('keydown', (/** @type {KeyboardEvent} */ event) => (
+                event.key === 'Enter' ? byId(button).click() : undefined));
         }
     }
 
@@ -99,7 +109,8 @@ export class EditPanel {
             return false;
         }
         const z = new Array(app.drawing.axes - 2).fill(0);
-        return app.editing.make(word, this.makingOf(), points.map((point) => [...point, ...z]));
+        return app.editing.make(word, this.makingOf(), points.map((point) => [...point, ...z]
+            .slice(0, app.drawing.axes)));
     }
 
     makingOf() {
@@ -219,13 +230,4 @@ export class EditPanel {
             setHidden(byId('make-text-row'), tools.tool !== 'text');
         }
     }
-}
-
-/** A number that is written in a field, times a factor, as a whole number; null where it is none. */
-function unitsIn(text, factor) {
-    const trimmed = text.trim().replace('−', '-').replace(',', '.');
-    if (!(factor === 1 ? /^[-+]?\d+$/ : /^[-+]?(\d+\.?\d*|\.\d+)$/).test(trimmed)) {
-        return null;
-    }
-    return Math.round(Number(trimmed) * factor) || 0;
 }

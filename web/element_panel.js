@@ -3,6 +3,7 @@
 import { whyBroken } from './broken.js';
 import { counted } from './describing.js';
 import { byId, fill, linkTo, make, swatchOf, termed } from './dom.js';
+import { sizesOf } from './element_sizes.js';
 import { CLASS, CLASS_OF, DRAWN, DRAWN_OF, FLAG, STYLE_NAMES } from './format.js';
 
 const MOST_MEMBERS = 200;
@@ -158,6 +159,9 @@ export class ElementPanel {
         if (words.hasMaster) {
             const size = [0, 1].map((axis) => words.lengthOf(range[axes + axis] - range[axis]));
             list.append(...termed('width, height', size.join(', ')));
+        }
+        for (const [term, said] of sizesOf(words, scene, this.chosen)) {
+            list.append(...termed(term, said));
         }
     }
 

@@ -45,7 +45,7 @@ function propertiesOf(records, record) {
  * @param {Words} words
  */
 function geometryOf(records, record, words) {
-    const type = records.type[record], points = pointsOf(records, record).map((point) => inMaster(words, point));
+    const type = records.type[record], points = pointsDrawn(records, record).map((point) => inMaster(words, point));
     if (points.length === 0) {
         return null;
     }
@@ -66,7 +66,7 @@ function geometryOf(records, record, words) {
  * @param {number} record
  * @returns {number[][]}
  */
-function pointsOf(records, record) {
+function pointsDrawn(records, record) {
     const outline = isCurved(records.type[record]) ? records.outlines.of(record, FINENESS) : [], points = [];
     for (let at = 0; at < outline.length; at += 2) {
         points.push([outline[at], outline[at + 1]]);

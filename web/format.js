@@ -14,8 +14,8 @@ export const CLASS = Object.freeze({
 export const DRAWN = Object.freeze({ nothing: 0, path: 1, text: 2, cell: 3, node: 4, group: 5, box: 6 });
 
 export const TYPE = Object.freeze({
-    cell: 2, line: 3, data: 5, shape: 6, node: 7, curve: 11, ellipse: 15, arc: 16, text: 17, surface: 24, spline: 27,
-    definition: 34,
+    cell: 2, line: 3, string: 4, data: 5, shape: 6, node: 7, curve: 11, chain: 12, complexShape: 14, ellipse: 15,
+    arc: 16, text: 17, surface: 24, spline: 27, definition: 34,
 });
 
 export const LEAST = -2147483648;

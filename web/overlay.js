@@ -58,6 +58,7 @@ export class Overlay {
         this.drawOutline();
         this.drawBox();
         this.drawDrag();
+        tools.snap.draw(this.painter, this.ratio);
         if (app.stage.showsCentre) {
             const [left, top] = app.stage.centre();
             this.drawCross(left, top, pens.hover);

@@ -1,10 +1,12 @@
 /* Mouse, pen, fingers and keys on the drawing. */
 
-import { byId } from './dom.js';
+import { byId, setHidden } from './dom.js';
 
 const CLICK = 4;                  // pixels that a click may move
 export const REACH = Object.freeze({ mouse: 7, pen: 9, touch: 16 });
 const STEP = 80;                  // pixels of an arrow key
+/** Keys of the drawing that leave a search as it is, so that Enter goes on to the next that was found. */
+const GO_ON = new Set(['Enter', 'Shift', 'Delete']);
 
 /** Takes what is done on the canvas to the app. */
 export class Pointer {
@@ -18,6 +20,8 @@ export class Pointer {
         this.down = new Map();
         this.pressed = null;
         this.reach = REACH.mouse;
+        /** Whether Enter goes on to the next that was found. */
+        this.isSearching = false;
         canvas.addEventListener('pointerdown', (event) => this.press(event));
         canvas.addEventListener('pointermove', (event) => this.move(event));
         canvas.addEventListener('pointerup', (event) => this.release(event));
@@ -26,8 +30,11 @@ export class Pointer {
         canvas.addEventListener('dblclick', () => app.tools.close());
         canvas.addEventListener('wheel', (event) => this.wheel(event), { passive: false });
         canvas.addEventListener('keydown', (event) => this.key(event));
+        canvas.addEventListener('keyup', (event) => this.alt(event, false));
+        canvas.addEventListener('blur', () => this.endSearch());
         canvas.addEventListener('contextmenu', (event) => event.preventDefault());
         document.addEventListener('keydown', (event) => this.keyAnywhere(event));
+        byId('search-field').addEventListener('keydown', (event) => this.leaveSearch(event));
     }
 
     placeOf(event) {
@@ -38,6 +45,8 @@ export class Pointer {
     press(event) {
         this.canvas.focus({ preventScroll: true });
         this.canvas.setPointerCapture(event.pointerId);
+        this.endSearch();
+        this.app.tools.snap.hold(event.altKey);
         this.reach = REACH[event.pointerType] || REACH.mouse;
         this.down.set(event.pointerId, this.placeOf(event));
         if (this.down.size === 1) {
@@ -53,6 +62,7 @@ export class Pointer {
 
     move(event) {
         const place = this.placeOf(event), before = this.down.get(event.pointerId);
+        this.app.tools.snap.hold(event.altKey);
         if (!before) {
             this.app.choice.point(place);
             return;
@@ -136,10 +146,14 @@ export class Pointer {
     }
 
     key(event) {
-        if (event.ctrlKey || event.metaKey || event.altKey) {
+        this.alt(event, true);
+        if (event.ctrlKey || event.metaKey || event.altKey || (event.key === 'Escape' && byId('more').open)) {
             return;
         }
-        const act = this.acts(event.shiftKey ? STEP / 8 : STEP)[event.key];
+        const { isSearching } = this;
+        this.isSearching = isSearching && GO_ON.has(event.key);
+        const acts = this.acts(event.shiftKey ? STEP / 8 : STEP);
+        const act = (isSearching ? this.searchActs(event.shiftKey ? -1 : 1)[event.key] : undefined) || acts[event.key];
         if (act) {
             event.preventDefault();
             act();
@@ -153,6 +167,9 @@ export class Pointer {
             app.stage.showsCentre = true;
             app.view.pan(right, down);
             app.stage.moved();
+            if (tools.takesPoints) {
+                tools.point(stage.centre(), REACH.touch);
+            }
         };
         const { stage, tools, choice } = app;
         return {
@@ -163,12 +180,53 @@ export class Pointer {
             'Enter': () => (tools.draws ? tools.close() : choice.click(stage.centre(), REACH.touch, false)),
             ' ': () => tools.click(stage.centre(), REACH.touch, false),
             'Backspace': () => tools.dropPoint(), 'Delete': () => app.editPanel.edit({ word: 'delete' }),
-            'Escape': () => tools.letGo(),
+            's': () => tools.snap.toggle(), '@': () => tools.field.begin('@'), 'Escape': () => tools.letGo(),
         };
+    }
+
+    /** While Alt is held the pointer doesn't snap; the browser isn't to open its menu for that. */
+    alt(event, isDown) {
+        if (event.key === 'Alt' && this.app.tools.takesPoints) {
+            event.preventDefault();
+            this.app.tools.snap.hold(isDown);
+        }
+    }
+
+    /* Searching. */
+
+    /** Enter in the search goes back to the drawing, so that what was found can be edited; it still goes on there. */
+    leaveSearch(event) {
+        if (event.key === 'Enter' && this.app.search.found.length > 0) {
+            this.canvas.focus({ preventScroll: true });
+            this.isSearching = true;
+        }
+    }
+
+    endSearch() {
+        this.isSearching = false;
+    }
+
+    /** What keys do after a search: the next that was found, or an end of it. */
+    searchActs(by) {
+        const { search } = this.app;
+        return { Enter: () => search.take(search.at + by), Escape: () => search.clear() };
+    }
+
+    /** Escape closes what is open above the page, and the focus doesn't stay in it. */
+    closeOpen({ target }) {
+        if (byId('more').contains(target)) {
+            byId('more').open = false;
+            byId('more').querySelector('summary').focus();
+        } else if (byId('search-list').contains(target)) {
+            setHidden(byId('search-list'), true);
+        }
     }
 
     /** Keys that hold wherever the focus is, but in a field. */
     keyAnywhere(event) {
+        if (event.key === 'Escape') {
+            this.closeOpen(event);
+        }
         const isField = /^(INPUT|SELECT|TEXTAREA)$/.test(event.target.tagName) && event.target.type !== 'checkbox';
         if (event.altKey || this.app.isAsking) {
             return;

@@ -1,7 +1,11 @@
 /* What the pointer does: choose, drag, draw a fence or a new element, measure. */
 
+import { CoordinateField } from './coordinate_field.js';
 import { byId, setHidden } from './dom.js';
 import { Fence } from './fence.js';
+import { areaMeasured, measuredSaid, partsOfWay } from './measuring.js';
+import { REACH } from './pointer.js';
+import { SNAP_REACH, SnapTool } from './snap_tool.js';
 
 /** Tools that draw points: whether the last is joined to the first, how many there are at once, and what is said. */
 const DRAWS = Object.freeze({
@@ -10,8 +14,13 @@ const DRAWS = Object.freeze({
     string: { isArea: false, count: Infinity, hint: 'Click the points; Enter or a double click ends the line string' },
     shape: { isArea: true, count: Infinity, hint: 'Click the corners; Enter or a double click closes the shape' },
     text: { isArea: false, count: 1, hint: 'Click where the text begins' },
-    measure: { isArea: false, count: Infinity, hint: 'Click from point to point; Escape ends measuring' },
+    measure: { isArea: false, count: Infinity, hint: 'Click from point to point; Enter or a click on the first closes '
+        + 'an area, Escape ends measuring' },
 });
+const DRAG_HINTS = Object.freeze({
+    'drag-move': 'Drag to move what is selected', 'drag-copy': 'Drag a copy of what is selected',
+});
+const LEAST_OF_AREA = 3;
 const MAKES = new Set(['line', 'string', 'shape', 'text']);
 
 export class Tools {
@@ -21,9 +30,17 @@ export class Tools {
         this.tool = 'choose';
         /** @type {number[][]} */
         this.points = [];
+        /**
+         * Where the pointer is on the screen, and what that is in the drawing, in whole units.
+         * @type {number[] | null}
+         */
+        this.at = null;
+        /** @type {number[] | null} */
         this.pointer = null;
         /** Whether the element that was drawn is being made. */
         this.isClosing = false;
+        /** Whether what is measured is an area, whose outline is closed. */
+        this.isMeasured = false;
         /** @type {{ from: number[], to: number[], by: number[] } | null} */
         this.drag = null;
         /**
@@ -32,7 +49,9 @@ export class Tools {
          */
         this.box = null;
         this.fence = new Fence(app);
-        for (const button of byId('tools').children) {
+        this.snap = new SnapTool(app);
+        this.field = new CoordinateField(app, this);
+        for (const button of this.buttons()) {
             button.addEventListener('click', () => this.set(button.dataset.tool));
         }
         for (const name of ['drag-move', 'drag-copy']) {
@@ -40,10 +59,16 @@ export class Tools {
         }
     }
 
+    /** The buttons of the tools. */
+    buttons() {
+        return [...byId('tools').children].filter((button) => button.dataset.tool !== undefined);
+    }
+
     /** Forgets what is drawn, for another drawing. */
     clear() {
         this.points = [];
         this.drag = this.box = null;
+        this.at = this.pointer = null;
         this.fence.clear();
         this.set('choose');
     }
@@ -60,17 +85,32 @@ export class Tools {
         return this.tool.startsWith('drag');
     }
 
+    /** Whether points are set, to which the pointer snaps and which can be typed. */
+    get takesPoints() {
+        return this.draws !== null || this.isDragging;
+    }
+
     /** Whether the pointer is taken by something else than choosing. */
     get isBusy() {
         return this.drag !== null || this.draws !== null;
     }
 
     get isOpen() {
-        return this.draws !== null;
+        return this.draws !== null && !this.isMeasured;
     }
 
     get isArea() {
-        return this.draws ? this.draws.isArea : true;
+        return this.draws ? this.draws.isArea || this.isMeasured : true;
+    }
+
+    /** Whether all the points of what is drawn are set, as where it was refused. */
+    get isFull() {
+        return this.draws !== null && this.points.length >= this.draws.count;
+    }
+
+    /** How many axes its points have: what is made and what is moved has all of the drawing's, the rest x and y. */
+    get axes() {
+        return this.isMaking || this.isDragging ? this.app.drawing.axes : 2;
     }
 
     /** What is drawn above the drawing: the points and the pointer behind them, or the fence. */
@@ -78,7 +118,8 @@ export class Tools {
         if (this.draws === null) {
             return this.fence.corners || [];
         }
-        return this.pointer !== null && this.points.length > 0 ? [...this.points, this.pointer] : this.points;
+        const isFollowed = this.pointer !== null && this.points.length > 0 && !this.isMeasured;
+        return isFollowed ? [...this.points, this.pointer] : this.points;
     }
 
     set(tool) {
@@ -86,77 +127,161 @@ export class Tools {
         this.tool = tool;
         this.drag = null;
         this.points = [];
+        this.isMeasured = false;
         if (tool === 'fence') {
             this.fence.clear();
         }
-        for (const button of [...byId('tools').children, byId('drag-move'), byId('drag-copy')]) {
+        for (const button of [...this.buttons(), byId('drag-move'), byId('drag-copy')]) {
             button.setAttribute('aria-pressed', String(tool === (button.dataset.tool || button.id)));
         }
-        this.hint(this.draws ? this.draws.hint : tool === 'drag-move' ? 'Drag to move what is selected'
-            : tool === 'drag-copy' ? 'Drag a copy of what is selected' : '');
         byId('marks').classList.toggle('draws', tool !== 'choose');
+        this.field.show();
+        this.pointAgain();
         if (app.drawing !== null) {
             app.show();
             app.stage.request();
         }
     }
 
-    /** Says in the drawing what is to be done there. */
-    hint(text) {
+    /** Says in the drawing what is to be done there, or how far it goes, and what the pointer has snapped to. */
+    showHint() {
+        const text = [this.guide(), this.snap.said()].filter((it) => it !== '').join('  ·  ');
         byId('hint').textContent = text;
         setHidden(byId('hint'), text === '');
     }
 
-    point(place) {
-        this.pointer = place;
-        if (this.tool === 'measure' && place !== null && this.points.length > 0) {
-            this.hint(this.app.words.measured([...this.points, place]));
+    guide() {
+        const { points, pointer, drag, app: { words } } = this;
+        if (drag !== null) {
+            return 'by ' + drag.by.join(' ') + (words.hasMaster
+                ? '  =  ' + drag.by.map((value) => words.lengthOf(value)).join(', ') : '');
         }
+        if (this.isMeasured) {
+            return areaMeasured(words, points);
+        }
+        const way = partsOfWay(pointer === null || points.length === 0 ? points : [...points, pointer]);
+        if (this.tool === 'measure' && way.length > 1) {
+            return measuredSaid(words, way);
+        }
+        return this.draws ? this.draws.hint : DRAG_HINTS[this.tool] || '';
+    }
+
+    /** The pointer is at a place of the screen, or nowhere. */
+    point(place, reach = REACH.mouse) {
+        this.at = place;
+        this.pointer = place === null ? null : this.placeAt(place, reach);
+        if (place === null) {
+            this.snap.found = null;
+        }
+        this.showHint();
+    }
+
+    /** The place of the drawing that is said of one of the screen: what the pointer snapped to, or else just there. */
+    seenAt(place) {
+        return this.snap.found !== null && this.pointer !== null ? this.pointer : this.app.drawingPlace(place);
+    }
+
+    /** The same again, where it may be something else now. */
+    pointAgain() {
+        if (this.app.drawing !== null) {
+            this.point(this.at);
+            this.app.stage.request();
+        }
+    }
+
+    /** A place that isn't the pointer's, as one that is typed. */
+    preview(point) {
+        this.snap.found = null;
+        this.pointer = point;
+        this.showHint();
+        this.app.stage.request();
+    }
+
+    /** What a place of the screen is in the drawing, in whole units: what it snaps to, while points are set. */
+    placeAt(place, reach) {
+        if (this.takesPoints && !this.isAtFirst(place, reach)) {
+            return this.snap.take(place, Math.max(reach, SNAP_REACH));
+        }
+        this.snap.found = null;
+        if (!this.takesPoints) {
+            return this.app.wholePlace(place);
+        }
+        this.snap.markFirst(this.points[0]);
+        return this.points[0];
     }
 
     click(place, reach, isMore) {
         if (!this.draws) {
             this.app.choice.click(place, reach, isMore);
-        } else if (this.isAtFirst(place, reach)) {
+            return;
+        }
+        const point = this.placeAt(place, reach), [first] = this.points;
+        if (this.canClose && point[0] === first[0] && point[1] === first[1]) {
             this.close();
         } else {
-            this.addPoint(this.app.wholePlace(place));
+            this.addPoint(point);
         }
+        this.snap.tell();
+        this.showHint();
+    }
+
+    /** Whether the points are the corners of an area, which a click on the first of them closes. */
+    get canClose() {
+        return (this.tool === 'measure' || (this.draws !== null && this.draws.isArea)) && !this.isMeasured
+            && this.points.length >= LEAST_OF_AREA;
     }
 
     /** Whether a place is where the outline of an area began, which closes it. */
     isAtFirst([left, top], reach) {
         const { view } = this.app, { points } = this;
-        return this.isArea && points.length >= 3
+        return this.canClose
             && Math.hypot(view.toScreenX(points[0][0]) - left, view.toScreenY(points[0][1]) - top) <= reach;
     }
 
-    /** Takes a point, but for one that is there already, or while what is drawn is being made. */
+    /**
+     * Takes a point, and says whether it did: not one that is there already, one too many, or one while what is drawn
+     * is being made. In a drawing of three axes a point without a z has that of the point before.
+     */
     addPoint(point) {
-        const last = this.points[this.points.length - 1];
-        const isThere = last && last[0] === point[0] && last[1] === point[1];
-        if (!isThere && !this.isClosing && this.points.length < this.draws.count) {
-            this.points.push(point);
+        const points = this.isMeasured ? [] : this.points, last = points[points.length - 1];
+        const z = point.length > 2 ? point[2] : last && last.length > 2 ? last[2] : 0;
+        const taken = [point[0], point[1], z].slice(0, this.axes);
+        const isThere = last !== undefined && taken.every((value, axis) => value === last[axis]);
+        const isTaken = !isThere && !this.isClosing && points.length < this.draws.count;
+        if (isTaken) {
+            points.push(taken);
+            this.points = points;
+            this.isMeasured = false;
         }
-        if (this.points.length >= this.draws.count) {
+        if (points.length >= this.draws.count) {
             this.close();
         }
         this.app.stage.request();
+        return isTaken;
     }
 
-    /** Takes the last point back. */
+    /** Takes the last point back; what was measured as an area is open again. */
     dropPoint() {
-        if (!this.isClosing) {
+        if (this.isMeasured) {
+            this.isMeasured = false;
+        } else if (!this.isClosing) {
             this.points.pop();
-            this.app.stage.request();
         }
+        this.showHint();
+        this.app.stage.request();
     }
 
     /** Ends what is drawn by points. The points of an element stay until it is made: where it is refused they can be
         changed, and tried again. */
     async close() {
         const { tool, points } = this;
-        if (this.draws === null || tool === 'measure' || points.length === 0 || this.isClosing) {
+        if (this.draws === null || points.length === 0 || this.isClosing) {
+            return;
+        }
+        if (tool === 'measure') {
+            this.isMeasured = points.length >= LEAST_OF_AREA;
+            this.showHint();
+            this.app.stage.request();
             return;
         }
         if (tool === 'fence') {
@@ -184,21 +309,31 @@ export class Tools {
 
     /* Dragging. */
 
+    /** What is dragged from one place of the screen goes to another: both are what they snap to. */
     dragTo(start, place) {
-        const { app } = this, from = app.wholePlace(start), to = app.wholePlace(place);
-        this.drag = { from, to, by: [to[0] - from[0], to[1] - from[1], 0].slice(0, app.drawing.axes) };
-        this.hint('by ' + this.drag.by.join(' ') + (app.words.hasMaster
-            ? '  =  ' + this.drag.by.map((value) => app.words.lengthOf(value)).join(', ') : ''));
+        const { app } = this;
+        const from = this.drag === null ? this.placeAt(start, REACH.mouse) : this.drag.from;
+        const to = this.placeAt(place, REACH.mouse);
+        const z = from.length > 2 && to.length > 2 ? to[2] - from[2] : 0;
+        this.drag = { from, to, by: [to[0] - from[0], to[1] - from[1], z].slice(0, app.drawing.axes) };
         app.stage.request();
     }
 
     /** Ends a drag: what was dragged is moved or copied by as much. */
     drop() {
-        const { drag, tool } = this;
-        this.set('choose');
-        if (drag !== null) {
-            this.app.editPanel.edit({ word: tool === 'drag-copy' ? 'copy' : 'move', by: drag.by });
+        const { drag } = this;
+        if (drag === null) {
+            this.set('choose');
+        } else {
+            this.displace(drag.by);
         }
+    }
+
+    /** Moves or copies what is chosen, which was to be dragged. */
+    displace(by) {
+        const { tool } = this;
+        this.set('choose');
+        this.app.editPanel.edit({ word: tool === 'drag-copy' ? 'copy' : 'move', by });
     }
 
     endDrag() {
@@ -209,6 +344,7 @@ export class Tools {
 
     cancelDrag() {
         this.drag = this.box = null;
+        this.showHint();
         this.app.stage.request();
     }
 
@@ -239,7 +375,8 @@ export class Tools {
     letGo() {
         if (this.tool !== 'choose' && this.points.length > 0) {
             this.points = [];
-            this.hint(this.draws ? this.draws.hint : '');
+            this.isMeasured = false;
+            this.showHint();
         } else if (this.tool !== 'choose') {
             this.set('choose');
         } else if (this.fence.isSet) {

@@ -138,16 +138,4 @@ export class Words {
         const number = records.number[record];
         return after && number < after.count && after.record[number] === record ? after : before;
     }
-
-    /**
-     * How long a row of places is, its last part and all of it.
-     * @param {number[][]} points in units of resolution
-     */
-    measured(points) {
-        const lengths = points.slice(1).map(([x, y], at) => Math.hypot(x - points[at][0], y - points[at][1]));
-        const said = (/** @type {number} */ length) => (this.hasMaster ? this.lengthOf(length) + '  =  ' : '')
-            + length.toFixed(1) + ' units';
-        const all = lengths.reduce((sum, length) => sum + length, 0);
-        return said(lengths[lengths.length - 1]) + (lengths.length > 1 ? ', in total ' + said(all) : '');
-    }
 }
