@@ -13,7 +13,7 @@
  *     | 'typed-add' | 'script-copy', HTMLButtonElement>
  *     & Record<'open-file' | 'second-file' | 'search-field' | 'show-deleted' | 'typed' | 'changes-filter' | 'by-x'
  *     | 'by-y' | 'by-z' | 'new-color' | 'new-weight' | 'new-style' | 'make-level' | 'make-color' | 'make-weight'
- *     | 'make-style' | 'make-words' | 'make-height' | 'make-font', HTMLInputElement>
+ *     | 'make-style' | 'make-words' | 'make-height' | 'make-font' | 'coordinate', HTMLInputElement>
  *     & Record<'fence-mode' | 'by-unit', HTMLSelectElement> & Record<'edits' | 'making', HTMLFieldSetElement>
  *     & Record<'drawing' | 'marks' | 'start-picture', HTMLCanvasElement> & Record<'modes' | 'tools', Buttons>
  *     & { 'more': HTMLDetailsElement, 'kept-dialog': HTMLDialogElement }} Parts

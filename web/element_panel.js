@@ -40,9 +40,14 @@ export class ElementPanel {
         }
     }
 
-    /** Several trees: how many of each type, and a link to each of the first. */
+    /**
+     * Several trees: how many of each type, and a link to each of the first.
+     * @param {number[]} numbers
+     */
     severalSaid(numbers) {
-        const { scene, words, choice } = this.app, { state } = scene, counts = new Map();
+        const { scene, words, choice } = this.app, { state } = scene;
+        /** @type {Map<number, number>} */
+        const counts = new Map();
         numbers.forEach((it) => counts.set(state.typeOf(it), (counts.get(state.typeOf(it)) || 0) + 1));
         const types = [...counts].map(([type, count]) => count + ' × ' + words.typeOf(type)).join(', ');
         const rows = numbers.slice(0, MOST_MEMBERS).map((it) => make('li', {},
@@ -50,18 +55,23 @@ export class ElementPanel {
         return make('div', {}, make('p', {}, types), make('ul', { class: 'members' }, ...rows));
     }
 
+    /** @param {number} record */
     headline(record) {
         const { words, scene } = this.app;
         return make('p', { class: 'headline' }, make('strong', {}, words.typeOf(scene.records.type[record])), ' ',
             make('span', { class: 'label' }, scene.records.wordsOf(record)));
     }
 
-    /** Locked, deleted and broken, and why. */
+    /**
+     * Locked, deleted and broken, and why.
+     * @param {number} record
+     */
     badges(record) {
         const { records, state } = this.app.scene;
         const { chosen } = this;
+        /** @type {HTMLElement[]} */
         const said = [];
-        const add = (word, text) => {
+        const add = (/** @type {string} */ word, /** @type {string} */ text) => {
             said.push(make('p', { class: 'badge ' + word }, make('strong', {}, word), ' ', text));
         };
         const change = this.app.changes.get(record);
@@ -85,12 +95,16 @@ export class ElementPanel {
         return said;
     }
 
-    /** Edits change neither how elements nest nor what is broken, so it is asked of the drawing as it was opened. */
+    /**
+     * Edits change neither how elements nest nor what is broken, so it is asked of the drawing as it was opened.
+     * @param {number} number
+     */
     whyBroken(number) {
-        const own = number === this.chosen ? 'it' : 'element ' + number;
-        return number < this.app.drawing.count ? own + ': ' + whyBroken(this.app.drawing, number) : own;
+        const own = number === this.chosen ? 'it' : 'element ' + number, { drawing } = this.app.open;
+        return number < drawing.count ? own + ': ' + whyBroken(drawing, number) : own;
     }
 
+    /** @param {number} record */
     facts(record) {
         const { words, scene } = this.app;
         const { records, state } = scene;
@@ -113,22 +127,30 @@ export class ElementPanel {
         return list;
     }
 
+    /** @param {number} number */
     linkToNumber(number) {
         const { scene, words } = this.app;
         return linkTo(words.nameOf(scene.state.record[number]), () => this.goOn(number));
     }
 
-    /** Chooses what a link of the panel names; the focus goes to the panel's title, since the link is gone. */
+    /**
+     * Chooses what a link of the panel names; the focus goes to the panel's title, since the link is gone.
+     * @param {number} number
+     */
     goOn(number) {
         this.app.choice.choose([number]);
         byId('element-title').focus();
     }
 
+    /**
+     * @param {HTMLElement} list
+     * @param {number} record
+     */
     addLook(list, record) {
         const { records } = this.app.scene, { app } = this;
         const colour = records.colour[record];
         list.append(...termed('colour', swatchOf(app.colours[colour]), ' ' + colour + '  ',
-            make('span', { class: 'faint' }, app.drawing.colours.table[colour])));
+            make('span', { class: 'faint' }, app.open.drawing.colours.table[colour])));
         list.append(...termed('weight', String(records.weight[record])),
             ...termed('style', records.style[record] + ', ' + STYLE_NAMES[records.style[record]]));
         if (records.group[record] > 0) {
@@ -136,6 +158,10 @@ export class ElementPanel {
         }
     }
 
+    /**
+     * @param {HTMLElement} list
+     * @param {number} record
+     */
     addPlaces(list, record) {
         const { words, scene } = this.app;
         const { records } = scene, { axes } = records;
@@ -165,12 +191,14 @@ export class ElementPanel {
         }
     }
 
+    /** @param {import('./records.js').TextLabel} text */
     sizeSaid(text) {
         const { words } = this.app;
         const units = text.height + ' high, ' + text.wide + ' wide per character';
         return words.hasMaster ? units + '  (' + words.lengthOf(text.height) + ')' : units;
     }
 
+    /** @param {number[]} point */
     placeSaid(point) {
         const { words } = this.app;
         const plain = make('span', { class: 'number' }, point.join(', '));
@@ -181,8 +209,12 @@ export class ElementPanel {
         return make('span', {}, plain, make('br'), make('span', { class: 'number faint' }, master));
     }
 
+    /**
+     * @param {HTMLElement} list
+     * @param {number} record
+     */
     addBytes(list, record) {
-        const { app: { drawing, scene: { records } } } = this;
+        const { drawing, scene: { records } } = this.app.open;
         list.append(...termed('bytes', records.size[record] + ' from byte ' + drawing.placeOf(record)));
         const links = CLASS_OF[records.type[record]] === CLASS.silent ? [] : drawing.linkagesOf(record);
         if (links.length > 0) {

@@ -8,6 +8,12 @@ const STEP = 80;                  // pixels of an arrow key
 /** Keys of the drawing that leave a search as it is, so that Enter goes on to the next that was found. */
 const GO_ON = new Set(['Enter', 'Shift', 'Delete']);
 
+/**
+ * What is pressed: where that began, and what it comes to.
+ * @typedef {{ at: number[], isDrag: boolean, isBox: boolean, isMore: boolean, hasMoved: boolean,
+ *     isMain: boolean }} Pressed
+ */
+
 /** Takes what is done on the canvas to the app. */
 export class Pointer {
     /**
@@ -17,9 +23,15 @@ export class Pointer {
     constructor(canvas, app) {
         this.canvas = canvas;
         this.app = app;
+        /**
+         * Where each pointer that is down is.
+         * @type {Map<number, number[]>}
+         */
         this.down = new Map();
+        /** @type {Pressed | null} */
         this.pressed = null;
-        this.reach = REACH.mouse;
+        /** Pixels that something may be away from the pointer. */
+        this.reach = /** @type {number} */ (REACH.mouse);
         /** Whether Enter goes on to the next that was found. */
         this.isSearching = false;
         canvas.addEventListener('pointerdown', (event) => this.press(event));
@@ -37,17 +49,19 @@ export class Pointer {
         byId('search-field').addEventListener('keydown', (event) => this.leaveSearch(event));
     }
 
+    /** @param {MouseEvent} event */
     placeOf(event) {
         const box = this.canvas.getBoundingClientRect();
         return [event.clientX - box.left, event.clientY - box.top];
     }
 
+    /** @param {PointerEvent} event */
     press(event) {
         this.canvas.focus({ preventScroll: true });
         this.canvas.setPointerCapture(event.pointerId);
         this.endSearch();
         this.app.tools.snap.hold(event.altKey);
-        this.reach = REACH[event.pointerType] || REACH.mouse;
+        this.reach = REACH[/** @type {'mouse'} */ (event.pointerType)] || REACH.mouse;
         this.down.set(event.pointerId, this.placeOf(event));
         if (this.down.size === 1) {
             const isMain = event.button === 0, isMore = event.shiftKey || event.ctrlKey || event.metaKey;
@@ -60,6 +74,7 @@ export class Pointer {
         event.preventDefault();
     }
 
+    /** @param {PointerEvent} event */
     move(event) {
         const place = this.placeOf(event), before = this.down.get(event.pointerId);
         this.app.tools.snap.hold(event.altKey);
@@ -69,22 +84,21 @@ export class Pointer {
         }
         if (this.down.size === 2) {
             this.pinch(event.pointerId, place);
-        } else if (this.isDragged(place)) {
-            this.drag(before, place);
+        } else if (this.pressed !== null && isDragged(this.pressed, place)) {
+            this.drag(this.pressed, before, place);
         } else {
             return;
         }
         this.down.set(event.pointerId, place);
     }
 
-    /** Whether what is pressed has moved further than a click may. */
-    isDragged(place) {
-        const { at, hasMoved } = this.pressed;
-        return hasMoved || Math.hypot(place[0] - at[0], place[1] - at[1]) > CLICK;
-    }
-
-    drag(before, place) {
-        const { app, pressed } = this;
+    /**
+     * @param {Pressed} pressed
+     * @param {number[]} before where the pointer was
+     * @param {number[]} place
+     */
+    drag(pressed, before, place) {
+        const { app } = this;
         if (pressed.isDrag) {
             app.tools.dragTo(pressed.at, place);
         } else if (pressed.isBox) {
@@ -98,11 +112,15 @@ export class Pointer {
         app.choice.point(place);
     }
 
-    /** Two fingers: what is between them stays between them. */
+    /**
+     * Two fingers: what is between them stays between them.
+     * @param {number} moving
+     * @param {number[]} place
+     */
     pinch(moving, place) {
         const { view } = this.app;
-        const before = this.down.get(moving);
-        const [, other] = [...this.down].find(([id]) => id !== moving);
+        const before = this.down.get(moving) || place;
+        const [, other] = [...this.down].find(([id]) => id !== moving) || [moving, place];
         const factor = Math.hypot(place[0] - other[0], place[1] - other[1])
             / Math.max(Math.hypot(before[0] - other[0], before[1] - other[1]), 1);
         view.pan((place[0] - before[0]) / 2, (place[1] - before[1]) / 2);
@@ -110,6 +128,7 @@ export class Pointer {
         this.app.stage.moved();
     }
 
+    /** @param {PointerEvent} event */
     release(event) {
         const { app, pressed } = this;
         const place = this.placeOf(event);
@@ -128,12 +147,14 @@ export class Pointer {
         app.choice.point(event.pointerType === 'mouse' ? place : null);
     }
 
+    /** @param {PointerEvent} event */
     leave(event) {
         this.down.delete(event.pointerId);
         this.pressed = null;
         this.app.tools.cancelDrag();
     }
 
+    /** @param {WheelEvent} event */
     wheel(event) {
         event.preventDefault();
         const lines = event.deltaMode === 1 ? 16 : 1;
@@ -145,6 +166,7 @@ export class Pointer {
         this.app.choice.point(place);
     }
 
+    /** @param {KeyboardEvent} event */
     key(event) {
         this.alt(event, true);
         if (event.ctrlKey || event.metaKey || event.altKey || (event.key === 'Escape' && byId('more').open)) {
@@ -160,10 +182,14 @@ export class Pointer {
         }
     }
 
-    /** What each key does while the drawing has the focus. */
+    /**
+     * What each key does while the drawing has the focus.
+     * @param {number} step pixels of an arrow key
+     * @returns {Record<string, () => unknown>}
+     */
     acts(step) {
         const { app } = this;
-        const pan = (right, down) => () => {
+        const pan = (/** @type {number} */ right, /** @type {number} */ down) => () => {
             app.stage.showsCentre = true;
             app.view.pan(right, down);
             app.stage.moved();
@@ -184,7 +210,11 @@ export class Pointer {
         };
     }
 
-    /** While Alt is held the pointer doesn't snap; the browser isn't to open its menu for that. */
+    /**
+     * While Alt is held the pointer doesn't snap; the browser isn't to open its menu for that.
+     * @param {KeyboardEvent} event
+     * @param {boolean} isDown
+     */
     alt(event, isDown) {
         if (event.key === 'Alt' && this.app.tools.takesPoints) {
             event.preventDefault();
@@ -194,9 +224,12 @@ export class Pointer {
 
     /* Searching. */
 
-    /** Enter in the search goes back to the drawing, so that what was found can be edited; it still goes on there. */
+    /**
+     * Enter in the search goes back to the drawing, so that what was found can be edited; it still goes on there.
+     * @param {KeyboardEvent} event
+     */
     leaveSearch(event) {
-        if (event.key === 'Enter' && this.app.search.found.length > 0) {
+        if (event.key === 'Enter' && this.app.search.count > 0) {
             this.canvas.focus({ preventScroll: true });
             this.isSearching = true;
         }
@@ -206,28 +239,40 @@ export class Pointer {
         this.isSearching = false;
     }
 
-    /** What keys do after a search: the next that was found, or an end of it. */
+    /**
+     * What keys do after a search: the next that was found, or an end of it.
+     * @param {number} by
+     * @returns {Record<string, () => unknown>}
+     */
     searchActs(by) {
         const { search } = this.app;
         return { Enter: () => search.take(search.at + by), Escape: () => search.clear() };
     }
 
-    /** Escape closes what is open above the page, and the focus doesn't stay in it. */
-    closeOpen({ target }) {
-        if (byId('more').contains(target)) {
-            byId('more').open = false;
-            byId('more').querySelector('summary').focus();
+    /**
+     * Escape closes what is open above the page, and the focus doesn't stay in it.
+     * @param {KeyboardEvent} event
+     */
+    closeOpen(event) {
+        const target = /** @type {Node} */ (event.target), more = byId('more');
+        if (more.contains(target)) {
+            more.open = false;
+            more.querySelector('summary')?.focus();
         } else if (byId('search-list').contains(target)) {
             setHidden(byId('search-list'), true);
         }
     }
 
-    /** Keys that hold wherever the focus is, but in a field. */
+    /**
+     * Keys that hold wherever the focus is, but in a field.
+     * @param {KeyboardEvent} event
+     */
     keyAnywhere(event) {
         if (event.key === 'Escape') {
             this.closeOpen(event);
         }
-        const isField = /^(INPUT|SELECT|TEXTAREA)$/.test(event.target.tagName) && event.target.type !== 'checkbox';
+        const target = /** @type {HTMLInputElement} */ (event.target);
+        const isField = /^(INPUT|SELECT|TEXTAREA)$/.test(target.tagName) && target.type !== 'checkbox';
         if (event.altKey || this.app.isAsking) {
             return;
         }
@@ -248,13 +293,27 @@ export class Pointer {
         }
     }
 
-    /** Opens and saves wherever the focus is; in a field the other keys are the field's own. */
+    /**
+     * Opens and saves wherever the focus is; in a field the other keys are the field's own.
+     * @param {KeyboardEvent} event
+     * @param {boolean} isField
+     */
     keyWithControl(event, isField) {
         const key = event.key.toLowerCase();
-        const id = { z: event.shiftKey ? 'redo' : 'undo', y: 'redo', s: 'save', o: 'open' }[key];
+        /** @type {Record<string, string>} */
+        const ids = { z: event.shiftKey ? 'redo' : 'undo', y: 'redo', s: 'save', o: 'open' }, id = ids[key];
         if (id !== undefined && (!isField || key === 's' || key === 'o')) {
             event.preventDefault();
             byId(id).click();
         }
     }
+}
+
+/**
+ * Whether what is pressed has moved further than a click may.
+ * @param {Pressed} pressed
+ * @param {number[]} place
+ */
+function isDragged({ at, hasMoved }, place) {
+    return hasMoved || Math.hypot(place[0] - at[0], place[1] - at[1]) > CLICK;
 }

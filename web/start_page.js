@@ -34,8 +34,11 @@ export class StartPage {
         canvas.height = HEIGHT * ratio;
         const sheet = sheetOf({ box: scene.extent().box, width: WIDTH * MILLIMETRES, height: HEIGHT * MILLIMETRES,
             scale: null, hasFrame: false, titleOf: () => '' });
-        await drawSheet(scene, drawing.colours.table, canvas.getContext('2d'), sheet, ratio);
-        setHidden(byId('start-shown'), false);
+        const context = canvas.getContext('2d');
+        if (context !== null) {
+            await drawSheet(scene, drawing.colours.table, context, sheet, ratio);
+            setHidden(byId('start-shown'), false);
+        }
     }
 
     /** Opens the example. */
