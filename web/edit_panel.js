@@ -35,9 +35,18 @@ export class EditPanel {
         for (const id of FIELDS) {
             byId(id).addEventListener('input', () => this.show());
         }
+        byId('making').addEventListener('keydown', (/** @type {KeyboardEvent} */ event) => this.enterMaking(event));
         for (const [id, button] of Object.entries(ENTERS)) {
             byId(id).addEventListener('keydown', (/** @type {KeyboardEvent} */ event) => (
                 event.key === 'Enter' ? byId(button).click() : undefined));
+        }
+    }
+
+    /** Enter in a field of a new element makes it where all its points are set, as where it was refused. */
+    enterMaking(event) {
+        const { tools } = this.app;
+        if (event.key === 'Enter' && tools.isMaking && tools.isFull) {
+            tools.close();
         }
     }
 

@@ -146,8 +146,10 @@ export class Tools {
     /** Says in the drawing what is to be done there, or how far it goes, and what the pointer has snapped to. */
     showHint() {
         const text = [this.guide(), this.snap.said()].filter((it) => it !== '').join('  ·  ');
-        byId('hint').textContent = text;
-        setHidden(byId('hint'), text === '');
+        if (byId('hint').textContent !== text) {
+            byId('hint').textContent = text;
+            setHidden(byId('hint'), text === '');
+        }
     }
 
     guide() {
@@ -280,8 +282,7 @@ export class Tools {
         }
         if (tool === 'measure') {
             this.isMeasured = points.length >= LEAST_OF_AREA;
-            this.showHint();
-            this.app.stage.request();
+            this.pointAgain();
             return;
         }
         if (tool === 'fence') {
