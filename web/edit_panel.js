@@ -7,8 +7,10 @@ import { spellingFault } from './encoding.js';
 import { probesOf } from './lines.js';
 import { TEXT_UNIT } from './reading.js';
 
-const EDITS = Object.freeze([['move', 'Move'], ['copy', 'Copy'], ['sym', 'Set look'], ['delete', 'Delete']]);
-const FIELDS = Object.freeze(['by-x', 'by-y', 'by-z', 'by-unit', 'new-color', 'new-weight', 'new-style']);
+const EDITS = /** @type {const} */ ([['move', 'Move'], ['copy', 'Copy'], ['sym', 'Set look'], ['delete', 'Delete']]);
+const FIELDS = /** @type {const} */ (['by-x', 'by-y', 'by-z', 'by-unit', 'new-color', 'new-weight', 'new-style']);
+const BY = /** @type {const} */ (['by-x', 'by-y', 'by-z']);
+const LOOK = /** @type {const} */ (['new-color', 'new-weight', 'new-style']);
 /** What Enter does in a field. */
 const ENTERS = Object.freeze({
     'by-x': 'edit-move', 'by-y': 'edit-move', 'by-z': 'edit-move', 'new-color': 'edit-sym', 'new-weight': 'edit-sym',
@@ -16,7 +18,10 @@ const ENTERS = Object.freeze({
 });
 const MOST_PROBED = 200;          // chosen trees of which is asked beforehand what would be refused
 const REST = 120;                 // milliseconds before it is asked
+/** @type {Readonly<Record<string, string | undefined>>} */
 const MAKING_NAMES = Object.freeze({ line: 'line', string: 'line string', shape: 'shape', text: 'text' });
+
+/** @typedef {import('./lines.js').Edit} Edit */
 
 export class EditPanel {
     /** @param {import('./app.js').App} app */
@@ -42,7 +47,10 @@ export class EditPanel {
         }
     }
 
-    /** Enter in a field of a new element makes it where all its points are set, as where it was refused. */
+    /**
+     * Enter in a field of a new element makes it where all its points are set, as where it was refused.
+     * @param {KeyboardEvent} event
+     */
     enterMaking(event) {
         const { tools } = this.app;
         if (event.key === 'Enter' && tools.isMaking && tools.isFull) {
@@ -52,7 +60,7 @@ export class EditPanel {
 
     /** Fits the fields to another drawing. */
     take() {
-        const { words, drawing } = this.app;
+        const { words, drawing } = this.app.open;
         const options = [make('option', { value: 'resolution', title: 'units of resolution' }, 'units')];
         if (words.hasMaster) {
             options.push(make('option', { value: 'master' }, words.master));
@@ -69,15 +77,15 @@ export class EditPanel {
 
     /** The displacement, in units of resolution, or null where the fields hold none. */
     by() {
-        const fields = ['by-x', 'by-y', 'by-z'].slice(0, this.app.drawing.axes);
+        const fields = BY.slice(0, this.app.open.drawing.axes);
         const factor = byId('by-unit').value === 'master' ? this.app.words.unitsOfMaster : 1;
         const values = fields.map((id) => unitsIn(byId(id).value, factor));
-        return values.includes(null) ? null : values;
+        return values.some((it) => it === null) ? null : /** @type {number[]} */ (values);
     }
 
     /** Colour, weight and style, a dash for each that stays; null where a field holds no number. */
     look() {
-        const values = ['new-color', 'new-weight', 'new-style'].map((id) => byId(id).value.trim() || '-');
+        const values = LOOK.map((id) => byId(id).value.trim() || '-');
         return values.every((it) => /^(-|\d+)$/.test(it)) ? values : null;
     }
 
@@ -94,36 +102,45 @@ export class EditPanel {
 
     /* Doing. */
 
-    /** Does an edit; what can't be is told by the program. */
-    edit(edit) {
-        const { app } = this, isMissing = edit.by === null || edit.look === null;
+    /**
+     * Does an edit, unless a field of it holds no number; what can't be is told by the program.
+     * @param {{ word: Edit['word'], by?: number[] | null, look?: string[] | null }} edit
+     */
+    edit({ word, by, look }) {
+        const { app } = this, isMissing = by === null || look === null;
         const hasAim = app.canEdit && (app.tools.fence.isSet || this.hasChoice);
         if (hasAim && !isMissing && app.work.isDoing) {
             app.say('The program is still working on the last edit.');
         } else if (hasAim && !isMissing) {
-            app.editing.edit(edit);
+            app.editing.edit({ word, by, look });
         }
     }
 
-    /** Appends an element that was drawn by its points, and says whether it was. */
-    async make(word, points) {
+    /**
+     * Appends an element that was drawn by its points, and says whether it was.
+     * @param {string} tool
+     * @param {number[][]} points
+     */
+    async make(tool, points) {
+        const word = /** @type {'line' | 'string' | 'shape' | 'text'} */ (tool);
         if (word === 'text' && byId('make-words').value === '') {
             this.app.notice('Type the text first.');
             byId('make-words').focus();
             return false;
         }
-        const { app } = this, fault = word === 'text' ? spellingFault(byId('make-words').value, app.drawing) : '';
+        const { app } = this, { drawing } = app.open;
+        const fault = word === 'text' ? spellingFault(byId('make-words').value, drawing) : '';
         if (fault !== '') {
             app.notice(fault);
             return false;
         }
-        const z = new Array(app.drawing.axes - 2).fill(0);
-        return app.editing.make(word, this.makingOf(), points.map((point) => [...point, ...z]
-            .slice(0, app.drawing.axes)));
+        const z = new Array(drawing.axes - 2).fill(0);
+        return app.editing.make(word, this.makingOf(), points.map((point) => [...point, ...z].slice(0, drawing.axes)));
     }
 
     makingOf() {
-        const value = (name) => byId('make-' + name).value.trim();
+        /** @param {'level' | 'color' | 'weight' | 'style' | 'height' | 'font'} name */
+        const value = (name) => byId(/** @type {const} */ (`make-${name}`)).value.trim();
         const { words } = this.app, unit = words.hasMaster ? words.unitsOfMaster : 1;
         const size = unitsIn(value('height'), unit / TEXT_UNIT);
         return {
@@ -143,18 +160,23 @@ export class EditPanel {
             if (probed !== this.probed || app.work.isDoing) {
                 return;
             }
-            const answers = await app.work.ask(probesOf(numbers, app.drawing.axes));
+            const answers = await app.work.ask(probesOf(numbers, app.open.drawing.axes));
             if (answers !== null && probed === this.probed) {
                 this.takeProbes(answers, numbers.length);
             }
         }, REST);
     }
 
+    /**
+     * @param {(import('./answers.js').Answer | null)[]} answers
+     * @param {number} count of the chosen trees
+     */
     takeProbes(answers, count) {
         EDITS.forEach(([edit], index) => {
-            const refused = answers.slice(index * count, (index + 1) * count).filter((it) => it.cause !== null);
-            if (refused.length === count) {
-                this.causes.set(edit, refused[0].cause);
+            const own = answers.slice(index * count, (index + 1) * count);
+            const causes = own.map((it) => (it === null ? null : it.cause));
+            if (causes[0] && causes.every((it) => it !== null)) {
+                this.causes.set(edit, causes[0]);
             }
         });
         this.show();
@@ -179,20 +201,27 @@ export class EditPanel {
             ? app.colours[colour] : 'transparent';
     }
 
-    /** What can be done, and why not what can't. A fence whose edits are refused may still leave out what is. */
+    /**
+     * What can be done, and why not what can't. A fence whose edits are refused may still leave out what is.
+     * @param {boolean} isAimed
+     * @param {Map<string, string>} causes
+     */
     showButtons(isAimed, causes) {
         const isFence = this.app.tools.fence.isSet, by = this.by();
         for (const [edit] of EDITS) {
             const isMissing = edit === 'sym' ? !this.hasLook : edit !== 'delete' && by === null;
-            byId('edit-' + edit).disabled = !isAimed || isMissing || (!isFence && causes.has(edit));
+            const isRefused = !isFence && causes.has(edit);
+            byId(/** @type {const} */ (`edit-${edit}`)).disabled = !isAimed || isMissing || isRefused;
         }
-        for (const edit of ['move', 'copy']) {
-            byId('drag-' + edit).disabled = !isAimed || isFence || causes.has(edit);
+        for (const edit of /** @type {const} */ (['move', 'copy'])) {
+            byId(/** @type {const} */ (`drag-${edit}`)).disabled = !isAimed || isFence || causes.has(edit);
         }
+        /** @type {Map<string, string[]>} */
         const said = new Map();
         for (const [edit, name] of EDITS) {
-            if (isAimed && causes.has(edit)) {
-                const why = this.app.refusals.sentence(edit, causes.get(edit));
+            const cause = causes.get(edit);
+            if (isAimed && cause !== undefined) {
+                const why = this.app.refusals.sentence(edit, cause);
                 said.set(why, [...(said.get(why) || []), name]);
             }
         }

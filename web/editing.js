@@ -56,6 +56,20 @@ export class Editing {
     }
 
     /**
+     * Chooses the trees that a box takes, besides those that are chosen.
+     * @param {number[][]} ends two of its corners that lie across from each other
+     * @param {string} mode
+     */
+    async chooseIn([[x, y], [right, top]], mode) {
+        const { choice, scene } = this.app, corners = [[x, y], [right, y], [right, top], [x, top]];
+        const levels = scene.levels.slice(), chosen = await this.selected(corners, mode, levels);
+        if (chosen !== null && scene === this.app.scene) {
+            const before = choice.numbers.map((it) => scene.state.rootOf(it));
+            choice.choose([...new Set([...before, ...chosen])], before.length === 0 ? { corners, mode, levels } : null);
+        }
+    }
+
+    /**
      * Does an edit of what is chosen, or of the fence where one is drawn.
      * @param {Edit} edit
      */

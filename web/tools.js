@@ -2,26 +2,10 @@
 
 import { CoordinateField } from './coordinate_field.js';
 import { byId, setHidden } from './dom.js';
+import { DRAWS, LEAST_OF_AREA, MAKES, guideOf } from './draws.js';
 import { Fence } from './fence.js';
-import { areaMeasured, measuredSaid, partsOfWay } from './measuring.js';
 import { REACH } from './pointer.js';
 import { SNAP_REACH, SnapTool } from './snap_tool.js';
-
-/** Tools that draw points: whether the last is joined to the first, how many there are at once, and what is said. */
-const DRAWS = Object.freeze({
-    fence: { isArea: true, count: Infinity, hint: 'Click the corners of the fence; Enter or a double click closes it' },
-    line: { isArea: false, count: 2, hint: 'Click the two ends of the line' },
-    string: { isArea: false, count: Infinity, hint: 'Click the points; Enter or a double click ends the line string' },
-    shape: { isArea: true, count: Infinity, hint: 'Click the corners; Enter or a double click closes the shape' },
-    text: { isArea: false, count: 1, hint: 'Click where the text begins' },
-    measure: { isArea: false, count: Infinity, hint: 'Click from point to point; Enter or a click on the first closes '
-        + 'an area, Escape ends measuring' },
-});
-const DRAG_HINTS = Object.freeze({
-    'drag-move': 'Drag to move what is selected', 'drag-copy': 'Drag a copy of what is selected',
-});
-const LEAST_OF_AREA = 3;
-const MAKES = new Set(['line', 'string', 'shape', 'text']);
 
 export class Tools {
     /** @param {import('./app.js').App} app */
@@ -52,9 +36,9 @@ export class Tools {
         this.snap = new SnapTool(app);
         this.field = new CoordinateField(app, this);
         for (const button of this.buttons()) {
-            button.addEventListener('click', () => this.set(button.dataset.tool));
+            button.addEventListener('click', () => this.set(button.dataset.tool || 'choose'));
         }
-        for (const name of ['drag-move', 'drag-copy']) {
+        for (const name of /** @type {const} */ (['drag-move', 'drag-copy'])) {
             byId(name).addEventListener('click', () => this.set(this.tool === name ? 'choose' : name));
         }
     }
@@ -110,7 +94,7 @@ export class Tools {
 
     /** How many axes its points have: what is made and what is moved has all of the drawing's, the rest x and y. */
     get axes() {
-        return this.isMaking || this.isDragging ? this.app.drawing.axes : 2;
+        return this.isMaking || this.isDragging ? this.app.open.drawing.axes : 2;
     }
 
     /** What is drawn above the drawing: the points and the pointer behind them, or the fence. */
@@ -118,10 +102,11 @@ export class Tools {
         if (this.draws === null) {
             return this.fence.corners || [];
         }
-        const isFollowed = this.pointer !== null && this.points.length > 0 && !this.isMeasured;
-        return isFollowed ? [...this.points, this.pointer] : this.points;
+        const { pointer, points } = this;
+        return pointer !== null && points.length > 0 && !this.isMeasured ? [...points, pointer] : points;
     }
 
+    /** @param {string} tool */
     set(tool) {
         const { app } = this;
         this.tool = tool;
@@ -145,30 +130,18 @@ export class Tools {
 
     /** Says in the drawing what is to be done there, or how far it goes, and what the pointer has snapped to. */
     showHint() {
-        const text = [this.guide(), this.snap.said()].filter((it) => it !== '').join('  ·  ');
+        const text = [guideOf(this), this.snap.said()].filter((it) => it !== '').join('  ·  ');
         if (byId('hint').textContent !== text) {
             byId('hint').textContent = text;
             setHidden(byId('hint'), text === '');
         }
     }
 
-    guide() {
-        const { points, pointer, drag, app: { words } } = this;
-        if (drag !== null) {
-            return 'by ' + drag.by.join(' ') + (words.hasMaster
-                ? '  =  ' + drag.by.map((value) => words.lengthOf(value)).join(', ') : '');
-        }
-        if (this.isMeasured) {
-            return areaMeasured(words, points);
-        }
-        const way = partsOfWay(pointer === null || points.length === 0 ? points : [...points, pointer]);
-        if (this.tool === 'measure' && way.length > 1) {
-            return measuredSaid(words, way);
-        }
-        return this.draws ? this.draws.hint : DRAG_HINTS[this.tool] || '';
-    }
-
-    /** The pointer is at a place of the screen, or nowhere. */
+    /**
+     * The pointer is at a place of the screen, or nowhere.
+     * @param {number[] | null} place
+     * @param {number} reach pixels
+     */
     point(place, reach = REACH.mouse) {
         this.at = place;
         this.pointer = place === null ? null : this.placeAt(place, reach);
@@ -178,7 +151,10 @@ export class Tools {
         this.showHint();
     }
 
-    /** The place of the drawing that is said of one of the screen: what the pointer snapped to, or else just there. */
+    /**
+     * The place of the drawing that is said of one of the screen: what the pointer snapped to, or else just there.
+     * @param {number[]} place
+     */
     seenAt(place) {
         return this.snap.found !== null && this.pointer !== null ? this.pointer : this.app.drawingPlace(place);
     }
@@ -191,7 +167,10 @@ export class Tools {
         }
     }
 
-    /** A place that isn't the pointer's, as one that is typed. */
+    /**
+     * A place that isn't the pointer's, as one that is typed.
+     * @param {number[] | null} point
+     */
     preview(point) {
         this.snap.found = null;
         this.pointer = point;
@@ -199,7 +178,11 @@ export class Tools {
         this.app.stage.request();
     }
 
-    /** What a place of the screen is in the drawing, in whole units: what it snaps to, while points are set. */
+    /**
+     * What a place of the screen is in the drawing, in whole units: what it snaps to, while points are set.
+     * @param {number[]} place
+     * @param {number} reach
+     */
     placeAt(place, reach) {
         if (this.takesPoints && !this.isAtFirst(place, reach)) {
             return this.snap.take(place, Math.max(reach, SNAP_REACH));
@@ -212,6 +195,11 @@ export class Tools {
         return this.points[0];
     }
 
+    /**
+     * @param {number[]} place of the screen
+     * @param {number} reach
+     * @param {boolean} isMore
+     */
     click(place, reach, isMore) {
         if (!this.draws) {
             this.app.choice.click(place, reach, isMore);
@@ -233,7 +221,11 @@ export class Tools {
             && this.points.length >= LEAST_OF_AREA;
     }
 
-    /** Whether a place is where the outline of an area began, which closes it. */
+    /**
+     * Whether a place is where the outline of an area began, which closes it.
+     * @param {number[]} place
+     * @param {number} reach
+     */
     isAtFirst([left, top], reach) {
         const { view } = this.app, { points } = this;
         return this.canClose
@@ -243,19 +235,21 @@ export class Tools {
     /**
      * Takes a point, and says whether it did: not one that is there already, one too many, or one while what is drawn
      * is being made. In a drawing of three axes a point without a z has that of the point before.
+     * @param {number[]} point
      */
     addPoint(point) {
         const points = this.isMeasured ? [] : this.points, last = points[points.length - 1];
         const z = point.length > 2 ? point[2] : last && last.length > 2 ? last[2] : 0;
         const taken = [point[0], point[1], z].slice(0, this.axes);
         const isThere = last !== undefined && taken.every((value, axis) => value === last[axis]);
-        const isTaken = !isThere && !this.isClosing && points.length < this.draws.count;
+        const most = this.draws === null ? 0 : this.draws.count;
+        const isTaken = !isThere && !this.isClosing && points.length < most;
         if (isTaken) {
             points.push(taken);
             this.points = points;
             this.isMeasured = false;
         }
-        if (points.length >= this.draws.count) {
+        if (points.length >= most) {
             this.close();
         }
         this.app.stage.request();
@@ -310,13 +304,17 @@ export class Tools {
 
     /* Dragging. */
 
-    /** What is dragged from one place of the screen goes to another: both are what they snap to. */
+    /**
+     * What is dragged from one place of the screen goes to another: both are what they snap to.
+     * @param {number[]} start
+     * @param {number[]} place
+     */
     dragTo(start, place) {
         const { app } = this;
         const from = this.drag === null ? this.placeAt(start, REACH.mouse) : this.drag.from;
         const to = this.placeAt(place, REACH.mouse);
         const z = from.length > 2 && to.length > 2 ? to[2] - from[2] : 0;
-        this.drag = { from, to, by: [to[0] - from[0], to[1] - from[1], z].slice(0, app.drawing.axes) };
+        this.drag = { from, to, by: [to[0] - from[0], to[1] - from[1], z].slice(0, app.open.drawing.axes) };
         app.stage.request();
     }
 
@@ -330,7 +328,10 @@ export class Tools {
         }
     }
 
-    /** Moves or copies what is chosen, which was to be dragged. */
+    /**
+     * Moves or copies what is chosen, which was to be dragged.
+     * @param {number[]} by
+     */
     displace(by) {
         const { tool } = this;
         this.set('choose');
@@ -351,6 +352,10 @@ export class Tools {
 
     /* A box to choose by. */
 
+    /**
+     * @param {number[]} start of the screen
+     * @param {number[]} place
+     */
     boxTo(start, place) {
         this.box = [start, place];
         this.app.stage.request();
@@ -361,14 +366,9 @@ export class Tools {
         const { app, box } = this;
         this.box = null;
         app.stage.request();
-        const [[x, y], [right, top]] = box.map((place) => app.wholePlace(place));
-        const corners = [[x, y], [right, y], [right, top], [x, top]];
-        const mode = box[1][0] < box[0][0] ? 'overlap' : 'inside';
-        const { levels } = app.scene, chosen = await app.editing.selected(corners, mode);
-        if (chosen !== null) {
-            const before = app.choice.numbers.map((it) => app.scene.state.rootOf(it));
-            app.choice.choose([...new Set([...before, ...chosen])],
-                before.length === 0 ? { corners, mode, levels: levels.slice() } : null);
+        if (box !== null) {
+            await app.editing.chooseIn(box.map((place) => app.wholePlace(place)),
+                box[1][0] < box[0][0] ? 'overlap' : 'inside');
         }
     }
 
