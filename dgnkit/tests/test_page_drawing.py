@@ -269,6 +269,22 @@ class Snapping(WithPoints):
         self.enter('1,2,3', '@1,1,-9')
         self.assertEqual(self.last_line(2), 'line 1 0 0 0 1,2,3 2,3,-6')
 
+    def test_a_drag_of_three_axes_goes_up_where_both_ends_have_a_z(self) -> None:
+        made = drawings.drawing(drawings.line_of_three_axes(), axes=3)
+        self.open(self.put('solid.dgn', made))
+        self.see(50, 25, 5)
+        self.click_at(50, 25)
+        self.do('#drag-copy')
+        self.seen.drag(self.near((0, 0)), self.screen(70, 10), self.near((100, 50)))
+        self.seen.settle()
+        self.assertEqual(self.last_line(1), 'copy 1 100 50 25')
+        self.click_at(50, 25)
+        self.do('#drag-copy')
+        left, top = self.near((0, 0))
+        self.seen.drag((left, top), (left + 100, top), self.screen(60, -20))
+        self.seen.settle()
+        self.assertEqual(self.last_line(2), 'copy 1 60 -20 0')
+
     def test_a_finger_sets_a_point_and_two_zoom(self) -> None:
         self.open(self.put('sheet.dgn', sheet()))
         self.tool('string')
