@@ -31,16 +31,3 @@ export function bytesOf(text) {
     }
     return bytes;
 }
-
-/**
- * Bytes as base64.
- * @param {Uint8Array} bytes
- */
-export function base64Of(bytes) {
-    return btoa(byteString(bytes));
-}
-
-/** @param {string} text */
-export function fromBase64(text) {
-    return bytesOf(atob(text.trim()));
-}

@@ -27,7 +27,7 @@ function octet(bright, orange, cyan) {
  * The usual table. Behind the first 16 colours each row of 16 is a row of eight twice, 15 darker than the row before
  * it; its last colour is that of the next row already. The last two colours stand for themselves.
  */
-export function usualColours() {
+function usualColours() {
     const table = [...FIRST];
     for (let row = 0; row < 15; row++) {
         const bright = 240 - 15 * row, orange = 122 - 5 * row;

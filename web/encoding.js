@@ -60,7 +60,7 @@ export function spelledIn(text, encoding) {
  * @param {string} text
  * @param {Encoding} encoding
  */
-export function strangersIn(text, encoding) {
+function strangersIn(text, encoding) {
     return encoding === 'utf-8' ? [] : [...new Set(text)].filter((sign) => !/^[\0-\x7F\u00A0-\u00FF]$/u.test(sign));
 }
 

@@ -15,7 +15,7 @@ let endChoice = () => {};
  * @param {string} [accept] the endings that are offered first
  * @returns {Promise<File | null>}
  */
-export function chosenFile(accept = '') {
+function chosenFile(accept = '') {
     const field = /** @type {HTMLInputElement} */ (byId('second-file'));
     endChoice(null);
     field.accept = accept;

@@ -20,7 +20,6 @@ export const TYPE = Object.freeze({
 
 export const LEAST = -2147483648;
 export const GREATEST = 2147483647;
-export const TCB_SIZE = 1536;
 export const LINKED = 0x0800;
 export const LOCKED = 0x0100;
 export const HOLE = 0x8000;

@@ -6,9 +6,9 @@ import { recordOf, sorted } from './kept.js';
 /** @typedef {import('./kept.js').Kept} Kept */
 /** @typedef {import('./store.js').Store} Store */
 
-export const NO_SUM = 'This browser can’t keep the work on this drawing: save it before you leave.';
-export const NOT_KEPT = 'The browser doesn’t let the page keep this work: save it before you leave.';
-export const NO_ROOM = 'The browser has no room to keep this work: save it before you leave.';
+const NO_SUM = 'This browser can’t keep the work on this drawing: save it before you leave.';
+const NOT_KEPT = 'The browser doesn’t let the page keep this work: save it before you leave.';
+const NO_ROOM = 'The browser has no room to keep this work: save it before you leave.';
 
 /** @param {unknown} why */
 function isFull(why) {

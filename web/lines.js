@@ -7,7 +7,7 @@ import { spelledIn } from './encoding.js';
  * Spans of levels as `levels` takes them: 'all', 'none', or '1-5 8'.
  * @param {Uint8Array} levels a 1 for each that is shown
  */
-export function spansOf(levels) {
+function spansOf(levels) {
     /** @type {[number, number][]} */
     const spans = [];
     for (let level = 0; level < 64; level++) {

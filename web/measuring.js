@@ -9,7 +9,7 @@ const MOST_AREA_DIGITS = 6;
  * How long each part of a row of points is, in all the axes that they have.
  * @param {readonly (readonly number[])[]} points
  */
-export function lengthsOf(points) {
+function lengthsOf(points) {
     return points.slice(1).map((point, at) => Math.hypot(...point.map((value, axis) => value - points[at][axis])));
 }
 
@@ -48,7 +48,7 @@ export function areaOf(points) {
  * @param {readonly number[]} from
  * @param {readonly number[]} to
  */
-export function angleOf(from, to) {
+function angleOf(from, to) {
     const degrees = Math.atan2(to[1] - from[1], to[0] - from[0]) * 180 / Math.PI;
     return degrees < 0 ? degrees + 360 : degrees;
 }

@@ -6,7 +6,7 @@ import { wordAt } from './numbers.js';
 import { linkagePlace } from './drawing.js';
 
 /** What a total can count, one word. */
-export const TOTAL_MOST = 65535;
+const TOTAL_MOST = 65535;
 
 /** @typedef {import('./drawing.js').Drawing} Drawing */
 

@@ -72,7 +72,7 @@ async function write(handle, bytes) {
  * @param {string} name
  * @param {Uint8Array} bytes
  */
-export function handOver(name, bytes) {
+function handOver(name, bytes) {
     const link = /** @type {HTMLAnchorElement} */ (make('a', { download: name }));
     link.href = URL.createObjectURL(new Blob([/** @type {BlobPart} */ (bytes)], { type: 'application/octet-stream' }));
     link.click();

@@ -3,7 +3,7 @@
 import { GREATEST, LEAST } from './format.js';
 
 export const GREATEST_SCALE = 240;
-export const LEAST_SCALE = 1 / 16777216;
+const LEAST_SCALE = 1 / 16777216;
 
 /** A place and a scale: the point of the drawing at the centre of the screen, and pixels to a unit of resolution. */
 export class View {
