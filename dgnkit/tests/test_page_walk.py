@@ -80,14 +80,20 @@ walk();
 @unittest.skipIf(NODE is None, 'node is not installed')
 class Walks(unittest.TestCase):
     def test_no_walk_loses_a_line(self) -> None:
-        walked = subprocess.run(
-            [str(NODE), str(TOP / 'web' / 'tests' / 'walk.mjs'), '4000'],
+        self.run_by_node('walk.mjs', '4000')
+
+    def test_kept_work_of_two_tabs(self) -> None:
+        self.run_by_node('kept.mjs')
+
+    def run_by_node(self, script: str, *words: str) -> None:
+        ran = subprocess.run(
+            [str(NODE), str(TOP / 'web' / 'tests' / script), *words],
             stdout=subprocess.PIPE,
             stderr=subprocess.STDOUT,
             text=True,
             check=False,
         )
-        self.assertEqual(walked.returncode, 0, walked.stdout)
+        self.assertEqual(ran.returncode, 0, ran.stdout)
 
 
 @unittest.skipUnless(HAS_PROGRAM, NO_PROGRAM)
