@@ -60,10 +60,12 @@ export class Opener {
         if (!await this.mayLeave(step, name, OPEN_OTHER)) {
             return null;
         }
-        // the sum is made while the program checks, in the browser's own threads
-        const { around } = this.work, bytes = await bytesOf(), base = await around.read(name, bytes, step.signal);
-        const summing = around.digest(bytes);
-        const checked = around.program === null ? null : await around.program.check(bytes, step.signal);
+        const { around } = this.work, { program } = around, bytes = await bytesOf();
+        // the program checks and the sum is made beside the page, while it reads
+        const checking = program === null ? Promise.resolve(null) : program.check(bytes, step.signal);
+        const beside = Promise.all([checking, around.digest(bytes)]);
+        beside.catch(() => {});
+        const base = await around.read(name, bytes, step.signal), [checked, digest] = await beside;
         if (checked !== null && checked.status !== 0) {
             around.tellNotOpened(name, new NotRun(checked, name), bytes);
             return null;
@@ -72,7 +74,7 @@ export class Opener {
             around.tellNotOpened(name, base, bytes);
             return null;
         }
-        return { document: Document.of(Object.freeze({ name, bytes, digest: await summing }), base), said: '' };
+        return { document: Document.of(Object.freeze({ name, bytes, digest }), base), said: '' };
     }
 
     /**

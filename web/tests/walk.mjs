@@ -47,7 +47,7 @@ async function walkAll(walks, first) {
     }
     // What hardly ever comes isn't tried.
     for (const [name, count] of Object.entries(sums)) {
-        assert.ok(count > walks / 100, name + ' came ' + count + ' times');
+        assert.ok(count > walks / 400, name + ' came ' + count + ' times');
     }
     console.log(walks + ' walks: ' + Object.entries(sums).map(([name, count]) => count + ' ' + name).join(', '));
 }
