@@ -1,11 +1,10 @@
 /* The list of work that the browser keeps: it can be continued, saved as a script, or discarded. */
 
-import { stagesOf } from './acts.js';
 import { byId, fill, make, setHidden } from './dom.js';
-import { scriptOf } from './making.js';
 import { keptSaid } from './opener.js';
 import { buttonOf } from './questions.js';
-import { namesOf, targetOf } from './saving.js';
+import { filesOf } from './saver.js';
+import { targetOf } from './saving.js';
 
 /** @typedef {import('./kept.js').Kept} Kept */
 
@@ -70,26 +69,12 @@ export class KeptPanel {
      * Saves the scripts and patch files of a record, each as a file.
      * @param {Kept} record
      */
-    async saveScript({ name, acts }) {
-        const stages = stagesOf(acts), names = namesOf(name);
-        for (const [at, { lines, patch }] of stages.entries()) {
-            if (lines.length > 0) {
-                const isLast = at === stages.length - 1;
-                await this.saveFile(isLast ? names.script : names.scriptBefore(at + 1), scriptOf(lines));
+    async saveScript(record) {
+        for (const { name, bytes } of filesOf(record.name, record.acts)) {
+            const target = await targetOf(name);
+            if (target === null) {
+                return;
             }
-            if (patch !== null) {
-                await this.saveFile(patch.name, patch.bytes);
-            }
-        }
-    }
-
-    /**
-     * @param {string} name
-     * @param {Uint8Array} bytes
-     */
-    async saveFile(name, bytes) {
-        const target = await targetOf(name);
-        if (target !== null) {
             await target.put(bytes);
             this.app.say('Saved: ' + target.name);
         }

@@ -59,7 +59,8 @@ export class Menu {
         byId('redo').disabled = !canEdit || document.undone.length === 0;
         byId('save').disabled = !document.hasWork;
         byId('save').classList.toggle('wanted', document.isUnsaved);
-        byId('save-script').disabled = byId('save-patch').disabled = !hasLines;
+        byId('save-script').disabled = !document.hasWork;
+        byId('save-patch').disabled = !hasLines;
         byId('throw-away').disabled = !document.hasWork;
         for (const id of /** @type {const} */ (['mend', 'import', 'apply', 'open-script', 'typed', 'typed-add'])) {
             byId(id).disabled = !canEdit;
@@ -113,7 +114,7 @@ export class Menu {
         new AbortController().signal);
         const pressed = answer === null ? '' : answer.button;
         if (pressed === 'Save as a patch file') {
-            await app.saver.save(name, 'none', async () => patchOf(drawing, changes));
+            await app.saver.save(name, async () => patchOf(drawing, changes));
         } else if (pressed === 'Mend' && await work.applyPatch(name, patchOf(drawing, changes))) {
             app.stage.fit();
             app.say(counted(changes.length, 'header is', 'headers are') + ' mended with ' + name + '.');

@@ -1,5 +1,6 @@
 /* Saves the drawing, the script, and patch files. */
 
+import { stagesOf } from './acts.js';
 import { NotRun, scriptOf } from './making.js';
 import { namesOf } from './saving.js';
 
@@ -22,7 +23,19 @@ import { namesOf } from './saving.js';
  * @property {(name: string, act: () => void) => void} confirm
  */
 
-/** @typedef {'drawing' | 'script'} What what is saved, with which all that was done is in a file */
+/**
+ * The files that hold what acts do: scripts and patch files, in their order.
+ * @param {string} name of the drawing
+ * @param {readonly Act[]} acts
+ * @returns {{ name: string, bytes: Uint8Array }[]}
+ */
+export function filesOf(name, acts) {
+    const stages = stagesOf(acts), names = namesOf(name);
+    return stages.flatMap(({ lines, patch }, at) => [
+        ...(lines.length === 0 ? [] : [{ name: at === stages.length - 1 ? names.script : names.scriptBefore(at + 1),
+            bytes: scriptOf(lines) }]),
+        ...(patch === null ? [] : [{ name: patch.name, bytes: patch.bytes }])]);
+}
 
 export class Saver {
     /**
@@ -41,17 +54,43 @@ export class Saver {
 
     /** Saves the drawing as it is when the place was chosen. @returns {Ended} */
     saveDrawing() {
-        return this.save(this.names.out, 'drawing', async (document) => document.made.bytes);
+        return this.save(this.names.out, async (document) => document.made.bytes, () => true, true);
     }
 
-    /** Saves the script as it stands. @returns {Ended} */
-    saveScript() {
-        return this.save(this.names.script, 'script', async (document) => scriptOf(document.lines));
+    /**
+     * Saves the script as it stands, and before it the scripts and patch files that it stands on.
+     * @returns {Ended}
+     */
+    async saveScript() {
+        const { original, acts } = /** @type {Document} */ (this.work.document), files = filesOf(original.name, acts);
+        /** @type {string[]} */
+        const kinds = [];
+        const last = files.pop();
+        for (const file of files) {
+            kinds.push(await this.putFile(file));
+        }
+        return last === undefined || kinds.includes('none') ? false : this.save(last.name, async () => last.bytes,
+            (document) => kinds.every((kind) => kind === 'whole') && document.acts === acts);
+    }
+
+    /**
+     * Saves a file that others go with: it is whole, or the browser was given it, or it wasn't saved.
+     * @param {{ name: string, bytes: Uint8Array }} file
+     * @returns {Promise<'whole' | 'given' | 'none'>}
+     */
+    async putFile({ name, bytes }) {
+        try {
+            const target = await this.saving.target(name);
+            return target === null ? 'none' : await target.put(bytes) ? 'whole' : 'given';
+        } catch (why) {
+            this.work.around.tellFault(why, this.work.document);
+            return 'none';
+        }
     }
 
     /** Saves what the script does as a patch file, which the program makes. @returns {Ended} */
     savePatch() {
-        return this.save(this.names.patch, 'none', async (document, signal) => {
+        return this.save(this.names.patch, async (document, signal) => {
             const { program } = this.work.around, { base, lines } = document.made;
             if (program === null) {
                 throw new Error('this browser can’t run the program');
@@ -67,11 +106,12 @@ export class Saver {
     /**
      * Saves bytes of the document as it is when the place has been chosen.
      * @param {string} name
-     * @param {What | 'none'} what
      * @param {(document: Document, signal: AbortSignal) => Promise<Uint8Array>} bytesOf
+     * @param {(document: Document) => boolean} holds whether all that was done is in files then
+     * @param {boolean} isDrawing
      * @returns {Ended}
      */
-    async save(name, what, bytesOf) {
+    async save(name, bytesOf, holds = () => false, isDrawing = false) {
         const { work } = this, asked = work.document, target = await this.saving.target(name);
         if (target === null || asked !== null && work.document?.original !== asked.original) {
             return false;
@@ -79,8 +119,8 @@ export class Saver {
         return work.stepOn('Saving ' + target.name, 'save', async (document, step) => {
             const bytes = await bytesOf(document, step.signal);
             step.settle();
-            const isWhole = await target.put(bytes), sum = what === 'drawing' ? await work.around.digest(bytes) : '';
-            const holdsAll = what === 'drawing' || (what === 'script' && document.before.length === 0);
+            const isWhole = await target.put(bytes), sum = isDrawing ? await work.around.digest(bytes) : '';
+            const holdsAll = holds(document);
             if (isWhole) {
                 return this.saved(document, document.last, holdsAll, target.name, sum);
             }

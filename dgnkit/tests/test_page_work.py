@@ -446,6 +446,26 @@ class Saved(WithWork):
         written = self.seen.run('return btoa(String.fromCharCode(...window.written))')
         self.assertEqual(base64.b64decode(written), self.made_by(made, ['color 5 1']))
 
+    def test_all_scripts_and_patch_files_are_saved(self) -> None:
+        made = self.example('plan.dgn')
+        self.open(made)
+        self.typed('color 5 1')
+        self.more('save-patch')
+        patch = self.saved_file('plan-edit.patch')
+        self.do('#undo')
+        self.typed('color 6 2')
+        self.drop(patch)
+        self.seen.wait('page.work.document.before.length === 1')
+        self.typed('delete 9')
+        self.seen.run(PICK, 'whole')
+        self.seen.run(
+            'window.names = []; const pick = window.showSaveFilePicker; window.showSaveFilePicker = (asked) =>'
+            ' { window.names.push(asked.suggestedName); return pick(asked); }'
+        )
+        self.more('save-script')
+        self.assertEqual(self.seen.run('return window.names'), ['plan-edit-1.txt', 'plan-edit.patch', 'plan-edit.txt'])
+        self.assertFalse(self.leaves(), 'all that was done is in files')
+
 
 class Script(WithWork):
     """Lines, points and fences."""

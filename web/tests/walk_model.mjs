@@ -26,8 +26,8 @@ export function modelOf(drawing, acts, files) {
         + (at < patches.length ? 'patch ' + patches[at] + ';' : ''), drawing);
 }
 
-/** The last of the scripts, as it is saved. */
-export const scriptOf = (acts) => foldOf(acts).scripts.pop().map((line) => line + '\n').join('');
+/** A script as it is saved. */
+export const scriptOf = (lines) => lines.map((line) => line + '\n').join('');
 
 /** Whether what was kept may be acts at all. */
 export const isClean = (acts) => Array.isArray(acts) && acts.every(({ why, lines = [], index }) => (

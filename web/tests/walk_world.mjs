@@ -345,8 +345,9 @@ export class World {
     }
 
     isInFile(drawing, acts, files) {
-        return this.whole.has(modelOf(drawing, acts, files)) || (foldOf(acts).patches.length === 0
-            && this.whole.has(scriptOf(acts)));
+        const { scripts, patches } = foldOf(acts);
+        return this.whole.has(modelOf(drawing, acts, files)) || (patches.every((it) => this.whole.has(it))
+            && scripts.every((lines) => lines.length === 0 || this.whole.has(scriptOf(lines))));
     }
 
     /** Whether something that was done is in no file, as the model has it. */
