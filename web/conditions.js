@@ -50,7 +50,7 @@ export function testsOf(records, asked) {
     for (const [name, text, column] of columns.filter(([, said]) => said.trim() !== '')) {
         const numbers = numbersOf(text);
         if (numbers === null) {
-            return 'These are no ' + name + ': ' + text + '. Write numbers, and spans such as 5-7.';
+            return '‘' + text + '’ isn’t a list of ' + name + ': write numbers and ranges, such as 3, 5-7.';
         }
         tests.push((record) => numbers.has(column[record]));
     }

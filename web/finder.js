@@ -36,7 +36,7 @@ export class Finder {
         const { app } = this;
         const answer = await app.questions.ask({
             title: 'Select by', buttons: ['Select', 'Add to the selection', 'Cancel'],
-            said: ['The trees are selected in which one element has all of this. An empty field asks for nothing.'],
+            said: ['Selects each tree in which one element has all of this; a field that is left empty doesn’t count.'],
             fields: [{ name: 'level', label: 'levels', value: this.asked.level },
                 { name: 'type', label: 'type', value: this.asked.type, options: this.types },
                 { name: 'colour', label: 'colours', value: this.asked.colour },

@@ -151,7 +151,7 @@ export class Work {
         return this.step(name, kind, async (step) => {
             const { document } = this;
             if (document === null || document.original !== asked.original) {
-                this.around.say(name + ' was asked of ' + asked.original.name + ', which is no longer open.');
+                this.around.say(name + ': ' + asked.original.name + ' isn’t open any more.');
                 return null;
             }
             return act(document, step);
@@ -285,7 +285,7 @@ export class Work {
                 step.signal);
             const list = this.around.behind(document, left.made, index);
             const answer = list.length === 0 ? { button: 'Remove the line' } : await this.around.ask({
-                title: 'Remove line ' + (index + 1) + '?', said: ['Lines behind it then do something else:'], list,
+                title: 'Remove line ' + (index + 1) + '?', said: ['Later lines then do something else:'], list,
                 buttons: ['Remove the line', 'Leave it'],
             }, step.signal);
             return answer === null || answer.button !== 'Remove the line' ? null

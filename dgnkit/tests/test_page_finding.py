@@ -56,9 +56,9 @@ class Finding(WithEditor):
     def test_what_is_no_number_is_told(self) -> None:
         self.open(self.drawing())
         self.assertEqual(self.find(level='two'), [])
-        self.assertIn('These are no levels: two', self.notice())
+        self.assertIn('‘two’ isn’t a list of levels', self.notice())
         self.find(colour='9-5')
-        self.assertIn('These are no colours', self.notice())
+        self.assertIn('isn’t a list of colours', self.notice())
 
     def test_an_edit_of_them_is_one_action(self) -> None:
         made = self.drawing()
