@@ -1,11 +1,12 @@
 /* A drawing as far as comparing reads it: where its elements stand, and their heads. */
 
 import { coloursOf } from './colour_table.js';
-import { CLASS, CLASS_OF, FLAG, LOCKED, TYPE } from './format.js';
+import { FLAG, TYPE } from './format.js';
 import { wordAt } from './numbers.js';
 import { offsetsIn, Fault } from './opening.js';
 import { labelAt } from './reading.js';
 import { atOnce } from './slices.js';
+import { CLASS, CLASS_OF, LOCKED } from './tables.js';
 import { axesOf, unitsOf } from './tcb.js';
 
 /** Heads of elements in columns. */

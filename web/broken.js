@@ -1,8 +1,9 @@
 /* Why a tree is broken, in words: headers whose total fits no members, and roots with bit C. */
 
 import { counted } from './describing.js';
-import { CLASS, CLASS_OF, FLAG } from './format.js';
+import { FLAG } from './format.js';
 import { Reach } from './reach.js';
+import { CLASS, CLASS_OF } from './tables.js';
 
 /**
  * Why an element is broken.

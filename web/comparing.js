@@ -2,15 +2,17 @@
 
 import { pairsOf } from './aligning.js';
 import { colourSaid } from './colour_table.js';
+import { textPlace } from './bodies.js';
 import { Contents } from './contents.js';
 import { counted, described, quoted } from './describing.js';
 import { isEqual } from './bytes.js';
 import { fieldName, pointsSpan } from './fields.js';
-import { CLASS, CLASS_OF, FLAG, TYPE } from './format.js';
+import { FLAG, TYPE } from './format.js';
 import { longAt, rangeNumberAt, wordAt } from './numbers.js';
 import { cellName } from './radix50.js';
-import { charactersAt, textPlace } from './reading.js';
+import { charactersAt } from './reading.js';
 import { PIECE } from './slices.js';
+import { CLASS, CLASS_OF } from './tables.js';
 import { decoded } from './texts.js';
 import { shiftSaid } from './units.js';
 

@@ -3,7 +3,6 @@
 import { isEqual } from './bytes.js';
 import { coloursOf } from './colour_table.js';
 import { EditedElements } from './edited.js';
-import { LINKED } from './format.js';
 import { linkagesOf } from './linkages.js';
 import { nestingIn } from './nesting.js';
 import { wordAt } from './numbers.js';
@@ -12,6 +11,7 @@ import { Records } from './records.js';
 import { readElement } from './reading.js';
 import { PIECE, atOnce, inSlices } from './slices.js';
 import { State } from './state.js';
+import { LINKED } from './tables.js';
 import { axesOf, unitsOf } from './tcb.js';
 
 /** Records for what edits make, before the columns have to grow. */

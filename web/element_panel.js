@@ -4,7 +4,8 @@ import { whyBroken } from './broken.js';
 import { counted } from './describing.js';
 import { byId, fill, linkTo, make, swatchOf, termed } from './dom.js';
 import { sizesOf } from './element_sizes.js';
-import { CLASS, CLASS_OF, DRAWN, DRAWN_OF, FLAG, STYLE_NAMES } from './format.js';
+import { DRAWN, DRAWN_OF, FLAG, STYLE_NAMES } from './format.js';
+import { CLASS, CLASS_OF } from './tables.js';
 
 const MOST_MEMBERS = 200;
 

@@ -1,8 +1,8 @@
 /* What a byte of an element is, in words. */
 
-import { CLASS, CLASS_OF } from './format.js';
-import { pointsCount, pointsPlace, textPlace } from './reading.js';
+import { pointsCount, pointsPlace, textPlace } from './bodies.js';
 import { linkagePlace } from './drawing.js';
+import { CLASS, CLASS_OF } from './tables.js';
 
 /** @typedef {{ content: Uint8Array, type: number, axes: number }} Content an element's bytes, its type, its axes */
 

@@ -1,11 +1,11 @@
 /* Fills: a user linkage of a shape or an ellipse says that it is filled, and with which colour. */
 
-import { FLAG, LINKED, TYPE } from './format.js';
+import { FLAG, TYPE } from './format.js';
 import { wordAt } from './numbers.js';
+import { DMRS_LENGTH, LINKED, USER_BIT } from './tables.js';
 
 const FILL = 0x0041;              // the word of a linkage behind its head that says that it is one of a fill
 const COLOUR_AT = 8;              // where its colour stands in it
-const USER = 0x10;
 
 /**
  * The colour that an element is filled with, and one more; 0 where it is hollow.
@@ -22,8 +22,8 @@ export function fillAt(bytes, at, size) {
     for (let place = at + 32 + 2 * wordAt(bytes, at + 30); place + COLOUR_AT < end;) {
         const first = bytes[place], second = bytes[place + 1];
         const isDmrs = first === 0 && (second === 0 || second === 0x80);
-        const length = isDmrs ? 8 : second & USER ? 2 + 2 * first : end - place;
-        if (!isDmrs && second & USER && length > COLOUR_AT && place + length <= end
+        const length = isDmrs ? DMRS_LENGTH : second & USER_BIT ? 2 + 2 * first : end - place;
+        if (!isDmrs && second & USER_BIT && length > COLOUR_AT && place + length <= end
             && wordAt(bytes, place + 2) === FILL) {
             return bytes[place + COLOUR_AT] + 1;
         }

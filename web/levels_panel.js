@@ -2,8 +2,8 @@
 
 import { counted } from './describing.js';
 import { byId, fill, make, termed } from './dom.js';
-import { GREATEST, LEAST } from './format.js';
 import { isLeaf } from './showing.js';
+import { GREATEST, LEAST } from './tables.js';
 import { typeName } from './types.js';
 
 const WHOLE_PLANE = Object.freeze([[LEAST, LEAST], [GREATEST, LEAST], [GREATEST, GREATEST], [LEAST, GREATEST]]);

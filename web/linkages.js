@@ -1,5 +1,7 @@
 /* The linkages of an element (docs/FORMAT.md, Linkages). */
 
+import { DMRS_LENGTH, LINKAGE_LEAST, USER_BIT } from './tables.js';
+
 /**
  * A linkage; its place counts from the element's start.
  * @typedef {{ at: number, length: number, kind: 'dmrs' | 'user' | 'rest' }} Linkage
@@ -28,11 +30,11 @@ export function linkagesOf(element, start) {
  */
 function linkageAt(element, at) {
     const left = element.length - at, [first, second] = element.subarray(at, at + 2);
-    if (left >= 4) {
+    if (left >= LINKAGE_LEAST) {
         if (first === 0 && (second === 0 || second === 128)) {
-            return left < 8 ? { at, length: left, kind: 'rest' } : { at, length: 8, kind: 'dmrs' };
+            return left < DMRS_LENGTH ? { at, length: left, kind: 'rest' } : { at, length: DMRS_LENGTH, kind: 'dmrs' };
         }
-        if (second & 0x10 && 2 + 2 * first <= left) {
+        if (second & USER_BIT && 2 + 2 * first <= left) {
             return { at, length: 2 + 2 * first, kind: 'user' };
         }
     }

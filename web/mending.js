@@ -3,9 +3,10 @@
    behind it: anything else is told and left. */
 
 import { counted, described } from './describing.js';
-import { CLASS, CLASS_OF, FLAG, TYPE } from './format.js';
-import { PARTS_OF_SPLINES } from './nesting.js';
+import { FLAG, TYPE } from './format.js';
 import { Reach } from './reach.js';
+import { isSpline } from './nesting.js';
+import { CLASS, CLASS_OF, SPLINE_PARTS } from './tables.js';
 
 const COMPLEX = new Set([12, 14, 18, 19]);
 
@@ -78,7 +79,7 @@ class MendingWalk {
         }
         if (CLASS_OF[type] === CLASS.counted) {
             this.header(at, end, isRoot);
-        } else if (type === 24 || type === 27) {
+        } else if (isSpline(type)) {
             this.orphan(at, isRoot);
             this.goOn(this.behindSpline(at, end), end, isRoot);
         } else if (type === TYPE.definition && isRoot) {
@@ -97,7 +98,7 @@ class MendingWalk {
      */
     behindSpline(at, end) {
         let behind = at + 1;
-        while (behind < end && this.hasC(behind) && PARTS_OF_SPLINES.has(this.records.type[behind])) {
+        while (behind < end && this.hasC(behind) && SPLINE_PARTS.includes(this.records.type[behind])) {
             behind++;
         }
         return behind;

@@ -1,13 +1,9 @@
 /* How elements nest (docs/FORMAT.md, How elements nest). */
 
-import { CLASS, CLASS_OF, FLAG, TYPE } from './format.js';
+import { FLAG, TYPE } from './format.js';
 import { wordAt } from './numbers.js';
 import { PIECE, atOnce } from './slices.js';
-
-/** Types of the parts of a B-spline. */
-export const PARTS_OF_SPLINES = new Set([21, 25, 26, 28]);
-/** Bytes of a header up to the end of its total. */
-export const BEFORE_TOTAL = 38;
+import { BEFORE_TOTAL, CLASS, CLASS_OF, SPLINES, SPLINE_PARTS } from './tables.js';
 
 /**
  * Of each element the flags of its place (group, run, loose, orphan), its depth, the number of the header right above
@@ -16,6 +12,14 @@ export const BEFORE_TOTAL = 38;
  * @typedef {{ flags: Uint8Array, depth: Uint16Array, parent: Int32Array, end: Uint32Array,
  *     runEnds: Uint32Array }} Nesting
  */
+
+/**
+ * Whether a type is that of the header of a B-spline; its class is asked first, since few types have that.
+ * @param {number} type
+ */
+export function isSpline(type) {
+    return CLASS_OF[type] === CLASS.run && SPLINES.includes(type);
+}
 
 /** Goes once through the elements from the first to the last, and keeps the lists that are open. */
 class NestingWalk {
@@ -75,8 +79,7 @@ class NestingWalk {
             const end = this.place(at, list);
             this.end[at] = end;
             if (end > at + 1) {
-                const isParts = CLASS_OF[this.typeOf(at)] === CLASS.run && !this.isDefinition(at);
-                open.push({ header: at, end, isParts });
+                open.push({ header: at, end, isParts: isSpline(this.typeOf(at)) });
             }
             if (at % PIECE === 0) {
                 yield;
@@ -84,11 +87,6 @@ class NestingWalk {
         }
         const { flags, depth, parent, end, runEnds } = this;
         return { flags, depth, parent, end, runEnds };
-    }
-
-    /** @param {number} number */
-    isDefinition(number) {
-        return this.typeOf(number) === TYPE.definition;
     }
 
     /**
@@ -109,7 +107,7 @@ class NestingWalk {
             this.flags[at] |= end === 0 ? FLAG.loose : FLAG.group;
             return end || at + 1;
         }
-        if (type === 24 || type === 27) {
+        if (isSpline(type)) {
             this.flags[at] |= FLAG.run;
             return this.endOfSpline(at, listEnd);
         }
@@ -127,7 +125,7 @@ class NestingWalk {
      */
     endOfCounted(at, listEnd) {
         const { offsets } = this;
-        const wanted = offsets[at] + BEFORE_TOTAL + 2 * wordAt(this.bytes, offsets[at] + 36);
+        const wanted = offsets[at] + BEFORE_TOTAL + 2 * wordAt(this.bytes, offsets[at] + BEFORE_TOTAL - 2);
         let low = at + 1, high = Math.min(listEnd, this.runEnds[at + 1]);
         while (low < high) {
             const middle = low + high >> 1;
@@ -147,7 +145,7 @@ class NestingWalk {
      */
     endOfSpline(at, listEnd) {
         let end = at + 1;
-        while (end < listEnd && this.hasC(end) && PARTS_OF_SPLINES.has(this.typeOf(end))) {
+        while (end < listEnd && this.hasC(end) && SPLINE_PARTS.includes(this.typeOf(end))) {
             end++;
         }
         return end;

@@ -1,8 +1,9 @@
 /* Where the elements of a file stand, or what keeps it from being a drawing (docs/FORMAT.md, How a file opens). */
 
-import { CLASS, CLASS_OF, LINKED } from './format.js';
+import { bodyPlace, pointsCount, textPlace } from './bodies.js';
 import { wordAt } from './numbers.js';
 import { PIECE } from './slices.js';
+import { BY_WORD, CLASS, CLASS_OF, COUNTS, COUNT_AT, LINKED } from './tables.js';
 import { axesOf, kindOf } from './tcb.js';
 
 /** What keeps a file from opening, and the byte at which the element begins that it is found at. */
@@ -26,7 +27,7 @@ export function* offsetsIn(bytes) {
     if (kindOf(bytes) !== 'design') {
         return new Fault('not-design', 0);
     }
-    const axes = bytes.length > 1214 ? axesOf(bytes) : 2;
+    const axes = axesOf(bytes);
     let offsets = new Uint32Array(bytes.length / 48 + 16), count = 0, at = 0;
     while (at < bytes.length && !(bytes[at] === 0xFF && bytes[at + 1] === 0xFF)) {
         const size = 4 + 2 * wordAt(bytes, at + 2);
@@ -84,16 +85,12 @@ function faultOf(bytes, at, size, axes) {
  * @param {number} type
  */
 function bodyEnd(bytes, at, size, axes, type) {
-    switch (type) {
-        case 3: return 36 + 8 * axes;
-        case 4: case 6: case 11: return size < 38 ? Infinity : 38 + 4 * axes * wordAt(bytes, at + 36);
-        case 17: {
-            const front = axes === 2 ? 60 : 76;
-            return size < front ? Infinity : front + bytes[at + front - 2];
-        }
-        case 7: return axes === 2 ? 70 : 86;
-        case 2: return axes === 2 ? 92 : 124;
-        case 12: case 14: case 18: case 19: return 40;
-        default: return 36;
+    if (CLASS_OF[type] === CLASS.words) {
+        const front = textPlace(axes);
+        return size < front ? Infinity : front + bytes[at + front - 2];
     }
+    if (COUNTS[type] === BY_WORD && size < COUNT_AT + 2) {
+        return Infinity;
+    }
+    return bodyPlace(type, axes) + 4 * axes * pointsCount(bytes, at, type);
 }

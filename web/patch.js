@@ -1,7 +1,6 @@
 /* Patch files of changes (docs/FORMAT.md, The patch file). */
 
-const PATCH_MARK = 'DGNPAT01';
-const FIELD_LONGEST = 4;
+import { FIELD_LONGEST, PATCH_MARK } from './tables.js';
 
 /** Puts numbers and bytes one behind the other. */
 class Pieces {
@@ -45,7 +44,7 @@ export function patchOf(drawing, changes) {
 }
 
 /**
- * Fields of at most four bytes for bytes at rising places.
+ * Fields, none of them longer than one can be, for bytes at rising places.
  * @param {[number, number][]} edits
  */
 function fieldsOf(edits) {

@@ -1,7 +1,6 @@
 /* The names of cells: two words of three signs each (docs/FORMAT.md, Radix-50). */
 
-const SIGNS = ' ABCDEFGHIJKLMNOPQRSTUVWXYZ$.%0123456789';
-const SIGNLESS = 64000;
+import { SIGNLESS, SIGNS } from './tables.js';
 
 /**
  * The three signs of a word, or a backslash and its four hexadecimal digits where it stands for none.

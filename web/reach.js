@@ -1,9 +1,9 @@
 /* How far a header can reach: the elements with bit C behind it, of which some number are its members. */
 
 import { counted } from './describing.js';
-import { BEFORE_TOTAL } from './nesting.js';
 import { wordAt } from './numbers.js';
 import { linkagePlace } from './drawing.js';
+import { BEFORE_TOTAL } from './tables.js';
 
 /** What a total can count, one word. */
 const TOTAL_MOST = 65535;
@@ -28,7 +28,7 @@ export class Reach {
         this.offsets = drawing.offsets;
         this.header = header;
         this.start = drawing.offsets[header];
-        this.total = wordAt(drawing.bytes, this.start + 36);
+        this.total = wordAt(drawing.bytes, this.start + BEFORE_TOTAL - 2);
         this.end = Math.min(end, drawing.nesting.runEnds[header + 1]);
         const content = drawing.bytesOf(header);
         /** Half the bytes of the header's own attribute data. */

@@ -1,10 +1,12 @@
 /* Reads elements out of their bytes into records. */
 
 import { projectionAt, turnOf } from './arcs.js';
+import { pointsCount, pointsPlace, textPlace } from './bodies.js';
 import { fillAt } from './fills.js';
-import { CLASS, CLASS_OF, DRAWN, DRAWN_OF, FLAG, HOLE, LOCKED, TYPE } from './format.js';
+import { FLAG, HOLE, TYPE } from './format.js';
 import { longAt, rangeNumberAt, wordAt } from './numbers.js';
 import { cellName } from './radix50.js';
+import { CLASS, CLASS_OF, LOCKED } from './tables.js';
 import { readable } from './texts.js';
 
 /** What one of a text's multipliers stands for, in units of resolution. */
@@ -67,35 +69,6 @@ function readRange(records, bytes, at, record) {
 }
 
 /**
- * Where an element's points or its origin begin in it; 0 where none are read of its type.
- * @param {number} type
- * @param {number} axes
- */
-export function pointsPlace(type, axes) {
-    switch (type) {
-        case 3: return 36;
-        case 4: case 6: case 11: return 38;
-        case 17: return axes === 2 ? 50 : 62;
-        case 7: return axes === 2 ? 62 : 74;
-        case 2: return axes === 2 ? 84 : 112;
-        default: return 0;
-    }
-}
-
-/**
- * How many points an element has, or 1 for an origin.
- * @param {Uint8Array} bytes
- * @param {number} at
- * @param {number} type
- */
-export function pointsCount(bytes, at, type) {
-    if (DRAWN_OF[type] === DRAWN.path) {
-        return type === TYPE.line ? 2 : wordAt(bytes, at + 36);
-    }
-    return DRAWN_OF[type] === DRAWN.text || DRAWN_OF[type] === DRAWN.cell || DRAWN_OF[type] === DRAWN.node ? 1 : 0;
-}
-
-/**
  * @param {Records} records
  * @param {Uint8Array} bytes
  * @param {number} at
@@ -124,14 +97,6 @@ function readPoints(records, bytes, at, record, type) {
 export function labelAt(bytes, at, type, axes) {
     return type === TYPE.text ? textAt(bytes, at, axes)
         : cellName(wordAt(bytes, at + 38), wordAt(bytes, at + 40));
-}
-
-/**
- * Where a text's characters begin in it; the byte two before counts them.
- * @param {number} axes
- */
-export function textPlace(axes) {
-    return axes === 2 ? 60 : 76;
 }
 
 /**

@@ -1,9 +1,10 @@
 /* The elements as columns, a row each; a row is called a record. */
 
 import { LEAST_OF_CURVE, boxOfCurve } from './curves.js';
-import { FLAG, GREATEST, LEAST, TYPE } from './format.js';
+import { FLAG, TYPE } from './format.js';
 import { Outlines } from './outlines.js';
 import { labelAt } from './reading.js';
+import { GREATEST, LEAST } from './tables.js';
 
 /**
  * A typed array with the same values and at least so much room.

@@ -3,10 +3,11 @@
 import { whyBroken } from './broken.js';
 import { described } from './describing.js';
 import { mendingOf } from './mending.js';
+import { GREATEST, LEAST } from './tables.js';
 
 const TOO_LONG = ' Choose many elements by a fence or by their level: that is one line, however many they are. Or save'
     + ' the drawing, and go on in the saved one.';
-const PLANE_SAID = 'the design plane, -2147483648 to 2147483647';
+const PLANE_SAID = 'the design plane, ' + LEAST + ' to ' + GREATEST;
 /** @type {Readonly<Record<string, string>>} */
 const FAULTS = Object.freeze({
     'not-design': 'it isn’t a design file of version 7',

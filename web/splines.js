@@ -1,11 +1,11 @@
 /* B-splines: a header, type 27 of a curve and 24 of a surface, and its parts behind it, poles (21), knots (26), weights
    (28) and boundaries (25). Their fields are read to draw them alone. */
 
-import { LINKED, TYPE } from './format.js';
+import { TYPE } from './format.js';
 import { longAt, wordAt } from './numbers.js';
+import { LINKED, SPLINE_PARTS } from './tables.js';
 
 const PART = Object.freeze({ poles: 21, knots: 26, weights: 28 });
-const PART_TYPES = Object.freeze([21, 25, 26, 28]);
 const RATIONAL = 0x40;
 const CLOSED = 0x80;
 const ORDER_MOST = 15;
@@ -32,7 +32,7 @@ const POLES_MOST_OF_SURFACE = 1024; // poles of a surface each way
 export function runSize(bytes, at) {
     let end = at + 4 + 2 * wordAt(bytes, at + 2);
     while (end + 4 <= bytes.length && end - at < RUN_MOST && bytes[end] & 0x80
-        && PART_TYPES.includes(bytes[end + 1] & 0x7F)) {
+        && SPLINE_PARTS.includes(bytes[end + 1] & 0x7F)) {
         end += 4 + 2 * wordAt(bytes, end + 2);
     }
     return Math.min(end, bytes.length) - at;

@@ -1,6 +1,7 @@
 /* What the front of a file says: what kind of file it is, and of a drawing its axes, units and origin. */
 
 import { longAt, vaxDoubleAt } from './numbers.js';
+import { AXES_AT, AXES_BIT, TCB_FRONTS } from './tables.js';
 
 /** What a file that is no drawing of version 7 is, in a sentence. */
 export const KIND_SAID = Object.freeze({
@@ -17,8 +18,8 @@ export const KIND_SAID = Object.freeze({
  * @type {readonly (readonly [Kind, readonly number[]])[]}
  */
 const FRONTS = Object.freeze([
-    ['design', [0x08, 0x09, 0xFE, 0x02]], ['design', [0xC8, 0x09, 0xFE, 0x02]], ['v8', [0xD0, 0xCF, 0x11, 0xE0]],
-    ['library', [0x08, 0x05, 0x17, 0x00]],
+    ...TCB_FRONTS.map((front) => /** @type {const} */ (['design', front])),
+    ['v8', [0xD0, 0xCF, 0x11, 0xE0]], ['library', [0x08, 0x05, 0x17, 0x00]],
 ]);
 
 /**
@@ -37,7 +38,7 @@ export function kindOf(bytes) {
  * @returns {number}
  */
 export function axesOf(bytes) {
-    return bytes[1214] & 0x40 ? 3 : 2;
+    return bytes[AXES_AT] & AXES_BIT ? 3 : 2;
 }
 
 /**

@@ -1,6 +1,6 @@
 /* Which place of the drawing stands where on the screen. */
 
-import { GREATEST, LEAST } from './format.js';
+import { GREATEST, LEAST } from './tables.js';
 
 export const GREATEST_SCALE = 240;
 const LEAST_SCALE = 1 / 16777216;

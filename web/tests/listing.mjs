@@ -10,11 +10,12 @@ import fs from 'node:fs';
 
 import { Drawing } from '../drawing.js';
 import { changesBetween } from '../changes.js';
-import { CLASS, CLASS_OF, DRAWN, DRAWN_OF, FLAG } from '../format.js';
+import { DRAWN, DRAWN_OF, FLAG } from '../format.js';
 import { Fault } from '../opening.js';
 import { signsOf } from '../radix50.js';
 import { wordAt } from '../numbers.js';
 import { charactersAt } from '../reading.js';
+import { CLASS, CLASS_OF } from '../tables.js';
 
 let said = [], levels = '';
 
