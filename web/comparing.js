@@ -37,10 +37,10 @@ export function compared(first, second, tell = () => {}) {
     const rows = [];
     const contents = new Contents(first, second);
     tell(0.1);
-    const { olds, news, count } = pairsOf(contents);
+    const { olds, news, count, elsewhere } = pairsOf(contents);
     for (let at = 0; at < count; at++) {
         const before = olds[at] < 0 ? null : olds[at], after = news[at] < 0 ? null : news[at];
-        if (before === null || after === null || !contents.isSame(before, after)) {
+        if (before === null || after === null || elsewhere[before] || !contents.isSame(before, after)) {
             add(rows, first, second, before, after);
         }
         if (at % PIECE === 0) {
@@ -91,7 +91,8 @@ function changeOf(first, second, before, after) {
         return before === null ? { kind: 'added', words: 'appended' } : { kind: 'deleted', words: 'gone' };
     }
     const { words, isDeleted } = new Comparison(first, second, before, after).difference();
-    return { kind: isDeleted ? 'deleted' : 'changed', words: words.join('; ') };
+    const said = words.length > 0 ? words.join('; ') : 'the same, in another order';
+    return { kind: isDeleted ? 'deleted' : 'changed', words: said };
 }
 
 /** What differs between two elements of one type and size. Each known change takes the bytes that it explains away;

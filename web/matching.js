@@ -166,18 +166,18 @@ function placeBelow(numbers, most) {
     return low - 1;
 }
 
-/** So many keys may come and go on a shortest way. */
-const WAY_MOST = 1500;
+const WAY_MOST = 1500;            // so many keys may come and go on a shortest way
 
 /**
  * Pairs of places on a shortest way from one list to another, by what goes and what comes (E. W. Myers, An O(ND)
  * Difference Algorithm): fast where little differs, however long the lists are. Null where very many come and go.
  * @param {Int32Array} olds
  * @param {Int32Array} news
+ * @param {number} limit so many may come and go
  * @returns {Pairs | null}
  */
-export function matchingOfMany(olds, news) {
-    const most = Math.min(WAY_MOST, olds.length + news.length);
+export function matchingOfMany(olds, news, limit = WAY_MOST) {
+    const most = Math.min(limit, olds.length + news.length);
     /** By the diagonal, counted from -most - 1 on, how far the furthest way reaches in the first list. */
     const ends = new Int32Array(2 * most + 3);
     /**

@@ -1,6 +1,7 @@
 """`diff`: each change by itself, as the editor makes it or by hand, and in words."""
 
 import json
+import time
 import unittest
 from typing import Dict, List, Optional, Tuple
 
@@ -125,6 +126,52 @@ class Diff(samples.WithProgram):
         self.assertEqual(self.numbers([*same, other], [*same[:3], other]), [(4, None, ['gone']), (5, None, ['gone'])])
         text = plan.text(3, (1, 1), b'new')
         self.assertEqual(self.numbers([*same, other], [*same[:3], text, *same[3:], other]), [(None, 4, ['appended'])])
+
+    lines = [plan.line(1, (it, 0), (it * it, 9)) for it in range(200)]
+    other = plan.line(1, (777, 0), (778, 9))
+
+    def test_an_element_of_the_same_type_and_size_put_in(self) -> None:
+        lines, other = self.lines, self.other
+        self.assertEqual(self.numbers(lines, [*lines[:50], other, *lines[50:]]), [(None, 51, ['appended'])])
+        self.assertEqual(self.numbers(lines, [*lines[:50], *lines[51:]]), [(51, None, ['gone'])])
+        both = [*lines[:20], other, *lines[20:150], *lines[151:]]
+        self.assertEqual(self.numbers(lines, both), [(None, 21, ['appended']), (151, None, ['gone'])])
+        coloured = lines[90][:35] + b'\7' + lines[90][36:]
+        after = [*lines[:20], other, *lines[20:90], coloured, *lines[91:]]
+        self.assertEqual(self.numbers(lines, after), [(None, 21, ['appended']), (91, 92, ['recoloured'])])
+
+    def test_the_script_of_an_element_put_in(self) -> None:
+        lines = self.lines
+        names = [
+            self.put('a.dgn', drawings.drawing(*lines)),
+            self.put('b.dgn', drawings.drawing(*lines[:50], self.other, *lines[50:])),
+        ]
+        self.assertEqual(self.said('diff', *names, '--script'), 'line 1 0 0 0 777,0 778,9\n')
+
+    def test_another_order(self) -> None:
+        lines = self.lines[:9]
+        self.assertEqual(self.numbers(lines, [lines[4], *lines[:4], *lines[5:]]), [(5, 1, ['reordered'])])
+        turned = self.found(drawings.drawing(*lines), drawings.drawing(*lines[::-1]))['elements']
+        self.assertEqual({tuple(it['changes']) for it in turned}, {('reordered',)})
+        self.assertEqual(len(turned), 8)
+        names = self.put('a.dgn', drawings.drawing(*lines)), self.put('b.dgn', drawings.drawing(*lines[::-1]))
+        said = self.said('diff', *names, status=1).splitlines()
+        self.assertEqual(said[-1], 'the same elements, 8 of them in another order')
+        self.assertTrue(said[0].endswith(': the same, in another order'), said[0])
+
+    def test_an_edit_keeps_the_numbers(self) -> None:
+        grid = [plan.line(1, (10 * it, 0), (10 * it, 9)) for it in range(5)]
+        # the line moves to where the next one is, which is the same then
+        moved = [grid[1], *grid[1:]]
+        self.assertEqual(self.numbers(grid, moved), [(1, 1, ['moved'])])
+
+    def test_many_elements_that_differ_little_take_little_time(self) -> None:
+        many = [plan.line(1, (it, it % 977), (it * 3, 9)) for it in range(100000)]
+        after = [*many[:100], self.other, *many[100:70000], *many[70001:], many[70000]]
+        began = time.monotonic()
+        found = self.numbers(many, after)
+        self.assertEqual(found, [(None, 101, ['appended']), (70001, 100001, ['reordered'])])
+        self.assertLess(time.monotonic() - began, 20)
 
     def test_marks_of_the_head(self) -> None:
         line = drawings.line()

@@ -152,6 +152,30 @@ class Comparing(WithProgram):
                 self.assertEqual(rows, wanted)
         self.assertGreater(told, 100)
 
+    def test_rows_of_few_elements(self) -> None:
+        """Elements that are the same many times, put in, taken out and in another order."""
+        dice = random.Random(5)
+        kinds = [plan.line(1, (it, 0), (it, 9)) for it in range(5)]
+        kinds += [plan.path(4, 1, [(it, 0), (it, 9), (it, 5)]) for it in range(3)]
+        pairs = []
+        for index in range(80):
+            before = [dice.choice(kinds) for _ in range(dice.randrange(1, 14))]
+            after = list(before) if dice.random() < 0.6 else [dice.choice(kinds) for _ in range(dice.randrange(1, 14))]
+            for _ in range(dice.randrange(4)):
+                after.insert(dice.randrange(len(after) + 1), after.pop(dice.randrange(len(after))))
+                at = dice.randrange(len(after))
+                after[at : at + dice.randrange(2)] = dice.sample(kinds, dice.randrange(1, 3))
+            names = 'few-%d-a.dgn' % index, 'few-%d-b.dgn' % index
+            pairs.append([self.put(it, drawings.drawing(*row)) for it, row in zip(names, (before, after))])
+        said: Set[str] = set()
+        for (before_name, after_name), rows in zip(pairs, asked('comparing.mjs', pairs)):
+            found = differences(Drawing(before_name, self.program), Drawing(after_name, self.program))
+            wanted = [[it.before, it.after, '; '.join(it.words)] for it in found]
+            said.update(it.words[0] for it in found)
+            with self.subTest(before=before_name, after=after_name):
+                self.assertEqual(rows, wanted)
+        self.assertTrue({'the same, in another order', 'gone', 'appended'} <= said, said)
+
     def many(self, dice: random.Random) -> List[str]:
         """Two drawings of so many elements that not all pairs are tried: all are moved, some come, some go."""
         places = [(dice.randrange(2, 5), it) for it in range(1100)]

@@ -25,6 +25,7 @@ COUNTED = {
     'name': 'with another name',
     'points': 'with single points moved',
     'range': 'with another range',
+    'reordered': 'in another order',
     'text': 'with another text',
     'total': 'with another total',
 }
@@ -106,5 +107,7 @@ def summary(found: List[Difference]) -> str:
         for name, facts in it.changes.items():
             said = BACK[name] if name in BACK and facts is False else COUNTED.get(name, name)
             counts[said] = counts.get(said, 0) + 1
+    if set(counts) == {COUNTED['reordered']}:
+        return 'the same elements, %d of them in another order' % len(found)
     words = ', '.join('%d %s' % (counts[said], said) for said in counts)
     return '%s: %s' % (counted(len(found), 'element differs', 'elements differ'), words or 'none')

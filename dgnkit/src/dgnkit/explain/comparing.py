@@ -3,7 +3,7 @@
 from __future__ import annotations
 
 from dataclasses import dataclass, field
-from typing import Any, Callable, Dict, List, Optional, Sequence, Set
+from typing import Any, Callable, Dict, List, Optional, Sequence, Set, Tuple
 
 from ..drawing.drawing import Drawing
 from ..format import classes
@@ -11,7 +11,7 @@ from ..format.element import Element, described
 from ..format.fields import field_name, points_span
 from ..format.numbers import Point
 from ..output import counted
-from .aligning import Pair, agree, aligned
+from .aligning import Contents, Pair, agree, aligned
 
 
 @dataclass
@@ -34,12 +34,14 @@ class Difference:
 def differences(first: Drawing, second: Drawing) -> List[Difference]:
     """The elements that differ, in the order of the first drawing, and then what the second has more."""
     made = []
-    for before, after in pairs(first.elements, second.elements):
+    for before, after, is_elsewhere in pairs(first.elements, second.elements):
         if before is None:
             assert after is not None
             made.append(_alone(second.elements[after], None, after, 'appended'))
         elif after is None:
             made.append(_alone(first.elements[before], before, None, 'gone'))
+        elif is_elsewhere:
+            made.append(_alone(first.elements[before], before, after, 'reordered', 'the same, in another order'))
         else:
             old, new = first.elements[before], second.elements[after]
             if old.content != new.content:
@@ -47,29 +49,39 @@ def differences(first: Drawing, second: Drawing) -> List[Difference]:
     return made
 
 
-def _alone(element: Element, before: Optional[int], after: Optional[int], name: str) -> Difference:
+def _alone(element: Element, before: Optional[int], after: Optional[int], name: str, words: str = '') -> Difference:
     made = Difference(before, after, described(element))
-    made.add(name, True, name)
+    made.add(name, True, words or name)
     return made
 
 
 def pairs(first: Sequence[Element], second: Sequence[Element]) -> Sequence[Pair]:
     """Which element of the second drawing is which of the first. The editor keeps numbers, and appends behind the last:
-    so those of one number are one, where type and size agree and none is gone. Else elements came between or went, and
-    the longest runs that agree are found, from the first on that doesn't agree or from the front, whichever tells of
-    fewer elements."""
+    so those of one number are one, up to the first whose type and size don't agree. Or else elements came between,
+    went, or stand in another order: then those are one that are the same. Whichever tells of fewer elements is taken.
+    """
     common = min(len(first), len(second))
     same = next((it for it in range(common) if not agree(first[it], second[it])), common)
-    if same == len(first):
-        return [*((it, it) for it in range(same)), *((None, it) for it in range(same, len(second)))]
-    numbered: List[Pair] = [(it, it) for it in range(same)]
-    ways = [[*numbered, *aligned(first, second, same)], list(aligned(first, second, 0))]
-    return min(ways, key=lambda it: _told(first, second, it))
+    contents = Contents(first, second)
+    numbered = [*map(Pair, range(same), range(same)), *aligned(contents, same)]
+    if not any(_told(contents, it) for it in numbered[:same]):
+        return numbered
+    ways = [numbered, aligned(contents, 0)]
+    return min(ways, key=lambda way: _weight(contents, way))
 
 
-def _told(first: Sequence[Element], second: Sequence[Element], found: Sequence[Pair]) -> int:
-    """Of how many elements a difference would be told."""
-    return sum(a is None or b is None or first[a].content != second[b].content for a, b in found)
+def _weight(contents: Contents, way: Sequence[Pair]) -> Tuple[int, int]:
+    """Of how many elements a difference would be told, and of how many another one than that of their order."""
+    told = [it for it in way if _told(contents, it)]
+    return len(told), sum(not it.is_elsewhere for it in told)
+
+
+def _told(contents: Contents, pair: Pair) -> bool:
+    """Whether a difference would be told."""
+    before, after, is_elsewhere = pair
+    if before is None or after is None:
+        return True
+    return is_elsewhere or contents.olds[before] != contents.news[after]
 
 
 class _Comparison:
