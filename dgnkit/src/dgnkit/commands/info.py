@@ -3,12 +3,11 @@
 from __future__ import annotations
 
 import argparse
-from collections import Counter
 from typing import TYPE_CHECKING, Any, Dict, List, Optional, Tuple
 
 from ..drawing.attachments import names_in
 from ..drawing.drawing import Drawing
-from ..drawing.measuring import Measures, measures_of
+from ..drawing.measuring import Measures, Sums, measures_of
 from ..errors import Mistake
 from ..format.classes import type_name
 from ..format.limits import PLANE_HIGH, PLANE_LOW
@@ -45,6 +44,8 @@ def run(arguments: argparse.Namespace) -> int:
             status = 2
             continue
         told.append(facts)
+        if arguments.csv and facts['not_in_lengths']:
+            note('%s: not in the sums: %s' % (name, left_said(facts)))
         if not arguments.json and not arguments.csv:
             for line in lines_of(facts):
                 say(line)
@@ -60,9 +61,8 @@ def facts_of(drawing: Drawing, has_lengths: bool = False) -> Dict[str, Any]:
     """All that is said of a drawing, as JSON has it."""
     units, elements = drawing.units, drawing.elements
     extent = drawing.extent
-    by_level: Dict[int, Dict[str, int]] = {}
-    for (level, kind), count in Counter(zip(elements.levels, elements.types)).items():
-        by_level.setdefault(level, {})[type_name(kind)] = count
+    sums = measures_of(drawing) if has_lengths else None
+    by_level = {level: {type_name(it): kinds[it] for it in kinds} for level, kinds in elements.counts().items()}
     return {
         'file': drawing.path,
         'bytes': len(drawing.data),
@@ -82,19 +82,19 @@ def facts_of(drawing: Drawing, has_lengths: bool = False) -> Dict[str, Any]:
         'own_colours': drawing.colours is not None,
         'first_byte': drawing.tcb.first_byte,
         'levels': {str(level): by_level[level] for level in sorted(by_level)},
-        'lengths': lengths_facts(drawing) if has_lengths else None,
+        'lengths': None if sums is None else lengths_facts(sums, units.in_master or 1),
+        'not_in_lengths': None if sums is None else sums.left,
     }
 
 
-def lengths_facts(drawing: Drawing) -> Dict[str, Dict[str, float]]:
-    """The sums of each level, in master units where these are known."""
-    scale = drawing.units.in_master or 1
+def lengths_facts(sums: Sums, scale: int) -> Dict[str, Dict[str, float]]:
+    """The sums of each level, in units of which one has so many units of resolution."""
 
     def facts(it: Measures) -> Dict[str, float]:
         lengths = {'length': it.length / scale, 'outline': it.outline / scale, 'area': it.area / scale**2}
         return {'lines': it.lines, 'shapes': it.shapes, **{name: round(lengths[name], 6) for name in lengths}}
 
-    return {str(level): facts(it) for level, it in sorted(measures_of(drawing).items())}
+    return {str(level): facts(it) for level, it in sorted(sums.levels.items())}
 
 
 def units_facts(units: Units) -> Dict[str, Any]:
@@ -172,7 +172,13 @@ def measures_said(facts: Dict[str, Any], name: str) -> List[str]:
     ]
     head = ['level', *MEASURES]
     lines = ['  lengths in %s and areas in square %s; outlines and areas are those of shapes' % (name, name)]
-    return lines + ['  ' + line for line in table(head, rows)]
+    lines += ['  ' + line for line in table(head, rows)]
+    return lines + (['  not in the sums: ' + left_said(facts)] if facts['not_in_lengths'] else [])
+
+
+def left_said(facts: Dict[str, Any]) -> str:
+    """What isn't in the sums, each with its count."""
+    return '; '.join('%s: %d' % it for it in sorted(facts['not_in_lengths'].items()))
 
 
 def place_said(place: List[float]) -> str:

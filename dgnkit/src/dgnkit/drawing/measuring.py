@@ -3,19 +3,29 @@
 from __future__ import annotations
 
 import math
-from dataclasses import dataclass
-from typing import Dict, Sequence
+from dataclasses import dataclass, field
+from typing import Dict, Optional, Sequence
 
 from ..format import classes
+from ..format.arcs import ARC, ELLIPSE, Arc, arc_of
 from ..format.element import Element
 from ..format.numbers import Point
 from .drawing import Drawing
+from .rings import Part, Ring, way_of
+
+OPEN = frozenset([classes.LINE, classes.STRING, ARC])
+CLOSED = frozenset([classes.SHAPE, ELLIPSE, classes.COMPLEX_SHAPE])
+UNKNOWN = frozenset([classes.CURVE, classes.SPLINE_CURVE])  # whose lengths aren't computed
+ELSEWHERE = 'arcs and ellipses with other fields than their ranges tell'
+CROSSING = 'areas of shapes that cross themselves'
+SIDES = 'areas of complex shapes with sides of another kind'
+NAMED = {classes.CURVE: 'curves', classes.SPLINE_CURVE: 'B-spline curves'}
 
 
 @dataclass
 class Measures:
-    """Of a level how many lines and line strings there are and how long they are, and how many shapes, with their
-    outlines and areas, in units of resolution."""
+    """Of a level how many lines, line strings and arcs there are and how long they are, and how many shapes and
+    ellipses, with their outlines and areas, in units of resolution."""
 
     lines: int = 0
     length: float = 0.0
@@ -24,50 +34,105 @@ class Measures:
     area: float = 0.0
 
 
-def measures_of(drawing: Drawing) -> Dict[int, Measures]:
-    """The sums of each level, of what is live and drawn. The members of a complex chain or shape count on the level of
-    its header, and so does any member on level 0, which is no level of MicroStation's; a hole is taken off the area."""
-    made: Dict[int, Measures] = {}
-    for number in drawing.elements.of_types(classes.VERTICES - {classes.CURVE}):
-        if number in drawing.dead or number in drawing.defined:
-            continue
-        _add(made.setdefault(level_of(drawing, number), Measures()), drawing.elements[number])
-    for header in drawing.elements.of_types(frozenset([classes.COMPLEX_SHAPE])):
-        if header in drawing.dead or header in drawing.defined:
-            continue
-        parts = (drawing.elements[it] for it in drawing.nesting.part(header)[1:])
-        points = [point for it in parts if it.type in classes.VERTICES for point in it.points]
-        found = made.setdefault(drawing.elements.levels[header], Measures())
-        found.shapes, found.area = found.shapes + 1, found.area + area_of(points)
+@dataclass
+class Sums:
+    """The sums of each level, and what isn't in them, each with its count."""
+
+    levels: Dict[int, Measures] = field(default_factory=dict)
+    left: Dict[str, int] = field(default_factory=dict)
+
+    def at(self, level: int) -> Measures:
+        """The sums of a level."""
+        return self.levels.setdefault(level, Measures())
+
+    def leave(self, what: str) -> None:
+        """Counts something that isn't in the sums."""
+        self.left[what] = self.left.get(what, 0) + 1
+
+    def add_area(self, found: Measures, area: Optional[float], is_hole: bool, why: str) -> None:
+        """Adds an area, or takes that of a hole off; or counts it as left out."""
+        if area is None:
+            self.leave(why)
+        else:
+            found.area += -area if is_hole else area
+
+
+def measures_of(drawing: Drawing) -> Sums:
+    """The sums of what is live and drawn."""
+    made = Sums()
+    for number in drawing.elements.of_types(OPEN | CLOSED | UNKNOWN):
+        if number not in drawing.dead and number not in drawing.defined:
+            _add(made, drawing, drawing.elements[number])
     return made
 
 
-def level_of(drawing: Drawing, number: int) -> int:
-    """The level that an element counts on."""
-    parents, levels, types = drawing.nesting.parents, drawing.elements.levels, drawing.elements.types
-    while parents[number] >= 0 and (levels[number] == 0 or types[parents[number]] in classes.JOINED):
-        number = parents[number]
-    return levels[number]
-
-
-def _add(found: Measures, element: Element) -> None:
-    points = element.points
-    if element.type == classes.SHAPE:
-        sign = -1 if element.is_hole else 1
+def _add(made: Sums, drawing: Drawing, element: Element) -> None:
+    if element.type in UNKNOWN:
+        made.leave(NAMED[element.type])
+    elif element.type == classes.COMPLEX_SHAPE:
+        _add_complex(made, drawing, element)
+    elif element.type in (ARC, ELLIPSE):
+        _add_arc(made, drawing, element)
+    elif element.type == classes.SHAPE:
+        found, points = made.at(level_of(drawing, element.number)), element.points
         found.shapes += 1
         found.outline += length_of([*points, *points[:1]])
-        found.area += sign * area_of(points)
+        made.add_area(found, Ring([way_of(points)] if points else []).area, element.is_hole, CROSSING)
     else:
+        found = made.at(level_of(drawing, element.number))
         found.lines += 1
-        found.length += length_of(points)
+        found.length += length_of(element.points)
+
+
+def _add_arc(made: Sums, drawing: Drawing, element: Element) -> None:
+    arc = arc_of(element)
+    if arc is None:
+        made.leave(ELSEWHERE)
+        return
+    found = made.at(level_of(drawing, element.number))
+    if element.type == ARC:
+        found.lines += 1
+        found.length += arc.length
+    else:
+        found.shapes += 1
+        found.outline += arc.length
+        made.add_area(found, abs(arc.swept) / 2, element.is_hole, CROSSING)
+
+
+def _add_complex(made: Sums, drawing: Drawing, header: Element) -> None:
+    """Adds the area of a complex shape, whose sides count as lines."""
+    found = made.at(level_of(drawing, header.number))
+    found.shapes += 1
+    numbers = drawing.nesting.part(header.number)[1:]
+    sides = [_side(drawing.elements[it]) for it in numbers if it not in drawing.dead]
+    parts = [it for it in sides if it is not None]
+    if len(parts) < len(sides):
+        made.leave(SIDES)
+    else:
+        made.add_area(found, Ring(parts).area, header.is_hole, CROSSING)
+
+
+def _side(element: Element) -> Optional[Part]:
+    """An element as a part of an outline, none where it can't be computed."""
+    arc: Optional[Arc] = arc_of(element) if element.type == ARC else None
+    points = element.points if element.type in OPEN - {ARC} else []
+    return arc or way_of(points) or None
+
+
+def level_of(drawing: Drawing, number: int) -> int:
+    """The level that an element counts on: that of its complex chain or shape, and where that is level 0, which is no
+    level of MicroStation's, that of the header above; of a complex shape on level 0 that of its first member that has
+    another one."""
+    parents, levels, types = drawing.nesting.parents, drawing.elements.levels, drawing.elements.types
+    at = number
+    while parents[at] >= 0 and (levels[at] == 0 or types[parents[at]] in classes.JOINED):
+        at = parents[at]
+    if levels[at] == 0 and types[at] in classes.JOINED:
+        below = (levels[it] for it in drawing.nesting.part(at) if levels[it] and it not in drawing.dead)
+        return next(below, 0)
+    return levels[at]
 
 
 def length_of(points: Sequence[Point]) -> float:
     """The length of a way through points."""
     return sum(math.dist(a, b) for a, b in zip(points, points[1:]))
-
-
-def area_of(points: Sequence[Point]) -> float:
-    """The area of an outline, on x and y."""
-    ring = [*points, *points[:1]]
-    return abs(sum(a[0] * b[1] - b[0] * a[1] for a, b in zip(ring, ring[1:]))) / 2
