@@ -9,6 +9,7 @@ import { isSpline } from './nesting.js';
 import { CLASS, CLASS_OF, SPLINE_PARTS } from './tables.js';
 
 const COMPLEX = new Set([12, 14, 18, 19]);
+const LOOSE_MOST = 1000;          // of more loose headers before an orphan it isn't asked which ranges hold it
 
 /** @typedef {import('./drawing.js').Drawing} Drawing */
 
@@ -186,7 +187,7 @@ class MendingWalk {
      */
     mayBelong(number) {
         if (this.loose.length === 0 || (COMPLEX.has(this.records.type[number])
-            && !this.loose.some((it) => this.holds(it, number)))) {
+            && this.loose.length <= LOOSE_MOST && !this.loose.some((it) => this.holds(it, number)))) {
             return false;
         }
         this.left.push({ number, why: 'orphan whose own members match, but it may belong to the loose header '

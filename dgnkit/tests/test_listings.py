@@ -1,10 +1,12 @@
 """Listings: each kind of line by itself, lines that aren't understood, and all kinds of the program's."""
 
+import time
 import unittest
 from typing import Callable, Iterator, List, Tuple
 
 import samples
 from dgnkit import ListingError
+from dgnkit.format.walking import elements_in
 from dgnkit.program.answers import answers_of
 from dgnkit.program.listings import (
     chosen_of,
@@ -14,44 +16,26 @@ from dgnkit.program.listings import (
     nodes_of,
     references_of,
 )
-from dgnkit.program.rows import counts_of, elements_of
-
-
-def said(lines: List[str]) -> bytes:
-    """What the program says with these lines."""
-    return ''.join(it + '\n' for it in lines).encode('ascii')
 
 
 class Lines(unittest.TestCase):
-    def test_elements_and_counts(self) -> None:
-        rows = ['0 0 1536 9 8 --', '1 1536 52 3 11 c-', '2 1588 92 2 10 cd']
-        counts = ['level 8 1', 'level 11 1', 'level 10 1', 'type 9 1', 'type 3 1', 'type 2 1']
-        made = elements_of(said([*rows, *counts, 'elements 3']), bytes(1680), 2)
-        self.assertEqual([(it.number, it.offset, it.size, it.type, it.level) for it in made][1], (1, 1536, 52, 3, 11))
-        self.assertEqual([(it.has_c, it.is_deleted) for it in made], [(False, False), (True, False), (True, True)])
-        self.assertEqual(counts_of(counts), ({8: 1, 11: 1, 10: 1}, {9: 1, 3: 1, 2: 1}))
+    def test_elements_of_a_file(self) -> None:
+        line, cell = samples.drawings.line(), samples.plan.valve(10, 500, 0, 20)
+        file = samples.drawings.drawing(samples.drawings.deleted(line), cell)
+        made = elements_in(file, 2)
+        self.assertEqual([(it.number, it.offset, it.size) for it in made][1:3], [(1, 1536, 52), (2, 1588, 92)])
+        self.assertEqual([(it.type, it.level) for it in made], [(9, 8), (3, 1), (2, 10), (3, 11), (3, 11)])
+        self.assertEqual([it.has_c for it in made], [False, False, False, True, True])
+        self.assertEqual([it.is_deleted for it in made], [False, True, False, False, False])
+        self.assertEqual(len(elements_in(file[:-2], 2)), 5)
 
-    def test_elements_that_can_not_be_the_drawing_s(self) -> None:
-        good = ['0 0 1536 9 8 --', '1 1536 52 3 11 --']
-        counts = ['level 8 1', 'level 11 1', 'type 9 1', 'type 3 1']
-        data = bytes(1588) + b'\xff\xff'
-        self.assertEqual(len(elements_of(said([*good, *counts, 'elements 2']), data, 2)), 2)
-        wrong = [
-            ([good[0], '1 1540 52 3 11 --', *counts, 'elements 2'], data),
-            ([good[0], '2 1536 52 3 11 --', *counts, 'elements 2'], data),
-            ([good[0], '1 1536 52 3 64 --', *counts, 'elements 2'], data),
-            ([good[1], good[0], *counts, 'elements 2'], data),
-            ([*good, *counts, 'elements 3'], data),
-            ([*good, *counts], data),
-            ([*good, *counts[:3], 'type 3 2', 'elements 2'], data),
-            ([*good, *counts, 'elements 2'], bytes(1700)),
-            ([*good, *counts, 'elements 2'], bytes(1500)),
-            (['elements 0'], b''),
-            (['refused few'], b''),
-        ]
-        for lines, content in wrong:
-            with self.assertRaises(ListingError, msg=lines):
-                elements_of(said(lines), content, 2)
+    def test_a_file_that_ends_within_an_element(self) -> None:
+        file = samples.drawings.drawing(samples.drawings.line())[:-2]
+        for end in (*range(1537, 1588), 1, 3, 1535):
+            with self.assertRaises(ValueError, msg=end):
+                elements_in(file[:end], 2)
+        with self.assertRaises(ValueError):
+            elements_in(file + b'\0', 2)
 
     def test_items(self) -> None:
         path = item_of('3 1 3 11 5 2 7 path 480,-20 520,20')
@@ -86,7 +70,6 @@ class Lines(unittest.TestCase):
 
     def test_a_line_that_is_not_understood_is_an_error(self) -> None:
         wrong: List[Tuple[Callable[[str], object], List[str]]] = [
-            (lambda it: elements_of(said([it]), b'', 2), ['1 2 3 4 5', '1 2 3 4 5 x-', 'levels 1 2', '']),
             (item_of, ['', '1 2 3', '1 0 3 1 0 0 0 arc 1,2', '1 0 3 1 0 0 0 path 1,2 3', '1 0 2 1 0 0 0 cell VLV 1,2']),
             (item_of, ['1 0 12 1 0 0 0 group 1,2', '1 0 27 1 0 0 0 box 1,2', '1 0 17 1 0 0 0 text 7,8']),
             (lambda it: nodes_of([it]), ['1 0 12 1 twig live', '1 0 12 1 leaf live lost', 'tree 1']),
@@ -150,6 +133,33 @@ class OfTheProgram(samples.WithProgram):
                     else:
                         self.assertEqual(item.points, element.points)
                     self.assertEqual(item.depth, drawing.nesting.depths[item.number])
+
+    def test_the_elements_are_those_of_the_listing(self) -> None:
+        for name, drawing in self.drawings():
+            with self.subTest(name):
+                answers = self.program.listed(drawing.path, samples.Script([b'elements']))
+                rows = [
+                    '%d %d %d %d %d %s%s'
+                    % (it.number, it.offset, it.size, it.type, it.level, '-c'[it.has_c], '-d'[it.is_deleted])
+                    for it in drawing.elements
+                ]
+                self.assertEqual([it for it in answers[0].lines if it[0].isdigit()], rows)
+
+    def test_nested_headers_behind_many_orphans_take_little_time(self) -> None:
+        """Each orphan is a root, and each header holds all behind it: their trees together would have a billion
+        lines."""
+        orphans = [samples.plan.line(1, (it, 0), (it, 9), True) for it in range(9000)]
+        nested: List[bytes] = []
+        size = 0
+        while size < 65000:
+            header = samples.drawings.with_total(samples.drawings.element(12, 1, 40, True), (40 + 2 * size - 38) // 2)
+            nested.insert(0, header)
+            size += 20
+        drawing = self.opened(samples.drawings.drawing(*orphans, *nested, *nested, *nested))
+        began = time.monotonic()
+        self.assertEqual(max(drawing.nesting.depths), len(nested) - 1)
+        self.assertEqual(len(drawing.nesting.orphans), len(orphans) + 3)
+        self.assertLess(time.monotonic() - began, 10)
 
     def test_trees_are_those_of_each_element_asked_by_itself(self) -> None:
         for name, drawing in self.drawings():

@@ -205,10 +205,12 @@ class Drawing:
     def dead(self) -> Set[int]:
         """The elements that are marked deleted, or stand below a header that is."""
         marked = self.elements.deleted()
-        made = set(marked)
+        made, end = set(marked), 0
         for number in marked:
-            if self.elements.types[number] in classes.HEADERS:
-                made.update(self.nesting.part(number))
+            if number >= end and self.elements.types[number] in classes.HEADERS:
+                part = self.nesting.part(number)
+                made.update(part)
+                end = part.stop
         return made
 
     @cached_property

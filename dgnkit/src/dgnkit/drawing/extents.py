@@ -3,7 +3,9 @@ columns of words."""
 
 from __future__ import annotations
 
+import sys
 from array import array
+from itertools import compress
 from typing import AbstractSet, Dict, List, Optional, Tuple
 
 from ..format import classes
@@ -11,7 +13,7 @@ from ..format.elements import Elements
 from ..format.numbers import OFFSET, Point
 
 Extent = Tuple[Point, Point]
-WORDS = 12  # of a range
+RANGE = 6  # numbers in a range
 IS_DRAWN = bytes(kind in classes.DRAWN for kind in range(256))
 HAS_COUNT = bytes(kind in classes.VERTICES and kind != classes.LINE for kind in range(256))
 
@@ -20,30 +22,37 @@ def extent_of(elements: Elements, left: AbstractSet[int], hulls: Dict[int, Exten
     """The least box that holds what is drawn but for the elements that are left out: by stored ranges, or by the hulls
     of those that have one. None where nothing is drawn."""
     data = elements.data
-    ranges = [
-        data[at + 4 : at + 28]
-        for number, (kind, at) in enumerate(zip(elements.types, elements.offsets))
-        if IS_DRAWN[kind]
-        and not (HAS_COUNT[kind] and data[at + 36] == data[at + 37] == 0)
-        and number not in left
-        and number not in hulls
-    ]
-    words = array('H', b''.join(ranges))
+    chosen = bytearray(elements.types.translate(IS_DRAWN))
+    for number in _without_points(elements):
+        chosen[number] = 0
+    for number in (*left, *hulls):
+        chosen[number] = 0
+    ranges = _numbers(b''.join([data[at + 4 : at + 28] for at in compress(elements.offsets, chosen)]))
     boxes: List[Extent] = [hull for number, hull in hulls.items() if number not in left]
     if ranges:
         axes = range(elements.axes)
-        low = tuple(_number(min(_column(words, 2 * it))) for it in axes)
-        boxes.append((low, tuple(_number(max(_column(words, WORDS // 2 + 2 * it))) for it in axes)))
+        low = tuple(min(ranges[it::RANGE]) - OFFSET for it in axes)
+        boxes.append((low, tuple(max(ranges[it + 3 :: RANGE]) - OFFSET for it in axes)))
     if not boxes:
         return None
     lows, highs = zip(*boxes)
     return tuple(map(min, zip(*lows))), tuple(map(max, zip(*highs)))
 
 
-def _column(words: array[int], place: int) -> zip[Tuple[int, int]]:
-    """The range numbers that stand at one place of all ranges, as their words, the high one first."""
-    return zip(words[place::WORDS], words[place + 1 :: WORDS])
+def _without_points(elements: Elements) -> List[int]:
+    """The numbers of the line strings, shapes and curves that have no point."""
+    data, numbers = elements.data, range(len(elements))
+    counted = elements.types.translate(HAS_COUNT)
+    places = zip(compress(numbers, counted), compress(elements.offsets, counted))
+    return [number for number, at in places if data[at + 36] == data[at + 37] == 0]
 
 
-def _number(pair: Tuple[int, int]) -> int:
-    return pair[0] * 65536 + pair[1] - OFFSET
+def _numbers(content: bytes) -> array[int]:
+    """Range numbers without their offset, one behind the other: each of two words, the high one first."""
+    swapped = bytearray(len(content))
+    for place in range(4):
+        swapped[place::4] = content[place ^ 2 :: 4]
+    made = array('I', bytes(swapped))
+    if sys.byteorder == 'big':
+        made.byteswap()
+    return made

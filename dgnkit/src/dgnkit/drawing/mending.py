@@ -15,6 +15,8 @@ from .changes import Change
 from .drawing import Drawing
 from .reach import Reach, bytes_of
 
+LOOSE_MOST = 1000  # of more loose headers before an orphan it isn't asked which ranges hold it
+
 
 @dataclass
 class Left:
@@ -136,11 +138,15 @@ class _Walk:
     def may_belong(self, element: Element) -> bool:
         """Whether an orphan may be a member of a loose header before it, and then is left. A complex chain, shape,
         surface or solid that doesn't lie in that header's range is none; GDAL sets bit C of each such at the root."""
-        if not self.loose or (element.type in classes.COMPLEX and not any(holds(it, element) for it in self.loose)):
+        if not self.loose or (element.type in classes.COMPLEX and not self.may_hold(element)):
             return False
         said = 'orphan whose own members match, but it may belong to the loose header %d before it'
         self.made.left.append(Left(element, said % self.loose[-1].number))
         return True
+
+    def may_hold(self, element: Element) -> bool:
+        """Whether an element lies in the range of a loose header before it, or there are too many of these to ask."""
+        return len(self.loose) > LOOSE_MOST or any(holds(it, element) for it in self.loose)
 
     def stay_loose(self, element: Element, reach: Reach, is_root: bool) -> int:
         """Tells of a header that stays loose, and gives where to go on."""

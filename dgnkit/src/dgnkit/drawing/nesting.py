@@ -13,8 +13,7 @@ from ..format.elements import Elements
 from ..program.answers import Answer
 from ..program.listings import Node, nodes_of
 from ..program.script import Script
-
-FIRST = 8  # so many trees of what has bit C are asked for at first
+from .reach import Rows
 
 
 @dataclass
@@ -89,24 +88,44 @@ class Nesting:
 
 def read_nesting(ask: Callable[[Script], List[Answer]], elements: Elements) -> Nesting:
     """Asks for all trees that aren't sure to be a leaf alone. Without bit C an element is a root, and a leaf where its
-    type is no header's. What has bit C and is in no tree of these is an orphan, or stands below one: these are asked
-    for in rounds, twice as many at once each time, without those that stand below others."""
+    type is no header's. What has bit C and is in no tree of these is an orphan, or stands below one: of these only the
+    headers are asked for, and not those that an orphan before them seems to hold."""
     nesting = Nesting.of_leaves(len(elements))
     rest = set(elements.with_c())
     heads = [it for it in elements.of_types(classes.HEADERS) if it and it not in rest]
     for tree in _trees(ask, elements, heads):
         nesting.take(tree)
         rest.difference_update(it.number for it in tree)
-    waiting, size = sorted(rest), FIRST
-    while waiting:
-        asked, below = waiting[:size], -1
-        for tree in _trees(ask, elements, asked):
-            if tree[0].number > below:
-                nesting.take(tree)
-                below = tree[-1].number
-        waiting = [it for it in waiting[size:] if it > below]
-        size *= 2
+    waiting = sorted(rest)
+    rows = Rows(elements) if waiting else None
+    while waiting and rows is not None:
+        waiting = _take_orphans(ask, nesting, rows, waiting)
     return nesting
+
+
+def _take_orphans(ask: Callable[[Script], List[Answer]], nesting: Nesting, rows: Rows, waiting: List[int]) -> List[int]:
+    """Takes in the trees of what has bit C and isn't in a tree yet, and gives what is left, which is nothing where all
+    trees end where they seem to."""
+    elements = rows.elements
+    asked, below = [], 0
+    for number in waiting:
+        if number >= below and elements.types[number] in classes.HEADERS:
+            asked.append(number)
+            below = rows.seeming_end(number)
+    trees = _trees(ask, elements, asked)
+    heads, below = set(asked), 0
+    for place, number in enumerate(waiting):
+        if number < below:
+            continue
+        if number in heads:
+            tree = next(trees)
+            nesting.take(tree)
+            below = tree[-1].number + 1
+        elif elements.types[number] in classes.HEADERS:
+            return waiting[place:]
+        else:
+            nesting.orphans.add(number)
+    return []
 
 
 def _trees(ask: Callable[[Script], List[Answer]], elements: Elements, numbers: Sequence[int]) -> Iterator[List[Node]]:

@@ -3,12 +3,14 @@
 from __future__ import annotations
 
 from bisect import bisect_left
-from typing import List, Optional, Tuple
+from typing import Dict, List, Optional, Tuple
 
+from ..format import classes
 from ..format.elements import BIT_C, Elements
 from ..format.limits import TOTAL_MOST
+from ..format.tables import BEFORE_TOTAL
 
-BEFORE_TOTAL = 38  # bytes up to the end of the total itself
+ALIKE = 2 * (TOTAL_MOST + 1)  # by so many bytes more a total has the same lower word
 
 
 def bytes_of(total: int) -> int:
@@ -55,12 +57,13 @@ class Reach:
     def wrapped(self) -> Optional[int]:
         """How many members there are, where a total of more than one word would fit whose lower word stands there, with
         or without the header's own attribute data."""
-        for high in range(TOTAL_MOST + 1, (self.size(self.most) - BEFORE_TOTAL) // 2 + 1, TOTAL_MOST + 1):
-            for total in (high + self.total, high + self.total + self.own_words):
-                count = self.count_of(bytes_of(total))
-                if count is not None:
-                    return count
-        return None
+        found = []
+        for total in (self.total, self.total + self.own_words):
+            start = self.element.offset + bytes_of(total + TOTAL_MOST + 1)
+            number = self.rows.next_alike(start, self.end)
+            if number is not None:
+                found.append((self.rows.starts[number] - 2 * total, total, number - self.header - 1))
+        return min(found)[2] if found else None
 
     def near_totals(self) -> List[Tuple[int, int]]:
         """The nearest totals that would fit, below and above the one that stands there, each with its members."""
@@ -81,8 +84,31 @@ class Rows:
 
     def __init__(self, elements: Elements) -> None:
         self.elements = elements
+        self._alike: Dict[int, List[int]] = {}
         self.starts = [*elements.offsets, elements.end]
         self.run_ends = [len(elements)] * (len(elements) + 1)
         for number in range(len(elements) - 1, -1, -1):
             has_c = elements.marks[number] & BIT_C
             self.run_ends[number] = self.run_ends[number + 1] if has_c else number
+
+    def seeming_end(self, number: int) -> int:
+        """Where the tree of a header with bit C that is a root seems to end, as far as its own fields tell."""
+        kind, end = self.elements.types[number], number + 1
+        if kind in classes.COUNTED:
+            reach = Reach(self, number, len(self.elements))
+            return end + (reach.count_of(bytes_of(reach.total)) or 0)
+        if kind == classes.DEFINITION:
+            return self.run_ends[end]
+        while end < self.run_ends[number] and self.elements.types[end] in classes.SPLINE_PARTS:
+            end += 1
+        return end
+
+    def next_alike(self, start: int, end: int) -> Optional[int]:
+        """The first element at or behind a byte, up to the number `end`, that begins as many bytes behind it as some
+        number of totals has that are one too many for a word."""
+        if not self._alike:
+            for number, it in enumerate(self.starts):
+                self._alike.setdefault(it % ALIKE, []).append(number)
+        numbers = self._alike.get(start % ALIKE, [])
+        at = bisect_left(numbers, bisect_left(self.starts, start))
+        return numbers[at] if at < len(numbers) and numbers[at] <= end else None

@@ -3,9 +3,11 @@ them when it is asked for."""
 
 from __future__ import annotations
 
+import sys
 from array import array
-from itertools import accumulate
-from typing import Iterator, List, Sequence, Union, overload
+from collections import Counter
+from itertools import accumulate, compress
+from typing import Dict, Iterator, List, Sequence, Union, overload
 
 from . import classes
 from .element import LOCK_BYTE, Element
@@ -13,6 +15,8 @@ from .element import LOCK_BYTE, Element
 BIT_C, DELETED = 1, 2
 NOT_C = bytes([0, DELETED])  # the marks of elements without bit C
 YES_NO = (False, True)
+IS_LOUD = bytes(kind in classes.LOUD for kind in range(256))
+IS_ODD = bytes(it & 1 for it in range(256))
 
 
 class Elements(Sequence[Element]):
@@ -84,13 +88,21 @@ class Elements(Sequence[Element]):
 
     def locked_count(self) -> int:
         """How many elements are locked."""
-        data = self.data
-        loud = bytes(kind in classes.LOUD for kind in range(256))
-        found = [data[at + LOCK_BYTE] for at, kind in zip(self.offsets, self.types) if loud[kind]]
-        return sum(it & 1 for it in found) if max(found, default=0) else 0
+        places = map(LOCK_BYTE.__add__, compress(self.offsets, self.types.translate(IS_LOUD)))
+        return bytes(map(self.data.__getitem__, places)).translate(IS_ODD).count(1)
+
+    def counts(self) -> Dict[int, Dict[int, int]]:
+        """How many elements each level has of each type, in the order in which they are first seen."""
+        pairs = bytearray(2 * len(self))
+        pairs[0::2], pairs[1::2] = self.levels, self.types
+        made: Dict[int, Dict[int, int]] = {}
+        for pair, count in Counter(array('H', bytes(pairs))).items():
+            level, kind = pair.to_bytes(2, sys.byteorder)
+            made.setdefault(level, {})[kind] = count
+        return made
 
     def of_types(self, kinds: frozenset[int]) -> Iterator[int]:
         """The numbers of the elements of some types."""
         if kinds.isdisjoint(set(self.types)):
             return iter(())
-        return (number for number, kind in enumerate(self.types) if kind in kinds)
+        return compress(range(len(self)), self.types.translate(bytes(kind in kinds for kind in range(256))))

@@ -13,9 +13,9 @@ from typing import List, Optional, Sequence, Union
 
 from ..errors import ListingError, MissingProgram, ending_of
 from ..format.elements import Elements
+from ..format.walking import elements_in
 from ..waiting import doing
 from .answers import Answer
-from .rows import elements_of
 from .script import Script
 
 Name = Union[str, Path]
@@ -83,11 +83,15 @@ class Program:
         return answers
 
     def elements(self, drawing: Name, data: bytes, axes: int) -> Elements:
-        """The elements of a drawing whose bytes are `data`. It raises an Ending where it doesn't open."""
-        ran = self.run('edit', drawing, '/dev/stdin', NOWHERE, given=b'elements\n')
-        if ran.status not in (0, 1):
-            raise ending_of(ran.status, ran.said, str(drawing))
-        return elements_of(ran.output, data, axes)
+        """The elements of a drawing whose bytes are `data`. It raises an Ending where the program doesn't open it."""
+        count = self.check(drawing)
+        try:
+            made = elements_in(data, axes)
+        except ValueError as why:
+            raise ListingError('dgnedit opened %s, but %s' % (drawing, why))
+        if len(made) != count:
+            raise ListingError('dgnedit found %d elements in %s, where there are %d' % (count, drawing, len(made)))
+        return made
 
     def listed(self, drawing: Name, script: Script) -> List[Answer]:
         """The answers of a script of any length that lists and sets fences alone, cut in as many runs as it takes. It
