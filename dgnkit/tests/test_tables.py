@@ -1,5 +1,5 @@
-"""The tables of the app that are made of the definitions in crates/: beside docs/FORMAT.md and what the companion goes
-by, and what is said where a definition changes."""
+"""The tables of the app and of the companion that are made of the definitions in crates/: beside the documents, and
+what is said where a definition changes."""
 
 from __future__ import annotations
 
@@ -15,10 +15,15 @@ from typing import Any, Dict, Iterator, List, Tuple
 
 from samples import TOP
 
-from dgnkit.format import classes, limits, patch, radix50, tcb
-from dgnkit.format.element import LINKED, LOCK_BYTE, Element
+from dgnkit.explain.refusals import EXPLAIN
+from dgnkit.format import tables as companion
+from dgnkit.format.element import Element
+from dgnkit.program.grammar import FORMS, OWN_FORMS
 
-TABLES, TOOL = 'web/tables.js', 'tools/make_tables'
+TABLES, COMPANION = 'web/tables.js', 'dgnkit/src/dgnkit/format/tables.py'
+TOOL, READER = 'tools/make_tables', 'tools/format_facts.py'
+EDITS, TEXTS = 'crates/edit_script/specs/Edits.antt', 'crates/dgn_answers/specs/Texts.antt'
+COMMANDS = 'crates/edit_script/specs/CommandNames.antt'
 PROPERTIES = 32  # where the word of properties stands
 CLASSES, SPOTS = 'crates/dgn_layout/specs/Classes.antt', 'crates/dgn_layout/specs/Spots.antt'
 NESTING, PLANE = 'crates/dgn_drawing/specs/Nesting.antt', 'crates/range_code/specs/Plane.antt'
@@ -35,9 +40,9 @@ def tables() -> Dict[str, Any]:
     return made
 
 
-def rows(heading: str) -> List[List[str]]:
-    """The fields of the rows of the first table below a heading of docs/FORMAT.md."""
-    part = (TOP / 'docs' / 'FORMAT.md').read_text('utf-8').partition('\n## %s\n' % heading)[2].partition('\n## ')[0]
+def rows(heading: str, document: str = 'FORMAT.md') -> List[List[str]]:
+    """The fields of the rows of the first table below a heading of a document."""
+    part = (TOP / 'docs' / document).read_text('utf-8').partition('\n## %s\n' % heading)[2].partition('\n## ')[0]
     lines = [line for line in part.split('\n') if line.startswith('|')]
     return [[field.strip() for field in line.strip('|').split('|')] for line in lines[2:]]
 
@@ -102,13 +107,12 @@ class Made(unittest.TestCase):
                 for axes, place in zip((2, 3), places):
                     yield kind, field, axes, kinds_in(place)[0]
 
-    def test_classes_as_the_companion_has_them(self) -> None:
-        self.assertEqual([self.class_of(kind) for kind in range(128)], [classes.class_of(kind) for kind in range(128)])
-        self.assertEqual(set(self.made['SPLINES']), classes.SPLINES)
-        self.assertEqual(set(self.made['SPLINE_PARTS']), classes.SPLINE_PARTS)
-        self.assertEqual(self.made['SHARED_CELL'], classes.DEFINITION)
+    def test_the_companion_has_the_same(self) -> None:
+        for name, value in self.made.items():
+            there = getattr(companion, name)
+            self.assertEqual(list(there) if isinstance(there, bytes) else there, value, name)
 
-    def test_places_as_the_companion_has_them(self) -> None:
+    def test_places_as_the_companion_takes_them(self) -> None:
         for axes, starts in self.starts.items():
             for kind, count in enumerate(self.made['COUNTS']):
                 counted = b'\x03\x01'
@@ -119,18 +123,14 @@ class Made(unittest.TestCase):
                 self.assertEqual(element.points_count, wanted, kind)
                 self.assertEqual(element.text_place, self.texts[axes])
 
-    def test_values_as_the_companion_has_them(self) -> None:
-        self.assertEqual(self.made['LINKED'], LINKED)
-        self.assertEqual(self.made['LOCKED'], 1 << 8 * (LOCK_BYTE - PROPERTIES))
-        self.assertEqual((self.made['LEAST'], self.made['GREATEST']), (limits.PLANE_LOW, limits.PLANE_HIGH))
-        self.assertEqual(tuple(map(bytes, self.made['TCB_FRONTS'])), tcb.FRONTS)
-        for axes in (2, 3):
-            file = bytearray(tcb.SIZE)
-            file[self.made['AXES_AT']] = self.made['AXES_BIT'] * (axes - 2)
-            self.assertEqual(tcb.Tcb.read(bytes(file)).axes, axes)
-        self.assertEqual((self.made['SIGNS'], self.made['SIGNLESS']), (radix50.SIGNS, radix50.SIGNLESS))
-        self.assertEqual(self.made['PATCH_MARK'].encode('ascii'), patch.MARK)
-        self.assertEqual(self.made['FIELD_LONGEST'], patch.FIELD_LONGEST)
+    def test_commands_as_the_document_has_them(self) -> None:
+        said = ' '.join(it[0] for it in rows('The commands', 'EDITING.md'))
+        wanted = [[name, *form.split()] for name, forms in companion.COMMANDS.items() for form in forms]
+        self.assertEqual(sorted(re.findall('`([^`]+)`', said)), sorted(' '.join(it).replace('-', '') for it in wanted))
+        self.assertEqual({*FORMS, *OWN_FORMS}, set(companion.COMMANDS))
+
+    def test_each_cause_has_a_sentence(self) -> None:
+        self.assertEqual(set(EXPLAIN), set(companion.CAUSES))
 
     def test_bits_as_the_document_has_them(self) -> None:
         (properties,) = [it[1] for it in rows('The element') if it[0] == str(PROPERTIES)]
@@ -150,8 +150,9 @@ class Planted(unittest.TestCase):
     def setUp(self) -> None:
         self.top = Path(tempfile.mkdtemp(prefix='dgnkit-'))
         self.addCleanup(shutil.rmtree, self.top)
-        self.sources = re.findall(r'crates/[\w/]+\.(?:antt|rt)', (TOP / TABLES).read_text('utf-8').partition('*/')[0])
-        for path in (TABLES, TOOL, *self.sources):
+        heading = (TOP / COMPANION).read_text('utf-8').split('"""')[1]
+        self.sources = re.findall(r'crates/[\w/]+\.(?:antt|rt)', heading)
+        for path in (TABLES, COMPANION, TOOL, READER, *self.sources):
             (self.top / path).parent.mkdir(parents=True, exist_ok=True)
             shutil.copy(TOP / path, self.top / path)
 
@@ -188,8 +189,14 @@ class Planted(unittest.TestCase):
             (PLANE, 'pos 2147483647', 'pos 2147483646', 'GREATEST'),
             (LINKAGES, 'const DMRS: usize = 8;', 'const DMRS: usize = 6;', 'DMRS_LENGTH'),
             (SIGNS, 'XYZ$.%01', 'XYZ$%.01', 'SIGNS'),
+            (EDITS, 'number_within 4294967295 word', 'number_within 4294967294 word', 'NUMBER_MOST'),
+            (EDITS, '`move N D D`', '`move N D`', 'COMMANDS'),
+            (COMMANDS, '    ∷ (codes "fit", names.Fit)\n', '', 'COMMANDS'),
+            (TEXTS, 'nat_lt 256', 'nat_lt 255', 'CORNERS_MOST'),
         ]:
-            self.told(path, old, new, '%s: %s is not what the sources say' % (TABLES, name))
+            self.told(
+                path, old, new, '%s: %s is not what the sources say' % (TABLES if name in tables() else COMPANION, name)
+            )
 
     def test_another_form(self) -> None:
         for path, old, new, wanted in [
@@ -207,6 +214,12 @@ class Planted(unittest.TestCase):
             (PLANE, 'is_on_plane v =', '-- is_on_plane v =', 'stands there 0 times'),
             (LINKAGES, 'const FEWEST: usize = 4;', 'const FEWEST: usize = 4;\nconst FEWEST: usize = 4;', '2 times'),
             (SIGNS, '%0123456789"', '%012345678"', '64000 is not how many words three of 39 signs make'),
+            (
+                EDITS,
+                '-- `move N D D`, `move N D D D`, by its words',
+                '-- by its words',
+                'no form of move_command stands',
+            ),
         ]:
             self.told(path, old, new, wanted)
 
@@ -220,11 +233,12 @@ class Planted(unittest.TestCase):
             (self.top / path).write_text(text, encoding='utf-8')
 
     def test_a_module_that_was_changed_by_hand_is_made_anew(self) -> None:
-        self.told(TABLES, 'LOCKED = 0x100', 'LOCKED = 0x200', TABLES + ': LOCKED is not')
-        (self.top / TABLES).write_text((TOP / TABLES).read_text('utf-8') + '\n', encoding='utf-8')
-        self.tells(TABLES)
-        self.assertEqual(self.check(), (0, ''))
-        self.assertEqual((self.top / TABLES).read_bytes(), (TOP / TABLES).read_bytes())
+        for path in (TABLES, COMPANION):
+            self.told(path, 'LOCKED = 0x100', 'LOCKED = 0x200', path + ': LOCKED is not')
+            (self.top / path).write_text((TOP / path).read_text('utf-8') + '\n', encoding='utf-8')
+            self.tells(path)
+            self.assertEqual(self.check(), (0, ''))
+            self.assertEqual((self.top / path).read_bytes(), (TOP / path).read_bytes())
 
 
 if __name__ == '__main__':

@@ -4,30 +4,28 @@ from __future__ import annotations
 
 from typing import Dict, FrozenSet
 
-LINE, STRING, SHAPE, CURVE = 3, 4, 6, 11
-CELL, NODE, TEXT, GROUP_DATA, DEFINITION = 2, 7, 17, 5, 34
-CHAIN, COMPLEX_SHAPE = 12, 14
+from . import tables
 
-# The class of each type that has one; all others from 0 to 127 are silent.
+LINE, STRING, SHAPE, CURVE = 3, 4, 6, 11
+CELL, NODE, TEXT, GROUP_DATA, DEFINITION = 2, 7, 17, 5, tables.SHARED_CELL
+CHAIN, COMPLEX_SHAPE, SPLINE_CURVE = 12, 14, 27
+
+# The types of each class.
 CLASSES: Dict[str, FrozenSet[int]] = {
-    'vertices': frozenset([LINE, STRING, SHAPE, CURVE]),
-    'words': frozenset([TEXT]),
-    'counted': frozenset([CELL, NODE, CHAIN, COMPLEX_SHAPE, 18, 19]),
-    'run': frozenset([24, 27, DEFINITION]),
-    'floating': frozenset([15, 16, 23]),
-    'boxed': frozenset([22, 33, 35]),
+    name: frozenset(kind for kind, it in enumerate(tables.CLASS_OF) if it == number)
+    for name, number in tables.CLASS.items()
 }
 VERTICES, WORDS, COUNTED, RUN = (CLASSES[it] for it in ('vertices', 'words', 'counted', 'run'))
-LOUD = frozenset(kind for kinds in CLASSES.values() for kind in kinds)  # all that have a display header
+LOUD = frozenset(range(len(tables.CLASS_OF))) - CLASSES['silent']  # all that have a display header
 
 HEADERS = COUNTED | RUN  # what may have elements below it
-SPLINES = RUN - {DEFINITION}
-SPLINE_PARTS = frozenset([21, 25, 26, 28])
+SPLINES = frozenset(tables.SPLINES)
+SPLINE_PARTS = frozenset(tables.SPLINE_PARTS)
 COMPLEX = COUNTED - {CELL, NODE}  # chains, shapes, surfaces, solids
 JOINED = frozenset([CHAIN, COMPLEX_SHAPE])  # headers whose members are one line or one outline
 BY_RANGE = WORDS | CLASSES['floating'] | CLASSES['boxed'] | SPLINES  # what lies where its stored range says
 DRAWN = VERTICES | BY_RANGE  # what is drawn by itself, and not by its members
-MOST = 127  # the greatest type
+MOST = len(tables.CLASS_OF) - 1  # the greatest type
 
 TYPE_NAMES = {
     0: 'nothing',
@@ -69,7 +67,7 @@ TYPE_NAMES = {
 
 def class_of(kind: int) -> str:
     """The class of a type: vertices, words, counted, run, floating, boxed or silent."""
-    return next((name for name, kinds in CLASSES.items() if kind in kinds), 'silent')
+    return next(name for name, kinds in CLASSES.items() if kind in kinds)
 
 
 def type_name(kind: int) -> str:

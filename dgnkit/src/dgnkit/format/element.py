@@ -8,16 +8,17 @@ from dataclasses import dataclass
 from fractions import Fraction
 from typing import List, Optional, Tuple
 
-from . import classes, radix50
+from . import classes, radix50, tables
 from .numbers import OFFSET, Point, long_at, longs_at, points_at, word_at
 
-LINKED = 0x0800
-HOLE = 0x8000
-LOCK_BYTE = 33  # the high byte of the properties, whose lowest bit says locked
+HOLE = 0x8000  # of the properties
+PROPERTIES = 32  # where the word of properties stands
+LOCK_BYTE, LOCK_BIT = PROPERTIES + 1, tables.LOCKED >> 8  # the high byte of it, and the bit of that that says locked
 RANGE = struct.Struct('<12H')
 RANGE_XY = struct.Struct('<4H4x4H')
 Bounds = Tuple[int, int, int, int]
-ORIGINS = {classes.TEXT: (50, 62), classes.NODE: (62, 74), classes.CELL: (84, 112)}  # with two axes and with three
+POINTS_IN = {2: tables.POINTS_IN_PLANE, 3: tables.POINTS_IN_SPACE}
+TEXT_IN = {2: tables.TEXT_IN_PLANE, 3: tables.TEXT_IN_SPACE}
 TEXT_UNIT = Fraction(6, 1000)  # what one of a text's multipliers stands for, in units of resolution
 
 
@@ -77,12 +78,12 @@ class Element:
     @property
     def properties(self) -> int:
         """The word of properties, 0 of a silent element."""
-        return 0 if self.is_silent else word_at(self.data, self.offset + 32)
+        return 0 if self.is_silent else word_at(self.data, self.offset + PROPERTIES)
 
     @property
     def is_locked(self) -> bool:
         """Whether the element is locked."""
-        return self.type in classes.LOUD and bool(self.data[self.offset + LOCK_BYTE] & 1)
+        return self.type in classes.LOUD and bool(self.data[self.offset + LOCK_BYTE] & LOCK_BIT)
 
     @property
     def is_hole(self) -> bool:
@@ -97,7 +98,7 @@ class Element:
     @property
     def linkage_place(self) -> int:
         """Where in the element its attribute data begin: its size where it has none."""
-        if not self.properties & LINKED:
+        if not self.properties & tables.LINKED:
             return self.size
         return 32 + 2 * word_at(self.data, self.offset + 30)
 
@@ -131,7 +132,7 @@ class Element:
     @property
     def has_points(self) -> bool:
         """Whether a line, string, shape or curve has a point."""
-        return self.type == classes.LINE or self.data[self.offset + 36] > 0 or self.data[self.offset + 37] > 0
+        return self.points_count > 0
 
     @property
     def points(self) -> List[Point]:
@@ -144,21 +145,13 @@ class Element:
     @property
     def points_count(self) -> int:
         """How many points there are, or 1 for an origin."""
-        if self.type == classes.LINE:
-            return 2
-        if self.type in classes.VERTICES:
-            return word_at(self.data, self.offset + 36)
-        return 1 if self.points_place is not None else 0
+        count = tables.COUNTS[self.type]
+        return word_at(self.data, self.offset + tables.COUNT_AT) if count == tables.BY_WORD else count
 
     @property
     def points_place(self) -> Optional[int]:
         """Where in the element its points or its origin begin, none where no such are read of its type."""
-        if self.type == classes.LINE:
-            return 36
-        if self.type in classes.VERTICES:
-            return 38
-        places = ORIGINS.get(self.type)
-        return None if places is None else places[self.axes - 2]
+        return POINTS_IN[self.axes][self.type] if tables.COUNTS[self.type] else None
 
     @property
     def total(self) -> Optional[int]:
@@ -175,7 +168,7 @@ class Element:
     @property
     def text_place(self) -> int:
         """Where in a text its characters begin; the byte two before it counts them."""
-        return 60 if self.axes == 2 else 76
+        return TEXT_IN[self.axes]
 
     @property
     def characters(self) -> Optional[bytes]:

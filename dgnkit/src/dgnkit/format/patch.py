@@ -7,9 +7,9 @@ from dataclasses import dataclass, field
 from typing import Dict, Iterable, List, Mapping, Tuple
 
 from ..errors import BadPatch
+from .tables import FIELD_LONGEST, PATCH_MARK
 
-MARK = b'DGNPAT01'
-FIELD_LONGEST = 4
+MARK = PATCH_MARK.encode('ascii')
 
 
 @dataclass(frozen=True)

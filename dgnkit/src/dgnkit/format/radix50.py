@@ -4,8 +4,8 @@ from __future__ import annotations
 
 from typing import Tuple
 
-SIGNS = ' ABCDEFGHIJKLMNOPQRSTUVWXYZ$.%0123456789'
-SIGNLESS = 64000
+from .tables import SIGNLESS, SIGNS
+
 LONGEST = 6
 
 

@@ -4,10 +4,11 @@ from __future__ import annotations
 
 from dataclasses import dataclass
 
+from .tables import AXES_AT, AXES_BIT, TCB_FRONTS
 from .units import Units
 
 SIZE = 1536
-FRONTS = (b'\x08\x09\xfe\x02', b'\xc8\x09\xfe\x02')
+FRONTS = [bytes(it) for it in TCB_FRONTS]
 COMPOUND = b'\xd0\xcf\x11\xe0'
 LIBRARY = b'\x08\x05\x17\x00'
 
@@ -23,7 +24,7 @@ class Tcb:
     @classmethod
     def read(cls, data: bytes) -> Tcb:
         """Reads it from the front of a design file."""
-        return cls(3 if data[1214] & 0x40 else 2, Units.read(data), data[0])
+        return cls(3 if data[AXES_AT] & AXES_BIT else 2, Units.read(data), data[0])
 
 
 def kind_of(data: bytes) -> str:

@@ -6,18 +6,20 @@ import re
 from dataclasses import dataclass
 from typing import Dict, List, Optional, Sequence
 
+from ..format import tables
 from ..format.limits import (
-    BYTE_MOST,
     COLOUR_MOST,
     FARTHEST,
+    FONT_MOST,
+    JUSTIFICATION_MOST,
     LEVEL_MOST,
     MULTIPLIER_MOST,
     NAME_LONGEST,
     NUMBER_MOST,
     PLANE_HIGH,
     PLANE_LOW,
-    POINTS_MOST,
     STYLE_MOST,
+    TEXT_LONGEST,
     WEIGHT_MOST,
 )
 
@@ -25,7 +27,7 @@ PLAIN = re.compile(r'0|[1-9]\d*')
 SIGNED = re.compile(r'0|-?[1-9]\d*')
 BYTE_ORDER_MARK = b'\xef\xbb\xbf'
 DIGITS_MOST = 20  # no number that may stand in a script has more
-MODES = ('inside', 'overlap', 'void')
+MODES = tuple(tables.MODES)
 
 
 # What people look for and the editor has no command for, and what there is for it.
@@ -60,8 +62,8 @@ KINDS = {
     'S': Kind('a style', 0, STYLE_MOST),
     'D': Kind('a displacement', -FARTHEST, FARTHEST),
     'LV': Kind('a level', 0, LEVEL_MOST),
-    'F': Kind('a font', 0, BYTE_MOST),
-    'J': Kind('a justification', 0, BYTE_MOST),
+    'F': Kind('a font', 0, FONT_MOST),
+    'J': Kind('a justification', 0, JUSTIFICATION_MOST),
     'M': Kind('a multiplier', 0, MULTIPLIER_MOST),
     'P': Kind('a coordinate', PLANE_LOW, PLANE_HIGH),
 }
@@ -80,36 +82,28 @@ class Form:
     end: str = ''
 
 
-LOOK = ('LV', 'C', 'W', 'S')
-TEXT = Form((*LOOK, 'F', 'J', 'M', 'M', 'P'))  # and then its characters
-IMPORT = Form(('',), 'D', 0, 3)
-FORMS: Dict[str, Form] = {
-    'move': Form(('N',), 'D', 2, 3),
-    'copy': Form(('N',), 'D', 2, 3),
-    'color': Form(('N', 'C')),
-    'sym': Form(('N', 'C-', 'W-', 'S-')),
-    'delete': Form(('N',)),
-    'line': Form(LOOK, 'P', 2, 2),
-    'string': Form(LOOK, 'P', 2, POINTS_MOST),
-    'shape': Form(LOOK, 'P', 3, POINTS_MOST),
-    'fit': Form(('N',)),
-    'undo': Form(()),
-    'show': Form((), end='shown'),
-    'tree': Form(('N',), end='tree'),
-    'elements': Form((), end='elements'),
-    'refs': Form((), end='refs'),
-    'links': Form(('N',), end='links'),
-    'audit': Form((), end='audit'),
-    'fence': Form((), 'Q', 1, None),
-    'nofence': Form(()),
-    'select': Form(('MODE',), end='selected'),
-    'fmove': Form(('MODE',), 'D', 2, 3),
-    'fcopy': Form(('MODE',), 'D', 2, 3),
-    'fsym': Form(('MODE', 'C-', 'W-', 'S-')),
-    'fdelete': Form(('MODE',)),
-}
+MANY = '..'  # behind a piece of which there may be more
+REPEATED = ('D', 'P', 'Q')  # pieces of which several stand at the end
+# Of the commands that list, the word of the line that ends what they list.
+LISTS = {it: it for it in ('tree', 'elements', 'refs', 'links', 'audit')}
+LISTS.update(show='shown', select='selected')
+
+
+def form_of(name: str, forms: Sequence[str]) -> Form:
+    """The form of a command, of the forms that it may have."""
+    rows = [[it for it in form.split() if it != MANY] for form in forms]
+    kinds = [it for it in rows[0] if it not in REPEATED]
+    counts = [len(it) - len(kinds) for it in rows]
+    least, most = min(counts), None if MANY in forms[0] else max(counts)
+    if name in tables.POINTS_OF:
+        least, most = tables.POINTS_OF[name]
+    return Form(kinds, rows[0][-1] if counts[0] else '', least, most, LISTS.get(name, ''))
+
+
 OWN_FORMS = ('text', 'import', 'levels')  # commands whose pieces have rules of their own
-LISTS = {name: form.end for name, form in FORMS.items() if form.end}
+FORMS: Dict[str, Form] = {name: form_of(name, it) for name, it in tables.COMMANDS.items() if name not in OWN_FORMS}
+TEXT = Form(tables.COMMANDS['text'][0].split()[:-1])  # and then its characters
+IMPORT = Form(('',), 'D', 0, 3)
 
 
 def kinds_of(words: Sequence[str]) -> List[str]:
@@ -239,6 +233,6 @@ def _fault_of_text(line: bytes) -> Optional[str]:
         if fault:
             return fault
     characters = line[found.end() :]
-    if not characters.startswith(b' ') or not 2 <= len(characters) <= BYTE_MOST + 1:
-        return 'a text has 1 to %d characters, after exactly one space' % BYTE_MOST
+    if not characters.startswith(b' ') or not 2 <= len(characters) <= TEXT_LONGEST + 1:
+        return 'a text has 1 to %d characters, after exactly one space' % TEXT_LONGEST
     return None

@@ -13,7 +13,7 @@ from ..drawing.changes import Change
 from ..drawing.drawing import Drawing
 from ..errors import Mistake
 from ..format.element import Element
-from ..format.limits import BYTE_MOST, POINTS_MOST, is_on_plane
+from ..format.limits import TEXT_LONGEST, POINTS_MOST, is_on_plane
 from ..format.numbers import Point, long_bytes, range_bytes
 from ..format.patch import Patch
 from ..format.places import Scale, decimal_of
@@ -113,8 +113,8 @@ class Appender:
             characters = text.encode(encoding)
         except (UnicodeEncodeError, LookupError) as why:
             raise wish.row.mistake("%r can't be written in %s: %s" % (text, encoding, why))
-        if len(characters) > BYTE_MOST:
-            raise wish.row.mistake('its text has %d bytes, and a text has at most %d' % (len(characters), BYTE_MOST))
+        if len(characters) > TEXT_LONGEST:
+            raise wish.row.mistake('its text has %d bytes, and a text has at most %d' % (len(characters), TEXT_LONGEST))
         return characters
 
     def _try(self, made: Appending) -> None:
