@@ -3,6 +3,7 @@
 from __future__ import annotations
 
 import argparse
+import contextlib
 import fnmatch
 import re
 from fractions import Fraction
@@ -15,7 +16,7 @@ from ..format.element import Element
 from ..format.limits import COLOUR_MOST, ELEMENTS_MOST, LEVEL_MOST, STYLE_MOST, WEIGHT_MOST
 from ..format.places import Scale, coordinates
 from ..output import few
-from ..waiting import stopped_after
+from ..waiting import Matcher
 from .drawing import Drawing
 from .fencing import MODES, corners_of, trees_of
 from .nearness import Nearness
@@ -33,8 +34,11 @@ class Conditions:
         self.drawing, self.arguments = drawing, arguments
         self.scale = Scale(drawing.units, arguments.units)
         self.nearness = nearness_of(drawing, arguments, self.scale)
+        self.matcher = matcher_of(arguments)
         self.tests = [*self._listed_tests(), *plain_tests(arguments, self.scale), *self._standing_tests()]
         self.tests += self._place_tests()
+        if self.matcher is not None:
+            self.tests.append(partial(_matches, self.matcher))
 
     @property
     def takes_trees(self) -> bool:
@@ -50,10 +54,10 @@ class Conditions:
         """The numbers of the elements that meet all conditions, or with --trees of the roots of their trees, in file
         order."""
         met: Iterable[Element] = self._likely()
-        with stopped_after('the text search'):
+        with self.matcher.limited() if self.matcher is not None else contextlib.nullcontext():
             for test in self.tests:
                 met = [it for it in met if test(it)]
-            found = [it.number for it in met]
+        found = [it.number for it in met]
         if self.arguments.nearest is not None:
             found = self._nearest(found)
         return self.roots_of(found) if self.takes_trees else found
@@ -182,8 +186,6 @@ def text_tests(arguments: argparse.Namespace) -> List[Test]:
     tests: List[Test] = []
     if arguments.text is not None:
         tests.append(partial(_holds, word_form(arguments.text, arguments.ignore_case)))
-    if arguments.pattern is not None:
-        tests.append(partial(_holds, form_of(arguments.pattern, arguments.ignore_case)))
     if arguments.cell is not None:
         cell = arguments.cell.upper()
         tests.append(lambda it: it.type == classes.CELL and fnmatch.fnmatchcase((it.cell_name or '').upper(), cell))
@@ -196,6 +198,15 @@ def _looks(values: Spans, look: Callable[[Element], int], element: Element) -> b
 
 def _holds(form: re.Pattern[str], element: Element) -> bool:
     return element.type == classes.TEXT and form.search(element.text or '') is not None
+
+
+def matcher_of(arguments: argparse.Namespace) -> Optional[Matcher]:
+    """The regular expression of --pattern, none without it. It raises Mistake where it doesn't compile."""
+    return None if arguments.pattern is None else Matcher(form_of(arguments.pattern, arguments.ignore_case))
+
+
+def _matches(matcher: Matcher, element: Element) -> bool:
+    return element.type == classes.TEXT and matcher.is_in(element.text or '')
 
 
 def _has_size(wanted: Sequence[tuple[str, str]], scale: Scale, element: Element) -> bool:
