@@ -157,6 +157,81 @@ class AsAProcess(samples.WithProgram):
         self.assertEqual((ran.returncode, ran.stdout), (0, b'1\n2\n'))
         self.assertIn('dgnedit is working on %s (2 seconds so far)' % valve, ran.stderr.decode())
 
+    def test_a_signal_that_is_ignored_stays_ignored(self) -> None:
+        slow = self.put('slow', '#!/bin/sh\ntouch "$0.begun"\nsleep 1\nexec %s "$@"\n' % samples.PROGRAM)
+        os.chmod(slow, 0o755)
+        numbers = (signal.SIGHUP, signal.SIGINT, signal.SIGTERM)
+
+        def ignore() -> None:
+            for number in numbers:
+                signal.signal(number, signal.SIG_IGN)
+
+        child = subprocess.Popen(
+            self.words('run', self.example('valve.dgn'), self.put('s', 'color 1 3\n'), self.path('o.dgn')),
+            env=self.place(DGNEDIT=slow),
+            stdout=subprocess.PIPE,
+            stderr=subprocess.PIPE,
+            preexec_fn=ignore,
+        )
+        end = time.monotonic() + 60
+        while not os.path.exists(slow + '.begun') and time.monotonic() < end:
+            time.sleep(0.02)
+        for number in numbers:
+            child.send_signal(number)
+        _, err = child.communicate(timeout=60)
+        self.assertEqual((child.returncode, err), (0, b''))
+        self.assertTrue((self.folder / 'o.dgn').exists())
+
+    def begun_with(self, lines: str, *words: object) -> Ran:
+        """Runs a command behind these lines of Python."""
+        begin = 'import sys; sys.argv = ["dgnkit", *sys.argv[1:]]\n%s\nfrom dgnkit.entry import command; command()'
+        command = [sys.executable, '-c', begin % lines, *map(str, words)]
+        ran = subprocess.run(command, env=self.place(), stdout=subprocess.PIPE, stderr=subprocess.PIPE)
+        return ran.returncode, ran.stdout.decode(), ran.stderr.decode()
+
+    def test_no_thread_can_be_started(self) -> None:
+        lines = 'import threading\ndef start(self): raise RuntimeError("can\'t start new thread")\n'
+        lines += 'threading.Thread.start = start'
+        ran = self.begun_with(lines, 'find', self.example('valve.dgn'), '--level', '10', '--numbers')
+        self.assertEqual(ran, (0, '1\n2\n', 'found 2 of 5 elements\n'))
+
+    def test_no_memory_and_too_deep_at_the_beginning(self) -> None:
+        finder = (
+            'import importlib.abc\nclass Stop(importlib.abc.MetaPathFinder):\n'
+            '    def find_spec(self, name, path, target=None):\n        if name == %r: raise %s\n'
+            'sys.meta_path.insert(0, Stop())'
+        )
+        for name in ('dgnkit.cli', 'dgnkit.waiting', 'dgnkit.commands.info', 'dgnkit.program.rows'):
+            ran = self.begun_with(finder % (name, 'MemoryError'), 'info', self.example('valve.dgn'))
+            self.assertEqual(ran, (2, '', 'dgnkit: there is not enough memory for it\n'), name)
+            ran = self.begun_with(finder % (name, 'RecursionError'), 'info', self.example('valve.dgn'))
+            self.one_line(ran, 'dgnkit: ')
+
+    def test_help_on_a_closed_standard_output(self) -> None:
+        for words in (['--help'], ['find', '--help'], ['--version']):
+            self.one_line(self.shell('"$@" >&-', *words), 'standard output is closed')
+
+    def test_an_interrupt_before_the_beginning(self) -> None:
+        made, stop = self.path('dgnkit'), self.folder / 'stop'
+        subprocess.run([sys.executable, str(samples.TOP / 'tools' / 'make_dgnkit'), made], check=True)
+        stop.mkdir()
+        (stop / 'sitecustomize.py').write_text(
+            'import importlib.abc, os, signal, sys\n'
+            'class Stop(importlib.abc.MetaPathFinder):\n'
+            '    def find_spec(self, name, path, target=None):\n'
+            '        if name == os.environ["AT"]: os.kill(os.getpid(), signal.SIGINT)\n'
+            'sys.meta_path.insert(0, Stop())\n'
+        )
+        for at in ('dgnkit', 'dgnkit.entry', 'dgnkit.cli', 'dgnkit.waiting'):
+            ran = subprocess.run(
+                [sys.executable, made, 'info', self.example('valve.dgn')],
+                env={**os.environ, 'PYTHONPATH': str(stop), 'AT': at},
+                stdout=subprocess.PIPE,
+                stderr=subprocess.PIPE,
+                preexec_fn=heed_signals,
+            )
+            self.assertEqual((ran.returncode, ran.stdout, ran.stderr), (130, b'', b''), at)
+
     def test_signals_leave_nothing(self) -> None:
         for number in (signal.SIGINT, signal.SIGTERM, signal.SIGHUP):
             self.assertEqual(self.stopped(number, 0), 130, number)

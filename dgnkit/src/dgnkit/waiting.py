@@ -100,7 +100,8 @@ def watch() -> None:
                     note('%s (%d seconds so far)' % (Work.at, time.monotonic() - began))
             time.sleep(OFTEN)
 
-    threading.Thread(target=look, daemon=True).start()
+    with contextlib.suppress(RuntimeError):  # where no thread can be started, nothing is said
+        threading.Thread(target=look, daemon=True).start()
 
 
 def told(what: str, items: Iterable[Item], count: int) -> Iterator[Item]:
