@@ -13,7 +13,7 @@ METRIC = (100, 10, ('m', 'cm'), (-5000, 7000, 0))
 class Draw(samples.WithProgram):
     def made(self, words: List[object], status: int = 0) -> samples.Drawing:
         """The drawing that the script and the patch file make."""
-        said = self.said(*words, '-o', self.path('s.txt'), status=status)
+        said = self.said(*words, '-o', self.path('s.txt'), '--force', status=status)
         return samples.Drawing(self.then(said), self.program)
 
     def sheet(self, axes: int = 2) -> str:

@@ -117,9 +117,85 @@ class AsAProcess(samples.WithProgram):
         self.assertEqual((status, '1 command, 0 refused' in out), (0, True))
         self.assertEqual(samples.Drawing(self.path('o.dgn'), self.program).elements[1].colour, 5)
 
+    def takes(self, line: str, *words: str) -> None:
+        """The script or the patch file is run."""
+        status, out, err = self.shell(line, *words)
+        self.assertEqual(status, 0, (line, words, out, err))
+        made = self.folder / 'out' / 'valve.dgn'
+        self.assertEqual(samples.Drawing(str(made), self.program).elements[1].colour, 3, (line, words))
+        made.unlink()
+
+    def test_a_script_that_the_shell_opens_is_run(self) -> None:
+        valve, script, patch = self.example('valve.dgn'), self.put('s.txt', 'color 1 3\n'), self.path('p')
+        self.program.run('pack', valve, script, patch)
+        os.mkfifo(self.path('pipe'))
+        opened = [('"$@" < %s', '/dev/stdin'), ('"$@" 3< %s', '/dev/fd/3'), ('"$@" < %s', '/proc/self/fd/0')]
+        opened += [('"$@" < %s', '-'), ('cat %s | "$@"', '-'), ('cat %s > pipe & timeout 20 "$@"', 'pipe')]
+        for line, name in opened:
+            for file in (script, patch):
+                self.takes(line % file, 'each', name, valve, '--into', 'out')
+                self.takes(line % file, 'run', valve, name, 'out/valve.dgn')
+                self.takes(line % file, 'why', valve, name, 'out/valve.dgn')
+
+    def test_a_script_is_named_as_it_was(self) -> None:
+        valve = self.example('valve.dgn')
+        for name, said, made in (('-', 'standard input', 'a'), ('/dev/stdin', '/dev/stdin', 'b')):
+            _, out, _ = self.shell('exec "$@"', 'why', valve, name, given=b'colour 1 3\n')
+            self.assertTrue(out.startswith('line 1 of %s is bad, so nothing has run' % said), out)
+            _, out, _ = self.shell('exec "$@"', 'run', valve, name, made, given=b'color 1 3\n')
+            self.assertTrue(out.startswith('%s: 1 command, 0 refused' % said), out)
+
+    def test_tables_on_standard_input(self) -> None:
+        valve, feature = self.example('valve.dgn'), '{"features": [{"properties": {"number": 1}}]}'
+        for words, given, wanted in [
+            (['find', valve, '--numbers', '-', '--script', 'color {n} 3'], 'number\n1\n', 'color 1 3\n'),
+            (['script', '--numbers', '-', 'color {n} 3'], feature, 'color 1 3\n'),
+            (['place', valve, 'VLV', '-'], 'x,y\n500,9\n', 'copy 2 0 9\n'),
+            (['draw', valve, '-', '--as', 'line'], 'x,y\n1,2\n3,4\n', 'line 1 0 0 0 1,2 3,4\n'),
+            (['lock', valve, 'lock.patch', '--numbers', '-', '--dry-run'], '1\n', '1 of 5 elements would change\n'),
+        ]:
+            status, out, err = self.shell('exec "$@"', *words, given=given.encode('ascii'))
+            self.assertEqual((status, out.startswith(wanted)), (0, True), (words, out, err))
+        self.one_line(self.shell('"$@"', 'place', valve, 'VLV', '-', given=b'x,y\n1,z\n'), 'standard input, row 2')
+        self.one_line(self.shell('"$@" <&-', 'place', valve, 'VLV', '-'), 'standard input: it is closed')
+        twice = ['run', valve, '-', '-', self.path('o.dgn')]
+        self.one_line(self.shell('"$@"', *twice, given=b'color 1 3\n'), 'standard input: it is named more than once')
+        self.assertFalse((self.folder / 'o.dgn').exists())
+
     def test_a_piped_drawing_is_refused(self) -> None:
         valve = (samples.EXAMPLES / 'valve.dgn').read_bytes()
         self.one_line(self.shell('cat | "$@"', 'info', '/dev/stdin', given=valve), "isn't a file on disk")
+
+    def test_only_files_on_disk_are_drawings(self) -> None:
+        valve, script = self.example('valve.dgn'), self.put('s', 'color 1 3\n')
+        os.mkfifo(self.path('pipe'))
+        line = 'timeout 20 "$@" < ' + valve
+        for name, said in [
+            (self.path('pipe'), "pipe isn't a file on disk (it is a pipe)"),
+            ('/dev/zero', "/dev/zero isn't a file on disk (it is a device)"),
+            ('/dev/stdin', "/dev/stdin isn't a file on disk"),
+            ('-', "standard input isn't a file on disk"),
+        ]:
+            for words in (['run', name, script, 'o.dgn'], ['why', name, script], ['info', name], ['diff', valve, name]):
+                self.one_line(self.shell(line, *words), said)
+            status, out, _ = self.shell(line, 'each', script, name, valve, '--into', 'out', '--force', '--csv')
+            self.assertEqual((status, "isn't a file on disk" in out, ',0,done,' in out), (1, True, True), out)
+        self.assertFalse((self.folder / 'o.dgn').exists())
+
+    def test_only_files_on_disk_are_imported(self) -> None:
+        valve = self.example('valve.dgn')
+        os.mkfifo(self.path('pipe'))
+        line = 'timeout 20 "$@" < ' + valve
+        for name in (self.path('pipe'), '/dev/zero', '/dev/stdin'):
+            script = self.put('i', 'color 1 3\nimport %s\n' % name)
+            said = "%s isn't a file on disk" % name
+            for words in (
+                ['run', valve, script, 'o.dgn'],
+                ['why', valve, script],
+                ['each', script, valve, '--into', 'o'],
+            ):
+                self.one_line(self.shell(line, *words), said)
+        self.assertEqual(sorted(it.name for it in self.folder.iterdir()), ['i', 'pipe', 'valve.dgn'])
 
     def stopped(self, number: int, wait: float) -> int:
         """The status of a command that is stopped by a signal once its program is at work, or after so many seconds."""

@@ -8,12 +8,13 @@ from typing import Optional
 
 from ..drawing.drawing import Drawing
 from ..errors import Mistake
-from ..files import write_files
 from ..format.places import Scale
 from ..output import counted, note, say, say_raw
 from ..propose.appending import Appender, Appending
 from ..propose.wishes import LOOKS, Defaults, Wish
 from ..propose.writing import next_command, script_names
+from ..saving import write_files
+from ._options import add_dry_run, add_output
 
 
 def add_looks(parser: argparse.ArgumentParser) -> None:
@@ -30,8 +31,8 @@ def add_looks(parser: argparse.ArgumentParser) -> None:
     parser.add_argument(
         '--units', choices=('auto', 'master', 'resolution'), default='auto', help='the units of positions and heights'
     )
-    parser.add_argument('-o', '--output', metavar='SCRIPT', default='', help='the script; otherwise it is printed')
-    parser.add_argument('--dry-run', action='store_true', help='say what would be done, and write nothing')
+    add_output(parser)
+    add_dry_run(parser)
 
 
 def defaults_of(arguments: argparse.Namespace, kind: str) -> Defaults:
@@ -51,7 +52,7 @@ def give(drawing: Drawing, scale: Scale, wishes: list[Wish], arguments: argparse
             say(line)
         say('nothing is written; without --dry-run the next command is: ' + next_command(drawing.path, steps))
     elif arguments.output:
-        write_both(made, names, patch)
+        write_both(made, names, patch, arguments.force)
         say('%s: %s' % (', '.join(names), counted(len(made.script.commands), 'command')))
         if made.patch is not None:
             say('%s: %s' % (patch, counted(len(made.patch.entries), 'entry', 'entries')))
@@ -60,12 +61,12 @@ def give(drawing: Drawing, scale: Scale, wishes: list[Wish], arguments: argparse
         give_lines(made, names)
 
 
-def write_both(made: Appending, names: list[str], patch: Optional[str]) -> None:
+def write_both(made: Appending, names: list[str], patch: Optional[str], may_replace: bool) -> None:
     """Writes the script, in as many files as the program reads, and the patch file."""
     contents = {name: part.text for name, part in zip(names, made.script.parts())}
     if patch is not None and made.patch is not None:
         contents[patch] = made.patch.to_bytes()
-    write_files(contents)
+    write_files(contents, may_replace)
 
 
 def patch_name(script: str) -> str:

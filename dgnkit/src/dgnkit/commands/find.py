@@ -15,6 +15,7 @@ from ..format.element import Element
 from ..format.units import shortest
 from ..output import counted, note, say, say_csv, say_json, table
 from ..propose.scripting import LINE_HELP, give_proposal, propose
+from ._options import add_output, target_of
 
 if TYPE_CHECKING:
     from ..cli import Subparsers
@@ -37,7 +38,7 @@ def register(words: Subparsers) -> None:
     form.add_argument('--json', action='store_true', help='print them as JSON')
     form.add_argument('--csv', action='store_true', help='print them as CSV')
     form.add_argument('--script', metavar='LINE', dest='line', help=LINE_HELP)
-    parser.add_argument('-o', '--output', metavar='SCRIPT', default='', help='the file for --script')
+    add_output(parser, 'the file for --script')
     parser.add_argument(
         '--dry-run', action='store_true', help='say in words what the script would do, and write nothing'
     )
@@ -55,7 +56,7 @@ def run(arguments: argparse.Namespace) -> int:
         named = chosen if arguments.members else conditions.roots_of(chosen)
         made = propose(drawing, named, arguments.line)
         made.tell_members(drawing, chosen)
-        give_proposal(drawing, made, arguments.output, arguments.dry_run)
+        give_proposal(drawing, made, target_of(arguments, arguments.output))
     else:
         tell(conditions, chosen, arguments)
         for said in parts_said(drawing, chosen, TOLD):

@@ -11,6 +11,7 @@ from functools import partial
 from typing import Callable, Iterable, List, Optional, Sequence, Set
 
 from ..errors import Mistake
+from ..files import said_name
 from ..format import classes
 from ..format.element import Element
 from ..format.limits import COLOUR_MOST, ELEMENTS_MOST, LEVEL_MOST, STYLE_MOST, WEIGHT_MOST
@@ -153,7 +154,8 @@ def ask_numbers(drawing: Drawing, numbers: Sequence[int], file: str) -> None:
     unknown = [it for it in numbers if it >= len(drawing.elements)]
     if unknown:
         last = len(drawing.elements) - 1
-        raise Mistake('%s: %s has elements 0 to %d, but not %s' % (file, drawing.path, last, few(unknown)))
+        said = '%s: %s has elements 0 to %d, but not %s'
+        raise Mistake(said % (said_name(file), drawing.path, last, few(unknown)))
 
 
 def plain_tests(arguments: argparse.Namespace, scale: Scale) -> List[Test]:
