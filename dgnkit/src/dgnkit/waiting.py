@@ -24,27 +24,28 @@ STEP = 4096
 
 
 class Matcher:
-    """A regular expression that is matched against texts one by one. While `limited`, a single match that takes longer
-    than some seconds is stopped, and raises Mistake; how long all of them take is no matter."""
+    """Regular expressions that are matched against texts one by one. While `limited`, what takes longer than some
+    seconds on one text is stopped, and raises Mistake; how long all texts take is no matter."""
 
-    def __init__(self, form: Pattern[str]) -> None:
-        self.form = form
+    def __init__(self, *forms: Pattern[str]) -> None:
+        self.forms = forms
         self.started, self.ended = 0, 0  # how many matches there were so far
         self._seen, self._looks = 0, 0
 
     def is_in(self, text: str) -> bool:
         """Whether a text has a match."""
         self.started += 1
-        found = self.form.search(text)
+        found = any(it.search(text) for it in self.forms)
         self.ended = self.started
-        return found is not None
+        return found
 
     def replaced(self, new: str, text: str) -> str:
         """A text with all matches replaced, which counts as one match."""
         self.started += 1
-        made = self.form.sub(new, text)
+        for form in self.forms:
+            text = form.sub(new, text)
         self.ended = self.started
-        return made
+        return text
 
     @contextlib.contextmanager
     def limited(self) -> Iterator[None]:
