@@ -169,6 +169,18 @@ class Find(samples.WithProgram):
             (row['number'], row['root'], row['cell'], row['range']), (6, 6, 'VLV', [[920, 420], [1080, 580]])
         )
 
+    def test_json_has_the_place_and_the_lettering(self) -> None:
+        text = bytearray(plan.text(3, (ORIGIN + 150, ORIGIN + 700), b'AB'))
+        text[36:38], text[46:50] = bytes([3, 7]), plan.long(30 * 360000)
+        path = self.put('in.dgn', metric(bytes(text), plan.line(3, (ORIGIN + 100, ORIGIN), (ORIGIN + 150, ORIGIN))))
+        lettered, line = json.loads(self.said('find', path, '--level', '3', '--json'))
+        self.assertEqual([lettered[it] for it in ('x', 'y', 'angle', 'font', 'justification')], [1.5, 7, 30, 3, 7])
+        self.assertEqual((line['x'], line['y'], line['height'], line['font']), (1, 0, None, None))
+        said = self.said('find', path, '--type', 'text', '--csv').split('\n')
+        row = dict(zip(said[0].split(','), said[1].split(',')))
+        self.assertEqual([row[it] for it in ('x', 'y', 'angle', 'font', 'justification')], ['1.5', '7', '30', '3', '7'])
+        self.assertEqual(float(row['height']), lettered['height'])
+
     def test_three_axes(self) -> None:
         path = self.put('in.dgn', drawings.DRAWINGS['a line of three axes'])
         self.assertEqual(self.numbers('--near', '100,50', '--within', '1', of=path), [1])

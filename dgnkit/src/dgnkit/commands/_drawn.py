@@ -11,7 +11,7 @@ from ..errors import Mistake
 from ..format.places import Scale
 from ..output import counted, note, say, say_raw
 from ..propose.appending import Appender, Appending
-from ..propose.wishes import LOOKS, Defaults, Wish
+from ..propose.wishes import LETTERING, LOOKS, Defaults, Wish
 from ..propose.writing import next_command, script_names
 from ..saving import write_files
 from ._options import add_dry_run, add_output
@@ -25,6 +25,8 @@ def add_looks(parser: argparse.ArgumentParser) -> None:
     parser.add_argument('--style', metavar='S', default='0', help='the style')
     parser.add_argument('--height', metavar='H', default='', help='the height of texts')
     parser.add_argument('--angle', metavar='DEGREES', default='0', help='the rotation of texts, anticlockwise')
+    parser.add_argument('--font', metavar='F', default='1', help='the font of texts')
+    parser.add_argument('--justification', metavar='J', default='0', help='the justification of texts')
     parser.add_argument(
         '--encoding', default='', help='the encoding of characters beyond ASCII, such as utf-8 or latin-1'
     )
@@ -38,7 +40,8 @@ def add_looks(parser: argparse.ArgumentParser) -> None:
 def defaults_of(arguments: argparse.Namespace, kind: str) -> Defaults:
     """What holds where a row doesn't say it."""
     look = {name: str(getattr(arguments, name)) for name in LOOKS}
-    return Defaults(kind, look, arguments.height, arguments.angle)
+    lettering = {name: str(getattr(arguments, name)) for name in LETTERING}
+    return Defaults(kind, look, arguments.height, arguments.angle, lettering)
 
 
 def give(drawing: Drawing, scale: Scale, wishes: list[Wish], arguments: argparse.Namespace, cuts: bool) -> None:
