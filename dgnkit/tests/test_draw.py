@@ -13,7 +13,7 @@ METRIC = (100, 10, ('m', 'cm'), (-5000, 7000, 0))
 class Draw(samples.WithProgram):
     def made(self, words: List[object], status: int = 0) -> samples.Drawing:
         """The drawing that the script and the patch file make."""
-        said = self.said(*words, '-o', self.path('s.txt'), status=status)
+        said = self.said(*words, '-o', self.path('s.txt'), '--force', status=status)
         return samples.Drawing(self.then(said), self.program)
 
     def sheet(self, axes: int = 2) -> str:
@@ -80,6 +80,18 @@ class Draw(samples.WithProgram):
         self.assertEqual((text.text, text.level, text.points), ('PUMP 7', 3, [(-4000, 9000)]))
         self.assertEqual(text.multipliers[1], 416667)  # 2500 * 1000/6, to the nearest
 
+    def test_what_is_found_is_drawn_with_its_lettering(self) -> None:
+        for axes in (2, 3):
+            place = ','.join(['1', '2', '0'][:axes])
+            words = ['text', self.sheet(axes), place, 'AB', '--level', 5, '--color', 3, '--weight', 2, '--height', 2]
+            words += ['--font', 9, '--justification', 7, '--angle', 30]
+            lettered = self.then(self.said(*words, '-o', self.path('s.txt'), '--force'))
+            table = self.put('t.csv', self.said('find', lettered, '--type', 'text', '--csv'))
+            again = self.then(self.said('draw', lettered, table, '-o', self.path('s.txt'), '--force'))
+            texts = [it for it in samples.Drawing(again, self.program).elements if it.type == 17]
+            self.assertEqual((texts[0].font, texts[0].justification), (9, 7))
+            self.assertEqual([it.content for it in texts], [texts[0].content] * 2)
+
     def test_three_axes(self) -> None:
         rows = 'x,y,z,text,height\n1,2,3,AB,6\n'
         drawing = self.made(['draw', self.sheet(3), self.table(rows), '--angle', 90])
@@ -108,6 +120,7 @@ class Draw(samples.WithProgram):
             ('x,y,text\n1,2,AB\n', 'no height'),
             ('x,y,text,height\n1,2,AB,0\n', "can't be 0 m high"),
             ('x,y,level\n1,2,64\n2,3,1\n', "row 2: '64' isn't a valid level"),
+            ('x,y,text,height,font\n1,2,AB,1,256\n', "row 2: '256' isn't a valid font"),
             ('x,y,kind\n1,2,arc\n', "'arc' is not one of"),
             ('a,b\n1,2\n', 'no columns x and y'),
             ('x,y\n', 'no rows below its heading'),

@@ -110,7 +110,8 @@ class FailingCalls(samples.WithProgram):
     def run_with(self, calls: Calls, words: List[str]) -> Ran:
         """Runs a command, of whose calls one fails."""
         patches = [
-            mock.patch.object(os, name, calls.counted(getattr(os, name))) for name in ('replace', 'link', 'mkdir')
+            mock.patch.object(os, name, calls.counted(getattr(os, name)))
+            for name in ('replace', 'link', 'mkdir', 'fsync')
         ]
         patches += [mock.patch.object(os, 'open', self.making(calls, os.open))]
         patches += [mock.patch.object(subprocess, 'Popen', self.popen(calls))]
@@ -172,26 +173,28 @@ class FailingCalls(samples.WithProgram):
         self.fail_each('why', 'a.dgn', 's.txt')
 
     def test_scripts(self) -> None:
-        self.fail_each('find', 'a.dgn', '--level', '10', '--script', 'color {n} 3', '-o', 'old.txt')
+        self.fail_each('find', 'a.dgn', '--level', '10', '--script', 'color {n} 3', '-o', 'old.txt', '--force')
         self.fail_each('script', '--numbers', 'n.csv', 'color {n} 3', '--drawing', 'a.dgn', '-o', 'new.txt')
         self.fail_each('place', 'a.dgn', 'VLV', 'p.csv', '-o', 'new.txt')
-        self.fail_each('merge', 'a.dgn', 'b.dgn', '-o', 'old.txt')
+        self.fail_each('merge', 'a.dgn', 'b.dgn', '-o', 'old.txt', '--force')
         self.fail_each('diff', 'a.dgn', 'b.dgn', '--script', '-o', 'new.txt')
-        self.fail_each('draw', 'a.dgn', 'p.csv', '-o', 'old.txt')
+        self.fail_each('draw', 'a.dgn', 'p.csv', '-o', 'old.txt', '--force')
         self.fail_each('text', 'a.dgn', '5,5', 'AB', '--height', '60', '-o', 'new.txt')
 
     def test_patch_files(self) -> None:
         self.fail_each('mend', 'broken.dgn', 'new.patch')
-        self.fail_each('relevel', 'a.dgn', 'p.patch', '--to', '7', '--level', '10')
+        self.fail_each('relevel', 'a.dgn', 'p.patch', '--to', '7', '--level', '10', '--force')
         self.fail_each('retext', 'a.dgn', 'new.patch', 'HOUSE', 'ROOMS')
         self.fail_each('undelete', 'b.dgn', 'new.patch', '--number', '2')
         self.fail_each('rename', 'a.dgn', 'new.patch', 'VLV', 'PUMP')
 
     def test_drawings_and_pages(self) -> None:
         self.fail_each('run', 'a.dgn', 's.txt', 'new.dgn')
-        self.fail_each('run', 'a.dgn', 'p.patch', 's.txt', 'new.dgn')
+        self.fail_each('run', 'a.dgn', 'p.patch', 's.txt', 'old.txt', '--force')
+        self.fail_each('why', 'a.dgn', 's.txt', 'new.dgn')
+        self.fail_each('why', 'a.dgn', 's.txt', 'old.txt', '--force')
         self.fail_each('each', 's.txt', 'a.dgn', 'b.dgn', '--into', 'new')
-        self.fail_each('geojson', 'a.dgn', '-o', 'old.txt')
+        self.fail_each('geojson', 'a.dgn', '-o', 'old.txt', '--force')
         self.fail_each('page', 'a.dgn', '--script', 's.txt', '-o', 'page.html')
 
 

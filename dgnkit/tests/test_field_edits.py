@@ -12,7 +12,7 @@ class FieldEdits(samples.WithProgram):
     def changed(self, word: str, file: bytes, *more: object) -> Tuple[Dict[int, Tuple[int, int]], str]:
         """The bytes that differ once the patch is put on, and what was said on standard error."""
         source, patch, out = self.put('in.dgn', file), self.path('p'), self.path('out.dgn')
-        status, said, err = self.kit(word, source, patch, *more)
+        status, said, err = self.kit(word, source, patch, *more, '--force')
         self.assertEqual(status, 0, said + err)
         self.program.apply(source, patch, out)
         made = (self.folder / 'out.dgn').read_bytes()
@@ -112,7 +112,7 @@ class FieldEdits(samples.WithProgram):
         plain = self.put('plain.dgn', drawings.drawing(plan.text(3, (0, 0), b'Strasse')))
         status, _, err = self.kit('retext', plain, self.path('p'), 'Strasse', 'Stra\u00dfe')
         self.assertEqual((status, '--encoding' in err), (2, True))
-        self.said('retext', plain, self.path('p'), 'Strasse', 'Stra\u00dfe', '--encoding', 'latin-1')
+        self.said('retext', plain, self.path('q'), 'Strasse', 'Stra\u00dfe', '--encoding', 'latin-1')
 
     def test_lock_and_unlock(self) -> None:
         line = drawings.line(properties=drawings.LINKED, data=drawings.LINKAGES)
@@ -166,8 +166,8 @@ class OfOgr(samples.WithProgram):
         self.program.apply(source, self.path('p'), out)
         said = ''.join(ogr.features_of(self, out))
         self.assertEqual((said.count('Level (Integer) = 13'), said.count('Level (Integer) = 12')), (5, 0))
-        self.said('retext', source, self.path('p'), 'DN 150', 'DN 200')
-        self.program.apply(source, self.path('p'), out)
+        self.said('retext', source, self.path('q'), 'DN 150', 'DN 200')
+        self.program.apply(source, self.path('q'), out)
         before, after = ogr.features_of(self, source), ogr.features_of(self, out)
         self.assertEqual([it.replace('DN 150', 'DN 200') for it in before], after)
         self.assertNotEqual(before, after)

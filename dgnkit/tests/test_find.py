@@ -54,6 +54,37 @@ class Find(samples.WithProgram):
         self.assertEqual(self.numbers('--cell', 'v*'), [6, 9])
         self.assertEqual(self.numbers('--cell', 'VL'), [])
 
+    def test_a_condition_that_is_given_twice_is_met_by_any(self) -> None:
+        words = [plan.text(3, (100 * it, 0), word) for it, word in enumerate([b'OLD', b'NEW', b'ODD'])]
+        path = self.put('texts.dgn', drawings.drawing(*words, plan.line(3, (900, 0), (990, 9))))
+        self.assertEqual(self.numbers('--text', 'OLD', '--text', 'ODD', of=path), [1, 3])
+        self.assertEqual(self.numbers('--pattern', '^N', '--pattern', 'D$', of=path), [1, 2, 3])
+        self.assertEqual(self.numbers('--text', 'OLD', '--text', 'NEW', '--pattern', 'E', of=path), [2])
+        self.assertEqual(self.numbers('--cell', 'VLV', '--cell', 'x*'), [6, 9])
+        boxes = ['--inside', '-5,-5', '50,50'], ['--inside', '895,-5', '1000,50']
+        self.assertEqual(self.numbers(*boxes[0], of=path), [1])
+        self.assertEqual(self.numbers(*boxes[0], *boxes[1], of=path), [1, 4])
+        self.assertEqual(self.numbers('--overlap', '-5,-5', '50,50', '--overlap', '95,-5', '150,50', of=path), [1, 2])
+        _, _, err = self.kit(
+            'find', path, '--text', 'A', '--text', 'B', '--inside', '1,1', '2,2', '--inside', '3,3', '4,4'
+        )
+        self.assertIn('nothing matches --text A --text B --inside 1,1 2,2 --inside 3,3 4,4', err)
+        self.assertIn('nothing matches --text A\n', self.kit('find', path, '--numbers', '--text', 'A')[2])
+
+    def test_duplicates(self) -> None:
+        line, text = plan.line(1, (0, 0), (9, 9)), plan.text(3, (5, 5), b'AB')
+        coloured = line[:35] + bytes([7]) + line[36:]
+        wide = text[:4] + plan.text(3, (6, 6), b'AB')[4:28] + text[28:]
+        others = [plan.line(2, (0, 0), (9, 9)), plan.line(1, (0, 0), (9, 8)), plan.text(3, (5, 5), b'AC')]
+        valve = plan.valve(10, 500, 0, 20)
+        made = drawings.drawing(line, text, coloured, wide, *others, valve, valve, drawings.deleted(line))
+        path = self.put('twice.dgn', made)
+        self.assertEqual(self.numbers('--duplicates', of=path), [3, 4, 11])
+        self.assertEqual(self.numbers('--duplicates', '--level', '1', of=path), [3])
+        numbers = self.put('again.txt', self.said('find', path, '--duplicates', '--numbers'))
+        said = self.said('script', '--numbers', numbers, 'delete {n}', '--drawing', path)
+        self.assertEqual(said, 'delete 3\ndelete 4\ndelete 11\n')
+
     def test_deleted_locked_and_broken(self) -> None:
         self.assertEqual(self.numbers('--locked'), [1])
         chain = drawings.DRAWINGS['a complex chain of the line 2, with bit C']
@@ -137,6 +168,18 @@ class Find(samples.WithProgram):
         self.assertEqual(
             (row['number'], row['root'], row['cell'], row['range']), (6, 6, 'VLV', [[920, 420], [1080, 580]])
         )
+
+    def test_json_has_the_place_and_the_lettering(self) -> None:
+        text = bytearray(plan.text(3, (ORIGIN + 150, ORIGIN + 700), b'AB'))
+        text[36:38], text[46:50] = bytes([3, 7]), plan.long(30 * 360000)
+        path = self.put('in.dgn', metric(bytes(text), plan.line(3, (ORIGIN + 100, ORIGIN), (ORIGIN + 150, ORIGIN))))
+        lettered, line = json.loads(self.said('find', path, '--level', '3', '--json'))
+        self.assertEqual([lettered[it] for it in ('x', 'y', 'angle', 'font', 'justification')], [1.5, 7, 30, 3, 7])
+        self.assertEqual((line['x'], line['y'], line['height'], line['font']), (1, 0, None, None))
+        said = self.said('find', path, '--type', 'text', '--csv').split('\n')
+        row = dict(zip(said[0].split(','), said[1].split(',')))
+        self.assertEqual([row[it] for it in ('x', 'y', 'angle', 'font', 'justification')], ['1.5', '7', '30', '3', '7'])
+        self.assertEqual(float(row['height']), lettered['height'])
 
     def test_three_axes(self) -> None:
         path = self.put('in.dgn', drawings.DRAWINGS['a line of three axes'])

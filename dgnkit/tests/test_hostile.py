@@ -1,16 +1,19 @@
 """Files, words and programs that mean no good: each is one line and the status 2, in bounded time."""
 
+import contextlib
 import json
 import os
 import time
 import unittest
-from typing import Iterator, List, Tuple, Union
+from functools import partial
+from typing import Callable, Iterator, List, Tuple, Union
 from unittest import mock
 
 import samples
 from dgnkit.drawing.damage import zero_runs
 from dgnkit.explain.comparing import differences
 from dgnkit.explain.matching import matched
+from dgnkit.format.element import Element
 from samples import drawings, plan
 
 DEPTH = 3200  # a total of one word holds 3,276 headers, one in the other
@@ -23,6 +26,21 @@ def nest(is_orphan: bool) -> bytes:
         header = drawings.element(12, 12, 40, member=depth > 0 or is_orphan)
         body = drawings.with_total(header, (40 + len(body) - 38) // 2) + body
     return drawings.drawing(body)
+
+
+@contextlib.contextmanager
+def slow(*names: str) -> Iterator[None]:
+    """Lets what these properties of an element are take its time."""
+    with contextlib.ExitStack() as stack:
+        for name in names:
+            getter = vars(Element)[name].fget
+            stack.enter_context(mock.patch.object(Element, name, property(partial(slowly, getter))))
+        yield
+
+
+def slowly(getter: Callable[[Element], object], element: Element) -> object:
+    time.sleep(0.005)
+    return getter(element)
 
 
 class Hostile(samples.WithProgram):
@@ -72,6 +90,23 @@ class Hostile(samples.WithProgram):
             self.one_line(['find', path, '--pattern', '(a+)+$'], 'was stopped')
             self.one_line(['retext', path, self.path('p'), '(a+)+$', 'b', '--regex'], 'was stopped')
             self.took(start, 30)
+
+    def test_a_search_of_many_texts_is_not_stopped(self) -> None:
+        # each text is searched within the time that it may take, and all of them take much longer
+        texts = [plan.text(3, (it, 0), b'a' * 18 + b'!') for it in range(40)]
+        path = self.put('in.dgn', drawings.drawing(*texts))
+        with mock.patch('dgnkit.waiting.PATIENCE', 0.3):
+            start = time.monotonic()
+            self.said('find', path, '--pattern', '(a+)+$')
+            self.said('retext', path, self.path('p'), '(a+)+$', 'b', '--regex')
+            self.assertGreater(time.monotonic() - start, 0.6)
+
+    def test_only_an_expression_has_a_limit(self) -> None:
+        path = self.put('in.dgn', drawings.drawing(*[plan.text(3, (it, 0), b'ab') for it in range(40)]))
+        with mock.patch('dgnkit.waiting.PATIENCE', 0.05), slow('text', 'colour', 'height_multiplier'):
+            for words in (['--size', '>1'], ['--color', '0'], ['--text', 'ab'], ['--pattern', 'a', '--size', '>1']):
+                self.assertIn('ab', self.said('find', path, *words))
+            self.said('retext', path, self.path('p'), 'ab', 'cd')
 
     def test_a_span_of_all_numbers_there_may_be_is_no_list_of_them(self) -> None:
         said = self.said('find', self.example('plan.dgn'), '--number', '5-16777215', '--numbers')

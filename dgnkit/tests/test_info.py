@@ -65,6 +65,23 @@ class Info(samples.WithProgram):
         self.assertEqual(facts['levels']['10'], {'line string': 1, 'cell': 2})
         self.assertEqual((facts['elements'], facts['locked']), (12, 1))
 
+    def test_the_fonts_of_texts(self) -> None:
+        texts = [bytearray(plan.text(3, (it, 0), b'AB')) for it in range(5)]
+        for text, font in zip(texts, (3, 1, 3, 127, 7)):
+            text[36] = font
+        file = metric(*map(bytes, texts[:4]), drawings.deleted(bytes(texts[4])))
+        path = self.put('in.dgn', file)
+        self.assertTrue(self.said('info', '--fonts', path).endswith('font  texts\n     1  1\n     3  2\n   127  1\n'))
+        self.assertEqual(
+            json.loads(self.said('info', '--fonts', '--json', path))[0]['fonts'], {'1': 1, '3': 2, '127': 1}
+        )
+        self.assertEqual(
+            self.said('info', '--fonts', '--csv', path),
+            'file,font,texts\n%s,1,1\n%s,3,2\n%s,127,1\n' % (path, path, path),
+        )
+        self.assertEqual(self.facts(file)['fonts'], None)
+        self.assertEqual(self.kit('info', '--fonts', '--lengths', '--csv', path)[0], 2)
+
     def test_a_table_of_colours(self) -> None:
         table = bytes([1, 5]) + struct.pack('<H', 401) + bytes(32) + bytes(2) + bytes(range(256)) * 3
         colours = self.opened(drawings.drawing(table)).colours

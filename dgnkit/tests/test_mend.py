@@ -20,7 +20,7 @@ class Mend(samples.WithProgram):
     def mended(self, file: bytes) -> Tuple[Dict[int, Tuple[int, int]], str]:
         """The bytes that differ once the patch is put on, by their places, and what was said on standard error."""
         source, patch, out = self.put('in.dgn', file), self.path('p'), self.path('out.dgn')
-        status, _, err = self.kit('mend', source, patch)
+        status, _, err = self.kit('mend', source, patch, '--force')
         self.assertEqual(status, 0, err)
         self.program.apply(source, patch, out)
         made = (self.folder / 'out.dgn').read_bytes()

@@ -18,7 +18,7 @@ class Merge(samples.WithProgram):
     def merged(self, first: bytes, other: bytes) -> Tuple[samples.Drawing, str, str]:
         """The drawing that the script makes, the script, and what was said."""
         a, b, script, out = self.put('a.dgn', first), self.put('b.dgn', other), self.path('s'), self.path('out.dgn')
-        status, said, err = self.kit('merge', a, b, '-o', script)
+        status, said, err = self.kit('merge', a, b, '-o', script, '--force')
         self.assertEqual(status, 0, err)
         answers = self.program.edit(a, samples.Script.read(script), out)
         self.assertEqual([it.cause for it in answers], [None] * len(answers))

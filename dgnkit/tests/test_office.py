@@ -27,7 +27,8 @@ class Runs(samples.WithProgram):
         self.assertIn('two: 2 commands, 1 refused', said)
         self.assertIn('out.dgn: written, %d bytes' % (self.folder / 'out.dgn').stat().st_size, said)
         self.assertEqual(self.said('run', valve, first, '/dev/null').count('\n'), 4)
-        self.assertIn('none: 0 commands, 0 refused', self.said('run', valve, self.put('none', '# nothing\n'), out))
+        said = self.said('run', valve, self.put('none', '# nothing\n'), out, '--force')
+        self.assertIn('none: 0 commands, 0 refused', said)
 
     def test_the_range_of_an_appended_text_is_told(self) -> None:
         valve, script = self.example('valve.dgn'), self.put('s', 'text 1 0 0 0 1 0 900 900 5,5 AB\n')
@@ -41,7 +42,7 @@ class Runs(samples.WithProgram):
         (self.folder / 'disk').mkdir()
         os.symlink('disk/there.dgn', self.path('out.dgn'))
         for colour in (3, 5):
-            self.said('run', valve, self.put('s', 'color 1 %d\n' % colour), self.path('out.dgn'))
+            self.said('run', valve, self.put('s', 'color 1 %d\n' % colour), self.path('out.dgn'), '--force')
             self.assertTrue(os.path.islink(self.path('out.dgn')))
             made = samples.Drawing(self.path('disk/there.dgn'), self.program)
             self.assertEqual(made.elements[1].colour, colour)
@@ -129,7 +130,7 @@ class Fields(samples.WithProgram):
     def patched(self, file: bytes, word: str, *more: object) -> bytes:
         """What a patch file makes of a drawing."""
         source = self.put('in.dgn', file)
-        self.kit_err = self.kit(word, source, self.path('p'), *more)[2]
+        self.kit_err = self.kit(word, source, self.path('p'), *more, '--force')[2]
         self.program.apply(source, self.path('p'), self.path('out.dgn'))
         return (self.folder / 'out.dgn').read_bytes()
 
@@ -348,7 +349,7 @@ class OutOfTheDrawing(samples.WithProgram):
         for place, byte in by_hand.items():
             made[place] = byte
         (self.folder / 'b.dgn').write_bytes(made)
-        said = self.said('diff', '--script', a, b, '-o', self.path('s'))
+        said = self.said('diff', '--script', a, b, '-o', self.path('s'), '--force')
         status, out, _ = self.kit('diff', self.then(said), b)
         return out
 

@@ -18,7 +18,7 @@ class Place(samples.WithProgram):
     def placed(self, drawing: str, cell: str, rows: str, *more: str) -> List[Tuple[int, ...]]:
         """The origins of all cells once the script has run."""
         script, out = self.path('s'), self.path('out.dgn')
-        self.said('place', drawing, cell, self.put('p.csv', rows), '-o', script, *more)
+        self.said('place', drawing, cell, self.put('p.csv', rows), '-o', script, '--force', *more)
         self.program.edit(drawing, samples.Script.read(script), out)
         made = samples.Drawing(out, self.program)
         return [it.points[0] for it in made.elements if it.type == 2]

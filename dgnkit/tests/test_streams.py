@@ -117,9 +117,85 @@ class AsAProcess(samples.WithProgram):
         self.assertEqual((status, '1 command, 0 refused' in out), (0, True))
         self.assertEqual(samples.Drawing(self.path('o.dgn'), self.program).elements[1].colour, 5)
 
+    def takes(self, line: str, *words: str) -> None:
+        """The script or the patch file is run."""
+        status, out, err = self.shell(line, *words)
+        self.assertEqual(status, 0, (line, words, out, err))
+        made = self.folder / 'out' / 'valve.dgn'
+        self.assertEqual(samples.Drawing(str(made), self.program).elements[1].colour, 3, (line, words))
+        made.unlink()
+
+    def test_a_script_that_the_shell_opens_is_run(self) -> None:
+        valve, script, patch = self.example('valve.dgn'), self.put('s.txt', 'color 1 3\n'), self.path('p')
+        self.program.run('pack', valve, script, patch)
+        os.mkfifo(self.path('pipe'))
+        opened = [('"$@" < %s', '/dev/stdin'), ('"$@" 3< %s', '/dev/fd/3'), ('"$@" < %s', '/proc/self/fd/0')]
+        opened += [('"$@" < %s', '-'), ('cat %s | "$@"', '-'), ('cat %s > pipe & timeout 20 "$@"', 'pipe')]
+        for line, name in opened:
+            for file in (script, patch):
+                self.takes(line % file, 'each', name, valve, '--into', 'out')
+                self.takes(line % file, 'run', valve, name, 'out/valve.dgn')
+                self.takes(line % file, 'why', valve, name, 'out/valve.dgn')
+
+    def test_a_script_is_named_as_it_was(self) -> None:
+        valve = self.example('valve.dgn')
+        for name, said, made in (('-', 'standard input', 'a'), ('/dev/stdin', '/dev/stdin', 'b')):
+            _, out, _ = self.shell('exec "$@"', 'why', valve, name, given=b'colour 1 3\n')
+            self.assertTrue(out.startswith('line 1 of %s is bad, so nothing has run' % said), out)
+            _, out, _ = self.shell('exec "$@"', 'run', valve, name, made, given=b'color 1 3\n')
+            self.assertTrue(out.startswith('%s: 1 command, 0 refused' % said), out)
+
+    def test_tables_on_standard_input(self) -> None:
+        valve, feature = self.example('valve.dgn'), '{"features": [{"properties": {"number": 1}}]}'
+        for words, given, wanted in [
+            (['find', valve, '--numbers', '-', '--script', 'color {n} 3'], 'number\n1\n', 'color 1 3\n'),
+            (['script', '--numbers', '-', 'color {n} 3'], feature, 'color 1 3\n'),
+            (['place', valve, 'VLV', '-'], 'x,y\n500,9\n', 'copy 2 0 9\n'),
+            (['draw', valve, '-', '--as', 'line'], 'x,y\n1,2\n3,4\n', 'line 1 0 0 0 1,2 3,4\n'),
+            (['lock', valve, 'lock.patch', '--numbers', '-', '--dry-run'], '1\n', '1 of 5 elements would change\n'),
+        ]:
+            status, out, err = self.shell('exec "$@"', *words, given=given.encode('ascii'))
+            self.assertEqual((status, out.startswith(wanted)), (0, True), (words, out, err))
+        self.one_line(self.shell('"$@"', 'place', valve, 'VLV', '-', given=b'x,y\n1,z\n'), 'standard input, row 2')
+        self.one_line(self.shell('"$@" <&-', 'place', valve, 'VLV', '-'), 'standard input: it is closed')
+        twice = ['run', valve, '-', '-', self.path('o.dgn')]
+        self.one_line(self.shell('"$@"', *twice, given=b'color 1 3\n'), 'standard input: it is named more than once')
+        self.assertFalse((self.folder / 'o.dgn').exists())
+
     def test_a_piped_drawing_is_refused(self) -> None:
         valve = (samples.EXAMPLES / 'valve.dgn').read_bytes()
         self.one_line(self.shell('cat | "$@"', 'info', '/dev/stdin', given=valve), "isn't a file on disk")
+
+    def test_only_files_on_disk_are_drawings(self) -> None:
+        valve, script = self.example('valve.dgn'), self.put('s', 'color 1 3\n')
+        os.mkfifo(self.path('pipe'))
+        line = 'timeout 20 "$@" < ' + valve
+        for name, said in [
+            (self.path('pipe'), "pipe isn't a file on disk (it is a pipe)"),
+            ('/dev/zero', "/dev/zero isn't a file on disk (it is a device)"),
+            ('/dev/stdin', "/dev/stdin isn't a file on disk"),
+            ('-', "standard input isn't a file on disk"),
+        ]:
+            for words in (['run', name, script, 'o.dgn'], ['why', name, script], ['info', name], ['diff', valve, name]):
+                self.one_line(self.shell(line, *words), said)
+            status, out, _ = self.shell(line, 'each', script, name, valve, '--into', 'out', '--force', '--csv')
+            self.assertEqual((status, "isn't a file on disk" in out, ',0,done,' in out), (1, True, True), out)
+        self.assertFalse((self.folder / 'o.dgn').exists())
+
+    def test_only_files_on_disk_are_imported(self) -> None:
+        valve = self.example('valve.dgn')
+        os.mkfifo(self.path('pipe'))
+        line = 'timeout 20 "$@" < ' + valve
+        for name in (self.path('pipe'), '/dev/zero', '/dev/stdin'):
+            script = self.put('i', 'color 1 3\nimport %s\n' % name)
+            said = "%s isn't a file on disk" % name
+            for words in (
+                ['run', valve, script, 'o.dgn'],
+                ['why', valve, script],
+                ['each', script, valve, '--into', 'o'],
+            ):
+                self.one_line(self.shell(line, *words), said)
+        self.assertEqual(sorted(it.name for it in self.folder.iterdir()), ['i', 'pipe', 'valve.dgn'])
 
     def stopped(self, number: int, wait: float) -> int:
         """The status of a command that is stopped by a signal once its program is at work, or after so many seconds."""
@@ -156,6 +232,81 @@ class AsAProcess(samples.WithProgram):
         )
         self.assertEqual((ran.returncode, ran.stdout), (0, b'1\n2\n'))
         self.assertIn('dgnedit is working on %s (2 seconds so far)' % valve, ran.stderr.decode())
+
+    def test_a_signal_that_is_ignored_stays_ignored(self) -> None:
+        slow = self.put('slow', '#!/bin/sh\ntouch "$0.begun"\nsleep 1\nexec %s "$@"\n' % samples.PROGRAM)
+        os.chmod(slow, 0o755)
+        numbers = (signal.SIGHUP, signal.SIGINT, signal.SIGTERM)
+
+        def ignore() -> None:
+            for number in numbers:
+                signal.signal(number, signal.SIG_IGN)
+
+        child = subprocess.Popen(
+            self.words('run', self.example('valve.dgn'), self.put('s', 'color 1 3\n'), self.path('o.dgn')),
+            env=self.place(DGNEDIT=slow),
+            stdout=subprocess.PIPE,
+            stderr=subprocess.PIPE,
+            preexec_fn=ignore,
+        )
+        end = time.monotonic() + 60
+        while not os.path.exists(slow + '.begun') and time.monotonic() < end:
+            time.sleep(0.02)
+        for number in numbers:
+            child.send_signal(number)
+        _, err = child.communicate(timeout=60)
+        self.assertEqual((child.returncode, err), (0, b''))
+        self.assertTrue((self.folder / 'o.dgn').exists())
+
+    def begun_with(self, lines: str, *words: object) -> Ran:
+        """Runs a command behind these lines of Python."""
+        begin = 'import sys; sys.argv = ["dgnkit", *sys.argv[1:]]\n%s\nfrom dgnkit.entry import command; command()'
+        command = [sys.executable, '-c', begin % lines, *map(str, words)]
+        ran = subprocess.run(command, env=self.place(), stdout=subprocess.PIPE, stderr=subprocess.PIPE)
+        return ran.returncode, ran.stdout.decode(), ran.stderr.decode()
+
+    def test_no_thread_can_be_started(self) -> None:
+        lines = 'import threading\ndef start(self): raise RuntimeError("can\'t start new thread")\n'
+        lines += 'threading.Thread.start = start'
+        ran = self.begun_with(lines, 'find', self.example('valve.dgn'), '--level', '10', '--numbers')
+        self.assertEqual(ran, (0, '1\n2\n', 'found 2 of 5 elements\n'))
+
+    def test_no_memory_and_too_deep_at_the_beginning(self) -> None:
+        finder = (
+            'import importlib.abc\nclass Stop(importlib.abc.MetaPathFinder):\n'
+            '    def find_spec(self, name, path, target=None):\n        if name == %r: raise %s\n'
+            'sys.meta_path.insert(0, Stop())'
+        )
+        for name in ('dgnkit.cli', 'dgnkit.waiting', 'dgnkit.commands.info', 'dgnkit.program.rows'):
+            ran = self.begun_with(finder % (name, 'MemoryError'), 'info', self.example('valve.dgn'))
+            self.assertEqual(ran, (2, '', 'dgnkit: there is not enough memory for it\n'), name)
+            ran = self.begun_with(finder % (name, 'RecursionError'), 'info', self.example('valve.dgn'))
+            self.one_line(ran, 'dgnkit: ')
+
+    def test_help_on_a_closed_standard_output(self) -> None:
+        for words in (['--help'], ['find', '--help'], ['--version']):
+            self.one_line(self.shell('"$@" >&-', *words), 'standard output is closed')
+
+    def test_an_interrupt_before_the_beginning(self) -> None:
+        made, stop = self.path('dgnkit'), self.folder / 'stop'
+        subprocess.run([sys.executable, str(samples.TOP / 'tools' / 'make_dgnkit'), made], check=True)
+        stop.mkdir()
+        (stop / 'sitecustomize.py').write_text(
+            'import importlib.abc, os, signal, sys\n'
+            'class Stop(importlib.abc.MetaPathFinder):\n'
+            '    def find_spec(self, name, path, target=None):\n'
+            '        if name == os.environ["AT"]: os.kill(os.getpid(), signal.SIGINT)\n'
+            'sys.meta_path.insert(0, Stop())\n'
+        )
+        for at in ('dgnkit', 'dgnkit.entry', 'dgnkit.cli', 'dgnkit.waiting'):
+            ran = subprocess.run(
+                [sys.executable, made, 'info', self.example('valve.dgn')],
+                env={**os.environ, 'PYTHONPATH': str(stop), 'AT': at},
+                stdout=subprocess.PIPE,
+                stderr=subprocess.PIPE,
+                preexec_fn=heed_signals,
+            )
+            self.assertEqual((ran.returncode, ran.stdout, ran.stderr), (130, b'', b''), at)
 
     def test_signals_leave_nothing(self) -> None:
         for number in (signal.SIGINT, signal.SIGTERM, signal.SIGHUP):

@@ -120,8 +120,9 @@ class Endings(samples.WithProgram):
 
     def test_a_file_that_can_not_be_written(self) -> None:
         valve, script = self.example('valve.dgn'), self.put('s', 'color 1 3\n')
-        self.assertIn('there is no folder', self.why(valve, script, self.path('nowhere/out.dgn')))
-        self.assertIn('it is a folder', self.why(valve, script, str(self.folder)))
+        for out, why in ((self.path('nowhere/out.dgn'), 'there is no folder'), (str(self.folder), 'it is a folder')):
+            status, said, err = self.kit('why', valve, script, out)
+            self.assertEqual((status, said, err.count('\n'), why in err), (2, '', 1, True), err)
 
     def test_a_drawing_that_does_not_open(self) -> None:
         script = self.put('s', 'color 1 3\n')

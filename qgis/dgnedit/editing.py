@@ -8,15 +8,16 @@ from pathlib import Path
 from typing import Any, Dict, Iterator, List, Sequence, Tuple
 
 from dgnkit.commands._runs import Step
-from dgnkit.commands.run import delivered, run_steps
+from dgnkit.commands.run import making, run_steps
 from dgnkit.drawing.drawing import Drawing
 from dgnkit.errors import Mistake
-from dgnkit.files import ask_target, read_file, write_files
+from dgnkit.files import read_file
 from dgnkit.format.limits import PATCH_LONGEST
 from dgnkit.format.patch import Patch
 from dgnkit.program.runs import Program
 from dgnkit.program.script import Script
 from dgnkit.propose.writing import script_names
+from dgnkit.saving import ask_target, write_files
 
 from .calls import Call
 
@@ -33,15 +34,6 @@ class Made:
 
 
 @contextlib.contextmanager
-def making(drawing: Drawing, files: Sequence[str], out: str) -> Iterator[str]:
-    """The name of a file that becomes the new drawing, where nothing is raised meanwhile."""
-    if os.path.isdir(out):
-        raise Mistake('%s is a folder: name a file in it' % out)
-    with delivered(drawing.path, files, out) as made:
-        yield made
-
-
-@contextlib.contextmanager
 def folder() -> Iterator[Path]:
     """A folder for files that are gone afterwards, and that mistakes name without it."""
     with tempfile.TemporaryDirectory(prefix='dgnedit-') as name:
@@ -55,7 +47,7 @@ def folder() -> Iterator[Path]:
 
 def run_files(call: Call, drawing: Drawing, files: Sequence[str], out: str) -> Made:
     """Runs scripts and patch files on a drawing. It raises Mistake where one can't be run; OUT isn't written then."""
-    with making(drawing, files, out) as made:
+    with making(drawing.path, files, out, True) as made:
         steps = run_steps(drawing.program, drawing.path, files, made, out)
         call.ask()
     return outcome(steps)
@@ -77,7 +69,7 @@ def run_lines(call: Call, drawing: Drawing, lines: Sequence[bytes], saved: Tuple
     patch file of what it does; an empty name is no file."""
     with folder() as place:
         files = scripts_in(place, 'script', Script(lines))
-        with making(drawing, files, out) as made:
+        with making(drawing.path, files, out, True) as made:
             steps = run_steps(drawing.program, drawing.path, files, made, out)
             accepted = [
                 it.spelling for step in steps for it, said in zip(step.script.commands, step.answers) if not said.cause
@@ -107,7 +99,7 @@ def save(drawing: Drawing, script: Script, saved: Tuple[str, str], place: Path) 
     if patch_name:
         contents[patch_name] = packed(drawing.program, drawing.path, script, place)
     if contents:
-        write_files(contents)
+        write_files(contents, True)
 
 
 def packed(program: Program, drawing: str, script: Script, place: Path) -> bytes:
@@ -130,13 +122,13 @@ def packed(program: Program, drawing: str, script: Script, place: Path) -> bytes
 def run_patch(call: Call, drawing: Drawing, patch: Patch, saved: str, out: str) -> Made:
     """Puts a patch file on a drawing, and writes it where it is named."""
     if saved:
-        ask_target(saved)
+        ask_target(saved, True)
     with folder() as place:
         file = place / 'patch'
         file.write_bytes(patch.to_bytes())
-        with making(drawing, [str(file)], out) as made:
+        with making(drawing.path, [str(file)], out, True) as made:
             steps = run_steps(drawing.program, drawing.path, [str(file)], made, out)
             call.ask()
             if saved:
-                write_files({saved: patch.to_bytes()})
+                write_files({saved: patch.to_bytes()}, True)
     return outcome(steps)

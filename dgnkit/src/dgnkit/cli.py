@@ -14,6 +14,7 @@ import re
 import signal
 import sys
 import threading
+import time
 import traceback
 from importlib import import_module
 from types import FrameType
@@ -37,8 +38,9 @@ ABOUT = (
 )
 ENDED = 2  # the status of what can't be done
 STOPPED = 130
+AT_ONCE = 1.0  # so many seconds another signal is taken for the same one, while what was begun is cleared away
 LONGEST = 700  # characters of a line that says why
-SIGNALS = ('SIGTERM', 'SIGHUP')
+SIGNALS = ('SIGINT', 'SIGTERM', 'SIGHUP')
 
 
 class Parser(argparse.ArgumentParser):
@@ -49,10 +51,11 @@ class Parser(argparse.ArgumentParser):
         self._negative_number_matcher = NUMBERS
 
     def _print_message(self, message: str, file: Any = None) -> None:
-        """Says something, and keeps no failure of that to itself."""
-        stream = sys.stderr if file is None else file
-        if stream is not None and message:
-            stream.write(message)
+        """Says something, and keeps no failure of that to itself. Where a stream is closed there is none."""
+        if file is None and sys.stdout is None and sys.stderr is not None:
+            raise OSError('standard output is closed')
+        if file is not None and message:
+            file.write(message)
 
     def error(self, message: str) -> NoReturn:
         """Says what is wrong with the words, and ends with 2."""
@@ -157,11 +160,23 @@ def drop_output() -> None:
 
 
 def catch_signals() -> None:
-    """Lets the signals that end a program end it in order, so that no temporary file is left."""
+    """Lets the signals that end a program end it in order, so that no temporary file is left. Those that were ignored
+    when it began, as by nohup, stay ignored."""
     if threading.current_thread() is threading.main_thread():
-        for name in SIGNALS:
-            signal.signal(getattr(signal, name), stop)
+        stop = Stop()
+        for number in (getattr(signal, name) for name in SIGNALS):
+            if signal.getsignal(number) is not signal.SIG_IGN:
+                signal.signal(number, stop)
 
 
-def stop(number: int, frame: Optional[FrameType]) -> None:
-    raise KeyboardInterrupt
+class Stop:
+    """What stops the command at a signal: at the first one, since a terminal and a shell may both send one."""
+
+    def __init__(self) -> None:
+        self.last = -AT_ONCE
+
+    def __call__(self, number: int, frame: Optional[FrameType]) -> None:
+        now = time.monotonic()
+        if now - self.last >= AT_ONCE:
+            self.last = now
+            raise KeyboardInterrupt

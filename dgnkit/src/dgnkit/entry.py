@@ -6,20 +6,33 @@ import os
 import sys
 from typing import NoReturn
 
+STOPPED, ENDED = 130, 2
+NO_MEMORY = b'dgnkit: there is not enough memory for it\n'
+
 
 def command() -> NoReturn:
     """Runs the command that the program was called with, and ends with its status."""
-    status = 130
     try:
-        open_streams()
-        from .cli import main
-        from .waiting import watch
-
-        watch()
-        status = main()
+        status = _run()
+        _flush()
     except KeyboardInterrupt:
-        pass
-    _leave(status)
+        status = STOPPED
+    except MemoryError:
+        status = ENDED
+        _say(NO_MEMORY)
+    except Exception as why:  # before the command itself could heed it, as where a module can't be read
+        status = ENDED
+        _say(("dgnkit: it couldn't be started: %r\n" % why).encode('ascii', 'backslashreplace'))
+    os._exit(status)
+
+
+def _run() -> int:
+    open_streams()
+    from .cli import main
+    from .waiting import watch
+
+    watch()
+    return main()
 
 
 def open_streams() -> None:
@@ -32,12 +45,19 @@ def open_streams() -> None:
             return
 
 
-def _leave(status: int) -> NoReturn:
-    """Ends with a status. What couldn't be said any more is no reason for another one."""
+def _flush() -> None:
+    """Says what is still to be said. What can't be said any more is no reason for another status."""
     for stream in (sys.stdout, sys.stderr):
         try:
             if stream is not None:
                 stream.flush()
         except (OSError, ValueError):
             pass
-    os._exit(status)
+
+
+def _say(line: bytes) -> None:
+    """Says a line on standard error with as little as may be."""
+    try:
+        os.write(2, line)
+    except OSError:
+        pass

@@ -55,6 +55,8 @@ class ReadFault(Ending):
 class WriteFault(Ending):
     """A file couldn't be written, or something couldn't be said."""
 
+    STATUS = 6
+
 
 class OutOfMemory(Ending):
     """There was no memory."""
@@ -112,7 +114,7 @@ def ending_of(status: int, said: Sequence[str], drawing: str = 'the drawing') ->
         return BadDesign(text, status, said, found[1], int(found[2]))
     if status == 5:
         return ReadFault("a file couldn't be read", status, said)
-    if status == 6:
+    if status == WriteFault.STATUS:
         return WriteFault("a file couldn't be written", status, said)
     if status == 7:
         return OutOfMemory('there was not enough memory', status, said)

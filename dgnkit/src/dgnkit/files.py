@@ -1,23 +1,25 @@
-"""Reading and writing files: no longer ones than there may be, whole or not at all, never over what was read, and never
-over a drawing."""
+"""Reading files: no longer ones than there may be. What a call reads is kept in mind, so that it writes over none of
+it. The name `-` is standard input."""
 
 from __future__ import annotations
 
-import errno
 import os
+import re
 import stat
-import tempfile
+import sys
 from pathlib import Path
-from typing import IO, Dict, Iterable, Set, Tuple, Union
+from typing import IO, Iterable, Optional, Set, Tuple, Union
 
 from .errors import Mistake
 from .format.limits import DRAWING_LONGEST
-from .format.tcb import kind_of
 from .output import printable
 
 Name = Union[str, Path]
-PIECE = 1 << 20
 TABLE_LONGEST = 1 << 30  # bytes of a table or of GeoJSON
+STANDARD_INPUT = '-'
+INPUT_READ = (-1, 0)  # what stands among the files that were read for standard input, which can be read once
+HANDLES = r'/proc/%d(?:/task/\d+)?/fd'  # where the system names the open files of a process
+LINKS_MOST = 40
 
 # The files that were read in this run, each by its device and its number there.
 READ: Set[Tuple[int, int]] = set()
@@ -26,14 +28,25 @@ READ: Set[Tuple[int, int]] = set()
 def read_file(path: Name, longest: int = TABLE_LONGEST) -> bytes:
     """The bytes of a file. It raises Mistake, with the reason, where it can't be read or has more bytes than that."""
     try:
-        with open(path, 'rb') as file:
+        with _opened(path) as file:
             note_read(os.fstat(file.fileno()))
             content = _front(file, longest)
     except (OSError, ValueError) as why:
         raise mistake_of(path, why)
     if len(content) > longest:
-        raise Mistake('%s has more than %d bytes, which is the limit' % (printable(str(path)), longest))
+        raise Mistake('%s has more than %d bytes, which is the limit' % (said_name(path), longest))
     return content
+
+
+def _opened(path: Name) -> IO[bytes]:
+    if str(path) != STANDARD_INPUT:
+        return open(path, 'rb')
+    if sys.stdin is None:
+        raise OSError('it is closed')
+    if INPUT_READ in READ:
+        raise OSError("it is named more than once, and can't be read again")
+    READ.add(INPUT_READ)
+    return open(0, 'rb', closefd=False)
 
 
 def _front(file: IO[bytes], longest: int) -> bytes:
@@ -45,17 +58,66 @@ def _front(file: IO[bytes], longest: int) -> bytes:
 
 def read_drawing(path: Name) -> bytes:
     """The bytes of a drawing. It raises Mistake where it is no file that the program can read once more."""
-    try:
-        if not stat.S_ISREG(os.stat(path).st_mode) and not os.path.isdir(path):
-            raise Mistake("%s isn't a file on disk, and a drawing has to be read more than once" % printable(str(path)))
-    except (OSError, ValueError) as why:
-        raise mistake_of(path, why)
+    ask_drawing(path)
     return read_file(path, DRAWING_LONGEST)
+
+
+def ask_drawing(path: Name) -> None:
+    """It raises Mistake where a drawing is named that is there and is no file on disk: standard input, a pipe, a
+    device. The program would wait for these, or read another one's."""
+    what = 'standard input' if str(path) == STANDARD_INPUT else kind_of_stream(path)
+    if what:
+        said = "%s isn't a file on disk%s, and a drawing has to be read more than once"
+        more = '' if what == said_name(path) else ' (it is %s)' % what
+        raise Mistake(said % (said_name(path), more))
+
+
+def kind_of_stream(path: Name) -> str:
+    """What a name stands for that is no lasting file: a pipe, a device, an open file of this process; else nothing."""
+    try:
+        mode = os.stat(path).st_mode
+    except (OSError, ValueError):
+        return ''
+    kinds = {stat.S_IFIFO: 'a pipe', stat.S_IFSOCK: 'a socket', stat.S_IFCHR: 'a device', stat.S_IFBLK: 'a device'}
+    other = 'an open file without a name of its own' if handle_of(path) is not None else ''
+    return kinds.get(stat.S_IFMT(mode), other)
+
+
+def is_stream(path: Name) -> bool:
+    """Whether a name stands for what can be read once, or only by this process: standard input, a pipe, a device, an
+    open file as /dev/fd/3."""
+    return str(path) == STANDARD_INPUT or bool(kind_of_stream(path))
+
+
+def handle_of(path: Name) -> Optional[int]:
+    """The number of the open file that a name stands for, as 0 for /dev/stdin and 3 for /dev/fd/3; none where it is
+    another name."""
+    place = str(path)
+    try:
+        for _ in range(LINKS_MOST):
+            folder, name = os.path.split(place)
+            if name.isdecimal() and re.fullmatch(HANDLES % os.getpid(), os.path.realpath(folder)):
+                return int(name)
+            if not os.path.islink(place):
+                return None
+            place = os.path.join(folder, os.readlink(place))
+    except (OSError, ValueError):
+        pass
+    return None
 
 
 def note_read(facts: os.stat_result) -> None:
     """Keeps in mind that a file was read."""
     READ.add((facts.st_dev, facts.st_ino))
+
+
+def note_inputs(names: Iterable[Name]) -> None:
+    """Keeps in mind the files that the program reads; a name that has none is no matter."""
+    for name in names:
+        try:
+            note_read(os.stat(name))
+        except (OSError, ValueError):
+            pass
 
 
 def front_of(path: Name, count: int) -> bytes:
@@ -69,117 +131,12 @@ def front_of(path: Name, count: int) -> bytes:
         raise mistake_of(path, why)
 
 
+def said_name(path: Name) -> str:
+    """What a file is called in words."""
+    return 'standard input' if str(path) == STANDARD_INPUT else printable(str(path))
+
+
 def mistake_of(path: Name, why: Exception) -> Mistake:
     """What is wrong with a file, in one line."""
     reason = (why.strerror or str(why)).lower() if isinstance(why, OSError) else str(why)
-    return Mistake('%s: %s' % (printable(str(path)), reason))
-
-
-def ask_target(path: Name) -> None:
-    """It raises Mistake where a file may not be written: it was read in this run, or is a drawing."""
-    try:
-        facts = os.stat(path)
-    except (OSError, ValueError):
-        return
-    if (facts.st_dev, facts.st_ino) in READ and stat.S_ISREG(facts.st_mode):
-        raise Mistake("%s is an input, and isn't overwritten: name another file" % printable(str(path)))
-    if not stat.S_ISREG(facts.st_mode):
-        return
-    try:
-        with open(path, 'rb') as file:
-            kind = kind_of(file.read(4))
-    except OSError as why:
-        raise mistake_of(path, why)
-    if kind in ('design', 'v8', 'library'):
-        raise Mistake("%s is a drawing, and isn't overwritten" % printable(str(path)))
-
-
-def write_file(path: Name, content: bytes) -> None:
-    """Writes a file, which is there whole or stays as it was. It raises Mistake where it can't be written, or may not
-    be: no command of dgnkit writes a drawing, or over what it reads."""
-    write_files({str(path): content})
-
-
-def write_files(contents: Dict[str, bytes]) -> None:
-    """Writes files as above; where one can't be written, none is."""
-    for path in contents:
-        ask_target(path)
-    made: Dict[str, str] = {}
-    name = ''
-    try:
-        for name, content in contents.items():
-            if os.path.exists(name) and not os.path.isfile(name):
-                Path(name).write_bytes(content)  # a device, as /dev/stdout
-            else:
-                made[name] = _beside(Path(name), [content])
-        for name in list(made):
-            os.replace(made[name], name)
-            del made[name]
-    except (OSError, ValueError) as why:
-        raise mistake_of(name, why)
-    finally:
-        for left in made.values():
-            os.unlink(left)
-
-
-def write_pieces(path: Name, pieces: Iterable[bytes]) -> None:
-    """Writes a file of pieces as above, without all of them in memory at once."""
-    ask_target(path)
-    try:
-        if os.path.exists(path) and not os.path.isfile(path):
-            with open(path, 'wb') as file:
-                file.writelines(pieces)
-            return
-        made = _beside(Path(path), pieces)
-        try:
-            os.replace(made, path)
-        except BaseException:
-            os.unlink(made)
-            raise
-    except (OSError, ValueError) as why:
-        raise mistake_of(path, why)
-
-
-def _beside(place: Path, pieces: Iterable[bytes]) -> str:
-    """Writes a file of another name beside a place, and gives that name."""
-    handle, name = tempfile.mkstemp(prefix='.dgnkit-', dir=str(place.parent))
-    try:
-        with os.fdopen(handle, 'wb') as file:
-            file.writelines(pieces)
-        os.chmod(name, 0o666 & ~_mask())
-    except BaseException:
-        os.unlink(name)
-        raise
-    return name
-
-
-def _mask() -> int:
-    mask = os.umask(0)
-    os.umask(mask)
-    return mask
-
-
-def put_in_place(made: Name, target: Name, may_replace: bool) -> None:
-    """Gives a file that was made its name. It raises Mistake where one of that name is there and may not be replaced;
-    also where that came up just now, as by another run into the same folder."""
-    try:
-        if may_replace:
-            os.replace(made, target)
-        else:
-            _linked(made, target)
-            os.unlink(made)
-    except FileExistsError:
-        raise Mistake("%s already exists, and isn't overwritten" % printable(str(target)))
-    except (OSError, ValueError) as why:
-        raise mistake_of(target, why)
-
-
-def _linked(made: Name, target: Name) -> None:
-    """Gives a file a second name, or copies it where the file system knows no such."""
-    try:
-        os.link(made, target)
-    except OSError as why:
-        if why.errno not in (errno.EPERM, errno.ENOTSUP, errno.ENOSYS, errno.EMLINK):
-            raise
-        with open(target, 'xb') as file:
-            file.write(Path(made).read_bytes())
+    return Mistake('%s: %s' % (said_name(path), reason))

@@ -8,6 +8,7 @@ from dgnkit.drawing.drawing import Drawing
 from dgnkit.errors import Mistake
 from dgnkit.format.limits import LEVEL_MOST
 from dgnkit.propose.field_edits import FieldEdits, Replacement, relevel, retext, set_lock, undelete
+from dgnkit.waiting import Matcher
 from qgis.core import QgsProcessingParameterString
 
 from ..calls import Call
@@ -59,7 +60,8 @@ class Retext(FieldAlgorithm):
         if old:
             form = (form_of if call.flag('REGEX') else word_form)(old, call.flag('IGNORE_CASE'))
         is_plain = not (old and call.flag('REGEX'))
-        return retext(drawing, numbers, Replacement(form, new.replace('\\', '\\\\') if is_plain else new, None))
+        wanted = Replacement(Matcher(form), new.replace('\\', '\\\\') if is_plain else new, None)
+        return retext(drawing, numbers, wanted)
 
 
 class Lock(FieldAlgorithm):

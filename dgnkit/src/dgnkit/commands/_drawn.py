@@ -8,12 +8,13 @@ from typing import Optional
 
 from ..drawing.drawing import Drawing
 from ..errors import Mistake
-from ..files import write_files
 from ..format.places import Scale
 from ..output import counted, note, say, say_raw
 from ..propose.appending import Appender, Appending
-from ..propose.wishes import LOOKS, Defaults, Wish
+from ..propose.wishes import LETTERING, LOOKS, Defaults, Wish
 from ..propose.writing import next_command, script_names
+from ..saving import write_files
+from ._options import add_dry_run, add_output
 
 
 def add_looks(parser: argparse.ArgumentParser) -> None:
@@ -24,20 +25,23 @@ def add_looks(parser: argparse.ArgumentParser) -> None:
     parser.add_argument('--style', metavar='S', default='0', help='the style')
     parser.add_argument('--height', metavar='H', default='', help='the height of texts')
     parser.add_argument('--angle', metavar='DEGREES', default='0', help='the rotation of texts, anticlockwise')
+    parser.add_argument('--font', metavar='F', default='1', help='the font of texts')
+    parser.add_argument('--justification', metavar='J', default='0', help='the justification of texts')
     parser.add_argument(
         '--encoding', default='', help='the encoding of characters beyond ASCII, such as utf-8 or latin-1'
     )
     parser.add_argument(
         '--units', choices=('auto', 'master', 'resolution'), default='auto', help='the units of positions and heights'
     )
-    parser.add_argument('-o', '--output', metavar='SCRIPT', default='', help='the script; otherwise it is printed')
-    parser.add_argument('--dry-run', action='store_true', help='say what would be done, and write nothing')
+    add_output(parser)
+    add_dry_run(parser)
 
 
 def defaults_of(arguments: argparse.Namespace, kind: str) -> Defaults:
     """What holds where a row doesn't say it."""
     look = {name: str(getattr(arguments, name)) for name in LOOKS}
-    return Defaults(kind, look, arguments.height, arguments.angle)
+    lettering = {name: str(getattr(arguments, name)) for name in LETTERING}
+    return Defaults(kind, look, arguments.height, arguments.angle, lettering)
 
 
 def give(drawing: Drawing, scale: Scale, wishes: list[Wish], arguments: argparse.Namespace, cuts: bool) -> None:
@@ -51,7 +55,7 @@ def give(drawing: Drawing, scale: Scale, wishes: list[Wish], arguments: argparse
             say(line)
         say('nothing is written; without --dry-run the next command is: ' + next_command(drawing.path, steps))
     elif arguments.output:
-        write_both(made, names, patch)
+        write_both(made, names, patch, arguments.force)
         say('%s: %s' % (', '.join(names), counted(len(made.script.commands), 'command')))
         if made.patch is not None:
             say('%s: %s' % (patch, counted(len(made.patch.entries), 'entry', 'entries')))
@@ -60,12 +64,12 @@ def give(drawing: Drawing, scale: Scale, wishes: list[Wish], arguments: argparse
         give_lines(made, names)
 
 
-def write_both(made: Appending, names: list[str], patch: Optional[str]) -> None:
+def write_both(made: Appending, names: list[str], patch: Optional[str], may_replace: bool) -> None:
     """Writes the script, in as many files as the program reads, and the patch file."""
     contents = {name: part.text for name, part in zip(names, made.script.parts())}
     if patch is not None and made.patch is not None:
         contents[patch] = made.patch.to_bytes()
-    write_files(contents)
+    write_files(contents, may_replace)
 
 
 def patch_name(script: str) -> str:

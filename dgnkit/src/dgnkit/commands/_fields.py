@@ -15,6 +15,7 @@ from ..explain.members import parts_said
 from ..output import counted, few, note, printable, say
 from ..propose.field_edits import FieldEdits
 from ..propose.writing import note_left, propose_patch
+from ._options import add_dry_run, add_force, target_of
 
 if TYPE_CHECKING:
     from ..cli import Parser, Subparsers
@@ -41,7 +42,8 @@ def register_edit(words: Subparsers, word: Word) -> Parser:
     parser.add_argument('drawing', metavar='IN', help='the drawing')
     parser.add_argument('patch', metavar='PATCH', help='the patch file to write')
     add_conditions(parser)
-    parser.add_argument('--dry-run', action='store_true', help='say what would be done, and write nothing')
+    add_force(parser)
+    add_dry_run(parser)
     parser.set_defaults(run=lambda arguments: run_edit(arguments, word))
     return parser
 
@@ -59,7 +61,7 @@ def run_edit(arguments: argparse.Namespace, word: Word) -> int:
     words = [printable(it.in_words()) for it in made.changes]
     said = 'would change' if arguments.dry_run else 'changed'
     say('%d of %s %s' % (len(made.changes), counted(len(drawing.elements), 'element'), said))
-    propose_patch(drawing, made.changes, words, arguments.patch, arguments.dry_run)
+    propose_patch(drawing, made.changes, words, target_of(arguments, arguments.patch))
     return 0
 
 

@@ -4,16 +4,15 @@ from __future__ import annotations
 
 import contextlib
 import os
-import stat
 import tempfile
 from pathlib import Path
 from typing import Any, Dict, Iterator, List, Sequence
 
 from ..drawing.drawing import Drawing
-from ..errors import ListingError, Mistake, ending_of
+from ..errors import ListingError, ending_of
 from ..explain.explaining import imports_of, why_ended
 from ..explain.refusals import Explainer
-from ..files import front_of, read_file
+from ..files import ask_drawing, front_of, is_stream, note_inputs, read_file, said_name
 from ..format.limits import PATCH_LONGEST, SCRIPT_LONGEST
 from ..format.patch import MARK
 from ..output import counted
@@ -30,25 +29,24 @@ def is_patch(name: str) -> bool:
     return front_of(name, len(MARK)) == MARK
 
 
-def ask_out(drawing: str, steps: Sequence[str], out: str) -> None:
-    """It raises Mistake where the drawing would be written over a file that is read, or that a script imports."""
-    for name in [drawing, *steps, *(it for step in steps if not is_patch(step) for it in imports_of(step))]:
-        if os.path.exists(name) and os.path.exists(out) and os.path.samefile(name, out) and os.path.isfile(out):
-            raise Mistake("%s is an input, and isn't overwritten: name another file" % out)
+def ask_inputs(drawings: Sequence[str], steps: Sequence[str]) -> None:
+    """Keeps in mind what a run reads, which none of what it writes may be: drawings, scripts and patch files, and the
+    files that scripts import. It raises Mistake where a script imports what is no file on disk."""
+    imports = [it for step in steps if not is_patch(step) for it in imports_of(step)]
+    for name in imports:
+        ask_drawing(name)
+    note_inputs([*drawings, *steps, *imports])
 
 
 @contextlib.contextmanager
 def on_disk(name: str) -> Iterator[str]:
-    """The name of a file that can be read more than once: its own, or that of a copy where it is a pipe."""
-    try:
-        is_stream = not stat.S_ISREG(os.stat(name).st_mode) and not os.path.isdir(name)
-    except (OSError, ValueError):
-        is_stream = False
-    if not is_stream:
+    """The name of a script or a patch file that the program can read, and that can be read more than once: its own, or
+    that of a copy where it is standard input, a pipe or an open file."""
+    if not is_stream(name):
         yield name
         return
     with tempfile.TemporaryDirectory(prefix='dgnkit-') as folder:
-        place = os.path.join(folder, os.path.basename(name) or 'script')
+        place = os.path.join(folder, 'script')
         Path(place).write_bytes(read_file(name, max(SCRIPT_LONGEST, PATCH_LONGEST)))
         yield place
 
@@ -56,8 +54,10 @@ def on_disk(name: str) -> Iterator[str]:
 class Step:
     """A script or a patch file that is run on a drawing."""
 
-    def __init__(self, program: Program, drawing: str, name: str, out: str) -> None:
+    def __init__(self, program: Program, drawing: str, name: str, out: str, called: str = '') -> None:
+        """`called` is what the script or the patch file is called in words, where that isn't its name."""
         self.program, self.drawing, self.name, self.out = program, drawing, name, out
+        self.called = said_name(called or name)
         self.is_patch = is_patch(name)
         self.status, self.said = 0, ['']
         self.script = Script()
@@ -66,13 +66,17 @@ class Step:
         self.end = ''
 
     def run(self, said_out: str = '') -> str:
-        """Runs it, and gives why it ended without doing it, or nothing. `said_out` is what OUT is called in words."""
+        """Runs it, and gives why it ended without doing it, or nothing; what it made then is gone. `said_out` is what
+        OUT is called in words."""
         word = 'apply' if self.is_patch else 'edit'
         ran = self.program.run(word, self.drawing, self.name, self.out)
         if ran.status not in (0, 1):
             ending = ending_of(ran.status, ran.said, self.drawing)
             self.status, self.said = ran.status, ran.said
-            return why_ended(self.program, ending, self.drawing, self.name, said_out or self.out)
+            if os.path.isfile(self.out):
+                os.unlink(self.out)
+            why = why_ended(self.program, ending, self.drawing, self.name, said_out or self.out)
+            return why.replace(self.name, self.called)
         if not os.path.exists(self.out):
             raise ListingError('dgnedit said that it was done, but there is no %s' % self.out)
         if self.is_patch:

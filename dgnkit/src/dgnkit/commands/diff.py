@@ -13,6 +13,8 @@ from ..output import counted, note, say, say_csv, say_json
 from ..program.runs import Program
 from ..propose.redoing import redoing_of
 from ..propose.scripting import give_script
+from ..saving import Target
+from ._options import add_output, target_of
 
 if TYPE_CHECKING:
     from ..cli import Subparsers
@@ -40,7 +42,7 @@ def register(words: Subparsers) -> None:
     form.add_argument('--json', action='store_true', help='print it as JSON')
     form.add_argument('--csv', action='store_true', help='print it as CSV')
     form.add_argument('--script', action='store_true', help='write the script that makes A as much like B as it can')
-    parser.add_argument('-o', '--output', metavar='SCRIPT', default='', help='the file for --script')
+    add_output(parser, 'the file for --script')
     parser.set_defaults(run=run)
 
 
@@ -53,7 +55,7 @@ def run(arguments: argparse.Namespace) -> int:
     found = differences(first, second)
     tails = tail_said(first, second)
     if arguments.script:
-        give_redoing(first, second, found, arguments.output)
+        give_redoing(first, second, found, target_of(arguments, arguments.output))
         return 0
     if arguments.json:
         say_json({'elements': [facts_of(it) for it in found], 'tail': tails})
@@ -69,7 +71,7 @@ def run(arguments: argparse.Namespace) -> int:
     return 1 if found or tails else 0
 
 
-def give_redoing(first: Drawing, second: Drawing, found: List[Difference], path: str) -> None:
+def give_redoing(first: Drawing, second: Drawing, found: List[Difference], target: Target) -> None:
     """Gives the script, and says what still differs once it has run."""
     made = redoing_of(first, second, found)
     for it in made.left[:20]:
@@ -78,7 +80,7 @@ def give_redoing(first: Drawing, second: Drawing, found: List[Difference], path:
         note('not covered: and %d more' % (len(made.left) - 20))
     note('after the script %s' % (summary(made.left) if made.left else 'no element differs'))
     words = (command_said(first, it.text) for it in made.script.commands)
-    give_script(first.path, made.script, words, path, False)
+    give_script(first.path, made.script, words, target)
 
 
 def facts_of(it: Difference) -> Dict[str, Any]:

@@ -16,8 +16,9 @@ if TYPE_CHECKING:
 
 ABOUT = """Writes the script that draws what a table says. Each row is a point; consecutive rows with the same element
 are one line, line string or shape, and each row with a text is a text. The first row names the columns: x and y, or
-easting and northing; and, if wanted, z, element, kind, level, color, weight, style, text, height, angle. Texts need a
-patch file after the script; -o SCRIPT writes it too, with the name of the script and .patch."""
+easting and northing; and, if wanted, z, element, kind, level, color, weight, style, text, height, angle, font,
+justification. Texts need a patch file after the script; -o SCRIPT writes it too, with the name of the script and
+.patch."""
 
 
 def register(words: Subparsers) -> None:

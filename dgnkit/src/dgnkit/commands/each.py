@@ -4,31 +4,32 @@ from __future__ import annotations
 
 import argparse
 import os
-import shutil
 import sys
-import tempfile
 from dataclasses import dataclass
 from pathlib import Path
-from typing import TYPE_CHECKING, Any, Dict, List, Sequence
+from typing import TYPE_CHECKING, Any, Dict, Iterator, List, Sequence, Tuple
 
 from ..drawing.spans import number_of
-from ..errors import BadDesign, Mistake, ReadFault, ending_of
-from ..explain.explaining import why_bad_design, why_not_read
-from ..files import mistake_of, put_in_place, read_file
+from ..errors import BadDesign, Mistake, ReadFault, WriteFault, ending_of
+from ..explain.explaining import imports_of, why_bad_design, why_not_read
+from ..files import ask_drawing, mistake_of, read_file, said_name
 from ..format.limits import PATCH_LONGEST, SCRIPT_LONGEST
 from ..output import counted, note, say, say_csv, say_json, table
 from ..program.answers import answers_of
 from ..program.many import run_all
-from ..program.runs import Program, lines_of
+from ..program.runs import Program, lines_of, stopped_said
 from ..program.script import Script
+from ..saving import ask_target, folder_in, make_safe, put_in_place
 from ..waiting import is_terminal, tells_itself
-from ._runs import ask_out, is_patch, on_disk
+from ._options import add_force
+from ._runs import ask_inputs, is_patch, on_disk
 
 if TYPE_CHECKING:
     from ..cli import Subparsers
 
 WIDTH = 30
 JOBS_MOST = 1024
+UNREADABLE = 5  # how dgnedit ends where a file can't be read
 
 
 @dataclass(frozen=True)
@@ -48,7 +49,7 @@ def register(words: Subparsers) -> None:
     parser.add_argument('drawings', metavar='IN', nargs='+', help='the drawings')
     parser.add_argument('--into', metavar='DIR', required=True, help='the folder that the new drawings are written to')
     parser.add_argument('--jobs', metavar='N', default=str(os.cpu_count() or 1), help='how many at a time')
-    parser.add_argument('--force', action='store_true', help='overwrite drawings of that name in DIR')
+    add_force(parser)
     form = parser.add_mutually_exclusive_group()
     form.add_argument('--json', action='store_true', help='print it as JSON')
     form.add_argument('--csv', action='store_true', help='print it as CSV')
@@ -62,12 +63,11 @@ def run(arguments: argparse.Namespace) -> int:
     jobs = number_of(arguments.jobs, 'number of jobs', JOBS_MOST)
     if jobs < 1:
         raise Mistake('--jobs must be at least 1')
-    targets = targets_of(arguments.drawings, arguments.into, arguments.force)
-    for target in targets:
-        ask_out(arguments.script, [], str(target))
     with on_disk(arguments.script) as script:
-        runs = Runs(program, script, is_patch(script), arguments.drawings, targets, arguments.force)
-        outcomes = runs.all(arguments.into, jobs)
+        ask_inputs(arguments.drawings, [script])
+        steps = Steps(program, script, said_name(arguments.script))
+        targets = targets_of(arguments.drawings, arguments.into, arguments.force)
+        outcomes = Runs(steps, arguments.drawings, targets, arguments.force).all(arguments.into, jobs)
     if arguments.json:
         say_json([vars(it) for it in outcomes])
     elif arguments.csv:
@@ -91,53 +91,26 @@ def targets_of(drawings: Sequence[str], folder: str, may_replace: bool) -> List[
             raise Mistake('%s and %s would both be written to %s' % (by_name[target.name], name, target))
         if target.exists() and os.path.exists(name) and os.path.samefile(name, target):
             raise Mistake('%s is itself in %s: name another folder' % (name, folder))
-        if target.exists() and not may_replace:
-            raise Mistake('%s already exists: --force overwrites it' % target)
+        ask_target(target, may_replace, True)
         by_name[target.name] = name
     return [Path(folder) / name for name in by_name]
 
 
-class Runs:
-    """Runs of one script or patch file over drawings, each into a file of its own."""
+class Steps:
+    """A script or a patch file that is run on many drawings; `called` is what it is called in words."""
 
-    def __init__(
-        self, program: Program, script: str, is_patch: bool, drawings: List[str], targets: List[Path], force: bool
-    ) -> None:
-        self.program, self.script, self.is_patch = program, script, is_patch
-        content = read_file(script, PATCH_LONGEST if is_patch else SCRIPT_LONGEST)
-        self.commands = [] if is_patch else [it.name for it in Script.from_bytes(content).commands]
-        self.drawings, self.targets, self.force = drawings, targets, force
+    def __init__(self, program: Program, script: str, called: str) -> None:
+        self.program, self.script, self.called, self.is_patch = program, script, called, is_patch(script)
+        content = read_file(script, PATCH_LONGEST if self.is_patch else SCRIPT_LONGEST)
+        self.commands = [] if self.is_patch else [it.name for it in Script.from_bytes(content).commands]
 
-    def all(self, folder: str, jobs: int) -> List[Outcome]:
-        """Runs them all. A drawing is put in its place once it is whole; nothing else is left, however this ends."""
-        place = tempfile.mkdtemp(prefix='.dgnkit-', dir=folder)
-        word = 'apply' if self.is_patch else 'edit'
-        outs = [os.path.join(place, str(index)) for index in range(len(self.drawings))]
-        commands = [[self.program.path, word, name, self.script, out] for name, out in zip(self.drawings, outs)]
-        made: Dict[int, Outcome] = {}
-        try:
-            for index, status, said in run_all(commands, jobs):
-                made[index] = self.outcome(index, status, said, outs[index])
-                show_progress(len(made), len(commands))
-        finally:
-            shutil.rmtree(place, ignore_errors=True)
-        return [made[index] for index in range(len(commands))]
+    def words(self, drawing: str, out: str) -> List[str]:
+        """The command that runs it on a drawing."""
+        return [self.program.path, 'apply' if self.is_patch else 'edit', drawing, self.script, out]
 
-    def outcome(self, index: int, status: int, said: bytes, out: str) -> Outcome:
-        """What became of a drawing, whose file is put in its place where it is whole."""
-        name, target = self.drawings[index], self.targets[index]
-        if status < 0:
-            return Outcome(name, status, 'stopped by signal %d' % -status, 0, '')
-        try:
-            lines = lines_of(said)
-            if status not in (0, 1):
-                return Outcome(name, status, self.ending(status, lines, name), 0, '')
-            asks = status == 1 and not self.is_patch
-            refused = sum(it.is_refused for it in answers_of(self.commands, lines)) if asks else 0
-            put_in_place(out, target, self.force)
-        except Mistake as why:
-            return Outcome(name, -1, str(why), 0, '')
-        return Outcome(name, status, 'done' if status == 0 else 'some refused', refused, str(target))
+    def refused(self, lines: List[str]) -> int:
+        """How many commands were refused, of a run that said these lines and refused some."""
+        return 0 if self.is_patch else sum(it.is_refused for it in answers_of(self.commands, lines))
 
     def ending(self, status: int, lines: List[str], name: str) -> str:
         """Why the program ended without writing a drawing, without the drawing's name in front."""
@@ -146,8 +119,60 @@ class Runs:
         if isinstance(ending, BadDesign):
             said = why_bad_design(name, ending)
         elif isinstance(ending, ReadFault):
-            said = why_not_read([name, self.script])
-        return said[len(name) + 1 :] if said.startswith(name + ' ') else said
+            said = why_not_read([name, self.script, *imports_of(self.script)]).replace(self.script, self.called)
+        elif isinstance(ending, WriteFault):
+            said += ' completely, perhaps because the disk is full: nothing is written'
+        return without_name(said, name)
+
+
+def without_name(said: str, name: str) -> str:
+    """What is said of a drawing, without its name in front."""
+    return said[len(name) + 1 :] if said.startswith(name + ' ') else said
+
+
+class Runs:
+    """Runs of one script or patch file over drawings, each into a file of its own."""
+
+    def __init__(self, steps: Steps, drawings: List[str], targets: List[Path], may_replace: bool) -> None:
+        self.steps, self.drawings, self.targets, self.may_replace = steps, drawings, targets, may_replace
+
+    def all(self, folder: str, jobs: int) -> List[Outcome]:
+        """Runs them all. A drawing is put in its place once it is whole; nothing else is left, however this ends."""
+        made: Dict[int, Outcome] = {}
+        with folder_in(folder, folder) as place:
+            for index, outcome in self._outcomes(place, jobs):
+                made[index] = outcome
+                show_progress(len(made), len(self.drawings))
+        make_safe(folder)
+        return [made[index] for index in range(len(self.drawings))]
+
+    def _outcomes(self, place: str, jobs: int) -> Iterator[Tuple[int, Outcome]]:
+        """The outcomes, as the runs end; those of files that can't be run on come first."""
+        commands: Dict[int, List[str]] = {}
+        for index, name in enumerate(self.drawings):
+            try:
+                ask_drawing(name)
+                commands[index] = self.steps.words(name, os.path.join(place, str(index)))
+            except Mistake as why:
+                yield index, Outcome(name, UNREADABLE, without_name(str(why), said_name(name)), 0, '')
+        indices = list(commands)
+        for at, status, said in run_all(commands.values(), jobs):
+            yield indices[at], self._outcome(indices[at], status, said, commands[indices[at]][-1])
+
+    def _outcome(self, index: int, status: int, said: bytes, out: str) -> Outcome:
+        """What became of a drawing, whose file is put in its place where it is whole."""
+        name, target = self.drawings[index], self.targets[index]
+        if status < 0:
+            return Outcome(name, status, stopped_said(-status), 0, '')
+        try:
+            lines = lines_of(said)
+            if status not in (0, 1):
+                return Outcome(name, status, self.steps.ending(status, lines, name), 0, '')
+            refused = self.steps.refused(lines) if status == 1 else 0
+            put_in_place(out, target, self.may_replace, False)
+        except Mistake as why:
+            return Outcome(name, -1, str(why), 0, '')
+        return Outcome(name, status, 'done' if status == 0 else 'some refused', refused, str(target))
 
 
 def show_progress(done: int, count: int) -> None:

@@ -3,7 +3,7 @@
 from __future__ import annotations
 
 import argparse
-from typing import TYPE_CHECKING, Any, Dict, List, Sequence
+from typing import TYPE_CHECKING, Any, Dict, List, Optional, Sequence
 
 from ..drawing.conditions import Conditions
 from ..drawing.drawing import Drawing
@@ -15,6 +15,7 @@ from ..format.element import Element
 from ..format.units import shortest
 from ..output import counted, note, say, say_csv, say_json, table
 from ..propose.scripting import LINE_HELP, give_proposal, propose
+from ._options import add_output, target_of
 
 if TYPE_CHECKING:
     from ..cli import Subparsers
@@ -37,7 +38,7 @@ def register(words: Subparsers) -> None:
     form.add_argument('--json', action='store_true', help='print them as JSON')
     form.add_argument('--csv', action='store_true', help='print them as CSV')
     form.add_argument('--script', metavar='LINE', dest='line', help=LINE_HELP)
-    parser.add_argument('-o', '--output', metavar='SCRIPT', default='', help='the file for --script')
+    add_output(parser, 'the file for --script')
     parser.add_argument(
         '--dry-run', action='store_true', help='say in words what the script would do, and write nothing'
     )
@@ -55,7 +56,7 @@ def run(arguments: argparse.Namespace) -> int:
         named = chosen if arguments.members else conditions.roots_of(chosen)
         made = propose(drawing, named, arguments.line)
         made.tell_members(drawing, chosen)
-        give_proposal(drawing, made, arguments.output, arguments.dry_run)
+        give_proposal(drawing, made, target_of(arguments, arguments.output))
     else:
         tell(conditions, chosen, arguments)
         for said in parts_said(drawing, chosen, TOLD):
@@ -104,6 +105,8 @@ def row_of(conditions: Conditions, element: Element) -> Dict[str, Any]:
         'locked': element.is_locked,
         'broken': drawing.nesting.roots[number] in conditions.broken_roots,
         'range': element.range,
+        **place_of(conditions, element),
+        **lettering_of(conditions, element),
     }
     if conditions.nearness is not None:
         row['distance'] = conditions.length_said(conditions.distance(number))
@@ -111,19 +114,42 @@ def row_of(conditions: Conditions, element: Element) -> Dict[str, Any]:
 
 
 def csv_row(conditions: Conditions, element: Element) -> Dict[str, Any]:
-    """What is said of an element, as CSV has it: with its origin or its first point, and a text's height and angle."""
+    """What is said of an element, as CSV has it: its range by the names of the coordinates, before what a text has."""
     row, scale = row_of(conditions, element), conditions.scale
     low_high = row.pop('range') or ((), ())
+    lettering = {name: row.pop(name) for name in LETTERING}
+    places = {name: row.pop(name) for name in 'xyz'[: element.axes]}
+    corners = {
+        '%s_%s' % (word, name): scale.said(corner)[axis] if corner else None
+        for corner, word in zip(low_high, ('low', 'high'))
+        for axis, name in enumerate('xy')
+    }
+    return {name: csv_field(it) for name, it in {**row, **places, **corners, **lettering}.items()}
+
+
+def csv_field(value: object) -> object:
+    """A value as CSV has it."""
+    if isinstance(value, bool):
+        return int(value)
+    return shortest(value) if isinstance(value, float) else value
+
+
+def place_of(conditions: Conditions, element: Element) -> Dict[str, Optional[float]]:
+    """Where an element is, as places are written: its origin or its first point."""
     points = element.points
-    for axis, name in enumerate('xyz'[: element.axes]):
-        row[name] = shortest(scale.said(points[0])[axis]) if points else None
-    for corner, words in zip(low_high or ((), ()), ('low', 'high')):
-        for axis, name in enumerate('xy'):
-            row['%s_%s' % (words, name)] = shortest(scale.said(corner)[axis]) if corner else None
+    return dict(zip('xyz', conditions.scale.said(points[0]) if points else [None] * element.axes))
+
+
+LETTERING = ('height', 'angle', 'font', 'justification')
+
+
+def lettering_of(conditions: Conditions, element: Element) -> Dict[str, Optional[float]]:
+    """How a text is written: its height as lengths are written, its angle in degrees, its font and justification."""
     size, angle = element.text_size, element.text_angle
-    row['height'] = None if size is None else shortest(round(conditions.length_said(size[1]), 9))
-    row['angle'] = None if angle is None else shortest(round(angle, 6))
-    return {name: int(it) if isinstance(it, bool) else it for name, it in row.items()}
+    if size is None or angle is None:
+        return dict.fromkeys(LETTERING)
+    height = round(conditions.length_said(size[1]), 9)
+    return dict(zip(LETTERING, (height, round(angle, 6), element.font, element.justification)))
 
 
 HEAD = ['number', 'root', 'type', 'level', 'colour', 'weight', 'style', 'state', 'text or cell']

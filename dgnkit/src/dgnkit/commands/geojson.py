@@ -12,9 +12,10 @@ from typing import TYPE_CHECKING, Iterator, Optional
 from ..drawing.drawing import Drawing
 from ..drawing.features import Features
 from ..errors import Mistake
-from ..files import write_pieces
 from ..format.places import Scale
 from ..output import note
+from ..saving import write_pieces
+from ._options import add_output
 
 if TYPE_CHECKING:
     from ..cli import Subparsers
@@ -30,7 +31,7 @@ def register(words: Subparsers) -> None:
         '--units', choices=('auto', 'master', 'resolution'), default='auto', help='the units of its positions'
     )
     parser.add_argument('--members', action='store_true', help='also write the members of complex chains and shapes')
-    parser.add_argument('-o', '--output', metavar='FILE', default='', help='the file; otherwise it is printed')
+    add_output(parser, 'the file; otherwise it is printed', 'FILE')
     parser.set_defaults(run=run)
 
 
@@ -42,7 +43,7 @@ def run(arguments: argparse.Namespace) -> int:
     count = Count()
     lines = lines_of(features, system, count)
     if arguments.output:
-        write_pieces(arguments.output, (it.encode('ascii') for it in lines))
+        write_pieces(arguments.output, (it.encode('ascii') for it in lines), arguments.force)
     elif sys.stdout is None:
         raise OSError('standard output is closed')
     else:

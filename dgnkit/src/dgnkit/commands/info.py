@@ -3,12 +3,14 @@
 from __future__ import annotations
 
 import argparse
+from collections import Counter
 from typing import TYPE_CHECKING, Any, Dict, List, Optional, Tuple
 
 from ..drawing.attachments import names_in
 from ..drawing.drawing import Drawing
 from ..drawing.measuring import Measures, Sums, measures_of
 from ..errors import Mistake
+from ..format import classes
 from ..format.classes import type_name
 from ..format.limits import PLANE_HIGH, PLANE_LOW
 from ..format.numbers import Point
@@ -20,25 +22,29 @@ if TYPE_CHECKING:
     from ..cli import Subparsers
 
 MEASURES = ['lines', 'length', 'shapes', 'outline', 'area']
+FONTS = ['font', 'texts']
 
 
 def register(words: Subparsers) -> None:
     parser = words.add_parser('info', help='report the units and the contents of drawings')
     parser.add_argument('drawings', metavar='IN', nargs='+', help='the drawings')
     parser.add_argument('--lengths', action='store_true', help='add up lengths and areas by level')
+    parser.add_argument('--fonts', action='store_true', help='list the fonts of texts')
     form = parser.add_mutually_exclusive_group()
     form.add_argument('--json', action='store_true', help='print it as JSON')
-    form.add_argument('--csv', action='store_true', help='print the table of levels as CSV')
+    form.add_argument('--csv', action='store_true', help='print the table of levels, or of fonts, as CSV')
     parser.set_defaults(run=run)
 
 
 def run(arguments: argparse.Namespace) -> int:
+    if arguments.csv and arguments.lengths and arguments.fonts:
+        raise Mistake('--csv prints one table: ask for --lengths or for --fonts')
     program = Program.find()
     told: List[Dict[str, Any]] = []
     status = 0
     for name in arguments.drawings:
         try:
-            facts = facts_of(Drawing(name, program), arguments.lengths)
+            facts = facts_of(Drawing(name, program), arguments.lengths, arguments.fonts)
         except Mistake as why:
             note('dgnkit: %s' % why)
             status = 2
@@ -51,13 +57,15 @@ def run(arguments: argparse.Namespace) -> int:
                 say(line)
     if arguments.json:
         say_json(told)
+    elif arguments.csv and arguments.fonts:
+        say_csv(['file', *FONTS], [[it['file'], *row] for it in told for row in it['fonts'].items()])
     elif arguments.csv:
         head = ['file', 'level', 'elements', 'types', *(MEASURES if arguments.lengths else [])]
         say_csv(head, [[it['file'], *row] for it in told for row in rows_of(it)])
     return status
 
 
-def facts_of(drawing: Drawing, has_lengths: bool = False) -> Dict[str, Any]:
+def facts_of(drawing: Drawing, has_lengths: bool = False, has_fonts: bool = False) -> Dict[str, Any]:
     """All that is said of a drawing, as JSON has it."""
     units, elements = drawing.units, drawing.elements
     extent = drawing.extent
@@ -84,6 +92,7 @@ def facts_of(drawing: Drawing, has_lengths: bool = False) -> Dict[str, Any]:
         'levels': {str(level): by_level[level] for level in sorted(by_level)},
         'lengths': None if sums is None else lengths_facts(sums, units.in_master or 1),
         'not_in_lengths': None if sums is None else sums.left,
+        'fonts': fonts_facts(drawing) if has_fonts else None,
     }
 
 
@@ -95,6 +104,13 @@ def lengths_facts(sums: Sums, scale: int) -> Dict[str, Dict[str, float]]:
         return {'lines': it.lines, 'shapes': it.shapes, **{name: round(lengths[name], 6) for name in lengths}}
 
     return {str(level): facts(it) for level, it in sorted(sums.levels.items())}
+
+
+def fonts_facts(drawing: Drawing) -> Dict[str, int]:
+    """How many texts have each font. What is marked deleted doesn't count."""
+    texts = (drawing.elements[it] for it in drawing.elements.of_types(classes.WORDS) if it not in drawing.dead)
+    counts = Counter(it.font or 0 for it in texts)
+    return {str(font): counts[font] for font in sorted(counts)}
 
 
 def units_facts(units: Units) -> Dict[str, Any]:
@@ -146,6 +162,8 @@ def lines_of(facts: Dict[str, Any]) -> List[str]:
         '  colours    %s' % ('its own colour table' if facts['own_colours'] else "MicroStation's default table")
     )
     lines += ['  ' + line for line in table(['level', 'elements', 'types'], [it[:3] for it in rows_of(facts)])]
+    if facts['fonts'] is not None:
+        lines += ['  ' + line for line in table(FONTS, facts['fonts'].items())]
     return lines + measures_said(facts, name if units['known'] else 'units of resolution')
 
 

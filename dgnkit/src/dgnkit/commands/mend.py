@@ -12,10 +12,11 @@ from ..drawing.changes import Change
 from ..drawing.drawing import Drawing
 from ..drawing.mending import mending_of
 from ..errors import Mistake
-from ..files import write_file
 from ..format.element import described
 from ..output import counted, note, say, say_csv, say_json
 from ..propose.writing import applied, patch_of, propose_patch
+from ..saving import write_file
+from ._options import add_dry_run, add_force, target_of
 
 if TYPE_CHECKING:
     from ..cli import Subparsers
@@ -27,7 +28,8 @@ def register(words: Subparsers) -> None:
     parser.add_argument(
         'patch', metavar='PATCH', nargs='?', default='', help='the patch file to write; not needed with --dry-run'
     )
-    parser.add_argument('--dry-run', action='store_true', help='say what would be done, and write nothing')
+    add_force(parser)
+    add_dry_run(parser)
     form = parser.add_mutually_exclusive_group()
     form.add_argument('--json', action='store_true', help='print it as JSON')
     form.add_argument('--csv', action='store_true', help='print it as CSV')
@@ -56,11 +58,11 @@ def run(arguments: argparse.Namespace) -> int:
         note('not mended: %s: %s' % (described(it.element), it.why))
     if not arguments.json and not arguments.csv:
         say('%s before, %d after' % (counted(before, 'broken tree'), after))
-        propose_patch(drawing, mending.changes, [], arguments.patch, arguments.dry_run)
+        propose_patch(drawing, mending.changes, [], target_of(arguments, arguments.patch))
     elif not arguments.dry_run:
         patch = patch_of(drawing, mending.changes)
         applied(drawing, patch, mending.changes)
-        write_file(arguments.patch, patch.to_bytes())
+        write_file(arguments.patch, patch.to_bytes(), arguments.force)
     return 0
 
 

@@ -13,6 +13,7 @@ from ..program.runs import Program
 from ..program.script import Script
 from ..propose.merging import Merge, left_of, merge_of, words_of
 from ..propose.scripting import give_script
+from ._options import add_dry_run, add_output, target_of
 
 if TYPE_CHECKING:
     from ..cli import Subparsers
@@ -22,8 +23,8 @@ def register(words: Subparsers) -> None:
     parser = words.add_parser('merge', help='write the script that imports other drawings')
     parser.add_argument('drawing', metavar='A', help='the drawing to import into')
     parser.add_argument('others', metavar='B', nargs='+', help='the drawings to import')
-    parser.add_argument('-o', '--output', metavar='SCRIPT', default='', help='the script; otherwise it is printed')
-    parser.add_argument('--dry-run', action='store_true', help='say what would be done, and write nothing')
+    add_output(parser)
+    add_dry_run(parser)
     parser.set_defaults(run=run)
 
 
@@ -40,7 +41,7 @@ def run(arguments: argparse.Namespace) -> int:
     tell: Callable[[str], None] = say if arguments.output or arguments.dry_run else note
     for line in (line for merge in merges for line in words_of(first, merge)):
         tell(printable(line))
-    give_script(first.path, script, [], arguments.output, arguments.dry_run)
+    give_script(first.path, script, [], target_of(arguments, arguments.output))
     return 0
 
 

@@ -10,7 +10,7 @@ from typing import TYPE_CHECKING
 
 from ..output import say
 from ..page.app import app_place
-from ..files import write_file
+from ..saving import write_file
 from .page import page_text
 
 if TYPE_CHECKING:
@@ -38,5 +38,5 @@ def page_of_drawing(name: str) -> Path:
     """Writes the page of a drawing in a folder of its own, and gives its place."""
     text = page_text(name)
     place = Path(tempfile.mkdtemp(prefix='dgnkit-open-')) / (Path(name).stem + '.html')
-    write_file(place, text.encode('utf-8'))
+    write_file(place, text.encode('utf-8'), False)
     return place

@@ -9,9 +9,11 @@ from typing import TYPE_CHECKING, List, Optional
 
 from ..drawing.drawing import Drawing
 from ..errors import Mistake
-from ..files import read_file, write_file
+from ..files import front_of, note_inputs, read_file, said_name
 from ..output import say
 from ..page.app import PAGE_MARK, Part, page_of
+from ..saving import ask_target, write_file
+from ._options import add_force
 
 if TYPE_CHECKING:
     from ..cli import Subparsers
@@ -29,13 +31,18 @@ def register(words: Subparsers) -> None:
     parser.add_argument(
         '-o', '--output', metavar='PAGE', help="the page; otherwise IN's name with .html, in the current folder"
     )
+    add_force(parser)
     parser.set_defaults(run=run)
 
 
 def run(arguments: argparse.Namespace) -> int:
-    """Writes the page, and says its name and how large it is."""
-    place = page_place(arguments)
-    write_file(place, page_text(arguments.drawing, arguments.after, arguments.script).encode('utf-8'))
+    """Writes the page, and says its name and how large it is. A page that this command wrote may be replaced."""
+    place = Path(arguments.output or Path(arguments.drawing).stem + '.html')
+    may_replace = arguments.force or is_page(place)
+    note_inputs(it for it in (arguments.drawing, arguments.after, arguments.script) if it)
+    ask_target(place, may_replace)
+    text = page_text(arguments.drawing, arguments.after, arguments.script)
+    write_file(place, text.encode('utf-8'), may_replace)
     say('%s: %d bytes; open it in a browser' % (place, place.stat().st_size))
     return 0
 
@@ -53,30 +60,10 @@ def page_text(name: str, after: Optional[str] = None, script: Optional[str] = No
             raise Mistake('%s has %d dimensions, and %s has %d' % (name, drawing.axes, after, other.axes))
         parts.append(('after', os.path.basename(after), other.data))
     if script:
-        parts.append(('script', os.path.basename(script), read_file(script)))
+        parts.append(('script', os.path.basename(said_name(script)), read_file(script)))
     return page_of(title, parts)
-
-
-def page_place(arguments: argparse.Namespace) -> Path:
-    """Where the page is to stand. It raises Mistake where that is a file that is read, or where a file of that name is
-    there that wasn't asked for by -o and is no such page."""
-    if arguments.output:
-        place = Path(arguments.output)
-    else:
-        place = Path(Path(arguments.drawing).stem + '.html')
-    read: List[Optional[str]] = [arguments.drawing, arguments.after, arguments.script]
-    for name in read:
-        if name and place.exists() and os.path.exists(name) and place.samefile(name):
-            raise Mistake('%s is an input, and the page would overwrite it: name another file with -o' % place)
-    if not arguments.output and place.exists() and not is_page(place):
-        raise Mistake("%s exists and isn't a page of dgnkit: name the page with -o" % place)
-    return place
 
 
 def is_page(place: Path) -> bool:
     """Whether a file is a page that this command wrote."""
-    try:
-        with place.open('rb') as file:
-            return PAGE_MARK.encode('ascii') in file.read(4096)
-    except OSError:
-        return False
+    return place.is_file() and PAGE_MARK.encode('ascii') in front_of(place, 4096)

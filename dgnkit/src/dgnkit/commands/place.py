@@ -18,6 +18,7 @@ from ..format.places import Scale
 from ..output import few, note
 from ..program.script import Script
 from ..propose.scripting import REASONS, causes, give_script
+from ._options import add_dry_run, add_output, target_of
 
 if TYPE_CHECKING:
     from ..cli import Subparsers
@@ -42,8 +43,8 @@ def register(words: Subparsers) -> None:
     parser.add_argument(
         '--units', choices=('auto', 'master', 'resolution'), default='auto', help='the units of the positions'
     )
-    parser.add_argument('-o', '--output', metavar='SCRIPT', default='', help='the script; otherwise it is printed')
-    parser.add_argument('--dry-run', action='store_true', help='say what would be done, and write nothing')
+    add_output(parser)
+    add_dry_run(parser)
     parser.set_defaults(run=run)
 
 
@@ -59,7 +60,7 @@ def run(arguments: argparse.Namespace) -> int:
     ask(drawing, cell, script, spots)
     tell_outside(drawing, scale, spots)
     words = ['row %d: %s to %s' % (it.row.line, described(cell), scale.place_said(it.point)) for it in spots]
-    give_script(drawing.path, script, words, arguments.output, arguments.dry_run)
+    give_script(drawing.path, script, words, target_of(arguments, arguments.output))
     return 0
 
 

@@ -3,6 +3,7 @@
 from __future__ import annotations
 
 import argparse
+import contextlib
 from typing import TYPE_CHECKING, Sequence
 
 from ..drawing.cells import cells_of
@@ -10,7 +11,7 @@ from ..drawing.conditions import form_of, word_form
 from ..drawing.drawing import Drawing
 from ..output import note
 from ..propose.field_edits import FieldEdits, Replacement, retext
-from ..waiting import stopped_after
+from ..waiting import Matcher
 from ._fields import Word, register_edit
 
 if TYPE_CHECKING:
@@ -29,11 +30,11 @@ def register(words: Subparsers) -> None:
 
 
 def edit(drawing: Drawing, numbers: Sequence[int], arguments: argparse.Namespace) -> FieldEdits:
-    form = (form_of if arguments.regex else word_form)(arguments.old, arguments.ignore_case)
+    form = Matcher((form_of if arguments.regex else word_form)(arguments.old, arguments.ignore_case))
     new = arguments.new if arguments.regex else arguments.new.replace('\\', '\\\\')
-    with stopped_after('the text search'):
+    with form.limited() if arguments.regex else contextlib.nullcontext():
         made = retext(drawing, numbers, Replacement(form, new, arguments.encoding))
-        named = {it.cell_name or '' for it in cells_of(drawing) if form.search(it.cell_name or '')}
+        named = {it.cell_name or '' for it in cells_of(drawing) if form.is_in(it.cell_name or '')}
     if named and not made.changes:
         note('no text is changed; to change the name of a cell such as %s, use `dgnkit rename`' % min(named))
     return made

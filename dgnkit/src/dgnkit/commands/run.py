@@ -5,21 +5,23 @@ from __future__ import annotations
 import argparse
 import contextlib
 import os
-import tempfile
+import sys
 from typing import TYPE_CHECKING, Iterator, List, Sequence
 
 from ..drawing.drawing import Drawing
 from ..errors import Mistake
-from ..files import mistake_of, put_in_place
+from ..files import ask_drawing, handle_of, said_name
 from ..output import counted, note, say, say_csv, say_json, say_raw
 from ..program.runs import Program
-from ._runs import HEAD, Step, ask_out, on_disk
+from ..saving import delivered
+from ._options import add_force
+from ._runs import HEAD, Step, ask_inputs, on_disk
 
 if TYPE_CHECKING:
     from ..cli import Subparsers
 
 ABOUT = """Has dgnedit run scripts and patch files on a drawing, one after the other, and says in sentences what was
-refused and how it ended. OUT is there whole or not at all."""
+refused and how it ended. OUT is there whole or not at all. A SCRIPT that is called - is standard input."""
 
 
 def register(words: Subparsers) -> None:
@@ -29,6 +31,7 @@ def register(words: Subparsers) -> None:
         'steps', metavar='SCRIPT', nargs='+', help='scripts and patch files, in the order in which to run them'
     )
     parser.add_argument('out', metavar='OUT', help='the drawing to write')
+    add_force(parser)
     form = parser.add_mutually_exclusive_group()
     form.add_argument('--json', action='store_true', help='print it as JSON')
     form.add_argument('--csv', action='store_true', help='print the refused lines as CSV')
@@ -37,37 +40,42 @@ def register(words: Subparsers) -> None:
 
 def run(arguments: argparse.Namespace) -> int:
     """The status is 0 where nothing was refused, 1 where a command was; it raises Mistake where nothing was written."""
-    out = arguments.out
-    if os.path.isdir(out):
-        raise Mistake("%s can't be written: it is a folder" % out)
-    program, steps = Program.find(), []
+    program, steps, out = Program.find(), [], arguments.out
     with contextlib.ExitStack() as stack:
         names = [stack.enter_context(on_disk(it)) for it in arguments.steps]
-        made = stack.enter_context(delivered(arguments.drawing, [*arguments.steps, *names], out))
-        steps.extend(run_steps(program, arguments.drawing, names, made, out))
-    tell(arguments, steps)
+        made = stack.enter_context(making(arguments.drawing, names, out, arguments.force))
+        steps.extend(run_steps(program, arguments.drawing, names, made, out, arguments.steps))
+    with aside(out):
+        tell(arguments, steps)
     tell_texts(steps)
     return int(any(it.is_refused for it in steps))
 
 
 @contextlib.contextmanager
-def delivered(drawing: str, files: Sequence[str], out: str) -> Iterator[str]:
-    """The name of a drawing that is to be made of these files, and then is put in the place of OUT, which is no folder,
-    where nothing is raised meanwhile. It raises Mistake where OUT may not be written."""
-    ask_out(drawing, files, out)
-    with folder_beside(out) as folder:
-        made = os.path.join(folder, 'out.dgn')
+def making(drawing: str, files: Sequence[str], out: str, may_replace: bool) -> Iterator[str]:
+    """The name of a drawing that is to be made of these files, and then takes the place of OUT, where nothing is raised
+    meanwhile. It raises Mistake where OUT may not be written, or where what is to be read is no file on disk."""
+    ask_drawing(drawing)
+    ask_inputs([drawing], files)
+    with delivered(out, may_replace) as made:
         yield made
-        deliver(made, out)
 
 
-def run_steps(program: Program, drawing: str, files: Sequence[str], made: str, out: str) -> List[Step]:
+def aside(out: str) -> contextlib.AbstractContextManager[object]:
+    """Where OUT is standard output, lets what is said come to standard error."""
+    return contextlib.redirect_stdout(sys.stderr) if handle_of(out) == 1 else contextlib.nullcontext()
+
+
+def run_steps(
+    program: Program, drawing: str, files: Sequence[str], made: str, out: str, called: Sequence[str] = ()
+) -> List[Step]:
     """Runs scripts and patch files one behind the other, and explains what is refused. The last one makes the drawing
-    `made`, which is called OUT in words. It raises Mistake where one can't be run."""
+    `made`, which is called OUT in words; `called` is what the files are called. It raises Mistake where one can't be
+    run."""
     steps = []
-    for index, name in enumerate(files, 1):
+    for index, (name, said) in enumerate(zip(files, called or files), 1):
         end = made if index == len(files) else '%s.%d' % (made, index)
-        step = Step(program, drawing, name, end)
+        step = Step(program, drawing, name, end, said)
         why = step.run(out)
         if why:
             raise Mistake(why)
@@ -89,25 +97,6 @@ def tell_texts(steps: List[Step]) -> None:
         note(said % counted(count, 'appended text has', 'appended texts have'))
 
 
-def folder_beside(out: str) -> contextlib.AbstractContextManager[str]:
-    """A temporary folder on the disk that the drawing comes to stand on, or anywhere where it is no file there."""
-    place = os.path.dirname(os.path.realpath(out))
-    if os.path.exists(out) and not os.path.isfile(out):
-        return tempfile.TemporaryDirectory(prefix='dgnkit-')
-    if not os.path.isdir(place):
-        raise Mistake("%s can't be written: there is no folder %s" % (out, place))
-    try:
-        return tempfile.TemporaryDirectory(prefix='.dgnkit-', dir=place)
-    except OSError as why:
-        raise mistake_of(out, why)
-
-
-def deliver(made: str, out: str) -> None:
-    """Puts the drawing that dgnedit made in its place, behind a link where OUT is one."""
-    if not os.path.exists(out) or os.path.isfile(out):
-        put_in_place(made, os.path.realpath(out), True)
-
-
 def tell(arguments: argparse.Namespace, steps: List[Step]) -> None:
     if arguments.json:
         say_json([{'step': name, 'said': it.end, 'refused': it.refused} for name, it in zip(arguments.steps, steps)])
@@ -123,6 +112,6 @@ def tell(arguments: argparse.Namespace, steps: List[Step]) -> None:
             say_raw(line)
         for it in step.refused:
             say('line %s, %s: %s' % (it['line'], it['command'], it['why']))
-        say('%s: %s' % (name, step.end))
+        say('%s: %s' % (said_name(name), step.end))
     if os.path.isfile(arguments.out):
         say('%s: written, %s' % (arguments.out, counted(os.path.getsize(arguments.out), 'byte')))

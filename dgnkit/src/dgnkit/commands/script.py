@@ -13,6 +13,7 @@ from ..program.grammar import fault_of
 from ..program.script import Script
 from ..propose.scripting import LINE_HELP, give_proposal, give_script, propose
 from ..propose.templates import line_of, template_of
+from ._options import add_dry_run, add_output, target_of
 
 if TYPE_CHECKING:
     from ..cli import Subparsers
@@ -28,19 +29,20 @@ def register(words: Subparsers) -> None:
     )
     parser.add_argument('--field', default='number', help='the field with the numbers')
     parser.add_argument('--drawing', metavar='IN', help='the drawing, to leave out what dgnedit would refuse')
-    parser.add_argument('-o', '--output', metavar='SCRIPT', default='', help='the script; otherwise it is printed')
-    parser.add_argument('--dry-run', action='store_true', help='say what would be done, and write nothing')
+    add_output(parser)
+    add_dry_run(parser)
     parser.set_defaults(run=run)
 
 
 def run(arguments: argparse.Namespace) -> int:
     numbers = numbers_in(arguments.numbers, arguments.field)
+    target = target_of(arguments, arguments.output)
     if arguments.drawing:
         drawing = Drawing(arguments.drawing)
         ask_numbers(drawing, numbers, arguments.numbers)
         made = propose(drawing, sorted(numbers), arguments.line)
         made.tell_members(drawing, numbers)
-        give_proposal(drawing, made, arguments.output, arguments.dry_run)
+        give_proposal(drawing, made, target)
         return 0
     template = template_of(arguments.line, None)
     if template.split()[0] in TWICE:
@@ -53,5 +55,5 @@ def run(arguments: argparse.Namespace) -> int:
         if fault or line.lstrip().startswith(b'#'):
             raise Mistake("%r isn't a command of a script: %s" % (arguments.line, fault or 'it is a comment'))
     words = ['element %d: %s' % (number, line.decode('utf-8')) for number, line in zip(numbers, script.lines)]
-    give_script('IN.dgn', script, words, arguments.output, arguments.dry_run)
+    give_script('IN.dgn', script, words, target)
     return 0

@@ -3,6 +3,7 @@
 from __future__ import annotations
 
 import argparse
+import contextlib
 import fnmatch
 import re
 from fractions import Fraction
@@ -10,13 +11,15 @@ from functools import partial
 from typing import Callable, Iterable, List, Optional, Sequence, Set
 
 from ..errors import Mistake
+from ..files import said_name
 from ..format import classes
 from ..format.element import Element
 from ..format.limits import COLOUR_MOST, ELEMENTS_MOST, LEVEL_MOST, STYLE_MOST, WEIGHT_MOST
 from ..format.places import Scale, coordinates
 from ..output import few
-from ..waiting import stopped_after
+from ..waiting import Matcher
 from .drawing import Drawing
+from .duplicates import repeated
 from .fencing import MODES, corners_of, trees_of
 from .nearness import Nearness
 from .spans import Spans, number_of, sizes_of
@@ -33,8 +36,11 @@ class Conditions:
         self.drawing, self.arguments = drawing, arguments
         self.scale = Scale(drawing.units, arguments.units)
         self.nearness = nearness_of(drawing, arguments, self.scale)
+        self.matcher = matcher_of(arguments)
         self.tests = [*self._listed_tests(), *plain_tests(arguments, self.scale), *self._standing_tests()]
         self.tests += self._place_tests()
+        if self.matcher is not None:
+            self.tests.append(partial(_matches, self.matcher))
 
     @property
     def takes_trees(self) -> bool:
@@ -50,10 +56,10 @@ class Conditions:
         """The numbers of the elements that meet all conditions, or with --trees of the roots of their trees, in file
         order."""
         met: Iterable[Element] = self._likely()
-        with stopped_after('the text search'):
+        with self.matcher.limited() if self.matcher is not None else contextlib.nullcontext():
             for test in self.tests:
                 met = [it for it in met if test(it)]
-            found = [it.number for it in met]
+        found = [it.number for it in met]
         if self.arguments.nearest is not None:
             found = self._nearest(found)
         return self.roots_of(found) if self.takes_trees else found
@@ -63,7 +69,7 @@ class Conditions:
         arguments, elements = self.arguments, self.drawing.elements
         levels = Spans.read('level', arguments.level or ['0-%d' % LEVEL_MOST], LEVEL_MOST)
         kinds = types_of(arguments.type) if arguments.type else frozenset(range(classes.MOST + 1))
-        if arguments.cell is not None:
+        if arguments.cell:
             kinds &= {classes.CELL}
         if (arguments.text, arguments.pattern, arguments.size) != (None, None, None):
             kinds &= {classes.TEXT}
@@ -120,6 +126,9 @@ class Conditions:
         if self.arguments.wrong_range:
             wrong = {it.number for it in self.drawing.findings}
             tests.append(lambda it: it.number in wrong)
+        if self.arguments.duplicates:
+            again = repeated(self.drawing)
+            tests.append(lambda it: it.number in again)
         if self.arguments.broken:
             broken, roots = self.broken_roots, self.drawing.nesting.roots
             tests.append(lambda it: roots[it.number] in broken)
@@ -132,11 +141,10 @@ class Conditions:
             squares = self.nearness.squares
             tests.append(lambda it: it.number in squares)
         for mode in MODES:
-            words = getattr(self.arguments, mode)
-            if words:
-                corners = corners_of(words, self.scale)
-                taken = trees_of(self.drawing, corners, mode, self.arguments.deleted)
-                tests.append(partial(_is_below, taken, self.drawing.nesting.roots))
+            boxes = [corners_of(it, self.scale) for it in getattr(self.arguments, mode) or []]
+            if boxes:
+                taken = (trees_of(self.drawing, it, mode, self.arguments.deleted) for it in boxes)
+                tests.append(partial(_is_below, frozenset().union(*taken), self.drawing.nesting.roots))
         return tests
 
 
@@ -149,7 +157,8 @@ def ask_numbers(drawing: Drawing, numbers: Sequence[int], file: str) -> None:
     unknown = [it for it in numbers if it >= len(drawing.elements)]
     if unknown:
         last = len(drawing.elements) - 1
-        raise Mistake('%s: %s has elements 0 to %d, but not %s' % (file, drawing.path, last, few(unknown)))
+        said = '%s: %s has elements 0 to %d, but not %s'
+        raise Mistake(said % (said_name(file), drawing.path, last, few(unknown)))
 
 
 def plain_tests(arguments: argparse.Namespace, scale: Scale) -> List[Test]:
@@ -180,13 +189,10 @@ def plain_tests(arguments: argparse.Namespace, scale: Scale) -> List[Test]:
 def text_tests(arguments: argparse.Namespace) -> List[Test]:
     """The conditions on characters and names."""
     tests: List[Test] = []
-    if arguments.text is not None:
-        tests.append(partial(_holds, word_form(arguments.text, arguments.ignore_case)))
-    if arguments.pattern is not None:
-        tests.append(partial(_holds, form_of(arguments.pattern, arguments.ignore_case)))
-    if arguments.cell is not None:
-        cell = arguments.cell.upper()
-        tests.append(lambda it: it.type == classes.CELL and fnmatch.fnmatchcase((it.cell_name or '').upper(), cell))
+    if arguments.text:
+        tests.append(partial(_holds, [word_form(it, arguments.ignore_case) for it in arguments.text]))
+    if arguments.cell:
+        tests.append(partial(_is_called, [it.upper() for it in arguments.cell]))
     return tests
 
 
@@ -194,8 +200,23 @@ def _looks(values: Spans, look: Callable[[Element], int], element: Element) -> b
     return element.type in classes.LOUD and look(element) in values
 
 
-def _holds(form: re.Pattern[str], element: Element) -> bool:
-    return element.type == classes.TEXT and form.search(element.text or '') is not None
+def _holds(forms: Sequence[re.Pattern[str]], element: Element) -> bool:
+    return element.type == classes.TEXT and any(it.search(element.text or '') for it in forms)
+
+
+def _is_called(names: Sequence[str], element: Element) -> bool:
+    name = (element.cell_name or '').upper()
+    return element.type == classes.CELL and any(fnmatch.fnmatchcase(name, it) for it in names)
+
+
+def matcher_of(arguments: argparse.Namespace) -> Optional[Matcher]:
+    """The regular expressions of --pattern, none without it. It raises Mistake where one doesn't compile."""
+    forms = [form_of(it, arguments.ignore_case) for it in arguments.pattern or []]
+    return Matcher(*forms) if forms else None
+
+
+def _matches(matcher: Matcher, element: Element) -> bool:
+    return element.type == classes.TEXT and matcher.is_in(element.text or '')
 
 
 def _has_size(wanted: Sequence[tuple[str, str]], scale: Scale, element: Element) -> bool:

@@ -6,13 +6,14 @@ import argparse
 
 NAMES = (
     'number numbers_file level type color weight style size text pattern cell deleted locked broken wrong_range near '
-    'inside overlap void crossing'
+    'inside overlap void crossing duplicates'
 ).split()
 
 
 def add_conditions(parser: argparse.ArgumentParser, has_numbers: bool = True) -> None:
     """Adds the conditions to a parser; --numbers may be one of the command's own."""
-    group = parser.add_argument_group('conditions', 'An element has to meet all that are given.')
+    said = 'An element has to meet all that are given; one that is given more than once is met by any of these.'
+    group = parser.add_argument_group('conditions', said)
     group.add_argument('--number', metavar='R', action='append', help='with these numbers, such as 12 or 3-5,9')
     if has_numbers:
         group.add_argument(
@@ -25,15 +26,25 @@ def add_conditions(parser: argparse.ArgumentParser, has_numbers: bool = True) ->
     group.add_argument('--weight', metavar='R', action='append', help="of these weights, such as '>3'")
     group.add_argument('--style', metavar='R', action='append', help='of these styles')
     group.add_argument('--size', metavar='H', action='append', help="texts of this height, such as 2.5 or '>2.5'")
-    group.add_argument('--text', metavar='WORD', help='texts that contain this, as a whole word')
-    group.add_argument('--pattern', metavar='REGEX', help='texts that this regular expression matches')
-    group.add_argument('--cell', metavar='NAME', help='cells with this name, in which * and ? are wildcards')
-    group.add_argument('--ignore-case', action='store_true', help='--text and --pattern ignore upper and lower case')
+    add_words(group)
     group.add_argument('--deleted', action='store_true', help='marked deleted; otherwise such elements are left out')
     group.add_argument('--locked', action='store_true', help='locked')
     group.add_argument('--broken', action='store_true', help='in a broken tree')
     group.add_argument('--wrong-range', action='store_true', help='whose stored range is wrong')
+    group.add_argument(
+        '--duplicates', action='store_true', help='trees that repeat an earlier one, perhaps with other colours'
+    )
     add_places(group)
+
+
+def add_words(group: argparse._ArgumentGroup) -> None:
+    """Adds the conditions on characters and names."""
+    group.add_argument('--text', metavar='WORD', action='append', help='texts that contain this, as a whole word')
+    group.add_argument('--pattern', metavar='REGEX', action='append', help='texts that this regular expression matches')
+    group.add_argument(
+        '--cell', metavar='NAME', action='append', help='cells with this name, in which * and ? are wildcards'
+    )
+    group.add_argument('--ignore-case', action='store_true', help='--text and --pattern ignore upper and lower case')
 
 
 def add_places(group: argparse._ArgumentGroup) -> None:
@@ -48,7 +59,7 @@ def add_places(group: argparse._ArgumentGroup) -> None:
         (['--void', '--outside'], 'in trees with nothing inside the box'),
     ]
     for names, text in boxes:
-        group.add_argument(*names, metavar='X,Y', nargs=2, help=text)
+        group.add_argument(*names, metavar='X,Y', nargs=2, action='append', help=text)
     which = group.add_mutually_exclusive_group()
     which.add_argument('--trees', action='store_true', help='take the whole tree of each')
     which.add_argument(

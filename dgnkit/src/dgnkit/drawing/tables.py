@@ -10,7 +10,7 @@ from dataclasses import dataclass
 from typing import Any, Dict, Iterable, List, NoReturn, Optional, Sequence
 
 from ..errors import Mistake
-from ..files import read_file
+from ..files import read_file, said_name
 from ..format.places import DECIMAL
 
 NUMBER = re.compile(r'(\d{1,12})(?:\.0)?', re.ASCII)
@@ -51,13 +51,14 @@ def text_of(file: str) -> str:
     try:
         return read_file(file).decode('utf-8-sig')
     except UnicodeDecodeError as why:
-        raise Mistake("%s isn't UTF-8 (byte %d): save it as UTF-8" % (file, why.start))
+        raise Mistake("%s isn't UTF-8 (byte %d): save it as UTF-8" % (said_name(file), why.start))
 
 
 def rows_of(file: str, text: Optional[str] = None) -> List[Row]:
     """The rows of a CSV file that aren't empty, with commas, semicolons or tabs between their fields. It raises Mistake
     where the file can't be read, or a row has more fields than the first one."""
     text = text_of(file) if text is None else text
+    file = said_name(file)
     first = next((line for line in text.split('\n') if line.strip()), '')
     sign = next((it for it in ';\t' if it in first), ',')
     reader = csv.reader(io.StringIO(text, newline=''), delimiter=sign, strict=True)
@@ -93,7 +94,7 @@ def columns_of(row: Row, names: Sequence[str]) -> List[Optional[int]]:
 def numbers_in(file: str, field: str) -> List[int]:
     """The numbers in a field of a CSV or a GeoJSON file, or in a list, each once, in their order. It raises Mistake
     where one can't be read."""
-    text = text_of(file)
+    text, file = text_of(file), said_name(file)
     if text.lstrip()[:1] in ('{', '['):
         found = _numbers_of_features(file, text, field)
     else:

@@ -54,7 +54,7 @@ def why_ended(program: Program, ending: Ending, drawing: str, script: str, out: 
     if isinstance(ending, ReadFault):
         return why_not_read([drawing, script, *imports_of(script)])
     if isinstance(ending, WriteFault):
-        return why_not_written(out)
+        return "%s couldn't be written completely, perhaps because the disk is full: nothing is written" % out
     if isinstance(ending, TooLong):
         return why_too_long(ending.what, drawing, script)
     if isinstance(ending, BadPatch):
@@ -142,20 +142,6 @@ def why_not_read(names: Sequence[str]) -> str:
         except OSError as why:
             return "%s can't be read: %s" % (name, (why.strerror or str(why)).lower())
     return 'reading failed, but %s can be read now' % ', '.join(names)
-
-
-def why_not_written(out: str) -> str:
-    """Why a file could not be written."""
-    folder = os.path.dirname(os.path.abspath(out))
-    if not os.path.isdir(folder):
-        return "%s can't be written: there is no folder %s" % (out, folder)
-    if os.path.isdir(out):
-        return "%s can't be written: it is a folder" % out
-    if os.path.exists(out) and not os.access(out, os.W_OK):
-        return "%s can't be written: no permission to write to it" % out
-    if not os.path.exists(out) and not os.access(folder, os.W_OK):
-        return "%s can't be written: no permission to write to its folder" % out
-    return "%s couldn't be written completely, perhaps because the disk is full: check what is there" % out
 
 
 def why_too_long(what: str, drawing: str, script: str) -> str:

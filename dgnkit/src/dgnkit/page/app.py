@@ -11,6 +11,7 @@ from pathlib import Path
 from typing import Iterator, List, Tuple
 
 from ..errors import Mistake
+from ..files import read_file
 
 NAME = 'dgnedit.html'
 APP_MARK = '<meta name="generator" content="dgnedit">'
@@ -44,7 +45,7 @@ def app_place() -> Path:
 
 def page_of(title: str, parts: List[Part]) -> str:
     """The app with these files in it. It raises Mistake where there is no app, or where it is none."""
-    text = app_place().read_text(encoding='utf-8')
+    text = read_file(app_place()).decode('utf-8')
     if not all(text.count(it) == 1 for it in (APP_MARK, APP_TITLE, SLOT)):
         raise Mistake("%s isn't the app that belongs to this dgnkit" % NAME)
     text = text.replace(APP_MARK, PAGE_MARK).replace(APP_TITLE, '<title>%s</title>' % html.escape(title))

@@ -4,6 +4,7 @@ from __future__ import annotations
 
 import os
 import shutil
+import signal
 import subprocess
 import sys
 from dataclasses import dataclass
@@ -68,7 +69,7 @@ class Program:
         except OSError as why:
             raise MissingProgram("%s can't be run: %s" % (self.path, (why.strerror or str(why)).lower()))
         if ran.returncode < 0:
-            raise ListingError('dgnedit was stopped by signal %d' % -ran.returncode)
+            raise ListingError('dgnedit was ' + stopped_said(-ran.returncode))
         return Run(ran.returncode, ran.stdout)
 
     def edit(self, drawing: Name, script: Script, out: Name = NOWHERE) -> List[Answer]:
@@ -124,6 +125,12 @@ class Program:
         if ran.status != 0:
             raise ending_of(ran.status, ran.said, str(drawing))
         return counted(word, ran.said)
+
+
+def stopped_said(number: int) -> str:
+    """That a signal stopped the program, in words."""
+    said = signal.strsignal(number) or ''
+    return 'stopped by signal %d%s' % (number, ' (%s)' % said.lower() if said else '')
 
 
 def ask_written(out: Name) -> None:

@@ -26,7 +26,6 @@ from .writing import applied, patch_of
 LOW, HIGH = 4, 16  # where the corners of a range stand in an element
 ROTATION = 46
 ONE = 2147483647  # what 1 is in a quaternion
-FONT, JUSTIFICATION = 1, 0
 
 
 @dataclass
@@ -95,7 +94,8 @@ class Appender:
     def _text(self, made: Appending, wish: Wish) -> None:
         characters = self._characters(wish)
         size = self.scale.multiplier(wish.height)
-        front = 'text %s %d %d %d %d %s ' % (self._look(wish), FONT, JUSTIFICATION, size, size, spelled(wish.points))
+        font, justification = wish.lettering
+        front = 'text %s %d %d %d %d %s ' % (self._look(wish), font, justification, size, size, spelled(wish.points))
         said = 'a text %r, %s %s high' % (wish.text, wish.height, self.scale.name)
         made.add(wish, front.encode('ascii') + characters, self._said(said, wish, wish.points))
 

@@ -14,6 +14,7 @@ from ..errors import Mistake
 from ..format import classes
 from ..format.element import LOCK_BYTE, Element
 from ..format.radix50 import name_of
+from ..waiting import Matcher
 
 NAME_PLACE = 38  # where a cell's name stands
 SILENT = 'of a type without a level or a lock'
@@ -109,7 +110,7 @@ def rename(drawing: Drawing, numbers: Sequence[int], words: Tuple[int, int]) -> 
 class Replacement:
     """What is looked for in a text, what is put in its place, and the encoding of signs that aren't ASCII."""
 
-    form: re.Pattern[str]
+    form: Matcher
     new: str
     encoding: Optional[str]
 
@@ -144,7 +145,7 @@ def _put_text(made: FieldEdits, element: Element, spelled: bytes, new: str) -> N
 def replaced(wanted: Replacement, old: str) -> str:
     """A text with all that is looked for exchanged. It raises Mistake where the new text names a group that isn't."""
     try:
-        return wanted.form.sub(wanted.new, old)
+        return wanted.form.replaced(wanted.new, old)
     except (re.error, IndexError) as why:
         raise Mistake("%r can't replace what the pattern finds: %s" % (wanted.new, why))
 

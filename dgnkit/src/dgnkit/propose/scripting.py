@@ -13,6 +13,7 @@ from ..explain.members import parts_said
 from ..explain.wording import command_said
 from ..output import counted, few, note, say, say_raw
 from ..program.script import Script
+from ..saving import Target
 from .templates import line_of, template_of
 from .writing import next_command, note_left, script_names, write_script
 
@@ -121,23 +122,23 @@ def note_proposal(drawing: Drawing, made: Proposal) -> None:
         note('%s will change with %s: %s' % (counted(len(made.along), 'member'), header, few(made.along)))
 
 
-def give_proposal(drawing: Drawing, made: Proposal, path: str, is_dry: bool) -> None:
+def give_proposal(drawing: Drawing, made: Proposal, target: Target) -> None:
     """Gives the script of a proposal, and says what is left out of it."""
     note_proposal(drawing, made)
     words = (command_said(drawing, it.text) for it in made.script.commands)
-    give_script(drawing.path, made.script, words, path, is_dry)
+    give_script(drawing.path, made.script, words, target)
 
 
-def give_script(drawing: str, script: Script, words: Iterable[str], path: str, is_dry: bool) -> None:
+def give_script(drawing: str, script: Script, words: Iterable[str], target: Target) -> None:
     """Writes a script, or says it where no file is named; a dry run says its edits in words. What is to be run next is
     said at the end."""
-    names = script_names(script, path or 'SCRIPT')
-    if is_dry:
+    names = script_names(script, target.path or 'SCRIPT')
+    if target.is_dry:
         for line in words:
             say(line)
         say('nothing is written; without --dry-run the next command is: ' + next_command(drawing, names))
-    elif path:
-        write_script(script, path)
+    elif target.path:
+        write_script(script, target)
         say('%s: %s' % (', '.join(names), counted(len(script.commands), 'command')))
         say('next: ' + next_command(drawing, names))
     elif len(names) > 1 or not script.text.isascii():

@@ -9,7 +9,7 @@ from typing import Dict, List, Sequence
 from ..drawing.spans import number_of
 from ..drawing.tables import Row, columns_of, is_head
 from ..errors import Mistake
-from ..format.limits import COLOUR_MOST, LEVEL_MOST, STYLE_MOST, WEIGHT_MOST
+from ..format.limits import COLOUR_MOST, FONT_MOST, JUSTIFICATION_MOST, LEVEL_MOST, STYLE_MOST, WEIGHT_MOST
 from ..format.numbers import Point
 from ..format.places import Scale, decimal_of
 
@@ -23,12 +23,14 @@ KINDS = {
 }
 LOOKS = {'level': LEVEL_MOST, 'color': COLOUR_MOST, 'weight': WEIGHT_MOST, 'style': STYLE_MOST}
 SYNONYMS = {'colour': 'color', 'id': 'element', 'what': 'kind', 'as': 'kind'}
-COLUMNS = ('element', 'kind', 'x', 'y', 'z', *LOOKS, 'text', 'height', 'angle')
+LETTERING = {'font': FONT_MOST, 'justification': JUSTIFICATION_MOST}
+COLUMNS = ('element', 'kind', 'x', 'y', 'z', *LOOKS, 'text', 'height', 'angle', *LETTERING)
 
 
 @dataclass
 class Wish:
-    """One thing to be drawn: its row, what it is, its points, its look, and a text's characters, height and angle."""
+    """One thing to be drawn: its row, what it is, its points, its look, and a text's characters, height, angle, font
+    and justification."""
 
     row: Row
     kind: str
@@ -37,6 +39,7 @@ class Wish:
     text: str = ''
     height: str = ''
     angle: str = '0'
+    lettering: Sequence[int] = (1, 0)
 
 
 @dataclass
@@ -47,6 +50,7 @@ class Defaults:
     look: Dict[str, str] = field(default_factory=dict)
     height: str = ''
     angle: str = '0'
+    lettering: Dict[str, str] = field(default_factory=dict)
 
 
 class Reader:
@@ -108,6 +112,8 @@ class Reader:
             made.text = self._text(first)
             made.height = self._field(first, 'height', self.defaults.height)
             made.angle = self._field(first, 'angle', self.defaults.angle)
+            lettering = self.defaults.lettering
+            made.lettering = [self._number(first, name, lettering[name], most) for name, most in LETTERING.items()]
             self._ask_text(made)
         return made
 
@@ -137,11 +143,11 @@ class Reader:
             raise row.mistake(why)
 
     def _look(self, row: Row) -> List[int]:
-        made = []
-        for name, most in LOOKS.items():
-            word = self._field(row, name, self.defaults.look.get(name, '0'))
-            try:
-                made.append(number_of(word, {'color': 'colour'}.get(name, name), most))
-            except Mistake as why:
-                raise row.mistake(why)
-        return made
+        return [self._number(row, name, self.defaults.look.get(name, '0'), most) for name, most in LOOKS.items()]
+
+    def _number(self, row: Row, name: str, default: str, most: int) -> int:
+        """A whole number of a row. It raises Mistake with the row where it isn't from 0 to the most."""
+        try:
+            return number_of(self._field(row, name, default), {'color': 'colour'}.get(name, name), most)
+        except Mistake as why:
+            raise row.mistake(why)

@@ -10,10 +10,11 @@ from typing import List, Sequence
 from ..drawing.changes import Change
 from ..drawing.drawing import Drawing
 from ..errors import ListingError
-from ..files import read_file, write_file, write_files
+from ..files import read_file
 from ..format.patch import Patch
 from ..output import counted, few, note, out_name, quoted, say
 from ..program.script import Script
+from ..saving import Target, write_file, write_files
 
 
 def patch_of(drawing: Drawing, changes: Sequence[Change]) -> Patch:
@@ -24,22 +25,22 @@ def patch_of(drawing: Drawing, changes: Sequence[Change]) -> Patch:
     return patch
 
 
-def propose_patch(drawing: Drawing, changes: Sequence[Change], words: Sequence[str], path: str, is_dry: bool) -> None:
+def propose_patch(drawing: Drawing, changes: Sequence[Change], words: Sequence[str], target: Target) -> None:
     """Writes a patch file of changes, tries it on the drawing, and says what it does and how it is put on. A dry run
     says it alone."""
     patch = patch_of(drawing, changes)
-    if is_dry:
+    if target.is_dry:
         for line in words:
             say(line)
         say(
             'nothing is written; without --dry-run the next command is: '
-            + next_command(drawing.path, [path or 'PATCH'])
+            + next_command(drawing.path, [target.path or 'PATCH'])
         )
         return
     applied(drawing, patch, changes)
-    write_file(path, patch.to_bytes())
-    say('%s: %s' % (path, counted(len(patch.entries), 'entry', 'entries')))
-    say('next: ' + next_command(drawing.path, [path]))
+    write_file(target.path, patch.to_bytes(), target.may_replace)
+    say('%s: %s' % (target.path, counted(len(patch.entries), 'entry', 'entries')))
+    say('next: ' + next_command(drawing.path, [target.path]))
 
 
 def applied(drawing: Drawing, patch: Patch, changes: Sequence[Change]) -> None:
@@ -66,10 +67,11 @@ def script_names(script: Script, path: str) -> List[str]:
     return names if count > 1 else [path]
 
 
-def write_script(script: Script, path: str) -> List[str]:
+def write_script(script: Script, target: Target) -> List[str]:
     """Writes a script in as many files as the program reads, and gives their names."""
-    names = script_names(script, path)
-    write_files({name: part.text for name, part in zip(names, script.parts() or [script])})
+    names = script_names(script, target.path)
+    contents = {name: part.text for name, part in zip(names, script.parts() or [script])}
+    write_files(contents, target.may_replace)
     return names
 
 
