@@ -3,6 +3,7 @@
 import { byId, fill, setHidden } from './dom.js';
 import { contextOf } from './dots.js';
 import { featuresOf } from './features.js';
+import { TOP } from './orientation.js';
 import { namesOf, targetOf } from './saving.js';
 import { PIXELS_OF_MILLIMETRE, SHEETS, drawSheet, sheetOf } from './sheet.js';
 import { SvgCanvas } from './svg.js';
@@ -95,13 +96,15 @@ export class Exports {
     }
 
     /**
-     * What the strip of a frame says: the drawing's name, and its scale where the units are known.
+     * What the strip of a frame says: the drawing's name, its scale where the units are known, and the view where it
+     * isn't from above.
      * @param {number} scale
      */
     titleOf(scale) {
-        const { name, units } = this.app.open.drawing, metres = metresOfUnit(units);
-        return metres === null ? name
-            : name + '   1 : ' + Number((metres * 1000 * PIXELS_OF_MILLIMETRE / scale).toPrecision(4));
+        const { drawing: { name, units }, scene: { orientation } } = this.app.open, metres = metresOfUnit(units);
+        const view = orientation === TOP ? '' : '   ' + orientation.name;
+        return (metres === null ? name : name + '   1 : '
+            + Number((metres * 1000 * PIXELS_OF_MILLIMETRE / scale).toPrecision(4))) + view;
     }
 
     /**

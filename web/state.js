@@ -66,9 +66,11 @@ export class State {
         }
     }
 
-    /** The grid of the records that have the numbers of the elements, as those of a drawing that was opened do. */
+    /** The grid of the records that have the numbers of the elements, as those of a drawing that was opened do, in the
+        view that they are seen in. */
     get grid() {
-        if (this.ownGrid === null) {
+        if (this.ownGrid === null || this.ownGrid.orientation !== this.records.orientation) {
+            this.ownGrid = null; // so that there is no room for both
             this.ownGrid = new Grid(this.records, 0, this.count);
         }
         return this.ownGrid;
