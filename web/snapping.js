@@ -30,6 +30,8 @@ import { Path } from './path.js';
 /** What goes first: of equal ones it is the nearest. */
 export const SNAP_RANK = Object.freeze({ end: 0, vertex: 0, crossing: 1, middle: 2, centre: 3, origin: 3, on: 4 });
 
+/** @type {ReadonlySet<number>} */
+const NONE_LEFT_OUT = new Set();
 const MOST_RECORDS = 20000;       // records around the pointer that are looked at
 const MOST_SNAP_POINTS = 60000;   // and their points
 const MOST_CROSSED = 160;         // segments, the nearest ones, whose crossings are looked for
@@ -52,6 +54,7 @@ export class Snapper {
         /** @type {Segment[]} */
         this.segments = [];
         this.recordsLeft = this.pointsLeft = 0;
+        this.leftOut = NONE_LEFT_OUT;
         /**
          * Arcs and ellipses that were met: their centres may lie far from where they are drawn.
          * @type {number[]}
@@ -64,9 +67,11 @@ export class Snapper {
      * @param {number} x
      * @param {number} y
      * @param {number} within
+     * @param {ReadonlySet<number>} leftOut records that aren't snapped to
      * @returns {Snap | null}
      */
-    find(x, y, within) {
+    find(x, y, within, leftOut = NONE_LEFT_OUT) {
+        this.leftOut = leftOut;
         this.x = x;
         this.y = y;
         this.within = within;
@@ -115,7 +120,7 @@ export class Snapper {
     /** @param {number} record */
     look(record) {
         const { records } = this.scene, drawn = DRAWN_OF[records.type[record]];
-        if (this.recordsLeft === 0 || this.pointsLeft <= 0) {
+        if (this.recordsLeft === 0 || this.pointsLeft <= 0 || this.leftOut.has(record)) {
             return;
         }
         this.recordsLeft--;
@@ -290,7 +295,7 @@ export class Snapper {
 
     /** @param {number} record */
     considerCentre(record) {
-        const arc = this.scene.isDrawn(record) ? this.arcOf(record) : null;
+        const arc = this.scene.isDrawn(record) && !this.leftOut.has(record) ? this.arcOf(record) : null;
         if (arc !== null) {
             this.consider('centre', arc.x, arc.y, null, record);
         }

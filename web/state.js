@@ -98,6 +98,15 @@ export class State {
     }
 
     /**
+     * The records of elements and of all that stands below these.
+     * @param {readonly number[]} numbers
+     * @returns {Set<number>}
+     */
+    partsOf(numbers) {
+        return new Set(numbers.flatMap((number) => Array.from(this.record.subarray(number, this.end[number]))));
+    }
+
+    /**
      * The headers above an element, from the outermost to the nearest.
      * @param {number} number
      */

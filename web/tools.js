@@ -28,8 +28,9 @@ export class Tools {
         /** Whether what is measured is an area, whose outline is closed. */
         this.isMeasured = false;
         /**
-         * From where to where something is dragged as it is seen, and by how much along the drawing's axes.
-         * @type {{ from: number[], to: number[], by: number[] } | null}
+         * From where to where something is dragged as it is seen, and by how much along the drawing's axes; and its
+         * records where it is moved, which its end doesn't snap to.
+         * @type {{ from: number[], to: number[], by: number[], own: ReadonlySet<number> } | null}
          */
         this.drag = null;
         this.box = new ChoiceBox(app);
@@ -319,12 +320,22 @@ export class Tools {
      * @param {number[]} place
      */
     dragTo(start, place) {
-        const { app } = this;
-        const from = this.drag === null ? this.placeAt(start, REACH.mouse) : this.drag.from;
+        const { app } = this, { from, own } = this.drag || this.dragFrom(start);
         const to = this.placeAt(place, REACH.mouse);
         const seen = to.slice(0, from.length).map((value, axis) => value - from[axis]);
-        this.drag = { from, to, by: displacementOf(app.scene.orientation, seen, app.open.drawing.axes) };
+        this.drag = { from, to, by: displacementOf(app.scene.orientation, seen, app.open.drawing.axes), own };
         app.stage.request();
+    }
+
+    /**
+     * Begins to drag what is chosen.
+     * @param {number[]} start
+     */
+    dragFrom(start) {
+        const { choice, scene } = this.app, from = this.placeAt(start, REACH.mouse);
+        const own = scene.state.partsOf(this.tool === 'drag-move' ? choice.numbers : []);
+        this.drag = { from, to: from, by: [], own };
+        return this.drag;
     }
 
     /** Ends a drag: what was dragged is moved or copied by as much. */
