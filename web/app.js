@@ -201,8 +201,8 @@ export class App {
         this.endCompare();
         document.body.dataset.state = 'open';
         document.title = drawing.name + ' – ' + drawing.count + (drawing.count === 1 ? ' element' : ' elements');
-        byId('title').textContent = drawing.name;
-        byId('summary').textContent = words.summary();
+        byId('title').textContent = byId('title').title = drawing.name;
+        byId('summary').textContent = byId('summary').title = words.summary();
         setHidden(byId('notice'), true);
         this.editPanel.take();
         this.search.clear();
