@@ -53,8 +53,7 @@ export class Tools {
     /** Forgets what is drawn, for another drawing. */
     clear() {
         this.points = [];
-        this.drag = null;
-        this.box.clear();
+        this.cancelDrag();
         this.at = this.pointer = null;
         this.fence.clear();
         this.set('choose');
@@ -315,11 +314,14 @@ export class Tools {
     /* Dragging. */
 
     /**
-     * What is dragged from one place of the screen goes to another: both are what they snap to.
+     * Drags from one place of the screen to another, unless that was given up: both are what they snap to.
      * @param {number[]} start
      * @param {number[]} place
      */
     dragTo(start, place) {
+        if (!this.isDragging) {
+            return;
+        }
         const { app } = this, { from, own } = this.drag || this.dragFrom(start);
         const to = this.placeAt(place, REACH.mouse);
         const seen = to.slice(0, from.length).map((value, axis) => value - from[axis]);
@@ -366,8 +368,9 @@ export class Tools {
 
     /** Another view is seen: what was begun is given up, and so is a tool that it hasn't got. */
     turned() {
+        const isLeft = this.drag !== null || this.app.views.refusal(this.tool) !== '';
         this.cancelDrag();
-        this.set(this.app.views.refusal(this.tool) === '' ? this.tool : 'choose');
+        this.set(isLeft ? 'choose' : this.tool);
     }
 
     cancelDrag() {

@@ -138,17 +138,22 @@ class Browser:
         held.append({'type': 'keyUp', 'value': CONTROL})
         self._ask('/actions', {'actions': [{'type': 'key', 'id': 'keys', 'actions': held}]})
 
-    def drag(self, *places: Sequence[float], shift: bool = False) -> None:
+    def drag(self, *places: Sequence[float], shift: bool = False, key: str = '') -> None:
         """Presses the mouse at the first place, and lets go at the last one; at one place it is a click. With Shift
-        this is held meanwhile."""
+        this is held meanwhile, and a key is pressed before the mouse goes to the last place."""
         moves = [{'type': 'pointerMove', 'x': round(x), 'y': round(y), 'duration': 20} for x, y in places]
-        acts = [moves[0], {'type': 'pointerDown', 'button': 0}, *moves[1:], {'type': 'pointerUp', 'button': 0}]
-        pause: Dict[str, object] = {'type': 'pause'}
-        held = [{'type': 'keyDown', 'value': SHIFT}, *[pause] * (len(acts) - 1), {'type': 'keyUp', 'value': SHIFT}]
-        if shift:
-            self._pointer([pause, *acts], {'type': 'key', 'id': 'keys', 'actions': held})
+        down, up = {'type': 'pointerDown', 'button': 0}, {'type': 'pointerUp', 'button': 0}
+        if key != '':
+            self._pointer([moves[0], down, *moves[1:-1]])
+            self.key(key)
+            self._pointer([moves[-1], up])
+        elif shift:
+            pause: Dict[str, object] = {'type': 'pause'}
+            acts = [pause, moves[0], down, *moves[1:], up]
+            held = [{'type': 'keyDown', 'value': SHIFT}, *[pause] * (len(acts) - 2), {'type': 'keyUp', 'value': SHIFT}]
+            self._pointer(acts, {'type': 'key', 'id': 'keys', 'actions': held})
         else:
-            self._pointer(acts)
+            self._pointer([moves[0], down, *moves[1:], up])
 
     def double_click(self, place: Sequence[float]) -> None:
         down, up = {'type': 'pointerDown', 'button': 0}, {'type': 'pointerUp', 'button': 0}

@@ -257,6 +257,15 @@ class Snapping(WithPoints):
             self.assertLess(max(abs(is_ - was) for is_, was in zip(made, wanted)), 3, (word, made))
             self.do('#undo')
 
+    def test_a_drag_that_is_given_up_moves_nothing(self) -> None:
+        self.open(self.put('sheet.dgn', sheet()))
+        self.click_at(*SLANTED[0][0])
+        self.do('#drag-move')
+        self.seen.drag(self.screen(0, -1500), self.screen(300, -1400), self.screen(900, -1300), key='Escape')
+        self.seen.settle()
+        self.assertEqual(self.script_lines(), [])
+        self.assertEqual(self.seen.run('return page.tools.tool'), 'choose')
+
     def test_a_fence_and_a_measure_snap(self) -> None:
         self.open(self.put('sheet.dgn', sheet()))
         self.tool('measure')

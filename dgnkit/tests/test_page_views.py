@@ -311,6 +311,15 @@ class EditedViews(WithHouse, WithEditor):
         # from the end of the line to that of the line string, at y 400 and 600
         self.compare(made, ['copy 1 -100 200 -300'])
 
+    def test_another_view_gives_up_a_drag(self) -> None:
+        self.house()
+        self.click_at(500, 200)
+        self.do('#drag-move')
+        self.seen.drag(self.screen(500, 200), self.screen(700, 200), self.screen(900, 100), key='2')
+        self.seen.settle()
+        self.assertEqual(self.chosen(), 'Front')
+        self.assertEqual(self.script_lines(), [])
+
     def test_typed_distances_looks_and_delete(self) -> None:
         made = self.house()
         self.show('Front')
