@@ -10,7 +10,7 @@ import { Switch } from './switch.js';
 
 /** Why a tool isn't there in another view than the one from above. */
 const TOP_ALONE = Object.freeze({
-    fence: 'A fence is drawn in the view ‘Top’  ( 1 )', make: 'New elements are drawn in the view ‘Top’  ( 1 )',
+    fence: 'A fence is drawn in the view ‘Top’, key 1.', make: 'New elements are drawn in the view ‘Top’, key 1.',
 });
 
 export class Views {
