@@ -81,9 +81,9 @@ function slopeOf(chords, at) {
  * @param {Orientation} seen
  * @returns {number[]} low x, low y, high x, high y
  */
-export function boxOfCurve(coordinates, first, count, axes, { across, along, rise }) {
+export function boxOfCurve(coordinates, first, count, axes, { across, rise, away: third }) {
     const start = first + 2 * axes + across, end = first + (count - 3) * axes + across, depth = axes - 2;
-    const away = depth * (along - across);
+    const away = depth * third;
     let lowX = coordinates[start], highX = lowX, lowY = coordinates[start + rise], highY = lowY;
     for (let at = start; at <= end; at += axes) {
         const x = coordinates[at], y = coordinates[at + rise], z = coordinates[at + away];

@@ -2,9 +2,9 @@
 
 /**
  * From where a drawing is looked at: the name of that; which axis goes to the right and which one up, 0 for x, 1 for y
- * and 2 for z; the axis along which one looks; and how far the second one stands behind the first in a row of
+ * and 2 for z; the axis along which one looks; and how far the second and the third stand behind the first in a row of
  * coordinates. A place that is seen is given by these axes in this order, of which the third may be unknown.
- * @typedef {{ name: string, across: number, up: number, along: number, rise: number }} Orientation
+ * @typedef {{ name: string, across: number, up: number, along: number, rise: number, away: number }} Orientation
  */
 
 /**
@@ -15,7 +15,7 @@
  * @returns {Readonly<Orientation>}
  */
 function orientation(name, across, up, along) {
-    return Object.freeze({ name, across, up, along, rise: up - across });
+    return Object.freeze({ name, across, up, along, rise: up - across, away: along - across });
 }
 
 /** From above, along -z; a drawing of two axes has no other one. */

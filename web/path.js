@@ -56,13 +56,13 @@ export class Path {
      * @param {number} record
      */
     takePoints(record) {
-        const { coordinates, axes, first, points, orientation: { across, along, rise } } = this.records;
+        const { coordinates, axes, first, points, orientation: { across, rise, away } } = this.records;
         this.points = coordinates;
         this.from = first[record] * axes + across;
         this.to = this.from + points[record] * axes;
         this.step = axes;
         this.rise = rise;
-        this.away = along - across;
+        this.away = away;
     }
 
     /**
