@@ -20,7 +20,16 @@ MIDDLE, RADIUS = (2000, 100, 300), 200
 MEMBER: Sequence[Place] = [(3000, 200, 900), (3400, 500, 900)]
 LOW, HIGH = (4000, 0, 0), (4400, 300, 200)
 POLES: Sequence[Place] = [(5000, 0, 0), (5200, 300, 400), (5400, 100, 50)]
-CURVED: Sequence[Place] = [(5000 + 50 * it, 500 + 20 * it, 600 + 30 * it) for it in range(9)]  # all on a line
+CURVED: Sequence[Place] = [
+    (5000, 500, 600),
+    (5050, 520, 630),
+    (5100, 540, 660),
+    (5200, 500, 800),
+    (5300, 700, 650),
+    (5350, 550, 850),
+    (5400, 520, 700),
+    (5450, 500, 650),
+]
 AXES = {'Top': (0, 1), 'Front': (0, 2), 'Right': (1, 2)}
 
 
@@ -94,7 +103,8 @@ def lines_in(view: str) -> List[Line]:
     }
     (left, low), (right, high) = (LOW[across], LOW[up]), (HIGH[across], HIGH[up])
     box: Line = [(left, low), (right, low), (right, high), (left, high), (left, low)]
-    return [*(flat(it, view) for it in (LINE, STRING, MEMBER, POLES, CURVED[2:-2])), arc[view], box]
+    curve = curved.akima([(point[across], point[up], point[3 - across - up]) for point in CURVED])
+    return [*(flat(it, view) for it in (LINE, STRING, MEMBER, POLES)), curve, arc[view], box]
 
 
 class WithHouse(WithBrowser):
