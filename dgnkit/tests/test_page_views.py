@@ -24,12 +24,12 @@ class Views(WithHouse):
         for view in ('Front', 'Right', 'Top'):
             with self.subTest(view):
                 picture, lines = self.show(view), lines_in(view)
-                self.assertEqual(picture.missing([it for it in lines[:-1]])[:5], [], 'places that no dot is near to')
+                self.assertEqual(picture.missing(lines[:-1])[:5], [], 'places that no dot is near to')
                 x, y = flat(MEMBER, view)[0]
                 pixel = 5 / picture.scale
                 cross: List[Line] = [[(x - pixel, y), (x + pixel, y)], [(x, y - pixel), (x, y + pixel)]]
                 self.assertEqual(picture.astray([*lines, *cross])[:5], [], 'dots that are near to no line')
-                self.assertGreater(len(picture.missing(lines[-1:])), 10, 'the box of a range has gaps')
+                self.assertGreater(len(picture.missing(lines[-1:])), 3, 'the box of a range has gaps')
 
     def test_a_text_is_turned_by_its_quaternion_and_a_line_where_it_lies_edge_on(self) -> None:
         lying = text((0, 1000, 100), b'HHHH', 100, 140, curved.turned(0))
