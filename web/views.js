@@ -73,6 +73,10 @@ export class Views {
         if (drawing.axes === 2 || orientation === this.orientation) {
             return;
         }
+        if (app.exports.isDrawing) {
+            app.say('A picture is still being made in this view.');
+            return;
+        }
         this.places.set(this.orientation, app.view.copy());
         this.orientation = orientation;
         scene.turn(orientation);

@@ -167,6 +167,19 @@ class Views(WithHouse):
         # the cross at the cell's origin reaches 3.5 pixels beyond its line
         self.assertAlmostEqual(wide / (high - 3.5), 5400 / 1100, delta=0.02)
 
+    def test_a_picture_that_is_being_made_keeps_its_view(self) -> None:
+        lines = b''.join(path(3, [(it, 0, it % 7), (it + 5, 9, it % 7)]) for it in range(21000))
+        self.open(self.put('many.dgn', drawings.drawing(lines, axes=3)))
+        said = self.seen.run_slowly(
+            "const done = arguments[0], { exports } = page, front = document.querySelector('[data-view=Front]');"
+            "const made = exports.svgOf(exports.pictureSheet({ part: 'all that is shown', frame: '', scale: '' }));"
+            'front.click(); const { name } = page.scene.orientation; made.then(() => done(name));'
+        )
+        self.assertEqual(said, 'Top')
+        self.assertIn('picture', self.seen.text('#said'))
+        self.show('Front')
+        self.assertEqual(self.chosen(), 'Front')
+
     def exported(self, kind: str, name: str) -> str:
         self.seen.run("document.getElementById('more').open = true")
         self.seen.click('#export')
