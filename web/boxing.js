@@ -14,6 +14,9 @@ const SIZE = 1000;                // pixels that what is curved is taken to have
  * @typedef {{ corners: number[], isClosed: boolean }} Seen
  */
 
+/** @type {Seen} */
+const NOTHING = Object.freeze({ corners: [], isClosed: false });
+
 /** Takes trees of what a scene shows. */
 export class BoxTaker {
     /**
@@ -103,6 +106,3 @@ export class BoxTaker {
             [x + along * alongX + high * upX, y + along * alongY + high * upY]));
     }
 }
-
-/** @type {Seen} */
-const NOTHING = Object.freeze({ corners: [], isClosed: false });
