@@ -185,9 +185,10 @@ class EditedViews(WithHouse, WithEditor):
         self.do('#changes .entry')
         moved = [(x, y, z - 250) for x, y, z in STRING]
         self.assertEqual(Picture(self.seen).missing([flat(moved, 'Front')])[:5], [])
+        self.assertEqual(self.show('Right').missing([flat(moved, 'Right')])[:5], [])
         self.do('#compare-end')
-        self.assertEqual(self.chosen(), 'Front')
-        self.assertEqual(Picture(self.seen).missing([flat(STRING, 'Front')])[:5], [])
+        self.assertEqual(self.chosen(), 'Right')
+        self.assertEqual(Picture(self.seen).missing([flat(STRING, 'Right')])[:5], [])
 
 
 if __name__ == '__main__':
