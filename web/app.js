@@ -28,6 +28,7 @@ import { GREATEST, LEAST } from './tables.js';
 import { Tabs } from './tabs.js';
 import { Tools } from './tools.js';
 import { View } from './view.js';
+import { Views } from './views.js';
 import { Words } from './words.js';
 import { Work } from './work.js';
 
@@ -52,8 +53,7 @@ export class App {
          * @type {string[]}
          */
         this.colours = [];
-        /** @type {Record<string, string>} */
-        this.pens = {};
+        this.pens = /** @type {Record<string, string>} */ ({});
         /**
          * A place of the drawing that is marked.
          * @type {number[] | null}
@@ -65,6 +65,7 @@ export class App {
         this.became = /** @type {Map<number, number | null>} */ (new Map());
         this.view = new View(0, 0);
         this.choice = new Choice(this);
+        this.views = new Views(this);
         this.tools = new Tools(this);
         this.stage = new Stage(this);
         this.modes = new Modes(this);
@@ -142,6 +143,7 @@ export class App {
         if (isOther) {
             setHidden(byId('start-fault'), true);
             fill(byId('confirms'));
+            this.views.clear();
         }
         if (isOther || this.drawing !== made.base) {
             this.takeInView(made.base, isOther);
@@ -191,19 +193,21 @@ export class App {
      * @param {Drawing} drawing
      */
     take(drawing) {
-        const scene = new Scene(drawing.records, drawing.before), words = new Words(drawing, scene);
+        const scene = new Scene(drawing.records, drawing.before, this.views.orientation);
+        const words = new Words(drawing, scene);
         this.opened = { drawing, scene, words, picker: new Picker(scene), refusals: new Refusals(drawing) };
         this.place = null;
         this.choice.clear();
         this.endCompare();
         document.body.dataset.state = 'open';
         document.title = drawing.name + ' – ' + drawing.count + (drawing.count === 1 ? ' element' : ' elements');
-        byId('title').textContent = drawing.name;
-        byId('summary').textContent = words.summary();
+        byId('title').textContent = byId('title').title = drawing.name;
+        byId('summary').textContent = byId('summary').title = words.summary();
         setHidden(byId('notice'), true);
         this.editPanel.take();
         this.search.clear();
         this.tools.clear();
+        this.views.show();
         this.stage.changed();
         this.sceneChanged();
         byId('marks').focus({ preventScroll: true });

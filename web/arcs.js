@@ -3,6 +3,8 @@
 import { TYPE } from './format.js';
 import { longAt, vaxDoubleAt } from './numbers.js';
 
+/** @typedef {import('./orientation.js').Orientation} Orientation */
+
 const WHOLE = 2 * Math.PI;
 const ANGLE_UNIT = Math.PI / 180 / 360000;       // an angle of the file in radians
 // By how much the stored range may differ: by so many units of resolution, and by such a share of the longer axis.
@@ -30,31 +32,33 @@ const PLACES = Object.freeze({
  */
 
 /**
- * The arc or the ellipse that an element is; null where its fields don't lie in its range, and so may stand for
- * something else.
+ * The arc or the ellipse that an element is; null where its fields don't lie in its range, as it is seen, and so may
+ * stand for something else.
  * @param {Uint8Array} element
  * @param {number} axes
  * @param {Int32Array} range its stored range, low corner and high corner
+ * @param {Orientation} seen
  * @returns {Arc | null}
  */
-export function arcOf(element, axes, range) {
+export function arcOf(element, axes, range, seen) {
     const type = element[1] & 0x7F, places = PLACES[type]?.[axes];
     if (places === undefined || element.length < places.end) {
         return null;
     }
-    const turn = axes === 2 ? turnOf(longAt(element, places.turn)) : projectionAt(element, places.turn);
+    const turn = axes === 2 ? turnOf(longAt(element, places.turn)) : projectionAt(element, places.turn, seen);
     if (turn === null) {
         return null;
     }
     const first = vaxDoubleAt(element, places.axes), second = vaxDoubleAt(element, places.axes + 8);
     const arc = {
-        x: vaxDoubleAt(element, places.origin), y: vaxDoubleAt(element, places.origin + 8),
+        x: vaxDoubleAt(element, places.origin + 8 * seen.across),
+        y: vaxDoubleAt(element, places.origin + 8 * seen.up),
         alongX: first * turn[0], alongY: first * turn[1], upX: second * turn[2], upY: second * turn[3],
         start: type === TYPE.arc ? longAt(element, 36) * ANGLE_UNIT : 0,
         sweep: type === TYPE.arc ? sweepOf(longAt(element, 40)) : WHOLE,
     };
     const near = RANGE_NEAR + RANGE_SHARE * Math.max(Math.abs(first), Math.abs(second));
-    return isItsRange(arc, axes, range, near) ? arc : null;
+    return isItsRange(arc, axes, range, near, seen) ? arc : null;
 }
 
 /**
@@ -68,19 +72,29 @@ export function turnOf(angle) {
 }
 
 /**
- * What a quaternion of four longs, the real part first, makes of the two axes, as seen along z; null where it is zero.
+ * What a quaternion of four longs, the real part first, makes of the two axes, as they are seen; null where it is zero.
  * It turns the drawing's axes to the element's, so the element is turned by its inverse.
  * @param {Uint8Array} element
  * @param {number} at
+ * @param {Orientation} seen
  * @returns {number[] | null}
  */
-export function projectionAt(element, at) {
+export function projectionAt(element, at, seen) {
     const [w, x, y, z] = [0, 4, 8, 12].map((more) => longAt(element, at + more));
     const size = w * w + x * x + y * y + z * z;
-    return size === 0 ? null : [
-        (w * w + x * x - y * y - z * z) / size, 2 * (x * y - w * z) / size,
-        2 * (x * y + w * z) / size, (w * w - x * x + y * y - z * z) / size,
-    ];
+    const first = [w * w + x * x - y * y - z * z, 2 * (x * y - w * z), 2 * (x * z + w * y)];
+    const second = [2 * (x * y + w * z), w * w - x * x + y * y - z * z, 2 * (y * z - w * x)];
+    return size === 0 ? null : projected(first, second, seen).map((value) => value / size);
+}
+
+/**
+ * Two axes of an element as they are seen: to the right and up of the first, to the right and up of the second.
+ * @param {number[]} first
+ * @param {number[]} second
+ * @param {Orientation} seen
+ */
+export function projected(first, second, { across, up }) {
+    return [first[across], first[up], second[across], second[up]];
 }
 
 /**
@@ -98,12 +112,13 @@ function sweepOf(sweep) {
  * @param {number} axes
  * @param {Int32Array} range
  * @param {number} near
+ * @param {Orientation} seen
  */
-function isItsRange({ x, y, alongX, alongY, upX, upY, start, sweep }, axes, range, near) {
-    return Math.abs(range[0] + highOf(-x, -alongX, -upX, start, sweep)) <= near
-        && Math.abs(range[1] + highOf(-y, -alongY, -upY, start, sweep)) <= near
-        && Math.abs(range[axes] - highOf(x, alongX, upX, start, sweep)) <= near
-        && Math.abs(range[axes + 1] - highOf(y, alongY, upY, start, sweep)) <= near;
+function isItsRange({ x, y, alongX, alongY, upX, upY, start, sweep }, axes, range, near, { across, up }) {
+    return Math.abs(range[across] + highOf(-x, -alongX, -upX, start, sweep)) <= near
+        && Math.abs(range[up] + highOf(-y, -alongY, -upY, start, sweep)) <= near
+        && Math.abs(range[axes + across] - highOf(x, alongX, upX, start, sweep)) <= near
+        && Math.abs(range[axes + up] - highOf(y, alongY, upY, start, sweep)) <= near;
 }
 
 /**

@@ -2,6 +2,7 @@
 
 import { typedPoint } from './coordinates.js';
 import { byId, setHidden } from './dom.js';
+import { AXIS_NAMES, TOP, displacementOf, namesOfSeen } from './orientation.js';
 
 /** @typedef {import('./words.js').Words} Words */
 
@@ -32,12 +33,19 @@ export class CoordinateField {
         if (tools.takesPoints) {
             const words = /** @type {Words} */ (app.words);
             byId('coordinate-unit').textContent = words.hasMaster ? words.master : 'units';
-            const z = tools.axes === 3 ? ',z' : '';
-            this.field.placeholder = tools.isDragging ? 'dx,dy' + z.replace('z', 'dz') + '   length<angle'
-                : 'x,y' + z + '   @dx,dy   @length<angle';
+            this.field.placeholder = this.forms();
         } else if (hadFocus) {
             byId('marks').focus({ preventScroll: true });
         }
+    }
+
+    /** What can be typed. */
+    forms() {
+        const { tools, app } = this, { orientation } = app.scene, names = namesOfSeen(orientation);
+        const own = tools.axes === 3 && orientation === TOP ? AXIS_NAMES.slice() : names;
+        const displacement = names.map((name) => 'd' + name).join(',');
+        return tools.isDragging ? own.map((name) => 'd' + name).join(',') + '   length<angle'
+            : own.join(',') + '   @' + displacement + '   @length<angle';
     }
 
     /**
@@ -67,7 +75,7 @@ export class CoordinateField {
         return typedPoint(this.field.value, {
             axes: tools.axes, unit: hasMaster ? words.unitsOfMaster : 1, origin: hasMaster ? origin : [0, 0, 0],
             last: tools.isMeasured ? null : tools.points[tools.points.length - 1] || null,
-            isDisplacement: tools.isDragging,
+            isDisplacement: tools.isDragging, orientation: app.scene.orientation,
         });
     }
 
@@ -113,14 +121,14 @@ export class CoordinateField {
 
     /**
      * Moves or copies what was to be dragged, and says why where it can't.
-     * @param {number[]} by
+     * @param {number[]} by as it is seen
      */
     displace(by) {
         const { app, tools } = this;
         if (app.work.isDoing) {
             return 'The program is still working on the last edit.';
         }
-        tools.displace(by);
+        tools.displace(displacementOf(app.scene.orientation, by, tools.axes));
         return '';
     }
 

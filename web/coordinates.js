@@ -1,14 +1,16 @@
 /* Points and displacements that are typed. */
 
+import { TOP, asSeen, axesOfSeen, namesOfSeen } from './orientation.js';
+
 /**
  * What a typed point is read by: how many axes it has, units of resolution in a unit that is typed and the origin that
- * it is counted from there, in units of resolution; the point before, null where there is none; and whether it is a
- * displacement, which isn't counted from anywhere.
+ * it is counted from there, in units of resolution; the point before as it is seen, null where there is none; whether
+ * it is a displacement, which isn't counted from anywhere; and the view, where it isn't the one from above.
  * @typedef {{ axes: number, unit: number, origin: readonly number[], last: readonly number[] | null,
- *     isDisplacement: boolean }} TypedContext
+ *     isDisplacement: boolean, orientation?: import('./orientation.js').Orientation }} TypedContext
  */
 
-/** A point in whole units, or in a sentence why it is none.
+/** A point as it is seen, in whole units, or in a sentence why it is none.
  * @typedef {{ point: number[], fault: '' } | { point: null, fault: string }} TypedPoint
  */
 
@@ -39,8 +41,9 @@ function wholeOf(product, base) {
 
 /**
  * The point that is typed: `x,y`, `@dx,dy` from the point before, or `@length<angle` from there, the angle in degrees
- * against the clock from x; of three axes with z, too. A `u` at the end says that it is in units of resolution. With a
- * semicolon between its numbers these may have a decimal comma.
+ * against the clock from x; of three axes with z, too. Two numbers are along the axes that are seen, and three along x,
+ * y and z. A `u` at the end says that it is in units of resolution. With a semicolon between its numbers these may have
+ * a decimal comma.
  * @param {string} text
  * @param {TypedContext} context
  * @returns {TypedPoint}
@@ -59,8 +62,10 @@ export function typedPoint(text, context) {
     if (numbers.includes('<') && at === '' && !context.isDisplacement) {
         return faulty('A length and an angle count from the point before: @' + numbers + '.');
     }
-    const base = isFromLast ? context.last || [] : context.isDisplacement || numbers.includes('<') ? [] : own.origin;
-    const point = pointFrom(read, base, context);
+    const { orientation = TOP } = context, values = read.length === 3 ? asSeen(orientation, read) : read;
+    const base = isFromLast ? context.last || [] : context.isDisplacement || numbers.includes('<') ? []
+        : axesOfSeen(orientation, 3).map((axis) => own.origin[axis]);
+    const point = pointFrom(values, base, context);
     return point.every((value) => Number.isSafeInteger(value)) ? { point, fault: '' } : faulty('That is too far away.');
 }
 
@@ -88,12 +93,12 @@ function pointFrom(values, base, { axes, last, isDisplacement }) {
  * @param {string} text
  * @param {TypedContext} context
  */
-function valuesIn(text, { axes, unit }) {
+function valuesIn(text, { axes, unit, orientation = TOP }) {
     const parts = text.includes(';') ? text.split(';') : text.trim().split(/\s*,\s*|\s+/);
-    const values = parts.map((part) => unitsIn(part, unit));
-    const wanted = axes === 3 ? 'x,y or x,y,z' : 'x,y';
+    const values = parts.map((part) => unitsIn(part, unit)), [right, up] = namesOfSeen(orientation);
+    const wanted = right + ',' + up + (axes === 3 ? ' or x,y,z' : '');
     if (parts.length < 2 || parts.length > axes) {
-        return 'Type ' + wanted + ', @dx,dy or @length<angle.';
+        return 'Type ' + wanted + ', @d' + right + ',d' + up + ' or @length<angle.';
     }
     return values.includes(null) ? notNumbers(text, unit) : scaled(parts, unit);
 }

@@ -3,31 +3,34 @@
    length on the chord, and whose slope at a point is the mean of those of the two chords there, each weighed by how
    much the slope changes from the other chord to the one beyond. */
 
+/** @typedef {import('./orientation.js').Orientation} Orientation */
+
 /** The fewest points of a curve that has a piece. */
 export const LEAST_OF_CURVE = 6;
 
 /** What is known of a point that a curve goes through: x, y, the slopes there, and the length of the chord behind. */
 const ROW = 5;
 
-/** What is known of a chord: its length in all axes, and its slopes in x and y. */
+/** What is known of a chord: its length in all axes, and its slopes in the two that are seen. */
 const CHORD = 3;
 
 /**
- * The points that a curve goes through, a row each; none where it has too few points for a piece.
+ * The points that a curve goes through as they are seen, a row each; none where it has too few points for a piece.
  * @param {Int32Array} coordinates
  * @param {number} first the place of its first coordinate
  * @param {number} count of its points
  * @param {number} axes
+ * @param {Orientation} seen
  */
-export function knotsOfCurve(coordinates, first, count, axes) {
+export function knotsOfCurve(coordinates, first, count, axes, seen) {
     if (count < LEAST_OF_CURVE) {
         return new Float64Array(0);
     }
-    const rows = new Float64Array((count - 4) * ROW), chords = chordsOf(coordinates, first, count, axes);
+    const rows = new Float64Array((count - 4) * ROW), chords = chordsOf(coordinates, first, count, axes, seen);
     for (let point = 2; point < count - 2; point++) {
         const at = (point - 2) * ROW, chord = (point - 2) * CHORD;
-        rows[at] = coordinates[first + point * axes];
-        rows[at + 1] = coordinates[first + point * axes + 1];
+        rows[at] = coordinates[first + point * axes + seen.across];
+        rows[at + 1] = coordinates[first + point * axes + seen.up];
         rows[at + 2] = slopeOf(chords, chord + 1);
         rows[at + 3] = slopeOf(chords, chord + 2);
         rows[at + 4] = chords[chord + 2 * CHORD];
@@ -41,16 +44,17 @@ export function knotsOfCurve(coordinates, first, count, axes) {
  * @param {number} first
  * @param {number} count
  * @param {number} axes
+ * @param {Orientation} seen
  */
-function chordsOf(coordinates, first, count, axes) {
+function chordsOf(coordinates, first, count, axes, { across, up }) {
     const chords = new Float64Array((count - 1) * CHORD);
     for (let chord = 0, at = first; chord < chords.length; chord += CHORD, at += axes) {
         const x = coordinates[at + axes] - coordinates[at], y = coordinates[at + axes + 1] - coordinates[at + 1];
         const z = axes === 2 ? 0 : coordinates[at + 5] - coordinates[at + 2];
         const length = Math.sqrt(x * x + y * y + z * z);
         chords[chord] = length;
-        chords[chord + 1] = length === 0 ? 0 : x / length;
-        chords[chord + 2] = length === 0 ? 0 : y / length;
+        chords[chord + 1] = length === 0 ? 0 : (across === 0 ? x : y) / length;
+        chords[chord + 2] = length === 0 ? 0 : (up === 1 ? y : z) / length;
     }
     return chords;
 }
@@ -67,24 +71,26 @@ function slopeOf(chords, at) {
 }
 
 /**
- * A box that holds a curve, and is hardly larger: each of its cubics stays between its ends and two corners, a third of
- * its chord away from them. As the slope at a point lies between those of the two chords there, the corner lies between
- * a place of its own chord and one in the direction of the other chord.
+ * A box that holds a curve as it is seen, and is hardly larger: each of its cubics stays between its ends and two
+ * corners, a third of its chord away from them. As the slope at a point lies between those of the two chords there, the
+ * corner lies between a place of its own chord and one in the direction of the other chord.
  * @param {Int32Array} coordinates
  * @param {number} first the place of its first coordinate
  * @param {number} count of its points
  * @param {number} axes
+ * @param {Orientation} seen
  * @returns {number[]} low x, low y, high x, high y
  */
-export function boxOfCurve(coordinates, first, count, axes) {
-    const start = first + 2 * axes, end = first + (count - 3) * axes, depth = axes - 2;
-    let lowX = coordinates[start], highX = lowX, lowY = coordinates[start + 1], highY = lowY;
+export function boxOfCurve(coordinates, first, count, axes, { across, rise, away: third }) {
+    const start = first + 2 * axes + across, end = first + (count - 3) * axes + across, depth = axes - 2;
+    const away = depth * third;
+    let lowX = coordinates[start], highX = lowX, lowY = coordinates[start + rise], highY = lowY;
     for (let at = start; at <= end; at += axes) {
-        const x = coordinates[at], y = coordinates[at + 1];
-        const toX = x - coordinates[at - axes], toY = y - coordinates[at + 1 - axes];
-        const toZ = depth * (coordinates[at + axes - 1] - coordinates[at - 1]);
-        const fromX = coordinates[at + axes] - x, fromY = coordinates[at + axes + 1] - y;
-        const fromZ = depth * (coordinates[at + 2 * axes - 1] - coordinates[at + axes - 1]);
+        const x = coordinates[at], y = coordinates[at + rise], z = coordinates[at + away];
+        const toX = x - coordinates[at - axes], toY = y - coordinates[at + rise - axes];
+        const toZ = depth * (z - coordinates[at + away - axes]);
+        const fromX = coordinates[at + axes] - x, fromY = coordinates[at + axes + rise] - y;
+        const fromZ = depth * (coordinates[at + away + axes] - z);
         const to = toX * toX + toY * toY + toZ * toZ, from = fromX * fromX + fromY * fromY + fromZ * fromZ;
         const share = to > 0 && from > 0 ? Math.sqrt(from / to) / 3 : 0;
         const ahead = at < end ? share : 0, back = at > start && share > 0 ? 1 / (9 * share) : 0;

@@ -15,7 +15,7 @@
  *     | 'by-y' | 'by-z' | 'new-color' | 'new-weight' | 'new-style' | 'make-level' | 'make-color' | 'make-weight'
  *     | 'make-style' | 'make-words' | 'make-height' | 'make-font' | 'coordinate', HTMLInputElement>
  *     & Record<'fence-mode' | 'by-unit', HTMLSelectElement> & Record<'edits' | 'making', HTMLFieldSetElement>
- *     & Record<'drawing' | 'marks' | 'start-picture', HTMLCanvasElement> & Record<'modes' | 'tools', Buttons>
+ *     & Record<'drawing' | 'marks' | 'start-picture', HTMLCanvasElement> & Record<'modes' | 'tools' | 'views', Buttons>
  *     & { 'more': HTMLDetailsElement, 'kept-dialog': HTMLDialogElement }} Parts
  */
 

@@ -1,5 +1,6 @@
 /* Edits by hand: of what is chosen, of what a fence takes, of elements that are drawn. */
 
+import { BoxTaker } from './boxing.js';
 import { described } from './describing.js';
 import { joined } from './choice.js';
 import { isEqual } from './bytes.js';
@@ -7,6 +8,7 @@ import { Drawing } from './drawing.js';
 import { encodingOf } from './encoding.js';
 import { editLine, fenceEditLine, fenceLines, newLine } from './lines.js';
 import { NotRun } from './making.js';
+import { TOP } from './orientation.js';
 import { lineSaid } from './surroundings.js';
 
 /** @typedef {import('./answers.js').Answer} Answer */
@@ -56,17 +58,32 @@ export class Editing {
     }
 
     /**
-     * Chooses the trees that a box takes, besides those that are chosen.
+     * Chooses the trees that a box takes, besides those that are chosen: from above the program says which, as it does
+     * of a fence; in another view it is what is seen in the box.
      * @param {number[][]} ends two of its corners that lie across from each other
-     * @param {string} mode
+     * @param {'inside' | 'overlap'} mode
      */
     async chooseIn([[x, y], [right, top]], mode) {
-        const { choice, scene } = this.app, corners = [[x, y], [right, y], [right, top], [x, top]];
+        const { scene } = this.app, corners = [[x, y], [right, y], [right, top], [x, top]];
+        if (scene.orientation !== TOP) {
+            const box = [Math.min(x, right), Math.min(y, top), Math.max(x, right), Math.max(y, top)];
+            this.chooseMore(new BoxTaker(scene, box).trees(mode === 'inside'), null);
+            return;
+        }
         const levels = scene.levels.slice(), chosen = await this.selected(corners, mode, levels);
         if (chosen !== null && scene === this.app.scene) {
-            const before = choice.numbers.map((it) => scene.state.rootOf(it));
-            choice.choose([...new Set([...before, ...chosen])], before.length === 0 ? { corners, mode, levels } : null);
+            this.chooseMore(chosen, { corners, mode, levels });
         }
+    }
+
+    /**
+     * Chooses trees besides those that are chosen.
+     * @param {number[]} numbers
+     * @param {Source | null} source the fence that took them, if one did
+     */
+    chooseMore(numbers, source) {
+        const { choice, scene } = this.app, before = choice.numbers.map((it) => scene.state.rootOf(it));
+        choice.choose([...new Set([...before, ...numbers])], before.length === 0 ? source : null);
     }
 
     /**

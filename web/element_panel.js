@@ -5,6 +5,7 @@ import { counted } from './describing.js';
 import { byId, fill, linkTo, make, swatchOf, termed } from './dom.js';
 import { sizesOf } from './element_sizes.js';
 import { DRAWN, DRAWN_OF, FLAG, STYLE_NAMES } from './format.js';
+import { axesOfSeen } from './orientation.js';
 import { CLASS, CLASS_OF } from './tables.js';
 
 const MOST_MEMBERS = 200;
@@ -184,7 +185,7 @@ export class ElementPanel {
         list.append(...termed('low corner', this.placeSaid(range.slice(0, axes))),
             ...termed('high corner', this.placeSaid(range.slice(axes))));
         if (words.hasMaster) {
-            const size = [0, 1].map((axis) => words.lengthOf(range[axes + axis] - range[axis]));
+            const size = axesOfSeen(scene.orientation).map((axis) => words.lengthOf(range[axes + axis] - range[axis]));
             list.append(...termed('width, height', size.join(', ')));
         }
         for (const [term, said] of sizesOf(words, scene, this.chosen)) {

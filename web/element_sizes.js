@@ -2,6 +2,7 @@
 
 import { TYPE } from './format.js';
 import { areaOf, areaSaid, lengthOf, lengthSaid } from './measuring.js';
+import { AXIS_NAMES, asSeen } from './orientation.js';
 
 /** @typedef {import('./records.js').Records} Records */
 
@@ -20,7 +21,7 @@ const CHAINS = new Set([TYPE.chain, TYPE.complexShape]);
 export function sizesOf(words, { records, state }, number) {
     const type = state.typeOf(number);
     if (STRAIGHT.has(type)) {
-        return sizesSaid(words, [pointsOf(records, state.record[number])], type, records.axes);
+        return sizesSaid(words, [pointsOf(records, state.record[number])], type, records);
     }
     if (!CHAINS.has(type)) {
         return [];
@@ -29,7 +30,7 @@ export function sizesOf(words, { records, state }, number) {
     if (!members.every((it) => STRAIGHT.has(records.type[it]))) {
         return [['length, area', 'not known here: it has members that aren’t straight']];
     }
-    return members.length === 0 ? [] : sizesSaid(words, members.map((it) => pointsOf(records, it)), type, records.axes);
+    return members.length === 0 ? [] : sizesSaid(words, members.map((it) => pointsOf(records, it)), type, records);
 }
 
 /**
@@ -61,15 +62,17 @@ function pointsOf(records, record) {
  * @param {import('./words.js').Words} words
  * @param {number[][][]} paths
  * @param {number} type
- * @param {number} axes
+ * @param {Records} records
  * @returns {[string, string][]}
  */
-function sizesSaid(words, paths, type, axes) {
+function sizesSaid(words, paths, type, { axes, orientation }) {
     const length = paths.reduce((sum, path) => sum + lengthOf(path), 0), isClosed = isOneRound(paths);
     /** @type {[string, string][]} */
     const rows = [[isClosed ? 'perimeter' : 'length', lengthSaid(words, length)]];
     if (isClosed) {
-        rows.push(['area', areaSaid(words, areaOf(paths.flat())) + (axes === 3 ? ', as seen along z' : '')]);
+        const area = areaOf(paths.flat().map((point) => asSeen(orientation, point)));
+        const view = axes === 2 ? '' : ', as seen along ' + AXIS_NAMES[orientation.along];
+        rows.push(['area', areaSaid(words, area) + view]);
     } else if (type !== TYPE.line) {
         rows.push(['area', 'not closed']);
     }

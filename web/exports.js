@@ -3,6 +3,7 @@
 import { byId, fill, setHidden } from './dom.js';
 import { contextOf } from './dots.js';
 import { featuresOf } from './features.js';
+import { TOP } from './orientation.js';
 import { namesOf, targetOf } from './saving.js';
 import { PIXELS_OF_MILLIMETRE, SHEETS, drawSheet, sheetOf } from './sheet.js';
 import { SvgCanvas } from './svg.js';
@@ -22,6 +23,8 @@ export class Exports {
     /** @param {import('./app.js').App} app */
     constructor(app) {
         this.app = app;
+        /** Whether a picture is being made. */
+        this.isDrawing = false;
     }
 
     /** The question's field for a scale, where the drawing's units are known; none where they aren't. */
@@ -95,13 +98,15 @@ export class Exports {
     }
 
     /**
-     * What the strip of a frame says: the drawing's name, and its scale where the units are known.
+     * What the strip of a frame says: the drawing's name, its scale where the units are known, and the view where it
+     * isn't from above.
      * @param {number} scale
      */
     titleOf(scale) {
-        const { name, units } = this.app.open.drawing, metres = metresOfUnit(units);
-        return metres === null ? name
-            : name + '   1 : ' + Number((metres * 1000 * PIXELS_OF_MILLIMETRE / scale).toPrecision(4));
+        const { drawing: { name, units }, scene: { orientation } } = this.app.open, metres = metresOfUnit(units);
+        const view = orientation === TOP ? '' : '   ' + orientation.name;
+        return (metres === null ? name : name + '   1 : '
+            + Number((metres * 1000 * PIXELS_OF_MILLIMETRE / scale).toPrecision(4))) + view;
     }
 
     /**
@@ -128,10 +133,10 @@ export class Exports {
 
     /** @param {Sheet} sheet */
     async pngOf(sheet) {
-        const canvas = document.createElement('canvas'), { app } = this;
+        const canvas = document.createElement('canvas');
         canvas.width = Math.ceil(sheet.width * PICTURE_RATIO);
         canvas.height = Math.ceil(sheet.height * PICTURE_RATIO);
-        await drawSheet(app.scene, this.table, contextOf(canvas), sheet, PICTURE_RATIO);
+        await this.draw(contextOf(canvas), sheet, PICTURE_RATIO);
         /** @type {Blob | null} */
         const blob = await new Promise((resolve) => canvas.toBlob(resolve, 'image/png'));
         if (blob === null) {
@@ -143,13 +148,24 @@ export class Exports {
     /** @param {Sheet} sheet */
     async svgOf(sheet) {
         const canvas = new SvgCanvas(sheet.width, sheet.height);
-        await drawSheet(this.app.scene, this.table, canvas, sheet, 1);
+        await this.draw(canvas, sheet, 1);
         return new TextEncoder().encode(canvas.text);
     }
 
-    /** The colours of the drawing. */
-    get table() {
-        return this.app.open.drawing.colours.table;
+    /**
+     * Draws what is shown on a sheet. Meanwhile the view isn't changed, so that all of it is of one.
+     * @param {import('./painter.js').Canvas} canvas
+     * @param {Sheet} sheet
+     * @param {number} ratio dots to a pixel
+     */
+    async draw(canvas, sheet, ratio) {
+        const { scene, drawing } = this.app.open;
+        this.isDrawing = true;
+        try {
+            await drawSheet(scene, drawing.colours.table, canvas, sheet, ratio);
+        } finally {
+            this.isDrawing = false;
+        }
     }
 
     /** Asks for a sheet and a scale, and prints what is in the middle of the screen on it. */
@@ -179,7 +195,7 @@ export class Exports {
      */
     async printSheet(sheet, width, height) {
         const canvas = new SvgCanvas(sheet.width, sheet.height), rules = new CSSStyleSheet(), paper = byId('paper');
-        await drawSheet(this.app.scene, this.table, canvas, sheet, 1);
+        await this.draw(canvas, sheet, 1);
         rules.replaceSync('@page { size: ' + width + 'mm ' + height + 'mm; margin: 0; }');
         document.adoptedStyleSheets = [rules];
         fill(paper, canvas.root);

@@ -55,6 +55,24 @@ export function extentOfAll(records, from, to) {
 }
 
 /**
+ * How many records that are drawn don't lie in a box: of that of all that is shown the origins of cells outside of it.
+ * @param {Pick<import('./scene.js').Scene, 'records' | 'isDrawn'>} scene
+ * @param {number[]} box low x, low y, high x, high y
+ */
+export function countOutside(scene, [lowX, lowY, highX, highY]) {
+    const { records: { box, length } } = scene;
+    let count = 0;
+    for (let record = 0; record < length; record++) {
+        const at = 4 * record;
+        if ((box[at] < lowX || box[at + 1] < lowY || box[at + 2] > highX || box[at + 3] > highY)
+            && scene.isDrawn(record)) {
+            count++;
+        }
+    }
+    return count;
+}
+
+/**
  * @param {import('./records.js').Records} records
  * @param {number} from
  * @param {number} to

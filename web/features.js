@@ -1,6 +1,7 @@
 /* What is shown as GeoJSON: a feature for each element that is drawn, in master units where the drawing has them. */
 
 import { DRAWN, DRAWN_OF, TYPE } from './format.js';
+import { TOP } from './orientation.js';
 import { isCurved } from './outlines.js';
 
 const FINENESS = 4;               // of outlines of arcs, curves and B-splines
@@ -67,7 +68,7 @@ function geometryOf(records, record, words) {
  * @returns {number[][]}
  */
 function pointsDrawn(records, record) {
-    const outline = isCurved(records.type[record]) ? records.outlines.of(record, FINENESS) : [], points = [];
+    const outline = isCurved(records.type[record]) ? records.outlines.made(record, FINENESS, TOP) : [], points = [];
     for (let at = 0; at < outline.length; at += 2) {
         points.push([outline[at], outline[at + 1]]);
     }

@@ -21,6 +21,8 @@ export class Grid {
      */
     constructor(records, from, to, isFilled = true) {
         this.records = records;
+        /** The view that the boxes are of. */
+        this.orientation = records.orientation;
         this.from = from;
         this.to = to;
         this.count = to - from;

@@ -1,5 +1,7 @@
 /* Lengths, areas and directions of rows of points, and how they are said. */
 
+import { namesOfSeen } from './orientation.js';
+
 /** @typedef {import('./words.js').Words} Words */
 
 /** The most digits behind the point that an area in master units has. */
@@ -30,7 +32,7 @@ export function partsOfWay(points) {
 }
 
 /**
- * The area within points, the last of which is joined to the first, as seen along z. What is gone around twice in one
+ * The area within points as they are seen, the last of which is joined to the first. What is gone around twice in one
  * direction counts twice, and what is gone around in both directions not at all.
  * @param {readonly (readonly number[])[]} points
  */
@@ -44,7 +46,8 @@ export function areaOf(points) {
 }
 
 /**
- * The direction from one point to another in degrees, against the clock from x, from 0 to before 360.
+ * The direction from one point to another in degrees, against the clock from the axis to the right, from 0 to before
+ * 360.
  * @param {readonly number[]} from
  * @param {readonly number[]} to
  */
@@ -78,7 +81,8 @@ export function areaSaid(words, area) {
 }
 
 /**
- * What is measured along a row of places: its last part with its displacement and its direction, and all of it.
+ * What is measured along a row of places as they are seen: its last part with its displacement and its direction, and
+ * all of it.
  * @param {Words} words
  * @param {readonly (readonly number[])[]} points at least two
  */
@@ -86,7 +90,8 @@ export function measuredSaid(words, points) {
     const [from, to] = points.slice(-2).map((point) => point.slice(0, 2)), flat = points.map((it) => it.slice(0, 2));
     const by = (/** @type {number} */ axis) => (words.hasMaster ? words.lengthOf(to[axis] - from[axis])
         : String(to[axis] - from[axis]));
-    const last = lengthSaid(words, lengthOf([from, to])) + ', dx ' + by(0) + ', dy ' + by(1)
+    const [right, up] = namesOfSeen(words.scene.orientation);
+    const last = lengthSaid(words, lengthOf([from, to])) + ', d' + right + ' ' + by(0) + ', d' + up + ' ' + by(1)
         + ', angle ' + Number(angleOf(from, to).toFixed(3)) + '°';
     return last + (points.length > 2 ? ', in total ' + lengthSaid(words, lengthOf(flat)) : '');
 }

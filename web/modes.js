@@ -1,7 +1,7 @@
 /* The switch between the drawing before and after edits, and both. */
 
 import { byId, setHidden } from './dom.js';
-import { WAY_OF_KEY } from './tabs.js';
+import { Switch } from './switch.js';
 
 /** @typedef {import('./scene.js').Mode} Mode */
 
@@ -9,39 +9,19 @@ export class Modes {
     /** @param {import('./app.js').App} app */
     constructor(app) {
         this.app = app;
-        for (const button of byId('modes').children) {
-            button.addEventListener('click', () => this.set(modeOf(button)));
-            button.addEventListener('keydown', (event) => this.key(event, button));
-        }
+        this.switch = new Switch(byId('modes'), (button) => this.set(modeOf(button)));
     }
 
     show() {
         const { scene } = this.app;
         setHidden(byId('modes'), scene.after === null);
-        for (const button of byId('modes').children) {
-            const isOn = button.dataset.mode === scene.mode;
-            button.setAttribute('aria-checked', String(isOn));
-            button.tabIndex = isOn ? 0 : -1;
-        }
+        this.switch.show((button) => modeOf(button) === scene.mode);
     }
 
     /** @param {Mode} mode */
     set(mode) {
         this.app.scene.mode = mode;
         this.app.sceneChanged();
-    }
-
-    /**
-     * @param {KeyboardEvent} event
-     * @param {HTMLElement} button
-     */
-    key(event, button) {
-        const way = WAY_OF_KEY[event.key], next = /** @type {HTMLElement | null} */ (way ? button[way] : null);
-        if (next) {
-            event.preventDefault();
-            this.set(modeOf(next));
-            next.focus();
-        }
     }
 }
 

@@ -7,6 +7,7 @@ import { TYPE } from './format.js';
 import { polesOf, runSize, splineOf } from './splines.js';
 import { splinePoints } from './stroking.js';
 
+/** @typedef {import('./orientation.js').Orientation} Orientation */
 /** @typedef {import('./records.js').Records} Records */
 
 const FINEST = 8;
@@ -42,7 +43,7 @@ export function finenessOf(size) {
     return fineness;
 }
 
-/** The outlines of records, as x and y one behind the other. */
+/** The outlines of records as these are seen, x and y one behind the other. */
 export class Outlines {
     /**
      * @param {Records} records
@@ -86,24 +87,27 @@ export class Outlines {
     }
 
     /**
+     * The same, made anew and not kept, and perhaps in another view than all are seen in.
      * @param {number} record
      * @param {number} fineness
+     * @param {Orientation} seen
      */
-    made(record, fineness) {
+    made(record, fineness, seen = this.records.orientation) {
         switch (this.records.type[record]) {
-            case TYPE.curve: return this.curve(record, STEPS_OF_PIECE << fineness);
-            case TYPE.ellipse: case TYPE.arc: return this.arc(record, STEPS_OF_TURN << fineness);
-            default: return this.spline(record, STEPS_OF_PIECE << fineness);
+            case TYPE.curve: return this.curve(record, STEPS_OF_PIECE << fineness, seen);
+            case TYPE.ellipse: case TYPE.arc: return this.arc(record, STEPS_OF_TURN << fineness, seen);
+            default: return this.spline(record, STEPS_OF_PIECE << fineness, seen);
         }
     }
 
     /**
      * @param {number} record
      * @param {number} steps
+     * @param {Orientation} seen
      */
-    curve(record, steps) {
+    curve(record, steps, seen) {
         const { coordinates, axes, first, points } = this.records;
-        const rows = knotsOfCurve(coordinates, first[record] * axes, points[record], axes);
+        const rows = knotsOfCurve(coordinates, first[record] * axes, points[record], axes, seen);
         const most = Math.max(Math.floor(MOST_OF_CURVE / (points[record] + 1)), 1);
         return rows.length === 0 ? NONE : curvePoints(rows, Math.min(steps, most));
     }
@@ -111,10 +115,11 @@ export class Outlines {
     /**
      * @param {number} record
      * @param {number} steps
+     * @param {Orientation} seen
      */
-    arc(record, steps) {
+    arc(record, steps, seen) {
         const { records } = this;
-        const arc = arcOf(records.bytesOf(record), records.axes, records.rangeOf(record));
+        const arc = arcOf(records.bytesOf(record), records.axes, records.rangeOf(record), seen);
         return arc === null ? NONE : arcPoints(arc, steps);
     }
 
@@ -122,15 +127,16 @@ export class Outlines {
      * A B-spline, where it lies in its range.
      * @param {number} record
      * @param {number} steps
+     * @param {Orientation} seen
      */
-    spline(record, steps) {
+    spline(record, steps, seen) {
         const run = this.runOf(record), { axes } = this.records, range = this.records.rangeOf(record);
-        const spline = splineOf(run.subarray(0, runSize(run, 0)), axes);
+        const spline = splineOf(run.subarray(0, runSize(run, 0)), axes, seen), { across, up } = seen;
         if (spline === null) {
             return NONE;
         }
         // it lies between its poles, so where these are in the range it is
-        const box = [range[0], range[1], range[axes], range[axes + 1]];
+        const box = [range[across], range[up], range[axes + across], range[axes + up]];
         return isWithin(polesOf(spline), box) || isWithin(splinePoints(spline, CHECK_STEPS), box)
             ? splinePoints(spline, steps) : NONE;
     }

@@ -229,11 +229,11 @@ export class Overlay {
 
     /** The box that is drawn to choose by. */
     drawBox() {
-        const { box } = this.app.tools;
-        if (box === null) {
+        const { ends } = this.app.tools.box;
+        if (ends === null) {
             return;
         }
-        const [[left, top], [right, bottom]] = box, { pens, view } = this.app;
+        const [[left, top], [right, bottom]] = ends, { pens, view } = this.app;
         this.painter.start(view, this.ratio);
         this.painter.setPen(pens.chosen, 1.2, DASHES[right < left ? 5 : 0]);
         this.painter.traceBox(left, top, right, bottom);
@@ -247,8 +247,8 @@ export class Overlay {
             return;
         }
         const moved = view.copy();
-        moved.x -= drag.by[0];
-        moved.y -= drag.by[1];
+        moved.x -= drag.to[0] - drag.from[0];
+        moved.y -= drag.to[1] - drag.from[1];
         this.painter.start(moved, this.ratio);
         this.drawParts(choice.numbers, pens.changed);
         this.painter.start(view, this.ratio);

@@ -4,6 +4,7 @@ import { cutArea, cutSegment } from './cutting.js';
 import { holesIn, isFilled } from './fills.js';
 import { DASHES, DRAWN, DRAWN_OF } from './format.js';
 import { Path, middleOfDot } from './path.js';
+import { lineOfText } from './texts.js';
 import { View } from './view.js';
 
 const FAR = 8000;                 // pixels beyond which a path is cut at the edge of the screen
@@ -311,12 +312,14 @@ export class Painter {
 
     /** @param {number} record */
     x(record) {
-        return this.view.toScreenX(this.records.coordinate(record, 0, 0));
+        const { records } = this;
+        return this.view.toScreenX(records.coordinate(record, 0, records.orientation.across));
     }
 
     /** @param {number} record */
     y(record) {
-        return this.view.toScreenY(this.records.coordinate(record, 0, 1));
+        const { records } = this;
+        return this.view.toScreenY(records.coordinate(record, 0, records.orientation.up));
     }
 
     /**
@@ -329,8 +332,8 @@ export class Painter {
         const left = this.x(record), top = this.y(record), [alongX, alongY, upX, upY] = text.turn;
         if (Math.abs(text.height * (alongX * upY - alongY * upX) * view.scale) < LEAST_TEXT) {
             this.setPen(colour, 1, DASHES[0]);
-            const along = text.width < 0 ? Math.min(text.width * view.scale, -2) : Math.max(text.width * view.scale, 2);
-            this.traceSegment(left, top, left + along * alongX, top - along * alongY);
+            const [lineX, lineY] = lineOfText(text, 2 / view.scale);
+            this.traceSegment(left, top, left + lineX * view.scale, top - lineY * view.scale);
             return;
         }
         this.finish();
@@ -363,8 +366,8 @@ export class Painter {
      */
     drawOrigin(record, colour) {
         const { records, view, context } = this;
-        const range = records.rangeOf(record), { axes } = records;
-        const size = Math.max(range[axes] - range[0], range[axes + 1] - range[1]) * view.scale;
+        const range = records.rangeOf(record), { axes, orientation: { across, up } } = records;
+        const size = Math.max(range[axes + across] - range[across], range[axes + up] - range[up]) * view.scale;
         if (size < LEAST_CROSS) {
             return;
         }

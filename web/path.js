@@ -12,12 +12,16 @@ export class Path {
     constructor(records) {
         this.records = records;
         /**
-         * Coordinates, of which the path's lie from one place to before another, a step from point to point.
+         * Coordinates, of which the path's lie from one place to before another, a step from point to point. At the
+         * place of a point stands its coordinate to the right.
          * @type {Int32Array | Float64Array}
          */
         this.points = new Int32Array(0);
         this.from = this.to = 0;
         this.step = 2;
+        /** How far behind the first coordinate of a point the one upwards stands, and the one along which one looks. */
+        this.rise = 1;
+        this.away = 0;
         this.isClosed = false;
     }
 
@@ -39,14 +43,26 @@ export class Path {
             this.from = 0;
             this.to = outline.length;
             this.step = 2;
+            this.rise = 1;
         } else {
-            this.points = records.coordinates;
-            this.from = records.first[record] * records.axes;
-            this.to = this.from + records.points[record] * records.axes;
-            this.step = records.axes;
+            this.takePoints(record);
         }
         this.isClosed = type === TYPE.shape;
         return this.to > this.from;
+    }
+
+    /**
+     * Takes the points that a record holds.
+     * @param {number} record
+     */
+    takePoints(record) {
+        const { coordinates, axes, first, points, orientation: { across, rise, away } } = this.records;
+        this.points = coordinates;
+        this.from = first[record] * axes + across;
+        this.to = this.from + points[record] * axes;
+        this.step = axes;
+        this.rise = rise;
+        this.away = away;
     }
 
     /**
@@ -55,10 +71,10 @@ export class Path {
      * @param {View} view
      */
     trace(context, view) {
-        const { points, from, to, step } = this;
-        context.moveTo(view.toScreenX(points[from]), view.toScreenY(points[from + 1]));
+        const { points, from, to, step, rise } = this;
+        context.moveTo(view.toScreenX(points[from]), view.toScreenY(points[from + rise]));
         for (let place = from + step; place < to; place += step) {
-            context.lineTo(view.toScreenX(points[place]), view.toScreenY(points[place + 1]));
+            context.lineTo(view.toScreenX(points[place]), view.toScreenY(points[place + rise]));
         }
         if (this.isClosed) {
             context.closePath();
@@ -73,13 +89,13 @@ export class Path {
      * @param {number} ratio dots to a pixel
      */
     traceThin(context, view, ratio) {
-        const { points, from, to, step, isClosed } = this;
+        const { points, from, to, step, rise, isClosed } = this;
         for (let place = from; place < to; place += step) {
-            const x = points[place], y = points[place + 1];
+            const x = points[place], y = points[place + rise];
             const before = place > from ? place - step : isClosed ? to - step : place + step;
             const behind = place + step < to ? place + step : isClosed ? from : place - step;
             const isUpright = x === points[before] || x === points[behind];
-            const isLevel = y === points[before + 1] || y === points[behind + 1];
+            const isLevel = y === points[before + rise] || y === points[behind + rise];
             const left = isUpright ? middleOfDot(view.toScreenX(x), ratio) : view.toScreenX(x);
             const top = isLevel ? middleOfDot(view.toScreenY(y), ratio) : view.toScreenY(y);
             if (place === from) {
@@ -93,16 +109,21 @@ export class Path {
         }
     }
 
+    /** Its corners as they are seen, x and y one behind the other. */
+    places() {
+        const { points, from, to, step, rise } = this, places = [];
+        for (let place = from; place < to; place += step) {
+            places.push(points[place], points[place + rise]);
+        }
+        return places;
+    }
+
     /**
-     * Its corners on the screen, x and y one behind the other.
+     * The same on the screen.
      * @param {View} view
      */
     corners(view) {
-        const { points, from, to, step } = this, corners = [];
-        for (let place = from; place < to; place += step) {
-            corners.push(view.toScreenX(points[place]), view.toScreenY(points[place + 1]));
-        }
-        return corners;
+        return this.places().map((value, at) => (at % 2 === 0 ? view.toScreenX(value) : view.toScreenY(value)));
     }
 }
 

@@ -3,6 +3,7 @@
 import { holesIn, isFilled } from './fills.js';
 import { DRAWN, DRAWN_OF } from './format.js';
 import { Path } from './path.js';
+import { lineOfText } from './texts.js';
 
 const PIXELS_WITHIN = 8;          // about how many pixels of the screen the distance is that is picked within
 const SHARE_OF_FILL = 0.9;        // of that distance that the inside of what is filled has
@@ -133,10 +134,21 @@ export class Picker {
             case DRAWN.text: return this.squareFromText(record, x, y, within);
             case DRAWN.box: return this.squareFromPath(record, x, y, within);
             default: {
-                const offX = x - records.coordinate(record, 0, 0), offY = y - records.coordinate(record, 0, 1);
+                const [offX, offY] = this.fromOrigin(record, x, y);
                 return (offX * offX + offY * offY) * 4 + within * within / 64;
             }
         }
+    }
+
+    /**
+     * How far to the right and up a place lies from the origin of a record.
+     * @param {number} record
+     * @param {number} x
+     * @param {number} y
+     */
+    fromOrigin(record, x, y) {
+        const { records } = this.scene, { across, up } = records.orientation;
+        return [x - records.coordinate(record, 0, across), y - records.coordinate(record, 0, up)];
     }
 
     /**
@@ -164,11 +176,11 @@ export class Picker {
      * @param {number} y
      */
     squareFromTaken(x, y) {
-        const { points, from, to, step, isClosed, count } = this.path;
+        const { points, from, to, step, rise, isClosed, count } = this.path;
         let least = Infinity;
         for (let place = from, before = isClosed || count === 1 ? to - step : from; place < to; place += step) {
-            least = Math.min(least, squareFromSegment(x, y, points[before], points[before + 1], points[place],
-                points[place + 1]));
+            least = Math.min(least, squareFromSegment(x, y, points[before], points[before + rise], points[place],
+                points[place + rise]));
             before = place;
         }
         return least;
@@ -192,10 +204,10 @@ export class Picker {
      * @param {number} y
      */
     isInTaken(x, y) {
-        const { points, from, to, step } = this.path;
+        const { points, from, to, step, rise } = this.path;
         let isInside = false;
         for (let place = from, before = to - step; place < to; before = place, place += step) {
-            isInside = crosses(x, y, points[before], points[before + 1], points[place], points[place + 1])
+            isInside = crosses(x, y, points[before], points[before + rise], points[place], points[place + rise])
                 ? !isInside : isInside;
         }
         return isInside;
@@ -212,10 +224,10 @@ export class Picker {
     squareFromText(record, x, y, within) {
         const { records } = this.scene;
         const text = /** @type {import('./records.js').TextLabel} */ (records.labelOf(record));
-        const offX = x - records.coordinate(record, 0, 0), offY = y - records.coordinate(record, 0, 1);
+        const [offX, offY] = this.fromOrigin(record, x, y);
         const [alongX, alongY, upX, upY] = text.turn, area = alongX * upY - alongY * upX;
         if (Math.abs(area) < EDGE_ON) {
-            return squareFromSegment(offX, offY, 0, 0, text.width * alongX, text.width * alongY);
+            return squareFromSegment(offX, offY, 0, 0, ...lineOfText(text, 0));
         }
         const along = (offX * upY - offY * upX) / area, up = (offY * alongX - offX * alongY) / area;
         const beyond = distanceBeyond(along, text.width), over = distanceBeyond(up, text.height);

@@ -252,9 +252,10 @@ export class Picture {
      * @param {number} record
      */
     isWithoutCross(record) {
-        const { view: { scale }, scene: { records: { range, axes } } } = this, at = 2 * axes * record;
-        return (range[at + axes] - range[at]) * scale < LEAST_CROSS
-            && (range[at + axes + 1] - range[at + 1]) * scale < LEAST_CROSS;
+        const { view: { scale }, scene: { records: { range, axes, orientation } } } = this, low = 2 * axes * record;
+        const right = low + orientation.across, up = low + orientation.up;
+        return (range[right + axes] - range[right]) * scale < LEAST_CROSS
+            && (range[up + axes] - range[up]) * scale < LEAST_CROSS;
     }
 
     /** @param {number} record */

@@ -1,6 +1,7 @@
 /* Mouse, pen, fingers and keys on the drawing. */
 
 import { byId, setHidden } from './dom.js';
+import { ORIENTATIONS } from './orientation.js';
 
 const CLICK = 4;                  // pixels that a click may move
 export const REACH = Object.freeze({ mouse: 7, pen: 9, touch: 16 });
@@ -102,7 +103,7 @@ export class Pointer {
         if (pressed.isDrag) {
             app.tools.dragTo(pressed.at, place);
         } else if (pressed.isBox) {
-            app.tools.boxTo(pressed.at, place);
+            app.tools.box.drawTo(pressed.at, place);
         } else {
             const start = pressed.hasMoved ? before : pressed.at;
             app.view.pan(place[0] - start[0], place[1] - start[1]);
@@ -140,7 +141,7 @@ export class Pointer {
         if (pressed.isDrag && pressed.hasMoved) {
             app.tools.drop();
         } else if (pressed.isBox && pressed.hasMoved) {
-            app.tools.dropBox();
+            app.tools.box.drop();
         } else if (!pressed.hasMoved && pressed.isMain) {
             app.tools.click(place, this.reach, pressed.isMore);
         }
@@ -197,7 +198,7 @@ export class Pointer {
                 tools.point(stage.centre(), REACH.touch);
             }
         };
-        const { stage, tools, choice } = app;
+        const { stage, tools, choice, views } = app;
         return {
             'ArrowLeft': pan(step, 0), 'ArrowRight': pan(-step, 0), 'ArrowUp': pan(0, step), 'ArrowDown': pan(0, -step),
             '+': () => stage.zoom(1.5), '=': () => stage.zoom(1.5), '-': () => stage.zoom(1 / 1.5),
@@ -206,7 +207,9 @@ export class Pointer {
             'Enter': () => (tools.draws ? tools.close() : choice.click(stage.centre(), REACH.touch, false)),
             ' ': () => tools.click(stage.centre(), REACH.touch, false),
             'Backspace': () => tools.dropPoint(), 'Delete': () => app.editPanel.edit({ word: 'delete' }),
-            's': () => tools.snap.toggle(), '@': () => tools.field.begin('@'), 'Escape': () => tools.letGo(),
+            '1': () => views.set(ORIENTATIONS[0]), '2': () => views.set(ORIENTATIONS[1]),
+            '3': () => views.set(ORIENTATIONS[2]), 's': () => tools.snap.toggle(),
+            '@': () => tools.field.begin('@'), 'Escape': () => tools.letGo(),
         };
     }
 

@@ -1,17 +1,19 @@
 /* Reads elements out of their bytes into records. */
 
-import { projectionAt, turnOf } from './arcs.js';
+import { projected, projectionAt, turnOf } from './arcs.js';
 import { pointsCount, pointsPlace, textPlace } from './bodies.js';
 import { fillAt } from './fills.js';
 import { FLAG, HOLE, TYPE } from './format.js';
 import { longAt, rangeNumberAt, wordAt } from './numbers.js';
+import { TOP } from './orientation.js';
 import { cellName } from './radix50.js';
 import { CLASS, CLASS_OF, LOCKED } from './tables.js';
-import { readable } from './texts.js';
+import { countOfSigns, readable } from './texts.js';
 
 /** What one of a text's multipliers stands for, in units of resolution. */
 export const TEXT_UNIT = 6 / 1000;
 
+/** @typedef {import('./orientation.js').Orientation} Orientation */
 /** @typedef {import('./records.js').Records} Records */
 /** @typedef {import('./records.js').TextLabel} TextLabel */
 
@@ -50,7 +52,7 @@ export function readElement(records, bytes, at, number, flags) {
     records.fill[record] = fillAt(bytes, at, records.size[record]);
     readRange(records, bytes, at, record);
     readPoints(records, bytes, at, record, type);
-    records.setBox(record, type === TYPE.text ? textAt(bytes, at, records.axes) : null);
+    records.setBox(record, type === TYPE.text ? textSizeAt(bytes, at, records.axes, records.orientation) : null);
     return record;
 }
 
@@ -93,9 +95,10 @@ function readPoints(records, bytes, at, record, type) {
  * @param {number} at
  * @param {number} type
  * @param {number} axes
+ * @param {Orientation} seen
  */
-export function labelAt(bytes, at, type, axes) {
-    return type === TYPE.text ? textAt(bytes, at, axes)
+export function labelAt(bytes, at, type, axes, seen = TOP) {
+    return type === TYPE.text ? textAt(bytes, at, axes, seen)
         : cellName(wordAt(bytes, at + 38), wordAt(bytes, at + 40));
 }
 
@@ -113,19 +116,35 @@ export function charactersAt(bytes, at, axes) {
  * @param {Uint8Array} bytes
  * @param {number} at
  * @param {number} axes
+ * @param {Orientation} seen
  * @returns {TextLabel}
  */
-function textAt(bytes, at, axes) {
-    const characters = readable(charactersAt(bytes, at, axes)), degrees = degreesAt(bytes, at, axes);
-    const wide = longAt(bytes, at + 38) * TEXT_UNIT;
+function textAt(bytes, at, axes, seen) {
     return {
-        characters, wide, degrees,
-        height: longAt(bytes, at + 42) * TEXT_UNIT,
+        ...textSizeAt(bytes, at, axes, seen),
+        characters: readable(charactersAt(bytes, at, axes)),
+        wide: longAt(bytes, at + 38) * TEXT_UNIT,
+        degrees: degreesAt(bytes, at, axes),
         font: bytes[at + 36],
         justification: bytes[at + 37],
-        width: [...characters].length * wide,
-        turn: axes === 2 ? turnOf(longAt(bytes, at + 46)) : projectionAt(bytes, at + 46) || [1, 0, 0, 1],
         natural: 0,
+    };
+}
+
+/**
+ * How large a text is and how its axes are seen: all that its box is found by.
+ * @param {Uint8Array} bytes
+ * @param {number} at
+ * @param {number} axes
+ * @param {Orientation} seen
+ * @returns {import('./records.js').TextSize}
+ */
+export function textSizeAt(bytes, at, axes, seen) {
+    return {
+        width: countOfSigns(charactersAt(bytes, at, axes)) * (longAt(bytes, at + 38) * TEXT_UNIT),
+        height: longAt(bytes, at + 42) * TEXT_UNIT,
+        turn: axes === 2 ? turnOf(longAt(bytes, at + 46))
+            : projectionAt(bytes, at + 46, seen) || projected([1, 0, 0], [0, 1, 0], seen),
     };
 }
 

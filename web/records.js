@@ -3,8 +3,9 @@
 import { LEAST_OF_CURVE, boxOfCurve } from './curves.js';
 import { FLAG, TYPE } from './format.js';
 import { Outlines } from './outlines.js';
-import { labelAt } from './reading.js';
-import { GREATEST, LEAST } from './tables.js';
+import { TOP } from './orientation.js';
+import { labelAt, textSizeAt } from './reading.js';
+import { CLASS, CLASS_OF, GREATEST, LEAST } from './tables.js';
 
 /**
  * A typed array with the same values and at least so much room.
@@ -23,6 +24,7 @@ export function grown(array, length) {
     return larger;
 }
 
+/** @typedef {import('./orientation.js').Orientation} Orientation */
 /** @typedef {Uint8Array | Uint16Array | Uint32Array} Column a number for each record */
 
 const COLUMNS = Object.freeze({
@@ -33,18 +35,24 @@ const COLUMNS = Object.freeze({
 const COLUMN_NAMES = Object.freeze(Object.keys(COLUMNS));
 
 /**
- * A text as it is drawn: its characters, how wide and high a sign is in units of resolution, its angle in degrees, what
- * its turn makes of its two axes as they are seen (x and y of each), font and justification, how wide all of it is, and
- * how wide it came out when it was measured.
- * @typedef {{ characters: string, wide: number, height: number, degrees: number, turn: number[], font: number,
- *     justification: number, width: number, natural: number }} TextLabel
+ * How large a text is: how wide all of it and how high a sign, in units of resolution, and what its turn makes of its
+ * two axes as they are seen, x and y of each.
+ * @typedef {{ width: number, height: number, turn: number[] }} TextSize
+ */
+
+/**
+ * A text as it is drawn: its size and its characters, how wide a sign is in units of resolution, its angle in degrees,
+ * font and justification, and how wide it came out when it was measured.
+ * @typedef {TextSize & { characters: string, wide: number, degrees: number, font: number, justification: number,
+ *     natural: number }} TextLabel
  */
 
 /**
  * Records of elements in columns. A record has its element's head and look, its place in `coordinates` (`first`,
  * counted in points, and how many `points`), its range, low corner and high corner, the box that it is drawn in, and
  * the colour that it is filled with and one more, 0 where it is hollow. Texts, names of cells and the outlines of what
- * is curved are read from the bytes when they are first asked for.
+ * is curved are read from the bytes when they are first asked for. Boxes, texts and outlines are as they are seen in
+ * one view, `orientation`; all the rest is of the drawing alone.
  */
 export class Records {
     /**
@@ -55,6 +63,8 @@ export class Records {
      */
     constructor(axes, room, bytesOf, runOf) {
         this.axes = axes;
+        /** @type {Orientation} */
+        this.orientation = TOP;
         this.length = 0;
         this.bytesOf = bytesOf;
         this.outlines = new Outlines(this, runOf);
@@ -136,10 +146,18 @@ export class Records {
         }
         let label = this.labels.get(record);
         if (label === undefined) {
-            label = labelAt(this.bytesOf(record), 0, type, this.axes);
+            label = this.readLabel(record);
             this.labels.set(record, label);
         }
         return label;
+    }
+
+    /**
+     * The label of a text or a cell, as its bytes have it.
+     * @param {number} record
+     */
+    readLabel(record) {
+        return labelAt(this.bytesOf(record), 0, this.type[record], this.axes, this.orientation);
     }
 
     /**
@@ -160,7 +178,7 @@ export class Records {
         if (type !== TYPE.text && type !== TYPE.cell) {
             return '';
         }
-        const label = labelAt(this.bytesOf(record), 0, type, this.axes);
+        const label = this.readLabel(record);
         return typeof label === 'string' ? label : label.characters;
     }
 
@@ -192,9 +210,28 @@ export class Records {
     }
 
     /**
-     * Sets the box that a record is drawn in, of x and y: low x, low y, high x, high y.
+     * Looks at all records in a view: their boxes are set anew where they are, and texts and outlines are read anew
+     * when they are asked for.
+     * @param {Orientation} orientation
+     */
+    turn(orientation) {
+        this.orientation = orientation;
+        this.outlines.forget();
+        this.labels.clear();
+        for (let record = 0; record < this.length; record++) {
+            const type = this.type[record];
+            if (type === TYPE.text) {
+                this.setBox(record, textSizeAt(this.bytesOf(record), 0, this.axes, orientation));
+            } else if (CLASS_OF[type] !== CLASS.silent) {
+                this.setBox(record, null);
+            }
+        }
+    }
+
+    /**
+     * Sets the box that a record is drawn in, as it is seen: low x, low y, high x, high y.
      * @param {number} record
-     * @param {TextLabel | null} text what it has to hold, too
+     * @param {TextSize | null} text what it has to hold, too
      */
     setBox(record, text) {
         const { box } = this;
@@ -204,11 +241,11 @@ export class Records {
         } else if (this.points[record] > 0) {
             this.setBoxOfPoints(record, at);
         } else {
-            const range = this.rangeOf(record);
-            box[at] = Math.min(range[0], range[this.axes]);
-            box[at + 1] = Math.min(range[1], range[this.axes + 1]);
-            box[at + 2] = Math.max(range[0], range[this.axes]);
-            box[at + 3] = Math.max(range[1], range[this.axes + 1]);
+            const range = this.rangeOf(record), { axes, orientation: { across, up } } = this;
+            box[at] = Math.min(range[across], range[axes + across]);
+            box[at + 1] = Math.min(range[up], range[axes + up]);
+            box[at + 2] = Math.max(range[across], range[axes + across]);
+            box[at + 3] = Math.max(range[up], range[axes + up]);
         }
         if (text !== null) {
             widenByText(box, at, text);
@@ -220,11 +257,11 @@ export class Records {
      * @param {number} at
      */
     setBoxOfPoints(record, at) {
-        const { box, coordinates, axes } = this;
+        const { box, coordinates, axes, orientation: { across, rise } } = this;
         let lowX = Infinity, lowY = Infinity, highX = -Infinity, highY = -Infinity;
-        const end = (this.first[record] + this.points[record]) * axes;
-        for (let place = this.first[record] * axes; place < end; place += axes) {
-            const x = coordinates[place], y = coordinates[place + 1];
+        const start = this.first[record] * axes + across, end = start + this.points[record] * axes;
+        for (let place = start; place < end; place += axes) {
+            const x = coordinates[place], y = coordinates[place + rise];
             lowX = x < lowX ? x : lowX;
             highX = x > highX ? x : highX;
             lowY = y < lowY ? y : lowY;
@@ -242,7 +279,7 @@ export class Records {
      */
     setBoxOfCurve(record, at) {
         const { coordinates, axes } = this;
-        const box = boxOfCurve(coordinates, this.first[record] * axes, this.points[record], axes);
+        const box = boxOfCurve(coordinates, this.first[record] * axes, this.points[record], axes, this.orientation);
         for (const side of [0, 1]) {
             this.box[at + side] = Math.max(Math.floor(box[side]), LEAST);
             this.box[at + side + 2] = Math.min(Math.ceil(box[side + 2]), GREATEST);
@@ -263,7 +300,7 @@ const TEXT_ABOVE = 1.3;
  * Widens a text's box, which is its origin, by the corners of its characters, to whole units within the plane.
  * @param {Int32Array} box
  * @param {number} at
- * @param {TextLabel} text
+ * @param {TextSize} text
  */
 function widenByText(box, at, text) {
     const x = box[at], y = box[at + 1];

@@ -1,10 +1,11 @@
 /* What is to be seen: the records of one or two states, under levels, with their marks. */
 
 import { recordIn, recordsOf, spansBetween } from './differing.js';
-import { extentOf, hasPlace, widenBox } from './extent.js';
+import { countOutside, extentOf, hasPlace, widenBox } from './extent.js';
 import { DRAWN, DRAWN_OF } from './format.js';
 import { GrowingGrid } from './grid.js';
 import { MARK, markChange, markPair } from './marking.js';
+import { TOP } from './orientation.js';
 import { grown } from './records.js';
 import { ChangedBoxes, addBox } from './redrawn.js';
 import { Showing } from './showing.js';
@@ -13,6 +14,7 @@ const MADE = 2 ** 32;             // what is added to a place in the order for w
 const MOST_SORTED = 4096;                 // records that are sorted, and not found again by going through all
 const MARKED = 2 ** 33;           // and for what is marked, which stands above the rest
 
+/** @typedef {import('./orientation.js').Orientation} Orientation */
 /** @typedef {import('./records.js').Records} Records */
 /** @typedef {import('./state.js').State} State */
 /** @typedef {'before' | 'both' | 'after'} Mode */
@@ -26,10 +28,14 @@ export class Scene {
     /**
      * @param {Records} records
      * @param {State} before
+     * @param {Orientation} orientation the view that it is seen in at first
      */
-    constructor(records, before) {
+    constructor(records, before, orientation = TOP) {
         this.records = records;
         this.before = before;
+        if (records.orientation !== orientation) {
+            records.turn(orientation);
+        }
         /** @type {State | null} */
         this.after = null;
         /** @type {Mode} */
@@ -64,6 +70,25 @@ export class Scene {
     /** The state that a number is looked up in. */
     get state() {
         return this.after && this.mode !== 'before' ? this.after : this.before;
+    }
+
+    /** The view that it is seen in. */
+    get orientation() {
+        return this.records.orientation;
+    }
+
+    /**
+     * Takes another view: where everything lies is found anew.
+     * @param {Orientation} orientation
+     */
+    turn(orientation) {
+        const { end } = this.madeGrid;
+        this.madeGrid = new GrowingGrid(this.records, this.base);
+        this.records.turn(orientation);
+        this.grid = this.before.grid;
+        this.madeGrid.extend(end);
+        this.version++;
+        this.changed.add(this.version, null);
     }
 
     /* What is shown. */
@@ -336,21 +361,7 @@ export class Scene {
     /** The least box of what is shown, and how many origins of cells lie outside it. */
     extent() {
         const box = extentOf(this.records, this.shown);
-        return { box, outside: this.originsOutside(box) };
-    }
-
-    /** @param {number[]} box */
-    originsOutside([lowX, lowY, highX, highY]) {
-        const { records: { box, length } } = this;
-        let count = 0;
-        for (let record = 0; record < length; record++) {
-            const at = 4 * record;
-            if ((box[at] < lowX || box[at + 1] < lowY || box[at + 2] > highX || box[at + 3] > highY)
-                && this.isDrawn(record)) {
-                count++;
-            }
-        }
-        return count;
+        return { box, outside: countOutside(this, box) };
     }
 
     /**

@@ -84,7 +84,8 @@ export class SnapTool {
      */
     take(place, reach) {
         const { app } = this, [x, y] = app.drawingPlace(place);
-        this.found = this.isOn && !this.isHeldOff ? this.finder().find(x, y, reach / app.view.scale) : null;
+        this.found = this.isOn && !this.isHeldOff
+            ? this.finder().find(x, y, reach / app.view.scale, app.tools.drag?.own) : null;
         if (this.found === null) {
             return app.wholePlace(place);
         }

@@ -12,8 +12,8 @@ import { Path } from './path.js';
 /** @typedef {'end' | 'vertex' | 'crossing' | 'middle' | 'centre' | 'origin' | 'on'} SnapKind */
 
 /**
- * A place that is snapped to: what it is of which record, and of which other one where two cross, else -1; its z where
- * that is known.
+ * A place that is snapped to: what it is of which record, and of which other one where two cross, else -1; as it is
+ * seen, to the right, up and, where that is known, how far along the line of sight.
  * @typedef {{ kind: SnapKind, x: number, y: number, z: number | null, record: number, other: number }} Snap
  */
 
@@ -30,11 +30,14 @@ import { Path } from './path.js';
 /** What goes first: of equal ones it is the nearest. */
 export const SNAP_RANK = Object.freeze({ end: 0, vertex: 0, crossing: 1, middle: 2, centre: 3, origin: 3, on: 4 });
 
+/** @type {ReadonlySet<number>} */
+const NONE_LEFT_OUT = new Set();
 const MOST_RECORDS = 20000;       // records around the pointer that are looked at
 const MOST_SNAP_POINTS = 60000;   // and their points
 const MOST_CROSSED = 160;         // segments, the nearest ones, whose crossings are looked for
 const MOST_MET = 32;              // arcs whose centres are known, those that the pointer met last
 const SNAP_FINENESS = 12;         // pixels that the distance is taken to be for the outlines of what is curved
+const EDGE_SHARE = 1e-6;          // of the square of its size that the area of an arc has which is seen as a line
 const CLOSES = 1e-6;              // share of an outline's radius within which its ends are one
 
 /** Finds the place that is snapped to at a place of the drawing. */
@@ -51,6 +54,7 @@ export class Snapper {
         /** @type {Segment[]} */
         this.segments = [];
         this.recordsLeft = this.pointsLeft = 0;
+        this.leftOut = NONE_LEFT_OUT;
         /**
          * Arcs and ellipses that were met: their centres may lie far from where they are drawn.
          * @type {number[]}
@@ -63,9 +67,11 @@ export class Snapper {
      * @param {number} x
      * @param {number} y
      * @param {number} within
+     * @param {ReadonlySet<number>} leftOut records that aren't snapped to
      * @returns {Snap | null}
      */
-    find(x, y, within) {
+    find(x, y, within, leftOut = NONE_LEFT_OUT) {
+        this.leftOut = leftOut;
         this.x = x;
         this.y = y;
         this.within = within;
@@ -114,16 +120,27 @@ export class Snapper {
     /** @param {number} record */
     look(record) {
         const { records } = this.scene, drawn = DRAWN_OF[records.type[record]];
-        if (this.recordsLeft === 0 || this.pointsLeft <= 0) {
+        if (this.recordsLeft === 0 || this.pointsLeft <= 0 || this.leftOut.has(record)) {
             return;
         }
         this.recordsLeft--;
         if (drawn === DRAWN.path || drawn === DRAWN.box) {
             this.lookAlong(record);
         } else if (records.points[record] > 0) {
-            this.consider('origin', records.coordinate(record, 0, 0), records.coordinate(record, 0, 1),
-                records.axes === 3 ? records.coordinate(record, 0, 2) : null, record);
+            this.considerPoint('origin', record, 0);
         }
+    }
+
+    /**
+     * Takes a point that a record holds if it is near enough, and goes before what was found.
+     * @param {SnapKind} kind
+     * @param {number} record
+     * @param {number} point
+     */
+    considerPoint(kind, record, point) {
+        const { records } = this.scene, { across, up, along } = records.orientation;
+        this.consider(kind, records.coordinate(record, point, across), records.coordinate(record, point, up),
+            records.axes === 3 ? records.coordinate(record, point, along) : null, record);
     }
 
     /** @param {number} record */
@@ -144,10 +161,10 @@ export class Snapper {
      * @param {number} record
      */
     lookAtPoints(record) {
-        const { points, from, to, step, isClosed } = this.path, last = to - step;
+        const { points, from, to, step, rise, isClosed } = this.path, last = to - step;
         for (let place = from; place < to; place += step) {
             const kind = !isClosed && (place === from || place === last) ? 'end' : 'vertex';
-            this.consider(kind, points[place], points[place + 1], this.zAt(place), record);
+            this.consider(kind, points[place], points[place + rise], this.zAt(place), record);
             if (place > from || isClosed) {
                 this.lookAtSegment(record, place > from ? place - step : last, place);
             }
@@ -155,11 +172,11 @@ export class Snapper {
     }
 
     /**
-     * The z of a point of the path that was taken, or null in two axes.
+     * How far along the line of sight a point of the path that was taken lies, or null in two axes.
      * @param {number} place
      */
     zAt(place) {
-        return this.path.step === 3 ? this.path.points[place + 2] : null;
+        return this.path.step === 3 ? this.path.points[place + this.path.away] : null;
     }
 
     /**
@@ -168,8 +185,8 @@ export class Snapper {
      * @param {number} end
      */
     lookAtSegment(record, start, end) {
-        const { points } = this.path, { x, y } = this;
-        const ax = points[start], ay = points[start + 1], bx = points[end], by = points[end + 1];
+        const { points, rise } = this.path, { x, y } = this;
+        const ax = points[start], ay = points[start + rise], bx = points[end], by = points[end + rise];
         const share = shareOfNearest(x, y, ax, ay, bx, by);
         const nearX = ax + share * (bx - ax), nearY = ay + share * (by - ay);
         const square = (nearX - x) ** 2 + (nearY - y) ** 2;
@@ -211,9 +228,7 @@ export class Snapper {
     lookAtKnots(record) {
         const { records } = this.scene, count = records.points[record];
         for (let point = 2; count >= LEAST_OF_CURVE && point < count - 2; point++) {
-            this.consider(point === 2 || point === count - 3 ? 'end' : 'vertex', records.coordinate(record, point, 0),
-                records.coordinate(record, point, 1), records.axes === 3 ? records.coordinate(record, point, 2) : null,
-                record);
+            this.considerPoint(point === 2 || point === count - 3 ? 'end' : 'vertex', record, point);
         }
     }
 
@@ -261,10 +276,10 @@ export class Snapper {
      */
     onArc(record, x, y) {
         const arc = this.arcOf(record);
-        const area = arc === null ? 0 : arc.alongX * arc.upY - arc.alongY * arc.upX;
-        if (arc === null || area === 0) {
+        if (arc === null || isEdgeOn(arc)) {
             return [x, y];
         }
+        const area = arc.alongX * arc.upY - arc.alongY * arc.upX;
         const cosine = ((x - arc.x) * arc.upY - (y - arc.y) * arc.upX) / area;
         const sine = ((y - arc.y) * arc.alongX - (x - arc.x) * arc.alongY) / area, size = Math.hypot(cosine, sine);
         return size === 0 ? [x, y] : [arc.x + (arc.alongX * cosine + arc.upX * sine) / size,
@@ -275,12 +290,12 @@ export class Snapper {
     arcOf(record) {
         const { records } = this.scene, type = records.type[record];
         return type === TYPE.arc || type === TYPE.ellipse
-            ? arcOf(records.bytesOf(record), records.axes, records.rangeOf(record)) : null;
+            ? arcOf(records.bytesOf(record), records.axes, records.rangeOf(record), records.orientation) : null;
     }
 
     /** @param {number} record */
     considerCentre(record) {
-        const arc = this.scene.isDrawn(record) ? this.arcOf(record) : null;
+        const arc = this.scene.isDrawn(record) && !this.leftOut.has(record) ? this.arcOf(record) : null;
         if (arc !== null) {
             this.consider('centre', arc.x, arc.y, null, record);
         }
@@ -307,6 +322,14 @@ export class Snapper {
             }
         }
     }
+}
+
+/**
+ * Whether an arc is seen as a line, or nearly so.
+ * @param {import('./arcs.js').Arc} arc
+ */
+function isEdgeOn({ alongX, alongY, upX, upY }) {
+    return Math.abs(alongX * upY - alongY * upX) <= EDGE_SHARE * Math.hypot(alongX, alongY, upX, upY) ** 2;
 }
 
 /**

@@ -5,6 +5,8 @@ import { TYPE } from './format.js';
 import { longAt, wordAt } from './numbers.js';
 import { LINKED, SPLINE_PARTS } from './tables.js';
 
+/** @typedef {import('./orientation.js').Orientation} Orientation */
+
 const PART = Object.freeze({ poles: 21, knots: 26, weights: 28 });
 const RATIONAL = 0x40;
 const CLOSED = 0x80;
@@ -39,17 +41,18 @@ export function runSize(bytes, at) {
 }
 
 /**
- * The B-spline of a header with its parts; null where its fields can't be one.
+ * The B-spline of a header with its parts, as it is seen; null where its fields can't be one.
  * @param {Uint8Array} run
  * @param {number} axes
+ * @param {Orientation} seen
  * @returns {Spline | null}
  */
-export function splineOf(run, axes) {
+export function splineOf(run, axes, seen) {
     const type = run[1] & 0x7F, size = 4 + 2 * wordAt(run, 2);
     if (size < (type === TYPE.spline ? 46 : 58)) {
         return null;
     }
-    const parts = partsOfRun(run, axes), places = type === TYPE.spline ? [40] : [40, 48];
+    const parts = partsOfRun(run, axes, seen), places = type === TYPE.spline ? [40] : [40, 48];
     const knotCounts = places.map((place) => wordAt(run, place + 4));
     let knotsFrom = 0;
     const ways = places.map((place, way) => {
@@ -69,8 +72,9 @@ export function splineOf(run, axes) {
  * What the parts of a run hold: poles as x and y, knots, weights; and how many poles the first row of them has.
  * @param {Uint8Array} run
  * @param {number} axes
+ * @param {Orientation} seen
  */
-function partsOfRun(run, axes) {
+function partsOfRun(run, axes, seen) {
     const parts = {
         poles: /** @type {number[]} */ ([]), knots: /** @type {number[]} */ ([]), weights: /** @type {number[]} */ ([]),
         row: 0,
@@ -80,7 +84,7 @@ function partsOfRun(run, axes) {
         size = 4 + 2 * wordAt(run, at + 2);
         const type = run[at + 1] & 0x7F, end = Math.min(endOfPart(run, at, size), run.length);
         if (type === PART.poles) {
-            takePoles(parts.poles, run, at + 38, end, axes);
+            takePoles(parts.poles, run, at + 38, end, axes, seen);
             parts.row = parts.row || parts.poles.length / 2;
         } else if (type === PART.knots || type === PART.weights) {
             takeLongs(type === PART.knots ? parts.knots : parts.weights, run, at + 36, end);
@@ -105,11 +109,12 @@ function endOfPart(run, at, size) {
  * @param {number} from the place of the first; the word before counts them
  * @param {number} end
  * @param {number} axes
+ * @param {Orientation} seen
  */
-function takePoles(poles, run, from, end, axes) {
+function takePoles(poles, run, from, end, axes, { across, up }) {
     const count = Math.min(wordAt(run, from - 2), Math.max(Math.floor((end - from) / (4 * axes)), 0));
     for (let pole = 0, at = from; pole < count; pole++, at += 4 * axes) {
-        poles.push(longAt(run, at), longAt(run, at + 4));
+        poles.push(longAt(run, at + 4 * across), longAt(run, at + 4 * up));
     }
 }
 

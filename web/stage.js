@@ -10,6 +10,7 @@ const MARGIN_OF_FIT = 32;         // pixels that are left at each side where all
 const CLEAR = 14;                 // pixels that are left to what floats above the drawing
 
 /** @typedef {import('./colours.js').Ground} Ground */
+/** @typedef {import('./view.js').View} View */
 
 export class Stage {
     /** @param {import('./app.js').App} app */
@@ -68,6 +69,20 @@ export class Stage {
         this.setGround(this.ground);
         this.takeRoom();
         this.fit();
+    }
+
+    /**
+     * Another view of the drawing is shown: a place of it by a scale, or all of it.
+     * @param {View | null} place
+     */
+    turned(place) {
+        this.renderer.take(this.app.scene);
+        if (place === null) {
+            this.fit();
+        } else {
+            Object.assign(this.app.view, { x: place.x, y: place.y, scale: place.scale });
+            this.moved();
+        }
     }
 
     /** Fits the canvases to the room that they have, and says whether it has changed; they then show nothing. */

@@ -66,9 +66,11 @@ export class State {
         }
     }
 
-    /** The grid of the records that have the numbers of the elements, as those of a drawing that was opened do. */
+    /** The grid of the records that have the numbers of the elements, as those of a drawing that was opened do, in the
+        view that they are seen in. */
     get grid() {
-        if (this.ownGrid === null) {
+        if (this.ownGrid === null || this.ownGrid.orientation !== this.records.orientation) {
+            this.ownGrid = null; // so that there is no room for both
             this.ownGrid = new Grid(this.records, 0, this.count);
         }
         return this.ownGrid;
@@ -93,6 +95,15 @@ export class State {
             root = this.parent[root];
         }
         return root;
+    }
+
+    /**
+     * The records of elements and of all that stands below these.
+     * @param {readonly number[]} numbers
+     * @returns {Set<number>}
+     */
+    partsOf(numbers) {
+        return new Set(numbers.flatMap((number) => Array.from(this.record.subarray(number, this.end[number]))));
     }
 
     /**

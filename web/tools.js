@@ -1,9 +1,11 @@
 /* What the pointer does: choose, drag, draw a fence or a new element, measure. */
 
+import { ChoiceBox } from './choice_box.js';
 import { CoordinateField } from './coordinate_field.js';
 import { byId, setHidden } from './dom.js';
 import { DRAWS, LEAST_OF_AREA, MAKES, guideOf } from './draws.js';
 import { Fence } from './fence.js';
+import { TOP, displacementOf } from './orientation.js';
 import { REACH } from './pointer.js';
 import { SNAP_REACH, SnapTool } from './snap_tool.js';
 
@@ -25,13 +27,13 @@ export class Tools {
         this.isClosing = false;
         /** Whether what is measured is an area, whose outline is closed. */
         this.isMeasured = false;
-        /** @type {{ from: number[], to: number[], by: number[] } | null} */
-        this.drag = null;
         /**
-         * The box on the screen that is drawn to choose by.
-         * @type {number[][] | null}
+         * From where to where something is dragged as it is seen, and by how much along the drawing's axes; and its
+         * records where it is moved, which its end doesn't snap to.
+         * @type {{ from: number[], to: number[], by: number[], own: ReadonlySet<number> } | null}
          */
-        this.box = null;
+        this.drag = null;
+        this.box = new ChoiceBox(app);
         this.fence = new Fence(app);
         this.snap = new SnapTool(app);
         this.field = new CoordinateField(app, this);
@@ -51,7 +53,7 @@ export class Tools {
     /** Forgets what is drawn, for another drawing. */
     clear() {
         this.points = [];
-        this.drag = this.box = null;
+        this.cancelDrag();
         this.at = this.pointer = null;
         this.fence.clear();
         this.set('choose');
@@ -100,15 +102,22 @@ export class Tools {
     /** What is drawn above the drawing: the points and the pointer behind them, or the fence. */
     get outline() {
         if (this.draws === null) {
-            return this.fence.corners || [];
+            return this.app.views.orientation === TOP ? this.fence.corners || [] : [];
         }
         const { pointer, points } = this;
         return pointer !== null && points.length > 0 && !this.isMeasured ? [...points, pointer] : points;
     }
 
-    /** @param {string} tool */
+    /**
+     * Takes a tool, unless this view hasn't got it.
+     * @param {string} tool
+     */
     set(tool) {
-        const { app } = this;
+        const { app } = this, why = app.views.refusal(tool);
+        if (why !== '') {
+            app.say(why);
+            return;
+        }
         this.tool = tool;
         this.drag = null;
         this.points = [];
@@ -305,17 +314,30 @@ export class Tools {
     /* Dragging. */
 
     /**
-     * What is dragged from one place of the screen goes to another: both are what they snap to.
+     * Drags from one place of the screen to another, unless that was given up: both are what they snap to.
      * @param {number[]} start
      * @param {number[]} place
      */
     dragTo(start, place) {
-        const { app } = this;
-        const from = this.drag === null ? this.placeAt(start, REACH.mouse) : this.drag.from;
+        if (!this.isDragging) {
+            return;
+        }
+        const { app } = this, { from, own } = this.drag || this.dragFrom(start);
         const to = this.placeAt(place, REACH.mouse);
-        const z = from.length > 2 && to.length > 2 ? to[2] - from[2] : 0;
-        this.drag = { from, to, by: [to[0] - from[0], to[1] - from[1], z].slice(0, app.open.drawing.axes) };
+        const seen = to.slice(0, from.length).map((value, axis) => value - from[axis]);
+        this.drag = { from, to, by: displacementOf(app.scene.orientation, seen, app.open.drawing.axes), own };
         app.stage.request();
+    }
+
+    /**
+     * Begins to drag what is chosen.
+     * @param {number[]} start
+     */
+    dragFrom(start) {
+        const { choice, scene } = this.app, from = this.placeAt(start, REACH.mouse);
+        const own = scene.state.partsOf(this.tool === 'drag-move' ? choice.numbers : []);
+        this.drag = { from, to: from, by: [], own };
+        return this.drag;
     }
 
     /** Ends a drag: what was dragged is moved or copied by as much. */
@@ -344,32 +366,18 @@ export class Tools {
         }
     }
 
+    /** Another view is seen: what was begun is given up, and so is a tool that it hasn't got. */
+    turned() {
+        const isLeft = this.drag !== null || this.app.views.refusal(this.tool) !== '';
+        this.cancelDrag();
+        this.set(isLeft ? 'choose' : this.tool);
+    }
+
     cancelDrag() {
-        this.drag = this.box = null;
+        this.drag = null;
+        this.box.clear();
         this.showHint();
         this.app.stage.request();
-    }
-
-    /* A box to choose by. */
-
-    /**
-     * @param {number[]} start of the screen
-     * @param {number[]} place
-     */
-    boxTo(start, place) {
-        this.box = [start, place];
-        this.app.stage.request();
-    }
-
-    /** Chooses what lies inside the box; one that is drawn to the left takes what it touches, too. */
-    async dropBox() {
-        const { app, box } = this;
-        this.box = null;
-        app.stage.request();
-        if (box !== null) {
-            await app.editing.chooseIn(box.map((place) => app.wholePlace(place)),
-                box[1][0] < box[0][0] ? 'overlap' : 'inside');
-        }
     }
 
     /** Gives up what is begun, or else what is chosen. */

@@ -1,6 +1,7 @@
 /* What is said of elements and places, in words. */
 
 import { counted } from './describing.js';
+import { AXIS_NAMES, axesOfSeen } from './orientation.js';
 import { typeName } from './types.js';
 
 /** Numbers, places and names of a drawing as a person reads them. */
@@ -49,11 +50,12 @@ export class Words {
     }
 
     /**
-     * A place in master units as one in units of resolution.
+     * A place that is seen in master units as one in units of resolution.
      * @param {number[]} values
      */
     fromMaster(values) {
-        return values.map((value, axis) => value * this.unitsOfMaster + this.drawing.units.origin[axis]);
+        const axes = axesOfSeen(this.scene.orientation), { units: { origin } } = this.drawing;
+        return values.map((value, at) => value * this.unitsOfMaster + origin[axes[at]]);
     }
 
     /**
@@ -74,12 +76,16 @@ export class Words {
     }
 
     /**
-     * A place in units of resolution, and in master units where these are known.
+     * A place that is seen, in units of resolution, and in master units where these are known; of three axes it is said
+     * which they are.
      * @param {number[]} point
      */
     placeOf(point) {
-        const plain = point.map((value) => String(Math.round(value))).join(',');
-        const master = point.map((value, axis) => this.masterOf(value, axis)).join(', ');
+        const axes = axesOfSeen(this.scene.orientation, point.length), inOrder = axes.slice().sort();
+        const values = inOrder.map((axis) => point[axes.indexOf(axis)]);
+        const names = this.drawing.axes === 2 ? '' : inOrder.map((axis) => AXIS_NAMES[axis]).join(',') + '  ';
+        const plain = names + values.map((value) => String(Math.round(value))).join(',');
+        const master = values.map((value, at) => this.masterOf(value, inOrder[at])).join(', ');
         return this.hasMaster ? plain + '  =  ' + master + ' ' + this.master : plain;
     }
 

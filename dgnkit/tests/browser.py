@@ -21,6 +21,7 @@ CHROMIUM = shutil.which('chromium') or shutil.which('chromium-browser')
 DRIVER = shutil.which('chromedriver')
 MISSING = None if CHROMIUM and DRIVER else 'no browser: chromium and chromedriver (chromium-driver) are not installed'
 CONTROL = '\ue009'
+SHIFT = '\ue008'
 FLAGS = ['--headless=new', '--hide-scrollbars', '--disable-background-networking', '--force-device-scale-factor=1']
 KEYS = {'Tab': '\ue004', 'Enter': '\ue007', 'Escape': '\ue00c', 'Backspace': '\ue003', 'Delete': '\ue017'}
 KEYS.update(ArrowLeft='\ue012', ArrowUp='\ue013', ArrowRight='\ue014', ArrowDown='\ue015')
@@ -137,11 +138,22 @@ class Browser:
         held.append({'type': 'keyUp', 'value': CONTROL})
         self._ask('/actions', {'actions': [{'type': 'key', 'id': 'keys', 'actions': held}]})
 
-    def drag(self, *places: Sequence[float]) -> None:
-        """Presses the mouse at the first place, and lets go at the last one; at one place it is a click."""
+    def drag(self, *places: Sequence[float], shift: bool = False, key: str = '') -> None:
+        """Presses the mouse at the first place, and lets go at the last one; at one place it is a click. With Shift
+        this is held meanwhile, and a key is pressed before the mouse goes to the last place."""
         moves = [{'type': 'pointerMove', 'x': round(x), 'y': round(y), 'duration': 20} for x, y in places]
         down, up = {'type': 'pointerDown', 'button': 0}, {'type': 'pointerUp', 'button': 0}
-        self._pointer([moves[0], down, *moves[1:], up])
+        if key != '':
+            self._pointer([moves[0], down, *moves[1:-1]])
+            self.key(key)
+            self._pointer([moves[-1], up])
+        elif shift:
+            pause: Dict[str, object] = {'type': 'pause'}
+            acts = [pause, moves[0], down, *moves[1:], up]
+            held = [{'type': 'keyDown', 'value': SHIFT}, *[pause] * (len(acts) - 2), {'type': 'keyUp', 'value': SHIFT}]
+            self._pointer(acts, {'type': 'key', 'id': 'keys', 'actions': held})
+        else:
+            self._pointer([moves[0], down, *moves[1:], up])
 
     def double_click(self, place: Sequence[float]) -> None:
         down, up = {'type': 'pointerDown', 'button': 0}, {'type': 'pointerUp', 'button': 0}
@@ -161,9 +173,9 @@ class Browser:
     def hover(self, place: Sequence[float]) -> None:
         self._pointer([{'type': 'pointerMove', 'x': round(place[0]), 'y': round(place[1]), 'duration': 0}])
 
-    def _pointer(self, acts: List[Any]) -> None:
+    def _pointer(self, acts: List[Any], *others: Dict[str, Any]) -> None:
         mouse = {'type': 'pointer', 'id': 'mouse', 'parameters': {'pointerType': 'mouse'}, 'actions': acts}
-        self._ask('/actions', {'actions': [mouse]})
+        self._ask('/actions', {'actions': [mouse, *others]})
 
     def wheel(self, place: Sequence[float], amount: int) -> None:
         """Turns the wheel at a place; a negative amount is away from the user."""

@@ -65,6 +65,32 @@ def curve(points: Sequence[Tuple[int, int]]) -> bytes:
     return plan.path(11, 1, points)
 
 
+def akima(points: Sequence[Tuple[int, int, int]], steps: int = 60) -> List[Point]:
+    """A curve of three axes as it is seen along the third, by its definition: chords in all axes, slopes by weights of
+    how much the next slopes differ."""
+    count = len(points)
+    lengths = [math.dist(a, b) for a, b in zip(points, points[1:])]
+    slopes = [[(b[axis] - a[axis]) / d for axis in (0, 1)] for a, b, d in zip(points, points[1:], lengths)]
+
+    def slope(at: int, axis: int) -> float:
+        m = [slopes[at + it][axis] for it in (-2, -1, 0, 1)]
+        one, other = abs(m[3] - m[2]), abs(m[1] - m[0])
+        return (m[1] + m[2]) / 2 if one + other == 0 else (m[1] * one + m[2] * other) / (one + other)
+
+    made: List[Point] = []
+    for at in range(2, count - 3):
+        for step in range(steps + 1):
+            d, length = lengths[at] * step / steps, lengths[at]
+            values = []
+            for axis in (0, 1):
+                rise, start, end = points[at + 1][axis] - points[at][axis], slope(at, axis), slope(at + 1, axis)
+                a = (start + end - 2 * rise / length) / length**2
+                b = (3 * rise / length - 2 * start - end) / length
+                values.append(a * d**3 + b * d**2 + start * d + points[at][axis])
+            made.append((values[0], values[1]))
+    return made
+
+
 def turned(angle: float) -> List[float]:
     """The quaternion of an element that is turned by so many degrees against the clock."""
     return [math.cos(math.radians(angle) / 2), 0, 0, -math.sin(math.radians(angle) / 2)]

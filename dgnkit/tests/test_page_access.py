@@ -28,6 +28,20 @@ for (const element of document.querySelectorAll('body *')) {
 return seen;
 """
 
+# What stands in the bar at the top and is cut: what reaches beyond its own room, or beyond the page.
+CUT = """
+const field = document.getElementById('search-field'), style = getComputedStyle(field);
+const pen = document.createElement('canvas').getContext('2d');
+pen.font = style.font;
+const room = field.clientWidth - parseFloat(style.paddingLeft) - parseFloat(style.paddingRight);
+const seen = [...document.querySelectorAll('header.bar *')].filter((it) => it.checkVisibility() && it !== field
+    && !it.closest('.hidden, .found, .menu-list'));
+const cut = seen.filter((it) => it.scrollWidth > it.clientWidth + 1 && getComputedStyle(it).display !== 'inline'
+    || it.getBoundingClientRect().right > innerWidth);
+return [...cut.map((it) => it.id || it.textContent), pen.measureText(field.placeholder).width > room && 'search']
+    .filter(Boolean);
+"""
+
 
 @unittest.skipUnless(HAS_PROGRAM, NO_PROGRAM)
 class Access(WithBrowser):
@@ -65,6 +79,12 @@ class Access(WithBrowser):
                 for contrast, text in found:
                     with self.subTest(words=words, ground=ground, text=text):
                         self.assertGreaterEqual(contrast, 4.5)
+
+    def test_the_bar_has_room_for_all_that_stands_in_it(self) -> None:
+        self.page(str(EXAMPLES / 'plan.dgn'), *self.pages()[1])
+        self.assertEqual(self.seen.run('return innerWidth'), 1280)
+        self.assertTrue(self.seen.run("return document.getElementById('modes').checkVisibility()"))
+        self.assertEqual(self.seen.run(CUT), [])
 
     def test_tab_reaches_all_and_leaves_none(self) -> None:
         for words in self.pages():

@@ -244,6 +244,28 @@ class Snapping(WithPoints):
             self.assertEqual(self.last_line(1), wanted % (800 - 2000, 2600 - 1000))
             self.do('#undo')
 
+    def test_what_is_moved_does_not_snap_to_itself(self) -> None:
+        self.open(self.put('sheet.dgn', sheet()))
+        self.see(0, -1500, 0.5)
+        for word, wanted in (('copy', [0, 0]), ('move', [12, -16])):
+            self.click_at(*SLANTED[0][0])
+            self.do('#drag-' + word)
+            (left, top), away = self.near(SLANTED[0][0]), self.screen(60, -1400)
+            self.seen.drag((left, top), away, self.near(SLANTED[0][0], 6, 8))
+            self.seen.settle()
+            made = [int(it) for it in self.last_line(1).split()[2:]]
+            self.assertLess(max(abs(is_ - was) for is_, was in zip(made, wanted)), 3, (word, made))
+            self.do('#undo')
+
+    def test_a_drag_that_is_given_up_moves_nothing(self) -> None:
+        self.open(self.put('sheet.dgn', sheet()))
+        self.click_at(*SLANTED[0][0])
+        self.do('#drag-move')
+        self.seen.drag(self.screen(0, -1500), self.screen(300, -1400), self.screen(900, -1300), key='Escape')
+        self.seen.settle()
+        self.assertEqual(self.script_lines(), [])
+        self.assertEqual(self.seen.run('return page.tools.tool'), 'choose')
+
     def test_a_fence_and_a_measure_snap(self) -> None:
         self.open(self.put('sheet.dgn', sheet()))
         self.tool('measure')

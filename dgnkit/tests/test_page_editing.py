@@ -174,18 +174,7 @@ class Editing(WithEditor):
 
     def shift_drag(self, *places: Tuple[float, float]) -> None:
         """A click or a drag with Shift."""
-        moves = [{'type': 'pointerMove', 'x': round(x), 'y': round(y), 'duration': 20} for x, y in places]
-        pause = {'type': 'pause'}
-        down, up = {'type': 'pointerDown', 'button': 0}, {'type': 'pointerUp', 'button': 0}
-        acts = [moves[0], down, *moves[1:], up]
-        keys = [
-            {'type': 'keyDown', 'value': '\ue008'},
-            *[pause] * (len(acts) - 1),
-            {'type': 'keyUp', 'value': '\ue008'},
-        ]
-        mouse = {'type': 'pointer', 'id': 'mouse', 'parameters': {'pointerType': 'mouse'}, 'actions': [pause, *acts]}
-        held = {'type': 'key', 'id': 'keys', 'actions': keys}
-        self.seen._ask('/actions', {'actions': [held, mouse]})
+        self.seen.drag(*places, shift=True)
         self.seen.settle()
 
     def test_three_axes(self) -> None:

@@ -7,7 +7,7 @@ from __future__ import annotations
 import math
 import random
 import unittest
-from typing import List, Sequence, Tuple
+from typing import List
 
 import curved
 from app import HAS_PROGRAM, NO_PROGRAM
@@ -58,7 +58,7 @@ class Paths(WithGdal):
         flat = [(x, y) for x, y, _ in points]
         body = len(points).to_bytes(2, 'little') + curved.longs(*(it for point in points for it in point))
         why = 'GDAL measures a chord in x and y alone'
-        self.hold([Case('curve of space', curved.element(11, flat, body, axes=3), why, [akima(points)])], axes=3)
+        self.hold([Case('curve of space', curved.element(11, flat, body, axes=3), why, [curved.akima(points)])], axes=3)
 
     def test_arcs_and_ellipses(self) -> None:
         cases, index = [], 0
@@ -277,31 +277,6 @@ class Fitting(WithGdal):
 def between(one: Point, other: Point, share: float) -> Point:
     """A place between two."""
     return (one[0] + (other[0] - one[0]) * share, one[1] + (other[1] - one[1]) * share)
-
-
-def akima(points: Sequence[Tuple[int, int, int]], steps: int = 60) -> List[Point]:
-    """A curve by its definition: chords in all axes, slopes by weights of how much the next slopes differ."""
-    count = len(points)
-    lengths = [math.dist(a, b) for a, b in zip(points, points[1:])]
-    slopes = [[(b[axis] - a[axis]) / d for axis in (0, 1)] for a, b, d in zip(points, points[1:], lengths)]
-
-    def slope(at: int, axis: int) -> float:
-        m = [slopes[at + it][axis] for it in (-2, -1, 0, 1)]
-        one, other = abs(m[3] - m[2]), abs(m[1] - m[0])
-        return (m[1] + m[2]) / 2 if one + other == 0 else (m[1] * one + m[2] * other) / (one + other)
-
-    made: List[Point] = []
-    for at in range(2, count - 3):
-        for step in range(steps + 1):
-            d, length = lengths[at] * step / steps, lengths[at]
-            values = []
-            for axis in (0, 1):
-                rise, start, end = points[at + 1][axis] - points[at][axis], slope(at, axis), slope(at + 1, axis)
-                a = (start + end - 2 * rise / length) / length**2
-                b = (3 * rise / length - 2 * start - end) / length
-                values.append(a * d**3 + b * d**2 + start * d + points[at][axis])
-            made.append((values[0], values[1]))
-    return made
 
 
 if __name__ == '__main__':
