@@ -3,7 +3,7 @@ and patch files. It never writes a drawing: dgnedit alone does."""
 
 from importlib import import_module
 from pkgutil import get_data
-from typing import TYPE_CHECKING, Any
+from typing import TYPE_CHECKING, Any, List
 
 if TYPE_CHECKING:
     from .drawing.drawing import Drawing
@@ -23,6 +23,8 @@ if TYPE_CHECKING:
         TooLong,
         WriteFault,
     )
+    from .explain.comparing import Difference
+    from .explain.comparing import differences as changes_between
     from .format.element import Element
     from .format.patch import Entry, Field, Patch
     from .format.tcb import Tcb
@@ -40,6 +42,7 @@ PLACES = {
     'drawing.nesting': 'Nesting',
     'errors': 'BadDesign BadPatch BadScript BadUsage Ending ListingError MissingProgram Mistake OutOfMemory '
     'PatchRefused ReadFault TooLong WriteFault',
+    'explain.comparing': 'Difference',
     'format.element': 'Element',
     'format.patch': 'Entry Field Patch',
     'format.tcb': 'Tcb',
@@ -57,10 +60,16 @@ def __getattr__(name: str) -> Any:
             return (get_data('dgnkit', 'VERSION') or b'').decode('ascii').strip()
         except OSError:  # of modules that were copied without it
             return 'unknown'
+    if name == 'changes_between':
+        return getattr(import_module('dgnkit.explain.comparing'), 'differences')
     for place, names in PLACES.items():
         if name in names.split():
             return getattr(import_module('dgnkit.' + place), name)
     raise AttributeError('dgnkit has no %r' % name)
+
+
+def __dir__() -> List[str]:
+    return [*__all__, '__version__']
 
 
 __all__ = [
@@ -70,6 +79,7 @@ __all__ = [
     'BadScript',
     'BadUsage',
     'Command',
+    'Difference',
     'Drawing',
     'Element',
     'Ending',
@@ -94,4 +104,5 @@ __all__ = [
     'TooLong',
     'Units',
     'WriteFault',
+    'changes_between',
 ]

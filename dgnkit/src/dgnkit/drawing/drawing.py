@@ -7,16 +7,18 @@ from collections import Counter
 from functools import cached_property
 from typing import Dict, Iterable, List, Optional, Set, Tuple
 
-from ..errors import BadDesign, ListingError, Mistake
+from ..errors import BadDesign, ListingError, MissingProgram, Mistake, ending_of
 from ..files import mistake_of, read_drawing
 from ..format import classes
 from ..format.colours import Colour, Palette
 from ..format.elements import Elements
 from ..format.numbers import Point
+from ..format.opening import Fault, fault_in
 from ..format.tcb import KIND_SAID
 from ..format.tcb import SIZE as TCB_SIZE
 from ..format.tcb import Tcb, kind_of
 from ..format.units import Units
+from ..format.walking import CutElement, elements_in
 from ..program.answers import Answer
 from ..program.listings import (
     Finding,
@@ -41,11 +43,12 @@ COLOUR_TABLE_SIZE = 806
 
 class Drawing:
     """A design file that opens. Each listing is asked for once, when it is first wanted; a file that is changed
-    meanwhile is an error."""
+    meanwhile is an error. The elements, the units and what differs from another drawing are read without dgnedit, all
+    else needs it."""
 
     def __init__(self, path: Name, program: Optional[Program] = None) -> None:
         """Reads the file. It raises Mistake where it can't be read, and BadDesign where its front is none of a design
-        file; whether it opens is asked by the first listing, which raises BadDesign too."""
+        file; whether it opens is asked when its elements are first wanted, which raises BadDesign too."""
         self.path = str(path)
         self.data = read_drawing(path)
         self._stamp = self._stamped()
@@ -53,7 +56,22 @@ class Drawing:
         if kind != 'design':
             said = ['bad design not-design at 0']
             raise BadDesign('%s is %s' % (path, KIND_SAID[kind]), 4, said, 'not-design', 0)
-        self.program = program or Program.find()
+        self._program = program
+
+    @classmethod
+    def open(cls, path: Name) -> Drawing:
+        """Reads a file whose elements are all to be read. It raises Mistake where it can't be read, and BadDesign with
+        the fault and its byte where it is no design file."""
+        made = cls(path)
+        made.elements
+        return made
+
+    @property
+    def program(self) -> Program:
+        """The program. It raises MissingProgram where there is none."""
+        if self._program is None:
+            self._program = Program.find()
+        return self._program
 
     def _stamped(self) -> Tuple[int, ...]:
         """What of a file tells that it was written once more."""
@@ -77,13 +95,23 @@ class Drawing:
     def tcb(self) -> Tcb:
         """What the first element says."""
         if len(self.data) < TCB_SIZE:
-            self.program.check(self.path)
+            raise bad_design(self.path, 'cut', 0)
         return Tcb.read(self.data)
 
     @property
     def units(self) -> Units:
         """What a unit of the drawing is."""
         return self.tcb.units
+
+    @property
+    def scale(self) -> int:
+        """How many units of resolution a master unit has, 0 where the drawing doesn't say."""
+        return self.units.in_master
+
+    def to_master(self, point: Point) -> Tuple[float, ...]:
+        """A point in master units, from the global origin; in units of resolution where the drawing doesn't say what
+        these are."""
+        return tuple(self.units.to_master(point)) if self.units.is_known else tuple(map(float, point))
 
     @property
     def axes(self) -> int:
@@ -93,9 +121,25 @@ class Drawing:
     @cached_property
     def elements(self) -> Elements:
         """All elements, each at its number."""
-        made = self.program.elements(self.path, self.data, self.axes)
+        try:
+            made = self.program.elements(self.path, self.data, self.axes)
+        except MissingProgram:
+            made = self._elements_alone()
         doing('reading %s, which has %d elements' % (self.path, len(made)))
         self._ask_unchanged()
+        return made
+
+    def _elements_alone(self) -> Elements:
+        """The elements, as they are read without the program."""
+        last: Optional[Fault] = None
+        try:
+            made = elements_in(self.data, self.axes)
+        except CutElement as why:
+            last = 'cut', why.offset
+            made = elements_in(self.data[: why.offset], self.axes)
+        fault = fault_in(made) or last
+        if fault is not None:
+            raise bad_design(self.path, *fault)
         return made
 
     @cached_property
@@ -228,3 +272,10 @@ class Drawing:
 
     def _is_drawn(self, number: int) -> bool:
         return self.elements.types[number] in classes.DRAWN
+
+
+def bad_design(path: str, fault: str, offset: int) -> BadDesign:
+    """What is raised where a file isn't a drawing, as if the program had said it."""
+    made = ending_of(4, ['bad design %s at %d' % (fault, offset)], path)
+    assert isinstance(made, BadDesign)
+    return made

@@ -18,13 +18,23 @@ WITH_C = bytes(BIT_C if it & 0x80 else 0 for it in range(256))
 WITH_DELETED = bytes(DELETED if it & 0x80 else 0 for it in range(256))
 
 
+class CutElement(ValueError):
+    """The file ends within an element; `offset` is the byte at which that begins."""
+
+    def __init__(self, offset: int) -> None:
+        super().__init__('the element at byte %d is cut' % offset)
+        self.offset = offset
+
+
 def elements_in(data: bytes, axes: int) -> Elements:
-    """The elements of a file, up to its end mark or its end. It raises ValueError where one is cut; whether each is one
+    """The elements of a file, up to its end mark or its end. It raises CutElement where one is cut; whether each is one
     that the program opens isn't asked."""
     words = words_of(data)
     places, end = _places(words)
-    if 2 * end > len(data) or (end == len(words) and len(data) % 2):
-        raise ValueError('the element at byte %d is cut' % (2 * (places[-1] if 2 * end > len(data) else end)))
+    if 2 * end > len(data):
+        raise CutElement(2 * places[-1])
+    if end == len(words) and len(data) % 2:
+        raise CutElement(2 * end)
     made = Elements(data, axes)
     heads = array('H', map(words.__getitem__, places))
     if sys.byteorder == 'big':
@@ -54,7 +64,7 @@ def _places(words: Sequence[int]) -> Tuple[List[int], int]:
         append(at)
         at += 2 + words[at + 1]
     if at + 1 == end and words[at] != END:
-        raise ValueError('the element at byte %d is cut' % (2 * at))
+        raise CutElement(2 * at)
     return places, at
 
 
