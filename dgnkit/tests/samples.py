@@ -5,6 +5,7 @@ from __future__ import annotations
 import contextlib
 import io
 import os
+import re
 import shlex
 import shutil
 import struct
@@ -40,8 +41,10 @@ __all__ = [
     'plan',
     'vax_double',
     'with_units',
+    'without_progress',
 ]
 
+PROGRESS = re.compile(r'^.* \(\d+ seconds so far\)\n', re.M)
 Json = Dict[str, Any]  # an object that dgnkit says as JSON, or a part of one
 OGR = shutil.which('ogr2ogr') and shutil.which('ogrinfo')
 
@@ -55,6 +58,11 @@ def program_path() -> Optional[str]:
 PROGRAM = program_path()
 if PROGRAM:
     os.environ['DGNEDIT'] = PROGRAM
+
+
+def without_progress(said: str) -> str:
+    """What was said on standard error, without the words on progress that there are on a slow machine."""
+    return PROGRESS.sub('', said)
 
 
 def vax_double(value: int) -> bytes:

@@ -39,7 +39,8 @@ class AsAProcess(samples.WithProgram):
             cwd=self.folder,
             preexec_fn=limit,
         )
-        return ran.returncode, ran.stdout.decode('utf-8', 'replace'), ran.stderr.decode('utf-8', 'replace')
+        said = samples.without_progress(ran.stderr.decode('utf-8', 'replace'))
+        return ran.returncode, ran.stdout.decode('utf-8', 'replace'), said
 
     def one_line(self, ran: Ran, word: str) -> None:
         """The command couldn't be done: one line says why, and the status is 2."""
@@ -255,7 +256,7 @@ class AsAProcess(samples.WithProgram):
         for number in numbers:
             child.send_signal(number)
         _, err = child.communicate(timeout=60)
-        self.assertEqual((child.returncode, err), (0, b''))
+        self.assertEqual((child.returncode, samples.without_progress(err.decode())), (0, ''))
         self.assertTrue((self.folder / 'o.dgn').exists())
 
     def begun_with(self, lines: str, *words: object) -> Ran:
@@ -263,7 +264,26 @@ class AsAProcess(samples.WithProgram):
         begin = 'import sys; sys.argv = ["dgnkit", *sys.argv[1:]]\n%s\nfrom dgnkit.entry import command; command()'
         command = [sys.executable, '-c', begin % lines, *map(str, words)]
         ran = subprocess.run(command, env=self.place(), stdout=subprocess.PIPE, stderr=subprocess.PIPE)
-        return ran.returncode, ran.stdout.decode(), ran.stderr.decode()
+        return ran.returncode, ran.stdout.decode(), samples.without_progress(ran.stderr.decode())
+
+    def test_a_signal_while_the_program_is_begun(self) -> None:
+        slow = self.put('slow', '#!/bin/sh\nexec sleep 60\n')
+        os.chmod(slow, 0o755)
+        lines = (
+            'import os, signal, subprocess\n'
+            'class Popen(subprocess.Popen):\n'
+            '    def __init__(self, *words, **more):\n'
+            '        super().__init__(*words, **more)\n'
+            '        os.kill(os.getpid(), signal.SIGTERM)\n'
+            'subprocess.Popen = Popen\n'
+            'os.environ["DGNEDIT"] = %r' % slow
+        )
+        valve, script = self.example('valve.dgn'), self.put('s', 'color 1 3\n')
+        for words in (['run', valve, script, self.path('o.dgn')], ['each', script, valve, '--into', self.path('out')]):
+            start = time.monotonic()
+            # what still runs would keep standard error open
+            self.assertEqual(self.begun_with(lines, *words)[0], 130)
+            self.assertLess(time.monotonic() - start, 50)
 
     def test_no_thread_can_be_started(self) -> None:
         lines = 'import threading\ndef start(self): raise RuntimeError("can\'t start new thread")\n'

@@ -80,7 +80,8 @@ class Commands(samples.WithProgram):
             cwd=self.folder,
             preexec_fn=limit,
         )
-        return ran.returncode, ran.stdout.decode('utf-8', 'replace'), ran.stderr.decode('utf-8', 'replace')
+        said = samples.without_progress(ran.stderr.decode('utf-8', 'replace'))
+        return ran.returncode, ran.stdout.decode('utf-8', 'replace'), said
 
 
 class Writing(Commands):
@@ -324,6 +325,7 @@ class Failing(Commands):
                 child.send_signal(number)
                 said, err = child.communicate(timeout=60)
                 (self.folder / 'stub.begun').unlink(missing_ok=True)
-                self.assertEqual((child.returncode, said, err), (130, b'', b''), (words[0], number))
+                self.assertEqual((child.returncode, said), (130, b''), (words[0], number))
+                self.assertEqual(samples.without_progress(err.decode()), '')
                 self.assertEqual(self.files(), before)
                 self.assertEqual([it for it in os.listdir(self.folder) if it.startswith('.')], [])

@@ -11,18 +11,15 @@ import io
 import os
 import pkgutil
 import re
-import signal
 import sys
-import threading
-import time
 import traceback
 from importlib import import_module
-from types import FrameType
 from typing import TYPE_CHECKING, Any, Callable, List, NoReturn, Optional, Sequence
 
 from . import __version__, commands, files
 from .errors import Mistake
 from .output import note, printable
+from .stopping import catch_signals
 
 if TYPE_CHECKING:
     Subparsers = argparse._SubParsersAction['Parser']
@@ -38,9 +35,7 @@ ABOUT = (
 )
 ENDED = 2  # the status of what can't be done
 STOPPED = 130
-AT_ONCE = 1.0  # so many seconds another signal is taken for the same one, while what was begun is cleared away
 LONGEST = 700  # characters of a line that says why
-SIGNALS = ('SIGINT', 'SIGTERM', 'SIGHUP')
 
 
 class Parser(argparse.ArgumentParser):
@@ -157,26 +152,3 @@ def drop_output() -> None:
         os.dup2(os.open(os.devnull, os.O_WRONLY), sys.stdout.fileno())
     except (OSError, ValueError, AttributeError):
         pass
-
-
-def catch_signals() -> None:
-    """Lets the signals that end a program end it in order, so that no temporary file is left. Those that were ignored
-    when it began, as by nohup, stay ignored."""
-    if threading.current_thread() is threading.main_thread():
-        stop = Stop()
-        for number in (getattr(signal, name) for name in SIGNALS):
-            if signal.getsignal(number) is not signal.SIG_IGN:
-                signal.signal(number, stop)
-
-
-class Stop:
-    """What stops the command at a signal: at the first one, since a terminal and a shell may both send one."""
-
-    def __init__(self) -> None:
-        self.last = -AT_ONCE
-
-    def __call__(self, number: int, frame: Optional[FrameType]) -> None:
-        now = time.monotonic()
-        if now - self.last >= AT_ONCE:
-            self.last = now
-            raise KeyboardInterrupt

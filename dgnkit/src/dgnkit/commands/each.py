@@ -3,11 +3,12 @@
 from __future__ import annotations
 
 import argparse
+import contextlib
 import os
 import sys
 from dataclasses import dataclass
 from pathlib import Path
-from typing import TYPE_CHECKING, Any, Dict, Iterator, List, Sequence, Tuple
+from typing import TYPE_CHECKING, Any, Dict, Generator, List, Sequence, Tuple
 
 from ..drawing.spans import number_of
 from ..errors import BadDesign, Mistake, ReadFault, WriteFault, ending_of
@@ -139,14 +140,14 @@ class Runs:
     def all(self, folder: str, jobs: int) -> List[Outcome]:
         """Runs them all. A drawing is put in its place once it is whole; nothing else is left, however this ends."""
         made: Dict[int, Outcome] = {}
-        with folder_in(folder, folder) as place:
-            for index, outcome in self._outcomes(place, jobs):
+        with folder_in(folder, folder) as place, contextlib.closing(self._outcomes(place, jobs)) as outcomes:
+            for index, outcome in outcomes:
                 made[index] = outcome
                 show_progress(len(made), len(self.drawings))
         make_safe(folder)
         return [made[index] for index in range(len(self.drawings))]
 
-    def _outcomes(self, place: str, jobs: int) -> Iterator[Tuple[int, Outcome]]:
+    def _outcomes(self, place: str, jobs: int) -> Generator[Tuple[int, Outcome], None, None]:
         """The outcomes, as the runs end; those of files that can't be run on come first."""
         commands: Dict[int, List[str]] = {}
         for index, name in enumerate(self.drawings):
@@ -156,8 +157,9 @@ class Runs:
             except Mistake as why:
                 yield index, Outcome(name, UNREADABLE, without_name(str(why), said_name(name)), 0, '')
         indices = list(commands)
-        for at, status, said in run_all(commands.values(), jobs):
-            yield indices[at], self._outcome(indices[at], status, said, commands[indices[at]][-1])
+        with contextlib.closing(run_all(commands.values(), jobs)) as runs:
+            for at, status, said in runs:
+                yield indices[at], self._outcome(indices[at], status, said, commands[indices[at]][-1])
 
     def _outcome(self, index: int, status: int, said: bytes, out: str) -> Outcome:
         """What became of a drawing, whose file is put in its place where it is whole."""

@@ -5,9 +5,10 @@ from __future__ import annotations
 import selectors
 import subprocess
 from dataclasses import dataclass, field
-from typing import Dict, Iterable, Iterator, List, Sequence, Tuple
+from typing import Dict, Generator, Iterable, Iterator, List, Sequence, Tuple
 
 from ..errors import MissingProgram
+from ..stopping import held
 
 PIECE = 1 << 16
 
@@ -21,9 +22,9 @@ class _Child:
     pieces: List[bytes] = field(default_factory=list)
 
 
-def run_all(commands: Iterable[Sequence[str]], jobs: int) -> Iterator[Tuple[int, int, bytes]]:
+def run_all(commands: Iterable[Sequence[str]], jobs: int) -> Generator[Tuple[int, int, bytes], None, None]:
     """Runs commands, at most so many at a time, and gives each as it ends: its place in the list, its status, which is
-    negative where a signal ended it, and what it said. What still runs when the caller stops is ended."""
+    negative where a signal ended it, and what it said. What still runs when the caller closes it is ended."""
     waiting = enumerate(commands)
     children: Dict[int, _Child] = {}
     with selectors.DefaultSelector() as selector:
@@ -60,10 +61,11 @@ def _start(
         index, command = next(waiting, (-1, ()))
         if not command:
             return
-        try:
-            process = subprocess.Popen(command, stdin=subprocess.DEVNULL, stdout=subprocess.PIPE, bufsize=0)
-        except OSError as why:
-            raise MissingProgram("%s can't be run: %s" % (command[0], why.strerror))
-        assert process.stdout is not None
-        children[process.stdout.fileno()] = _Child(index, process)
+        with held():
+            try:
+                process = subprocess.Popen(command, stdin=subprocess.DEVNULL, stdout=subprocess.PIPE, bufsize=0)
+            except OSError as why:
+                raise MissingProgram("%s can't be run: %s" % (command[0], why.strerror))
+            assert process.stdout is not None
+            children[process.stdout.fileno()] = _Child(index, process)
         selector.register(process.stdout, selectors.EVENT_READ)

@@ -10,11 +10,12 @@ import sys
 from dataclasses import dataclass
 from functools import cached_property
 from pathlib import Path
-from typing import List, Optional, Sequence, Union
+from typing import List, Optional, Sequence, Tuple, Union
 
 from ..errors import ListingError, MissingProgram, ending_of
 from ..format.elements import Elements
 from ..format.walking import elements_in
+from ..stopping import held
 from ..waiting import doing
 from .answers import Answer
 from .script import Script
@@ -65,12 +66,12 @@ class Program:
         command = [self.path, *map(str, words)]
         doing('dgnedit is working on %s' % words[1] if len(words) > 1 else 'dgnedit is working')
         try:
-            ran = subprocess.run(command, input=b'' if given is None else given, stdout=subprocess.PIPE)
+            status, output = output_of(command, given or b'')
         except OSError as why:
             raise MissingProgram("%s can't be run: %s" % (self.path, (why.strerror or str(why)).lower()))
-        if ran.returncode < 0:
-            raise ListingError('dgnedit was ' + stopped_said(-ran.returncode))
-        return Run(ran.returncode, ran.stdout)
+        if status < 0:
+            raise ListingError('dgnedit was ' + stopped_said(-status))
+        return Run(status, output)
 
     def edit(self, drawing: Name, script: Script, out: Name = NOWHERE) -> List[Answer]:
         """Runs a script, and gives the answers to its commands. It raises an Ending where it wasn't run whole."""
@@ -125,6 +126,22 @@ class Program:
         if ran.status != 0:
             raise ending_of(ran.status, ran.said, str(drawing))
         return counted(word, ran.said)
+
+
+def output_of(command: Sequence[str], given: bytes) -> Tuple[int, bytes]:
+    """Runs a command with these bytes on its standard input, and gives its status and what it said. However this ends,
+    the command has ended too."""
+    process: Optional[subprocess.Popen[bytes]] = None
+    try:
+        with held():
+            process = subprocess.Popen(command, stdin=subprocess.PIPE, stdout=subprocess.PIPE)
+        output, _ = process.communicate(given)
+    except BaseException:
+        if process is not None:
+            with process:
+                process.kill()
+        raise
+    return process.returncode, output
 
 
 def stopped_said(number: int) -> str:
