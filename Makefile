@@ -44,8 +44,9 @@ web:            ## makes the editor in a browser: dist/dgnedit.html, with the pr
 card:           ## makes the quick card of all commands, which prints on two pages: dist/dgnedit-card.html
 	tools/make_card
 
-dist: build web card ## makes dist/: archive, Debian package where dpkg-deb is, the editor in a browser, and SHA256SUMS
+dist: build web card ## makes dist/: archive, Debian package, wheels for pip, the editor in a browser, and SHA256SUMS
 	tools/make_dist $(PROGRAM) dist
+	tools/make_wheel dist $(PROGRAM)
 	tools/make_qgis dist
 	cd dist && find . -type f ! -name SHA256SUMS -printf '%P\n' | LC_ALL=C sort | xargs sha256sum >SHA256SUMS
 

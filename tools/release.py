@@ -8,7 +8,7 @@ import re
 import subprocess
 import time
 import zipfile
-from collections.abc import Iterator
+from collections.abc import Collection, Iterator
 from datetime import datetime, timezone
 
 TOP = os.path.dirname(os.path.dirname(os.path.abspath(__file__)))
@@ -53,15 +53,16 @@ def files_below(folder: str) -> Iterator[str]:
             yield os.path.relpath(os.path.join(place, name), folder)
 
 
-def zip_files(contents: dict[str, bytes], place: str, front: bytes = b'') -> None:
-    """Writes a zip file of these files, behind a front such as the line that a shell reads."""
+def zip_files(contents: dict[str, bytes], place: str, front: bytes = b'', programs: Collection[str] = ()) -> None:
+    """Writes a zip file of these files, of which some are programs, behind a front such as the line that a shell
+    reads."""
     stamp = time.gmtime(max(date(), OLDEST))[:6]
     with open(place, 'wb') as file:
         file.write(front)
         with zipfile.ZipFile(file, 'w', zipfile.ZIP_DEFLATED, compresslevel=9) as made:
             for name in sorted(contents):
                 info = zipfile.ZipInfo(name, stamp)
-                info.create_system, info.external_attr = 3, 0o644 << 16
+                info.create_system, info.external_attr = 3, (0o755 if name in programs else 0o644) << 16
                 info.compress_type = zipfile.ZIP_DEFLATED
                 made.writestr(info, contents[name])
 
