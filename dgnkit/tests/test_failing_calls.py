@@ -194,6 +194,8 @@ class FailingCalls(samples.WithProgram):
         self.fail_each('why', 'a.dgn', 's.txt', 'new.dgn')
         self.fail_each('why', 'a.dgn', 's.txt', 'old.txt', '--force')
         self.fail_each('each', 's.txt', 'a.dgn', 'b.dgn', '--into', 'new')
+        self.fail_each('split', 'a.dgn', '--by', 'cell', 'new')
+        self.fail_each('purge', 'b.dgn', 'new.dgn')
         self.fail_each('geojson', 'a.dgn', '-o', 'old.txt', '--force')
         self.fail_each('page', 'a.dgn', '--script', 's.txt', '-o', 'page.html')
 

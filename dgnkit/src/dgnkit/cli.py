@@ -29,8 +29,8 @@ if TYPE_CHECKING:
 
 NUMBERS = re.compile(r'^-[\d.][\d.,]*-?[\d.,]*$')
 ORDER = (
-    'info health find why run diff mend relevel retext rename lock unlock undelete draw text merge place each '
-    'geojson script page open help completion'
+    'info health find why run diff mend relevel retext rename lock unlock undelete draw text merge place each split '
+    'purge geojson script page open help completion'
 ).split()
 ABOUT = (
     'Finds elements in design files, explains, mends and compares them, and writes scripts and patch files, from which '
