@@ -176,6 +176,7 @@ class FailingCalls(samples.WithProgram):
         self.fail_each('find', 'a.dgn', '--level', '10', '--script', 'color {n} 3', '-o', 'old.txt', '--force')
         self.fail_each('script', '--numbers', 'n.csv', 'color {n} 3', '--drawing', 'a.dgn', '-o', 'new.txt')
         self.fail_each('place', 'a.dgn', 'VLV', 'p.csv', '-o', 'new.txt')
+        self.fail_each('place', 'b.dgn', 'VLV', 'p.csv', '--from', 'a.dgn', '-o', 'new.txt')
         self.fail_each('merge', 'a.dgn', 'b.dgn', '-o', 'old.txt', '--force')
         self.fail_each('diff', 'a.dgn', 'b.dgn', '--script', '-o', 'new.txt')
         self.fail_each('draw', 'a.dgn', 'p.csv', '-o', 'old.txt', '--force')

@@ -5,7 +5,8 @@ from __future__ import annotations
 import os
 import tempfile
 from pathlib import Path
-from typing import List, Sequence
+from types import MappingProxyType
+from typing import List, Mapping, Sequence
 
 from ..drawing.changes import Change
 from ..drawing.drawing import Drawing
@@ -67,11 +68,12 @@ def script_names(script: Script, path: str) -> List[str]:
     return names if count > 1 else [path]
 
 
-def write_script(script: Script, target: Target) -> List[str]:
-    """Writes a script in as many files as the program reads, and gives their names."""
+def write_script(script: Script, target: Target, imported: Mapping[str, bytes] = MappingProxyType({})) -> List[str]:
+    """Writes a script in as many files as the program reads, and the drawings that it imports where they are made for
+    it, and gives the names of the script's files."""
     names = script_names(script, target.path)
     contents = {name: part.text for name, part in zip(names, script.parts() or [script])}
-    write_files(contents, target.may_replace)
+    write_files({**imported, **contents}, target.may_replace, imported)
     return names
 
 
