@@ -56,7 +56,7 @@ def run_edit(arguments: argparse.Namespace, word: Word) -> int:
     numbers = taken(conditions, word.takes_parts)
     if not numbers:
         note(nothing_said(conditions))
-    made = word.edit(drawing, numbers, arguments)
+    made = word.edit(drawing, conditions.in_order(numbers), arguments)
     note_left(made.left)
     words = [printable(it.in_words()) for it in made.changes]
     said = 'would change' if arguments.dry_run else 'changed'
