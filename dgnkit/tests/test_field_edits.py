@@ -31,7 +31,7 @@ class FieldEdits(samples.WithProgram):
         changed, err = self.changed('relevel', self.plan_file, '--to', 21, '--level', 10)
         lines = {offsets[it]: (128 + 11, 128 + 21) for it in (7, 8, 10, 11)}
         self.assertEqual(changed, {**{offsets[it]: (10, 21) for it in (5, 6, 9)}, **lines})
-        self.assertIn('4 members will change with their header, on level 11: 7, 8, 10, 11', err)
+        self.assertIn('4 members would change with their header, on level 11: 7, 8, 10, 11', err)
 
     def test_what_belongs_to_a_broken_tree_is_told_to_stay(self) -> None:
         # a parcel as GDAL writes it: its rings, which are on level 0, are no members before it is mended
@@ -157,6 +157,43 @@ class FieldEdits(samples.WithProgram):
             self.assertEqual((status, err.count('\n')), (2, 1), words)
         self.assertEqual(sorted(it.name for it in self.folder.iterdir()), ['in.dgn'])
         self.assertEqual((self.folder / 'in.dgn').read_bytes(), self.plan_file)
+
+
+class Proposals(samples.WithProgram):
+    """A command that writes a patch file changes no drawing, and says so."""
+
+    def test_it_says_what_would_change_and_what_is_written(self) -> None:
+        source, patch = self.example('plan.dgn'), self.path('p')
+        gone = self.put('gone.dgn', drawings.drawing(drawings.deleted(drawings.line())))
+        broken = self.put('broken.dgn', drawings.DRAWINGS['a complex chain of the line 2, with bit C'])
+        commands: List[Tuple[List[str], str]] = [
+            (['relevel', source, patch, '--to', '21', '--level', '10'], '7 elements'),
+            (['retext', source, patch, 'HOUSE', 'ROOMS'], '1 element'),
+            (['retext', source, patch, '--each', '{}'], '1 element'),
+            (['rename', source, patch, 'VLV', 'PUMP'], '2 elements'),
+            (['lock', source, patch, '--number', '5'], '1 element'),
+            (['unlock', source, patch, '--number', '1-2'], '1 element'),
+            (['undelete', gone, patch, '--number', '1'], '1 element'),
+            (['mend', broken, patch], '1 element'),
+        ]
+        for words, count in commands:
+            with self.subTest(words=words):
+                said = self.said(*words, '--force').splitlines()
+                self.assertEqual(said[-2], '%s would change: %s written' % (count, patch))
+                self.assertTrue(said[-1].startswith('next: dgnkit run '))
+                self.assertNotIn('changed', '\n'.join(said))
+                self.assertNotIn('written', self.said(*words, '--dry-run').split('nothing is written')[0])
+
+    def test_mend_says_how_many_trees_would_still_be_broken(self) -> None:
+        broken = self.put('broken.dgn', drawings.DRAWINGS['a complex chain of the line 2, with bit C'])
+        self.assertIn('1 broken tree now, 0 with the patch file\n', self.said('mend', broken, '--dry-run'))
+
+    def test_what_goes_with_a_header_would_change(self) -> None:
+        source = self.example('plan.dgn')
+        err = self.kit('relevel', source, self.path('p'), '--to', 21, '--level', 10)[2]
+        self.assertIn('4 members would change with their header', err)
+        err = self.kit('find', source, '--level', 10, '--script', 'color {n} 3')[2]
+        self.assertIn('4 members would change with their headers', err)
 
 
 class Numbered(samples.WithProgram):

@@ -12,7 +12,7 @@ from ..drawing.nothing import nothing_said
 from ..drawing.options import add_conditions, has_conditions
 from ..errors import Mistake
 from ..explain.members import parts_said
-from ..output import counted, few, note, printable, say
+from ..output import counted, few, note, printable
 from ..propose.field_edits import FieldEdits
 from ..propose.writing import note_left, propose_patch
 from ._options import add_dry_run, add_force, target_of
@@ -59,8 +59,6 @@ def run_edit(arguments: argparse.Namespace, word: Word) -> int:
     made = word.edit(drawing, conditions.in_order(numbers), arguments)
     note_left(made.left)
     words = [printable(it.in_words()) for it in made.changes]
-    said = 'would change' if arguments.dry_run else 'changed'
-    say('%d of %s %s' % (len(made.changes), counted(len(drawing.elements), 'element'), said))
     propose_patch(drawing, made.changes, words, target_of(arguments, arguments.patch))
     return 0
 
@@ -84,7 +82,7 @@ def taken(conditions: Conditions, takes_parts: bool) -> List[int]:
     if conditions.takes_members:
         tell(more, 'not changed: %s of chosen headers', drawing)
         return chosen
-    tell(more, '%s will change with their header', drawing)
+    tell(more, '%s would change with their header', drawing)
     for said in parts_said(drawing, chosen, TOLD):
         note(said + ', and the rest of its tree stays (--trees changes it too)')
     return sorted(below)

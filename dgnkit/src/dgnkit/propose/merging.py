@@ -79,7 +79,7 @@ def _resolution_metres(units: Units) -> Optional[Fraction]:
 def words_of(first: Drawing, merge: Merge) -> List[str]:
     """What an import does, in words."""
     other, units = merge.drawing, first.units
-    said = ['%s: %s' % (other.path, counted(len(merge.taken), 'tree is', 'trees are') + ' imported')]
+    said = ['%s: %s' % (other.path, counted(len(merge.taken), 'tree') + ' would be imported')]
     if any(merge.shift):
         said.append('  moved %s, since the global origins differ' % units.shift_said(merge.shift))
     else:

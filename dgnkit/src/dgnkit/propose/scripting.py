@@ -120,7 +120,7 @@ def note_proposal(drawing: Drawing, made: Proposal) -> None:
         note(said)
     if made.along:
         header = 'its header' if len(made.along) == 1 else 'their headers'
-        note('%s will change with %s: %s' % (counted(len(made.along), 'member'), header, few(made.along)))
+        note('%s would change with %s: %s' % (counted(len(made.along), 'member'), header, few(made.along)))
 
 
 def give_proposal(drawing: Drawing, made: Proposal, target: Target) -> None:

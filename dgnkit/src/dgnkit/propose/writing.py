@@ -31,6 +31,7 @@ def propose_patch(drawing: Drawing, changes: Sequence[Change], words: Sequence[s
     says it alone."""
     patch = patch_of(drawing, changes)
     if target.is_dry:
+        say('%s would change' % counted(len(changes), 'element'))
         for line in words:
             say(line)
         say(
@@ -40,7 +41,7 @@ def propose_patch(drawing: Drawing, changes: Sequence[Change], words: Sequence[s
         return
     applied(drawing, patch, changes)
     write_file(target.path, patch.to_bytes(), target.may_replace)
-    say('%s: %s' % (target.path, counted(len(patch.entries), 'entry', 'entries')))
+    say('%s would change: %s written' % (counted(len(changes), 'element'), target.path))
     say('next: ' + next_command(drawing.path, [target.path]))
 
 
