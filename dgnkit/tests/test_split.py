@@ -5,6 +5,7 @@ import io
 import json
 import os
 import struct
+import tempfile
 import unittest
 from pathlib import Path
 from typing import Dict, List
@@ -103,7 +104,7 @@ class Split(Making):
         self.assertEqual(self.files(), {'level-1.dgn': drawings.drawing(tree)})
         self.assertIn('left out: 1 tree marked deleted: 1\n', err)
         self.assertIn('left out: 1 other element marked deleted: 2\n', err)
-        self.assertIn('1 deleted member stays with their trees: 5\n', err)
+        self.assertIn('1 deleted member stays with its tree: 5\n', err)
 
     def test_definitions_of_shared_cells_come_first_in_each(self) -> None:
         err = self.split('level', ONE, FIVE, DEFINITION)
@@ -139,6 +140,26 @@ class Split(Making):
         source = self.put('in.dgn', drawings.DRAWINGS['a complex chain of the line 2, with bit C'])
         err = self.left_as_it_was('split', source, '--by', 'level', self.into)
         self.assertIn('has 1 broken tree (1), which would be lost: run `dgnkit mend` first', err)
+
+    def test_what_is_not_drawn_may_have_bit_c(self) -> None:
+        # as the components of a raster have, which belong to no header that the editor reads
+        raster = drawings.element(87, 1, 40) + drawings.element(88, 1, 40, member=True)
+        self.split('level', ONE, raster, FIVE)
+        made = {'level-1.dgn': drawings.drawing(raster, ONE), 'level-5.dgn': drawings.drawing(raster, FIVE)}
+        self.assertEqual(self.files(), made)
+
+    def test_three_axes(self) -> None:
+        line = drawings.line_of_three_axes()
+        source = self.put('in.dgn', drawings.drawing(line, drawings.deleted(line), axes=3))
+        self.said('split', source, '--by', 'level', self.into)
+        self.assertEqual(self.files(), {'level-1.dgn': drawings.drawing(line, axes=3)})
+
+    def test_a_temporary_folder_that_no_script_can_name(self) -> None:
+        source = self.put('in.dgn', drawings.drawing(ONE))
+        os.mkdir(self.path('a b'))
+        with mock.patch.object(tempfile, 'tempdir', self.path('a b')):
+            err = self.left_as_it_was('split', source, '--by', 'level', self.into)
+        self.assertIn('set TMPDIR to another one', err)
 
     def test_all_or_nothing(self) -> None:
         source = self.put('in.dgn', drawings.drawing(ONE, FIVE))
@@ -201,7 +222,7 @@ class Purge(Making):
         self.assertEqual((self.folder / 'out.dgn').read_bytes(), drawings.drawing(COLOURS, ONE, tree))
         self.assertEqual(said[0], 'left out: 2 trees marked deleted: 2, 10')
         self.assertEqual(said[1], 'left out: 1 other element marked deleted: 5')
-        self.assertEqual(said[2], '1 deleted member stays with their trees: 8')
+        self.assertEqual(said[2], '1 deleted member stays with its tree: 8')
         self.assertIn('out.dgn: written, 1836 bytes: a new file, whose elements have new numbers', said[3])
 
     def test_bytes_after_the_end_mark_are_gone(self) -> None:

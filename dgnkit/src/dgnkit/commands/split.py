@@ -93,15 +93,11 @@ def plain_stems(stems: List[str]) -> Dict[str, str]:
     """Names as files can have them: another sign becomes _, and of names that then are the same, whatever their case,
     the second one ends with -2."""
     made: Dict[str, str] = {}
-    taken = set()
     for stem in stems:
-        plain = name = ''.join(it if it.isascii() and it.isalnum() or it in IN_NAMES else '_' for it in stem)
-        count = 1
-        while name.lower() in taken:
-            count += 1
-            name = '%s-%d' % (plain, count)
-        taken.add(name.lower())
-        made[stem] = name
+        plain = ''.join(it if it.isascii() and it.isalnum() or it in IN_NAMES else '_' for it in stem)
+        taken = {it.lower() for it in made.values()}
+        names = (plain if it == 1 else '%s-%d' % (plain, it) for it in range(1, len(stems) + 1))
+        made[stem] = next(it for it in names if it.lower() not in taken)
     return made
 
 

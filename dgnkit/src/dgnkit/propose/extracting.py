@@ -105,8 +105,9 @@ def import_of(source: str) -> Script:
 
 
 def ask_whole(drawing: Drawing) -> None:
-    """It raises Mistake where trees are broken, which no import takes."""
-    broken = sorted(it for it in drawing.nesting.broken_roots if not drawing.elements[it].is_deleted)
+    """It raises Mistake where trees are broken, which no import takes. What isn't drawn isn't imported, and may be."""
+    roots = (drawing.elements[it] for it in sorted(drawing.nesting.broken_roots))
+    broken = [it.number for it in roots if not it.is_deleted and not it.is_silent]
     if broken:
         said = '%s has %s (%s), which would be lost: run `dgnkit mend` first'
         raise Mistake(said % (drawing.path, counted(len(broken), 'broken tree'), few(broken)))
@@ -143,7 +144,8 @@ class Gone:
             said.append('left out: %s: %s' % (words, few(self.others)))
         if self.staying:
             members = counted(len(self.staying), 'deleted member stays', 'deleted members stay')
-            said.append('%s with their trees: %s' % (members, few(self.staying)))
+            trees = 'its tree' if len(self.staying) == 1 else 'their trees'
+            said.append('%s with %s: %s' % (members, trees, few(self.staying)))
         if self.after_end:
             said.append('left out: %s after the end mark' % counted(self.after_end, 'byte'))
         return said
