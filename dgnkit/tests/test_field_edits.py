@@ -223,6 +223,22 @@ class Proposals(samples.WithProgram):
                 self.assertNotIn('changed', '\n'.join(said))
                 self.assertNotIn('written', self.said(*words, '--dry-run').split('nothing is written')[0])
 
+    def test_a_script_that_was_written_is_none_that_was_run(self) -> None:
+        source, script = self.example('plan.dgn'), self.path('s.txt')
+        places = self.put('p.csv', 'x,y,text,height\n1,2,AB,60\n')
+        commands: List[List[str]] = [
+            ['find', source, '--level', '10', '--script', 'color {n} 3'],
+            ['place', source, 'VLV', places],
+            ['draw', source, places],
+            ['text', source, '5,5', 'AB', '--height', '60'],
+            ['merge', source, self.example('valve.dgn')],
+        ]
+        for words in commands:
+            said = self.said(*words, '-o', script, '--force').splitlines()
+            self.assertIn('%s: %s written' % ('3 commands' if words[0] == 'find' else '1 command', script), said)
+            patch = ['1 entry: %s written' % self.path('s.patch')] if words[0] in ('draw', 'text') else []
+            self.assertEqual([it for it in said if 's.patch written' in it], patch)
+
     def test_mend_says_how_many_trees_would_still_be_broken(self) -> None:
         broken = self.put('broken.dgn', drawings.DRAWINGS['a complex chain of the line 2, with bit C'])
         self.assertIn('1 broken tree now, 0 with the patch file\n', self.said('mend', broken, '--dry-run'))

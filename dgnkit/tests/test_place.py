@@ -124,7 +124,7 @@ class FromALibrary(samples.WithProgram):
         self.assertEqual((self.folder / 'VLV.dgn').read_bytes(), cell)
         script = 'import %s 400 800\ncopy 12 100 200\n' % self.path('VLV.dgn')
         self.assertEqual((self.folder / 's.txt').read_text(), script)
-        self.assertIn('VLV.dgn: 1734 bytes, which the script imports\n', said)
+        self.assertIn('1734 bytes: %s written, which the script imports\n' % self.path('VLV.dgn'), said)
         made = samples.Drawing(self.then(said), self.program)
         self.assertEqual(made.data[1536:].count(plan.valve(10, 900, 800, 20)), 1)
         self.assertEqual([it.points[0] for it in made.elements[12:] if it.type == 2], [(900, 800), (1000, 1000)])

@@ -211,7 +211,9 @@ class Writing(Commands):
         words = ['find', self.plan, '--level', '10', '--script', 'color {n} 3', '-o', '/dev/stdout']
         for line in ('"$@" > said', '"$@" | cat > said'):
             self.assertEqual(self.shell(line, *words)[0], 0)
-            self.assertTrue((self.folder / 'said').read_text().startswith(wanted + '/dev/stdout: '), line)
+            self.assertTrue(
+                (self.folder / 'said').read_text().startswith(wanted + '3 commands: /dev/stdout written'), line
+            )
         self.assertTrue(os.path.islink('/dev/stdout'))
         self.program.edit(self.plan, samples.Script.read(self.script), self.path('wanted.dgn'))
         for word in ('run', 'why'):

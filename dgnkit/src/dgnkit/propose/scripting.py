@@ -147,8 +147,8 @@ def give_script(
     elif target.path:
         write_script(script, target, imported)
         for name, content in imported.items():
-            say('%s: %s, which the script imports' % (name, counted(len(content), 'byte')))
-        say('%s: %s' % (', '.join(names), counted(len(script.commands), 'command')))
+            say('%s: %s written, which the script imports' % (counted(len(content), 'byte'), name))
+        say('%s: %s written' % (counted(len(script.commands), 'command'), ', '.join(names)))
         say('next: ' + next_command(drawing, names))
     elif len(names) > 1 or not script.text.isascii():
         why = 'is longer than dgnedit reads' if len(names) > 1 else 'has characters beyond ASCII'
