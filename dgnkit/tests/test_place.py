@@ -168,6 +168,8 @@ class FromALibrary(samples.WithProgram):
         self.assertIn('different units', self.refused('place', self.put('m.dgn', metric), *self.words()[1:]))
         solid = drawings.DRAWINGS['a line of three axes']
         self.assertIn('has 2 dimensions', self.refused('place', self.put('solid.dgn', solid), *self.words()[1:]))
+        words = [*self.words()[:-1], self.path('VLV.dgn')]
+        self.assertIn('VLV.dgn is the name of the drawing that the script imports', self.refused('place', *words))
         self.put('p.csv', '2147483640,0\n')
         self.assertIn('it would leave the design plane', self.refused('place', *self.words()))
         self.put('p.csv', '1,2\n')

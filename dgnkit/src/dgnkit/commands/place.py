@@ -19,7 +19,7 @@ from ..format.element import Element, described
 from ..format.limits import ELEMENTS_MOST, FARTHEST
 from ..format.numbers import Point
 from ..format.places import Scale
-from ..output import few, note
+from ..output import few, note, printable
 from ..program.script import Script, plain_name
 from ..propose.extracting import Extractor
 from ..propose.merging import ask_alike
@@ -69,7 +69,7 @@ def run(arguments: argparse.Namespace) -> int:
         script = copies(cell.number, [shift_to(cell, it) for it in spots])
         ask(drawing, cell, script, spots)
     else:
-        name = str(Path(arguments.output).with_name(plain_name(cell.cell_name or 'cell') + '.dgn'))
+        name = name_beside(arguments.output, cell)
         script, imported[name] = imports(drawing, library, cell, spots, name)
     tell_outside(drawing, scale, spots)
     words = ['row %d: %s to %s' % (it.row.line, described(cell), scale.place_said(it.point)) for it in spots]
@@ -85,6 +85,14 @@ def library_of(arguments: argparse.Namespace, drawing: Drawing) -> Drawing:
     library = Drawing(arguments.library, drawing.program)
     ask_alike(drawing, library)
     return library
+
+
+def name_beside(script: str, cell: Element) -> str:
+    """What the drawing of a cell is called, beside a script. It raises Mistake where the script has that name."""
+    name = Path(script).with_name(plain_name(cell.cell_name or 'cell') + '.dgn')
+    if name == Path(script):
+        raise Mistake('%s is the name of the drawing that the script imports: name another file' % printable(script))
+    return str(name)
 
 
 def copies(number: int, shifts: Sequence[Point]) -> Script:
