@@ -203,6 +203,10 @@ class Split(Making):
                 "dgnedit can't make a drawing of trees of",
             ),
             ('case $4 in *level-5) said="ok 2";; esac', 'dgnedit imported 2 of 1 tree'),
+            (
+                'case $2 in *in.dgn) said=$(printf \'%s\\n\' "$said" | sed "s/^1 0 3 5/9 0 3 5/");; esac',
+                "dgnedit listed '9 0 3 5 0 0 0 path 1,2 3,4', which isn't in",
+            ),
         ]:
             with mock.patch.dict(os.environ, {'DGNEDIT': self.stub(text)}):
                 self.assertIn(why, self.left_as_it_was('split', source, '--by', 'level', self.into))

@@ -44,11 +44,14 @@ class Extractor:
 
     @cached_property
     def shown(self) -> Dict[int, List[str]]:
-        """What `show` lists of each tree, by its root, without the numbers of the elements."""
+        """What `show` lists of each tree, by its root, without the numbers of elements. It raises ListingError where it
+        lists an element that isn't there."""
         made: Dict[int, List[str]] = {}
         roots = self.drawing.nesting.roots
         for line in self.drawing.listed(Script().show())[0].lines:
             number, _, rest = line.partition(' ')
+            if not number.isdecimal() or int(number) >= len(roots):
+                raise ListingError("dgnedit listed %r, which isn't in %s" % (line, self.drawing.path))
             made.setdefault(roots[int(number)], []).append(rest)
         return made
 
