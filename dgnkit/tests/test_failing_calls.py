@@ -176,6 +176,7 @@ class FailingCalls(samples.WithProgram):
         self.fail_each('find', 'a.dgn', '--level', '10', '--script', 'color {n} 3', '-o', 'old.txt', '--force')
         self.fail_each('script', '--numbers', 'n.csv', 'color {n} 3', '--drawing', 'a.dgn', '-o', 'new.txt')
         self.fail_each('place', 'a.dgn', 'VLV', 'p.csv', '-o', 'new.txt')
+        self.fail_each('place', 'b.dgn', 'VLV', 'p.csv', '--from', 'a.dgn', '-o', 'new.txt')
         self.fail_each('merge', 'a.dgn', 'b.dgn', '-o', 'old.txt', '--force')
         self.fail_each('diff', 'a.dgn', 'b.dgn', '--script', '-o', 'new.txt')
         self.fail_each('draw', 'a.dgn', 'p.csv', '-o', 'old.txt', '--force')
@@ -194,6 +195,8 @@ class FailingCalls(samples.WithProgram):
         self.fail_each('why', 'a.dgn', 's.txt', 'new.dgn')
         self.fail_each('why', 'a.dgn', 's.txt', 'old.txt', '--force')
         self.fail_each('each', 's.txt', 'a.dgn', 'b.dgn', '--into', 'new')
+        self.fail_each('split', 'a.dgn', '--by', 'cell', 'new')
+        self.fail_each('purge', 'b.dgn', 'new.dgn')
         self.fail_each('geojson', 'a.dgn', '-o', 'old.txt', '--force')
         self.fail_each('page', 'a.dgn', '--script', 's.txt', '-o', 'page.html')
 

@@ -30,14 +30,14 @@ class FieldEdits(samples.WithProgram):
         changed, err = self.changed('relevel', self.plan_file, '--to', 21, '--level', 10)
         lines = {offsets[it]: (128 + 11, 128 + 21) for it in (7, 8, 10, 11)}
         self.assertEqual(changed, {**{offsets[it]: (10, 21) for it in (5, 6, 9)}, **lines})
-        self.assertIn('4 members will change with their header, on level 11: 7, 8, 10, 11', err)
+        self.assertIn('4 members would change with their header, on level 11: 7, 8, 10, 11', err)
 
     def test_what_belongs_to_a_broken_tree_is_told_to_stay(self) -> None:
         # a parcel as GDAL writes it: its rings, which are on level 0, are no members before it is mended
         file = (samples.EXAMPLES / 'town.dgn').read_bytes()
         changed, err = self.changed('relevel', file, '--to', 21, '--level', 20)
         self.assertEqual(list(changed.values()), [(20, 21)] * 3)
-        self.assertIn('in broken trees only the chosen elements change', err)
+        self.assertIn('in broken trees only the chosen elements would change', err)
         self.assertIn('`dgnkit mend` first', err)
 
     def test_what_of_a_tree_stays_is_told(self) -> None:
@@ -128,6 +128,45 @@ class FieldEdits(samples.WithProgram):
         file = drawings.DRAWINGS['a complex chain of the line 2, with bit C']
         changed, _ = self.changed('relevel', file, '--to', 7, '--level', 1)
         self.assertEqual(sorted(changed.values()), [(0x81, 0x87), (0x81, 0x87)])
+
+    def test_deleted_members_stay_and_are_told(self) -> None:
+        gone = drawings.deleted(drawings.line(True))
+        file = drawings.drawing(drawings.cell(drawings.line(True), gone, gone), drawings.deleted(drawings.line()))
+        told = 'not changed: 2 members marked deleted: 3, 4\n'
+        for more in (['--type', 'cell'], ['--type', 'line', '--trees']):
+            changed, err = self.changed('relevel', file, '--to', 7, *more)
+            self.assertEqual(sorted(changed.values()), [(1, 7), (0x81, 0x87)])
+            self.assertEqual(err.count(told), 1, err)
+            changed, err = self.changed('lock', file, *more)
+            self.assertEqual((sorted(changed.values()), err.count(told)), ([(0, 1)] * 2, 1))
+            locked = (self.folder / 'out.dgn').read_bytes()
+            changed, err = self.changed('unlock', locked, *more)
+            self.assertEqual((sorted(changed.values()), err.count(told)), ([(1, 0)] * 2, 1))
+        # what is chosen by itself is no deleted member of something else
+        self.assertNotIn('deleted', self.changed('relevel', file, '--to', 7, '--number', 2)[1])
+        self.assertNotIn('deleted', self.changed('relevel', file, '--to', 7, '--number', '3-4', '--deleted')[1])
+
+    def test_undelete_of_a_tree_takes_back_its_deleted_members(self) -> None:
+        gone = drawings.deleted(drawings.line(True))
+        file = drawings.drawing(drawings.cell(drawings.line(True), gone, gone), drawings.deleted(drawings.line()))
+        offsets = [it.offset for it in self.opened(file).elements]
+        changed, err = self.changed('undelete', file, '--number', 3, '--trees')
+        self.assertEqual(changed, {offsets[it] + 1: (0x83, 3) for it in (3, 4)})
+        self.assertIn('2 members would change with their header, on level 1: 3, 4\n', err)
+        changed, _ = self.changed('undelete', file, '--number', 3)
+        self.assertEqual(list(changed), [offsets[3] + 1])
+        changed, err = self.changed('undelete', file, '--trees')
+        self.assertEqual(list(changed), [offsets[it] + 1 for it in (3, 4, 5)])
+
+    def test_members_of_a_header_in_a_broken_tree_change_with_it(self) -> None:
+        # a long road as GDAL writes it: an orphan, though its own total is right
+        file = (samples.EXAMPLES / 'street.dgn').read_bytes()
+        changed, err = self.changed('relevel', file, '--to', 21, '--number', 17)
+        self.assertEqual(len(changed), 3)
+        self.assertIn('in broken trees only the chosen elements and the members below them would change', err)
+        changed, err = self.changed('relevel', file, '--to', 21, '--number', 17, '--members')
+        self.assertEqual(len(changed), 1)
+        self.assertIn('in broken trees only the chosen elements would change', err)
 
     def test_a_dry_run_says_it_and_writes_nothing(self) -> None:
         source = self.put('in.dgn', self.plan_file)

@@ -249,7 +249,7 @@ class Scripts(samples.WithProgram):
     def test_what_goes_along_is_told(self) -> None:
         out, err = self.script(self.example('valve.dgn'), '--level', '10', '--script', 'color {n} 3')
         self.assertEqual(out, 'color 1 3\ncolor 2 3\n')
-        self.assertIn('2 members will change with their headers', err)
+        self.assertIn('2 members would change with their headers', err)
         self.assertIn('3, 4', err)
 
     def test_a_dry_run_says_it_in_words(self) -> None:

@@ -250,13 +250,12 @@ class Liars(samples.WithProgram):
                 status, out, err = self.kit(*words)
                 self.assertEqual((status, out, err.count('\n')), (2, '', 1), words)
 
-    def test_one_that_lists_what_is_not_there(self) -> None:
-        listing = '0 0 1536 9 8 --\\n1 1536 52 3 10 --\\nlevel 8 1\\nlevel 10 1\\ntype 9 1\\ntype 3 1\\nelements 2\\n'
-        stub = self.stub("printf '%s'\n" % listing)
-        with mock.patch.dict(os.environ, {'DGNEDIT': stub}):
+    def test_one_that_counts_what_is_not_there(self) -> None:
+        with mock.patch.dict(os.environ, {'DGNEDIT': self.stub('echo elements 2\n')}):
             status, out, err = self.kit('info', self.example('valve.dgn'))
             self.assertEqual((status, out, err.count('\n')), (2, '', 1))
-            self.assertIn("don't fill the file", err)
+            self.assertIn('dgnedit found 2 elements', err)
+            self.assertIn('where there are 5', err)
 
     def test_one_that_writes_nothing(self) -> None:
         valve, script = self.example('valve.dgn'), self.put('s', 'color 1 3\n')

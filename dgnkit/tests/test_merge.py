@@ -90,7 +90,7 @@ class Merge(samples.WithProgram):
         )
         said = self.said('merge', a, b, '-o', self.path('s'), '--dry-run')
         self.assertFalse((self.folder / 's').exists())
-        self.assertIn('1 tree is imported', said)
+        self.assertIn('1 tree would be imported', said)
         self.assertTrue(said.rstrip().endswith('dgnkit run %s %s %s' % (a, self.path('s'), self.path('a-out.dgn'))))
 
 

@@ -1,6 +1,8 @@
 """`place`: copies of a cell stand at the places of a CSV, by the cell's own origin."""
 
+import os
 import unittest
+from pathlib import Path
 from typing import List, Tuple
 
 import samples
@@ -90,6 +92,91 @@ class Place(samples.WithProgram):
         self.assertIn('broken', self.kit('place', broken, 'ABC', rows)[2])
         arc = self.put('arc.dgn', drawings.DRAWINGS['a cell of the line 2 and the arc 3'])
         self.assertIn('floating', self.kit('place', arc, 'ABC', rows)[2])
+
+
+class FromALibrary(samples.WithProgram):
+    """A cell of another drawing is imported to the first place, and copied from there to the others."""
+
+    def setUp(self) -> None:
+        super().setUp()
+        os.mkdir(self.path('lib'))
+        other = drawings.cell(plan.line(1, (0, 0), (1, 1), True))
+        file = drawings.drawing(drawings.line(), other, plan.valve(10, 500, 0, 20))
+        self.library, self.sheet = self.put('lib/library.dgn', file), self.example('plan.dgn')  # of 12 elements
+        self.places = self.put('p.csv', '900,800\n1000,1000\n')
+
+    def place(self, *more: object) -> Tuple[int, str, str]:
+        words = ['place', self.sheet, 'VLV', self.places, '--from', self.library, '-o', self.path('s.txt')]
+        return self.kit(*words, *more)
+
+    def refused(self, *words: object) -> str:
+        """Why something can't be done, which writes nothing."""
+        before = sorted(it.name for it in self.folder.rglob('*'))
+        status, out, err = self.kit(*words)
+        self.assertEqual((status, out), (2, ''), err)
+        self.assertEqual(sorted(it.name for it in self.folder.rglob('*')), before)
+        return err
+
+    def test_it_is_imported_once_and_copied(self) -> None:
+        status, said, err = self.place()
+        self.assertEqual((status, err), (0, ''))
+        cell = drawings.drawing(plan.valve(10, 500, 0, 20))
+        self.assertEqual((self.folder / 'VLV.dgn').read_bytes(), cell)
+        script = 'import %s 400 800\ncopy 12 100 200\n' % self.path('VLV.dgn')
+        self.assertEqual((self.folder / 's.txt').read_text(), script)
+        self.assertIn('1734 bytes: %s written, which the script imports\n' % self.path('VLV.dgn'), said)
+        made = samples.Drawing(self.then(said), self.program)
+        self.assertEqual(made.data[1536:].count(plan.valve(10, 900, 800, 20)), 1)
+        self.assertEqual([it.points[0] for it in made.elements[12:] if it.type == 2], [(900, 800), (1000, 1000)])
+
+    def test_one_place_where_it_already_is(self) -> None:
+        self.put('p.csv', '500,0\n')
+        self.assertEqual(self.place()[0], 0)
+        self.assertEqual((self.folder / 's.txt').read_text(), 'import %s\n' % self.path('VLV.dgn'))
+
+    def test_the_script_can_be_run_where_it_was_written(self) -> None:
+        self.addCleanup(os.chdir, os.getcwd())
+        os.chdir(self.folder)
+        said = self.said('place', 'plan.dgn', 'VLV', 'p.csv', '--from', 'lib/library.dgn', '-o', 'lib/s.txt')
+        self.assertEqual((self.folder / 'lib/s.txt').read_text().split()[1], 'lib/VLV.dgn')
+        self.assertEqual(self.then(said), 'plan-out.dgn')
+
+    def test_a_dry_run(self) -> None:
+        said = self.place('--dry-run')[1]
+        self.assertIn('row 2: cell 4 VLV on level 10 to 1000,1000', said)
+        self.assertEqual(sorted(os.listdir(self.folder)), ['lib', 'p.csv', 'plan.dgn'])
+
+    def test_both_files_or_none(self) -> None:
+        for name in ('VLV.dgn', 's.txt'):
+            self.put(name, drawings.drawing() if name == 'VLV.dgn' else 'kept')
+            self.assertIn(name + ' already exists', self.refused('place', *self.words()))
+            os.unlink(self.path(name))
+        self.put('VLV.dgn', drawings.drawing())
+        self.assertEqual(self.place('--force')[0], 0)
+        # a library whose name the cell's drawing would have is no output
+        os.rename(self.library, self.path('VLV.dgn'))
+        self.library = self.path('VLV.dgn')
+        self.assertIn('is an input', self.refused('place', *self.words(), '--force'))
+
+    def words(self) -> List[str]:
+        return [self.sheet, 'VLV', self.places, '--from', self.library, '-o', self.path('s.txt')]
+
+    def test_what_can_not_be_done(self) -> None:
+        self.assertIn('--from needs -o SCRIPT', self.refused('place', *self.words()[:-2]))
+        self.assertIn('--from needs -o SCRIPT', self.refused('place', *self.words()[:-1], '/dev/stdout'))
+        metric = with_units(Path(self.sheet).read_bytes(), 100, 10, ('m', 'cm'), (0, 0, 0))
+        self.assertIn('different units', self.refused('place', self.put('m.dgn', metric), *self.words()[1:]))
+        solid = drawings.DRAWINGS['a line of three axes']
+        self.assertIn('has 2 dimensions', self.refused('place', self.put('solid.dgn', solid), *self.words()[1:]))
+        words = [*self.words()[:-1], self.path('VLV.dgn')]
+        self.assertIn('VLV.dgn is the name of the drawing that the script imports', self.refused('place', *words))
+        self.put('p.csv', '2147483640,0\n')
+        self.assertIn('it would leave the design plane', self.refused('place', *self.words()))
+        self.put('p.csv', '1,2\n')
+        inner = drawings.with_bit_c(plan.valve(10, 0, 0, 5)[:92])
+        inner = drawings.with_total(inner, (92 - 38) // 2)
+        self.put('lib/library.dgn', drawings.drawing(drawings.cell(inner)))
+        self.assertIn('is a member of another element', self.refused('place', *self.words()))
 
 
 if __name__ == '__main__':

@@ -153,7 +153,7 @@ class AsAProcess(samples.WithProgram):
             (['script', '--numbers', '-', 'color {n} 3'], feature, 'color 1 3\n'),
             (['place', valve, 'VLV', '-'], 'x,y\n500,9\n', 'copy 2 0 9\n'),
             (['draw', valve, '-', '--as', 'line'], 'x,y\n1,2\n3,4\n', 'line 1 0 0 0 1,2 3,4\n'),
-            (['lock', valve, 'lock.patch', '--numbers', '-', '--dry-run'], '1\n', '1 of 5 elements would change\n'),
+            (['lock', valve, 'lock.patch', '--numbers', '-', '--dry-run'], '1\n', '1 element would change\n'),
         ]:
             status, out, err = self.shell('exec "$@"', *words, given=given.encode('ascii'))
             self.assertEqual((status, out.startswith(wanted)), (0, True), (words, out, err))
@@ -297,7 +297,7 @@ class AsAProcess(samples.WithProgram):
             '    def find_spec(self, name, path, target=None):\n        if name == %r: raise %s\n'
             'sys.meta_path.insert(0, Stop())'
         )
-        for name in ('dgnkit.cli', 'dgnkit.waiting', 'dgnkit.commands.info', 'dgnkit.program.rows'):
+        for name in ('dgnkit.cli', 'dgnkit.waiting', 'dgnkit.commands.info', 'dgnkit.format.walking'):
             ran = self.begun_with(finder % (name, 'MemoryError'), 'info', self.example('valve.dgn'))
             self.assertEqual(ran, (2, '', 'dgnkit: there is not enough memory for it\n'), name)
             ran = self.begun_with(finder % (name, 'RecursionError'), 'info', self.example('valve.dgn'))

@@ -64,6 +64,12 @@ class Commands(samples.WithProgram):
         yield ['undelete', self.other, out, '--number', '2']
         yield ['geojson', self.plan, '-o', out]
 
+    def all_commands(self, out: str) -> Iterator[List[str]]:
+        """All of these, and the one that has a drawing made without a script."""
+        yield from self.drawings_made(out)
+        yield ['purge', self.other, out]
+        yield from self.commands(out)
+
     def files(self) -> Dict[str, bytes]:
         return {str(it.relative_to(self.folder)): it.read_bytes() for it in self.folder.rglob('*') if it.is_file()}
 
@@ -87,7 +93,7 @@ class Commands(samples.WithProgram):
 class Writing(Commands):
     def test_what_is_there_is_replaced_only_if_that_is_asked_for(self) -> None:
         out = self.path('old')
-        for words in [*self.drawings_made(out), *self.commands(out)]:
+        for words in self.all_commands(out):
             with self.subTest(word=words[0]):
                 Path(out).write_text('kept')
                 os.chmod(out, 0o640)
@@ -109,7 +115,7 @@ class Writing(Commands):
     def test_a_new_file_has_the_usual_mode(self) -> None:
         kept = os.umask(0o027)
         self.addCleanup(os.umask, kept)
-        for words in [*self.drawings_made(self.path('new')), *self.commands(self.path('new'))]:
+        for words in self.all_commands(self.path('new')):
             self.said(*words)
             self.assertEqual(stat.S_IMODE(os.stat(self.path('new')).st_mode), 0o640, words[0])
             for name in ('new', 'new.patch'):
@@ -142,6 +148,8 @@ class Writing(Commands):
         os.symlink(self.plan, self.path('link.dgn'))
         os.link(script, self.path('hard.txt'))
         before = self.files()
+        status, _, err = self.kit('purge', self.plan, self.path('link.dgn'), '--force')
+        self.assertEqual((status, "is an input, and isn't overwritten" in err), (2, True), err)
         for out in (self.plan, self.path('link.dgn'), script, self.path('hard.txt'), self.other):
             for word in ('run', 'why'):
                 status, _, err = self.kit(word, self.plan, script, out, '--force')
@@ -169,7 +177,7 @@ class Writing(Commands):
     def test_a_link_is_written_behind(self) -> None:
         (self.folder / 'far').mkdir()
         link = self.path('link')
-        for words in [*self.drawings_made(link), *self.commands(link)]:
+        for words in self.all_commands(link):
             os.symlink(self.path('far/made'), link)
             self.said(*words)
             self.assertTrue(os.path.islink(link), words[0])
@@ -179,7 +187,7 @@ class Writing(Commands):
             (self.folder / 'link.patch').unlink(missing_ok=True)
 
     def test_the_disk_has_the_file_before_it_gets_its_name(self) -> None:
-        for words in [*self.drawings_made(self.path('new')), *self.commands(self.path('new'))]:
+        for words in self.all_commands(self.path('new')):
             done: List[str] = []
 
             def sync(handle: int, done: List[str] = done) -> None:
@@ -204,7 +212,9 @@ class Writing(Commands):
         words = ['find', self.plan, '--level', '10', '--script', 'color {n} 3', '-o', '/dev/stdout']
         for line in ('"$@" > said', '"$@" | cat > said'):
             self.assertEqual(self.shell(line, *words)[0], 0)
-            self.assertTrue((self.folder / 'said').read_text().startswith(wanted + '/dev/stdout: '), line)
+            self.assertTrue(
+                (self.folder / 'said').read_text().startswith(wanted + '3 commands: /dev/stdout written'), line
+            )
         self.assertTrue(os.path.islink('/dev/stdout'))
         self.program.edit(self.plan, samples.Script.read(self.script), self.path('wanted.dgn'))
         for word in ('run', 'why'):
@@ -287,7 +297,7 @@ class Failing(Commands):
         self.assertEqual((status, 'file too large' in err), (2, True), err)
 
     def test_a_folder_that_may_not_be_written_to(self) -> None:
-        out, commands = self.path('old'), [*self.drawings_made(self.path('old')), *self.commands(self.path('old'))]
+        out, commands = self.path('old'), list(self.all_commands(self.path('old')))
         for words in commands:  # which loads what they need, also where another user may not read it
             self.said(*words)
             for name in ('old', 'old.patch'):

@@ -1,5 +1,5 @@
 """What stands beside the editor dgnedit: it finds, explains, mends and compares what drawings hold, and writes scripts
-and patch files. It never writes a drawing: dgnedit alone does."""
+and patch files. It never edits a drawing: dgnedit alone does."""
 
 from importlib import import_module
 from pkgutil import get_data

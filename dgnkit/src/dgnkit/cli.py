@@ -24,10 +24,10 @@ from .stopping import catch_signals
 if TYPE_CHECKING:
     Subparsers = argparse._SubParsersAction['Parser']
 
-NUMBERS = re.compile(r'^-[\d.][\d.,]*-?[\d.,]*$')
+NO_OPTION = re.compile(r'^-([\d.][\d.,]*-?[\d.,]*|[xy])$')
 ORDER = (
-    'info health find why run diff mend relevel retext rename lock unlock undelete draw text merge place each '
-    'geojson script page open help completion'
+    'info health find why run diff mend relevel retext rename lock unlock undelete draw text merge place each split '
+    'purge geojson script page open help completion'
 ).split()
 ABOUT = (
     'Finds elements in design files, explains, mends and compares them, and writes scripts and patch files, from which '
@@ -39,11 +39,12 @@ LONGEST = 700  # characters of a line that says why
 
 
 class Parser(argparse.ArgumentParser):
-    """A parser that says what is wrong in one line, and takes a place such as -5,3 for no option."""
+    """A parser that says what is wrong in one line, and takes a place such as -5,3 and an axis such as -x for no
+    option."""
 
     def __init__(self, *words: Any, **more: Any) -> None:
         super().__init__(*words, **more)
-        self._negative_number_matcher = NUMBERS
+        self._negative_number_matcher = NO_OPTION
 
     def _print_message(self, message: str, file: Any = None) -> None:
         """Says something, and keeps no failure of that to itself. Where a stream is closed there is none."""

@@ -12,7 +12,7 @@ import stat
 import sys
 import tempfile
 from dataclasses import dataclass
-from typing import Dict, Iterable, Iterator
+from typing import Collection, Dict, Iterable, Iterator
 
 from .errors import Mistake
 from .files import READ, STANDARD_INPUT, Name, front_of, handle_of, kind_of_stream, mistake_of
@@ -67,10 +67,10 @@ def write_file(path: Name, content: bytes, may_replace: bool) -> None:
     write_files({str(path): content}, may_replace)
 
 
-def write_files(contents: Dict[str, bytes], may_replace: bool) -> None:
-    """Writes files as above; where one can't be written, none is."""
+def write_files(contents: Dict[str, bytes], may_replace: bool, drawings: Collection[str] = ()) -> None:
+    """Writes files as above, of which some are drawings; where one can't be written, none is."""
     for path in contents:
-        ask_target(path, may_replace)
+        ask_target(path, may_replace, path in drawings)
     with contextlib.ExitStack() as stack:
         made = {path: stack.enter_context(_staged(path, [content])) for path, content in contents.items()}
         for path, name in made.items():

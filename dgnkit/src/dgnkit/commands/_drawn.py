@@ -56,9 +56,9 @@ def give(drawing: Drawing, scale: Scale, wishes: list[Wish], arguments: argparse
         say('nothing is written; without --dry-run the next command is: ' + next_command(drawing.path, steps))
     elif arguments.output:
         write_both(made, names, patch, arguments.force)
-        say('%s: %s' % (', '.join(names), counted(len(made.script.commands), 'command')))
+        say('%s: %s written' % (counted(len(made.script.commands), 'command'), ', '.join(names)))
         if made.patch is not None:
-            say('%s: %s' % (patch, counted(len(made.patch.entries), 'entry', 'entries')))
+            say('%s: %s written' % (counted(len(made.patch.entries), 'entry', 'entries'), patch))
         say('next: ' + next_command(drawing.path, steps))
     else:
         give_lines(made, names)

@@ -12,7 +12,7 @@ from ..drawing.nothing import nothing_said
 from ..drawing.options import add_conditions, has_conditions
 from ..errors import Mistake
 from ..explain.members import parts_said
-from ..output import counted, few, note, printable, say
+from ..output import counted, few, note, printable
 from ..propose.field_edits import FieldEdits
 from ..propose.writing import note_left, propose_patch
 from ._options import add_dry_run, add_force, target_of
@@ -26,14 +26,15 @@ TOLD = 8
 
 @dataclass(frozen=True)
 class Word:
-    """A command that edits a field: its name, what it does, how, whether it asks for a condition, and whether what
-    stands below a chosen header goes along."""
+    """A command that edits a field: its name, what it does, how, whether it asks for a condition, whether what stands
+    below a chosen header goes along, and whether it is what is marked deleted that is edited."""
 
     name: str
     text: str
     edit: Edit
     asks: bool = True
     takes_parts: bool = True
+    takes_deleted: bool = False
 
 
 def register_edit(words: Subparsers, word: Word) -> Parser:
@@ -53,14 +54,12 @@ def run_edit(arguments: argparse.Namespace, word: Word) -> int:
         raise Mistake('which elements? give at least one condition, such as --level 12')
     drawing = Drawing(arguments.drawing)
     conditions = Conditions(drawing, arguments)
-    numbers = taken(conditions, word.takes_parts)
+    numbers = taken(conditions, word)
     if not numbers:
         note(nothing_said(conditions))
-    made = word.edit(drawing, numbers, arguments)
+    made = word.edit(drawing, conditions.in_order(numbers), arguments)
     note_left(made.left)
     words = [printable(it.in_words()) for it in made.changes]
-    said = 'would change' if arguments.dry_run else 'changed'
-    say('%d of %s %s' % (len(made.changes), counted(len(drawing.elements), 'element'), said))
     propose_patch(drawing, made.changes, words, target_of(arguments, arguments.patch))
     return 0
 
@@ -71,20 +70,25 @@ def parts_of(drawing: Drawing, chosen: Sequence[int]) -> List[int]:
     return sorted({it for top in chosen for it in nesting.part(top) if it not in dead or top in dead})
 
 
-def taken(conditions: Conditions, takes_parts: bool) -> List[int]:
+def taken(conditions: Conditions, word: Word) -> List[int]:
     """The chosen elements, and what stands below them where parts are taken; with --trees all elements of the chosen
-    trees. What is marked deleted goes along with what is. It says what goes along, and what stays."""
+    trees. What is marked deleted goes along with what is, or where that is what is edited. It says what goes along, and
+    what stays."""
     drawing = conditions.drawing
     chosen = conditions.chosen()
-    if not takes_parts and not conditions.takes_trees:
+    if not word.takes_parts and not conditions.takes_trees:
         return chosen
     tell_broken(conditions, chosen)
-    below = set(parts_of(drawing, chosen))
-    more = sorted(below.difference(chosen))
+    parts = {it for top in chosen for it in drawing.nesting.part(top)}
+    below = parts if word.takes_deleted else set(parts_of(drawing, chosen))
+    more = sorted(it for it in below.difference(chosen) if drawing.elements[it].is_deleted or not word.takes_deleted)
     if conditions.takes_members:
         tell(more, 'not changed: %s of chosen headers', drawing)
         return chosen
-    tell(more, '%s will change with their header', drawing)
+    tell(more, '%s would change with their header', drawing)
+    left = sorted(parts - below)
+    if left:
+        note('not changed: %s marked deleted: %s' % (counted(len(left), 'member'), few(left)))
     for said in parts_said(drawing, chosen, TOLD):
         note(said + ', and the rest of its tree stays (--trees changes it too)')
     return sorted(below)
@@ -92,12 +96,14 @@ def taken(conditions: Conditions, takes_parts: bool) -> List[int]:
 
 def tell_broken(conditions: Conditions, chosen: Sequence[int]) -> None:
     """Says which chosen elements stand in broken trees: what belongs to these, as the rings of a parcel that GDAL
-    wrote, isn't known, and stays."""
-    roots = conditions.drawing.nesting.roots
-    broken = [it for it in chosen if roots[it] in conditions.broken_roots]
+    wrote, isn't known, and stays, but for the members that a chosen header has by its own total."""
+    nesting = conditions.drawing.nesting
+    broken = [it for it in chosen if nesting.roots[it] in conditions.broken_roots]
     if broken:
-        said = 'in broken trees only the chosen elements change, since it is not known what belongs to them'
-        note((said + ' (%s): run `dgnkit mend` first') % few(broken))
+        has_members = not conditions.takes_members and any(len(nesting.part(it)) > 1 for it in broken)
+        which = 'elements and the members below them' if has_members else 'elements'
+        said = 'in broken trees only the chosen %s would change, since it is not known what else belongs to them (%s)'
+        note((said + ': run `dgnkit mend` first') % (which, few(broken)))
 
 
 def tell(numbers: Sequence[int], what: str, drawing: Drawing) -> None:

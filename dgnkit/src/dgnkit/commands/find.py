@@ -69,9 +69,7 @@ def run(arguments: argparse.Namespace) -> int:
 
 def tell(conditions: Conditions, chosen: List[int], arguments: argparse.Namespace) -> None:
     """Says the chosen elements, the nearest to a place first."""
-    elements = conditions.drawing.elements
-    if conditions.nearness is not None:
-        chosen.sort(key=lambda it: (conditions.distance(it), it))
+    elements, chosen = conditions.drawing.elements, conditions.in_order(chosen)
     if arguments.json:
         say_json([row_of(conditions, elements[it]) for it in chosen])
     elif arguments.csv:

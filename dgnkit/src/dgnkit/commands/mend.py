@@ -57,7 +57,7 @@ def run(arguments: argparse.Namespace) -> int:
     for it in mending.left:
         note('not mended: %s: %s' % (described(it.element), it.why))
     if not arguments.json and not arguments.csv:
-        say('%s before, %d after' % (counted(before, 'broken tree'), after))
+        say('%s now, %d with the patch file' % (counted(before, 'broken tree'), after))
         propose_patch(drawing, mending.changes, [], target_of(arguments, arguments.patch))
     elif not arguments.dry_run:
         patch = patch_of(drawing, mending.changes)

@@ -14,7 +14,8 @@ if TYPE_CHECKING:
 
 
 def register(words: Subparsers) -> None:
-    parser = register_edit(words, Word('undelete', 'write a patch file that undeletes elements', edit))
+    word = Word('undelete', 'write a patch file that undeletes elements', edit, takes_deleted=True)
+    parser = register_edit(words, word)
     parser.set_defaults(deleted=True)
 
 

@@ -90,6 +90,11 @@ class Conditions:
         count = number_of(self.arguments.nearest, 'number of elements', ELEMENTS_MOST)
         return sorted(sorted(found, key=lambda it: (self.distance(it), it))[:count])
 
+    def in_order(self, numbers: Iterable[int]) -> List[int]:
+        """Elements in the order in which they are listed: the nearest first where a place was asked for, else by their
+        numbers."""
+        return sorted(numbers, key=lambda it: (0 if self.nearness is None else self.distance(it), it))
+
     def distance(self, number: int) -> float:
         """How far from the place of --near an element is, in units of resolution."""
         assert self.nearness is not None

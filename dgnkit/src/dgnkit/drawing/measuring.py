@@ -127,10 +127,15 @@ def level_of(drawing: Drawing, number: int) -> int:
     at = number
     while parents[at] >= 0 and (levels[at] == 0 or types[parents[at]] in classes.JOINED):
         at = parents[at]
-    if levels[at] == 0 and types[at] in classes.JOINED:
-        below = (levels[it] for it in drawing.nesting.part(at) if levels[it] and it not in drawing.dead)
-        return next(below, 0)
-    return levels[at]
+    return level_of_tree(drawing, at) if types[at] in classes.JOINED else levels[at]
+
+
+def level_of_tree(drawing: Drawing, number: int) -> int:
+    """The level that an element counts on with all below it: its own, or where that is 0 that of its first member that
+    has another one, 0 where none has."""
+    levels = drawing.elements.levels
+    below = (levels[it] for it in drawing.nesting.part(number) if levels[it] and it not in drawing.dead)
+    return levels[number] or next(below, 0)
 
 
 def length_of(points: Sequence[Point]) -> float:

@@ -124,14 +124,19 @@ def retext(drawing: Drawing, numbers: Sequence[int], wanted: Replacement) -> Fie
         new = None if old is None else replaced(wanted, old)
         if new is None or new == old or not may_edit(made, element):
             continue
-        spelled, length = spelled_as(drawing, wanted, element, new), len(element.characters or b'')
-        if len(spelled) > length:
-            made.leave(element, 'the new text is longer than the old one')
-        elif not spelled:
-            made.leave(element, 'nothing would be left of the text; delete it instead')
-        else:
-            _put_text(made, element, spelled, new)
+        exchange(made, drawing, element, new, wanted.encoding)
     return made
+
+
+def exchange(made: FieldEdits, drawing: Drawing, element: Element, new: str, encoding: Optional[str]) -> None:
+    """Gives a text other characters, or leaves it out where there are too many of these, or none."""
+    spelled = spelled_as(drawing, encoding, element, new)
+    if len(spelled) > len(element.characters or b''):
+        made.leave(element, 'the new text is longer than the old one')
+    elif not spelled:
+        made.leave(element, 'nothing would be left of the text; delete it instead')
+    else:
+        _put_text(made, element, spelled, new)
 
 
 def _put_text(made: FieldEdits, element: Element, spelled: bytes, new: str) -> None:
@@ -150,12 +155,12 @@ def replaced(wanted: Replacement, old: str) -> str:
         raise Mistake("%r can't replace what the pattern finds: %s" % (wanted.new, why))
 
 
-def spelled_as(drawing: Drawing, wanted: Replacement, element: Element, text: str) -> bytes:
+def spelled_as(drawing: Drawing, wanted: Optional[str], element: Element, text: str) -> bytes:
     """The bytes of a text. Signs beyond ASCII are spelled as the element's old ones are, or else in the encoding that
     is given, or else as in other texts. It raises Mistake where none of these is, or a sign can't be spelled so."""
     if text.isascii():
         return text.encode('ascii')
-    encoding = encoding_of([element]) or wanted.encoding or encoding_of(drawing.elements)
+    encoding = encoding_of([element]) or wanted or encoding_of(drawing.elements)
     if encoding is None:
         raise Mistake(
             '%r has characters beyond ASCII: name their encoding with --encoding, such as utf-8 or latin-1' % text

@@ -37,9 +37,7 @@ class Merge:
 
 def merge_of(first: Drawing, other: Drawing) -> Merge:
     """How another drawing comes into the first. It raises Mistake where the axes or the units are others."""
-    if first.axes != other.axes:
-        raise Mistake('%s has %d dimensions, and %s has %d' % (other.path, other.axes, first.path, first.axes))
-    ask_units(first, other)
+    ask_alike(first, other)
     exact = [one - two for one, two in zip(first.units.origin, other.units.origin)][: first.axes]
     shift = tuple(rounded(it) for it in exact)
     if any(abs(it) > FARTHEST for it in shift):
@@ -52,8 +50,10 @@ def merge_of(first: Drawing, other: Drawing) -> Merge:
     return Merge(other, shift, any(it.denominator != 1 for it in exact), taken, broken, deleted)
 
 
-def ask_units(first: Drawing, other: Drawing) -> None:
-    """It raises Mistake where a unit of resolution isn't the same in both."""
+def ask_alike(first: Drawing, other: Drawing) -> None:
+    """It raises Mistake where the axes or a unit of resolution aren't the same in both."""
+    if first.axes != other.axes:
+        raise Mistake('%s has %d dimensions, and %s has %d' % (other.path, other.axes, first.path, first.axes))
     if not same_units(first.units, other.units):
         said = '%s and %s have different units. %s: %s. %s: %s'
         names = other.path, first.path
@@ -79,7 +79,7 @@ def _resolution_metres(units: Units) -> Optional[Fraction]:
 def words_of(first: Drawing, merge: Merge) -> List[str]:
     """What an import does, in words."""
     other, units = merge.drawing, first.units
-    said = ['%s: %s' % (other.path, counted(len(merge.taken), 'tree is', 'trees are') + ' imported')]
+    said = ['%s: %s' % (other.path, counted(len(merge.taken), 'tree') + ' would be imported')]
     if any(merge.shift):
         said.append('  moved %s, since the global origins differ' % units.shift_said(merge.shift))
     else:

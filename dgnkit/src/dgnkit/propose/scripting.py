@@ -5,7 +5,8 @@ from __future__ import annotations
 import os
 import tempfile
 from dataclasses import dataclass, field
-from typing import Iterable, List, Sequence, Tuple
+from types import MappingProxyType
+from typing import Iterable, List, Mapping, Sequence, Tuple
 
 from ..drawing.drawing import Drawing
 from ..errors import BadScript, Mistake
@@ -119,7 +120,7 @@ def note_proposal(drawing: Drawing, made: Proposal) -> None:
         note(said)
     if made.along:
         header = 'its header' if len(made.along) == 1 else 'their headers'
-        note('%s will change with %s: %s' % (counted(len(made.along), 'member'), header, few(made.along)))
+        note('%s would change with %s: %s' % (counted(len(made.along), 'member'), header, few(made.along)))
 
 
 def give_proposal(drawing: Drawing, made: Proposal, target: Target) -> None:
@@ -129,17 +130,25 @@ def give_proposal(drawing: Drawing, made: Proposal, target: Target) -> None:
     give_script(drawing.path, made.script, words, target)
 
 
-def give_script(drawing: str, script: Script, words: Iterable[str], target: Target) -> None:
-    """Writes a script, or says it where no file is named; a dry run says its edits in words. What is to be run next is
-    said at the end."""
+def give_script(
+    drawing: str,
+    script: Script,
+    words: Iterable[str],
+    target: Target,
+    imported: Mapping[str, bytes] = MappingProxyType({}),
+) -> None:
+    """Writes a script, with the drawings that are made for it, or says it where no file is named; a dry run says its
+    edits in words. What is to be run next is said at the end."""
     names = script_names(script, target.path or 'SCRIPT')
     if target.is_dry:
         for line in words:
             say(line)
         say('nothing is written; without --dry-run the next command is: ' + next_command(drawing, names))
     elif target.path:
-        write_script(script, target)
-        say('%s: %s' % (', '.join(names), counted(len(script.commands), 'command')))
+        write_script(script, target, imported)
+        for name, content in imported.items():
+            say('%s: %s written, which the script imports' % (counted(len(content), 'byte'), name))
+        say('%s: %s written' % (counted(len(script.commands), 'command'), ', '.join(names)))
         say('next: ' + next_command(drawing, names))
     elif len(names) > 1 or not script.text.isascii():
         why = 'is longer than dgnedit reads' if len(names) > 1 else 'has characters beyond ASCII'

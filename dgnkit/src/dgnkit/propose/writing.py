@@ -5,7 +5,8 @@ from __future__ import annotations
 import os
 import tempfile
 from pathlib import Path
-from typing import List, Sequence
+from types import MappingProxyType
+from typing import List, Mapping, Sequence
 
 from ..drawing.changes import Change
 from ..drawing.drawing import Drawing
@@ -30,6 +31,7 @@ def propose_patch(drawing: Drawing, changes: Sequence[Change], words: Sequence[s
     says it alone."""
     patch = patch_of(drawing, changes)
     if target.is_dry:
+        say('%s would change' % counted(len(changes), 'element'))
         for line in words:
             say(line)
         say(
@@ -39,7 +41,7 @@ def propose_patch(drawing: Drawing, changes: Sequence[Change], words: Sequence[s
         return
     applied(drawing, patch, changes)
     write_file(target.path, patch.to_bytes(), target.may_replace)
-    say('%s: %s' % (target.path, counted(len(patch.entries), 'entry', 'entries')))
+    say('%s would change: %s written' % (counted(len(changes), 'element'), target.path))
     say('next: ' + next_command(drawing.path, [target.path]))
 
 
@@ -67,11 +69,12 @@ def script_names(script: Script, path: str) -> List[str]:
     return names if count > 1 else [path]
 
 
-def write_script(script: Script, target: Target) -> List[str]:
-    """Writes a script in as many files as the program reads, and gives their names."""
+def write_script(script: Script, target: Target, imported: Mapping[str, bytes] = MappingProxyType({})) -> List[str]:
+    """Writes a script in as many files as the program reads, and the drawings that it imports where they are made for
+    it, and gives the names of the script's files."""
     names = script_names(script, target.path)
     contents = {name: part.text for name, part in zip(names, script.parts() or [script])}
-    write_files(contents, target.may_replace)
+    write_files({**imported, **contents}, target.may_replace, imported)
     return names
 
 
