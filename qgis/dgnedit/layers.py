@@ -8,6 +8,7 @@ from typing import Iterator, List, Optional, Sequence
 from dgnkit.drawing.drawing import Drawing
 from qgis.core import (
     QgsCoordinateReferenceSystem,
+    QgsLayerTreeGroup,
     QgsMapLayer,
     QgsProject,
     QgsRectangle,
@@ -32,10 +33,21 @@ class Known:
 
 
 def add_to_project(project: QgsProject, written: Written) -> List[QgsVectorLayer]:
-    """Adds a group for a drawing, on top of all, and gives its layers."""
+    """Adds a group for a drawing, on top of all, and gives its layers. Where that fails nothing of it is left."""
     group = project.layerTreeRoot().insertGroup(0, Path(written.drawing).name)
-    group.setCustomProperty(DRAWING, written.drawing)
     made: List[QgsVectorLayer] = []
+    try:
+        fill_group(project, group, written, made)
+    except BaseException:
+        project.removeMapLayers([it.id() for it in made])
+        project.layerTreeRoot().removeChildNode(group)
+        raise
+    return made
+
+
+def fill_group(project: QgsProject, group: QgsLayerTreeGroup, written: Written, made: List[QgsVectorLayer]) -> None:
+    """Adds the layers of a drawing to its group, by level, and to a list."""
+    group.setCustomProperty(DRAWING, written.drawing)
     for level in sorted({level for level, _ in written.styles}):
         below = group.addGroup('level %d' % level)
         for kind in KINDS:
@@ -45,7 +57,6 @@ def add_to_project(project: QgsProject, written: Written) -> List[QgsVectorLayer
                 below.addLayer(layer).setExpanded(False)
                 made.append(layer)
         below.setExpanded(False)
-    return made
 
 
 def layer_of(written: Written, level: int, kind: str) -> QgsVectorLayer:
@@ -74,6 +85,11 @@ def drawing_layers(project: Optional[QgsProject]) -> Iterator[QgsVectorLayer]:
 def is_of_drawing(layer: QgsMapLayer) -> bool:
     """Whether a layer is one of a drawing."""
     return isinstance(layer, QgsVectorLayer) and bool(layer.customProperty(DRAWING))
+
+
+def package_of(layer: QgsVectorLayer) -> str:
+    """The GeoPackage of a layer."""
+    return str(layer.source()).split('|')[0]
 
 
 def known_drawings(project: Optional[QgsProject]) -> List[Known]:
@@ -110,9 +126,8 @@ def hide_drawing(project: QgsProject, path: str) -> None:
 
 
 def extent_of(layers: List[QgsVectorLayer]) -> QgsRectangle:
-    """The least box that holds layers."""
-    made = QgsRectangle()
-    made.setMinimal()
-    for layer in layers:
+    """The least box that holds layers, of which there is one."""
+    made = QgsRectangle(layers[0].extent())
+    for layer in layers[1:]:
         made.combineExtentWith(layer.extent())
     return made

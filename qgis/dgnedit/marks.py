@@ -6,6 +6,7 @@ from dgnkit.drawing.drawing import Drawing
 from dgnkit.format.numbers import Point
 from dgnkit.format.places import Scale
 from qgis.core import (
+    Qgis,
     QgsAction,
     QgsAttributeTableConfig,
     QgsFeature,
@@ -23,14 +24,18 @@ from qgis.core import (
     QgsVectorLayer,
     QgsWkbTypes,
 )
-from qgis.PyQt.QtCore import QVariant
+from qgis.PyQt.QtCore import QMetaType, QVariant
 
 from .calls import Call
 from .opening import Wishes
 from .styles import dress_marks
 
 Row = Sequence[Any]
-TYPES = {int: QVariant.Int, str: QVariant.String, bool: QVariant.Bool, float: QVariant.Double}
+# The types of fields, which are those of QMetaType from QGIS 3.38 on.
+if Qgis.QGIS_VERSION_INT >= 33800:
+    TYPES = {int: QMetaType.Type.Int, str: QMetaType.Type.QString, bool: QMetaType.Type.Bool}
+else:
+    TYPES = {int: QVariant.Type.Int, str: QVariant.Type.String, bool: QVariant.Type.Bool}
 SHARE = 0.002  # how much of the drawing a box is wider on each side than its element
 WIDE = {'is': 240, 'command': 200, 'changes': 160, 'finding': 780, 'why': 780, 'words': 480}  # pixels
 ZOOM = (
@@ -42,7 +47,7 @@ ZOOM = (
 
 def sink_parameter(name: str, said: str) -> QgsProcessingParameterFeatureSink:
     """The parameter of such a table."""
-    return QgsProcessingParameterFeatureSink(name, said, QgsProcessing.TypeVectorPolygon, None, True)
+    return QgsProcessingParameterFeatureSink(name, said, QgsProcessing.SourceType.TypeVectorPolygon, None, True)
 
 
 class Boxes:
@@ -80,7 +85,7 @@ class Marks:
         self.sink, self.id = None, ''
         if call.algorithm.parameterDefinition(name) is not None:
             self.sink, self.id = call.algorithm.parameterAsSink(
-                call.parameters, name, call.context, self.made, QgsWkbTypes.Polygon, wishes.system
+                call.parameters, name, call.context, self.made, QgsWkbTypes.Type.Polygon, wishes.system
             )
         if self.id and call.context.willLoadLayerOnCompletion(self.id):
             after = Dress()
@@ -96,7 +101,7 @@ class Marks:
             feature.setAttributes(list(row))
             if box is not None:
                 feature.setGeometry(box)
-            self.sink.addFeature(feature, QgsFeatureSink.FastInsert)
+            self.sink.addFeature(feature, QgsFeatureSink.Flag.FastInsert)
 
     def do_not_load(self, call: Call) -> None:
         """Keeps the table from being added to the project."""
@@ -125,17 +130,17 @@ KEPT: List[Dress] = []  # what QGIS keeps no reference to until it is called
 
 def add_zoom(layer: QgsVectorLayer) -> None:
     """Adds the button."""
-    action = QgsAction(QgsAction.GenericPython, 'Zoom to it', ZOOM, False)
+    action = QgsAction(QgsAction.ActionType.GenericPython, 'Zoom to it', ZOOM, False)
     action.setActionScopes({'Feature', 'Canvas'})
     layer.actions().addAction(action)
     config = layer.attributeTableConfig()
     config.update(layer.fields())
     config.setActionWidgetVisible(True)
-    config.setActionWidgetStyle(QgsAttributeTableConfig.ButtonList)
+    config.setActionWidgetStyle(QgsAttributeTableConfig.ActionWidgetStyle.ButtonList)
     # the button first, where it is seen however wide the table is
     columns = config.columns()
-    buttons = [it for it in columns if it.type == QgsAttributeTableConfig.Action]
-    config.setColumns([*buttons, *(it for it in columns if it.type != QgsAttributeTableConfig.Action)])
+    buttons = [it for it in columns if it.type == QgsAttributeTableConfig.Type.Action]
+    config.setColumns([*buttons, *(it for it in columns if it.type != QgsAttributeTableConfig.Type.Action)])
     for index, column in enumerate(config.columns()):
         if column.name in WIDE:
             config.setColumnWidth(index, WIDE[column.name])

@@ -67,7 +67,7 @@ def write_layers(drawing: Drawing, package: str, wishes: Wishes, tell: Callable[
             made.put(kind, rows.geometry(placed), rows.values(placed))
             written.counts[kind] += 1
             written.styles.setdefault((placed.level, kind), set()).add(placed.look.style)
-        made.close('level')
+        made.close('level', written.digest)
     except BaseException:
         made.drop()
         raise

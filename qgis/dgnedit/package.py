@@ -4,8 +4,10 @@ may be a million."""
 import os
 import sqlite3
 import struct
+import tempfile
 from contextlib import closing
 from typing import Any, Dict, List, Optional, Sequence, Tuple
+from urllib.parse import quote
 
 from dgnkit.errors import Mistake
 from osgeo import gdal, ogr, osr
@@ -17,23 +19,23 @@ LITTLE = 1  # the flag that numbers have their low byte first
 MANY = 4096  # so many rows are put in at once
 Field = Tuple[str, int, int]  # a name, a type and a subtype of GDAL
 BESIDE = ('-wal', '-shm', '-journal')  # what SQLite may leave beside a file
+MARK = 'layers of a design file by dgnedit, SHA-256 '  # how the tables of a drawing are described, with its digest
 
 
 class Package:
-    """A GeoPackage that is written."""
+    """A GeoPackage that is written, beside its place, to which it comes when it is whole."""
 
     def __init__(
         self, path: str, system: QgsCoordinateReferenceSystem, tables: Dict[str, int], fields: Sequence[Field]
     ) -> None:
-        """Makes it, in the place of one that is there, with these tables by their types of geometry. It raises Mistake
-        where it can't be made."""
+        """Makes it with these tables by their types of geometry. It raises Mistake where it can't be made."""
         self.path, self.tables = path, list(tables)
         self.rows: Dict[str, List[Tuple[Any, ...]]] = {name: [] for name in tables}
         self.is_open = False
-        remove_package(path)
+        self.made = name_beside(path)
         try:
-            make_tables(path, system, tables, fields)
-            self.base = sqlite3.connect(path, isolation_level=None)
+            make_tables(self.made, system, tables, fields)
+            self.base = sqlite3.connect(self.made, isolation_level=None)
             self.is_open = True
             self.fronts = {name: FRONT.pack(b'GP', 0, LITTLE, self.system_of(name)) for name in tables}
             for order in ('PRAGMA synchronous = OFF', 'PRAGMA journal_mode = MEMORY', 'BEGIN'):
@@ -69,25 +71,33 @@ class Package:
             raise self.mistake(why)
         self.rows[table].clear()
 
-    def close(self, indexed: str) -> None:
-        """Writes what waits, and makes an index of the places of each table and one of a field."""
+    def close(self, indexed: str, digest: str) -> None:
+        """Writes what waits, makes an index of the places of each table and one of a field, marks it as that of a
+        drawing, and puts it in its place."""
         for table in self.tables:
             self.flush(table)
         try:
             for table in self.tables:
                 self.base.execute('CREATE INDEX "%s_%s" ON "%s" ("%s")' % (table, indexed, table, indexed))
+            self.base.execute('UPDATE gpkg_contents SET description = ?', (MARK + digest,))
             self.base.execute('COMMIT')
         except sqlite3.Error as why:
             raise self.mistake(why)
         self.base.close()
         self.is_open = False
-        make_indexes(self.path, self.tables)
+        make_indexes(self.made, self.tables)
+        try:
+            os.replace(self.made, self.path)
+        except OSError as why:
+            raise self.mistake(why)
 
     def drop(self) -> None:
-        """Leaves nothing of it."""
+        """Leaves nothing of it; what was in its place stays."""
         if self.is_open:
             self.base.close()
-        remove_package(self.path)
+        for name in (self.made, *(self.made + it for it in BESIDE)):
+            if os.path.exists(name):
+                os.remove(name)
 
 
 def make_tables(
@@ -117,17 +127,62 @@ def make_indexes(path: str, tables: Sequence[str]) -> None:
         source.ExecuteSQL("SELECT CreateSpatialIndex('%s', '%s')" % (name, GEOMETRY))
 
 
-def remove_package(path: str) -> None:
-    """Removes a GeoPackage, and what SQLite keeps beside it. It raises Mistake where another file has its name."""
-    if os.path.exists(path):
-        with closing(open(path, 'rb')) as file:
-            front = file.read(16)
-        if front and not front.startswith(b'SQLite format 3'):
-            raise Mistake("%s exists and isn't a GeoPackage, so it isn't overwritten" % path)
-        os.remove(path)
-    for more in BESIDE:
-        if os.path.exists(path + more):
-            os.remove(path + more)
+def name_beside(path: str) -> str:
+    """A name that isn't there yet, in the folder of a file. It raises Mistake where none can be made there."""
+    try:
+        handle, name = tempfile.mkstemp(prefix='.dgnedit-', suffix='.gpkg', dir=os.path.dirname(os.path.abspath(path)))
+    except OSError as why:
+        raise Mistake("%s can't be written: %s" % (path, why.strerror or why))
+    os.close(handle)
+    os.remove(name)
+    return name
+
+
+def digest_in(path: str) -> str:
+    """The digest of the drawing whose layers a GeoPackage holds, nothing where it isn't one of this plugin's."""
+    order = "SELECT DISTINCT description FROM gpkg_contents WHERE data_type = 'features'"
+    try:
+        with closing(sqlite3.connect('file:%s?mode=ro' % quote(path), uri=True)) as base:
+            found = [str(it[0]) for it in base.execute(order)]
+    except sqlite3.Error:
+        return ''
+    return found[0][len(MARK) :] if len(found) == 1 and found[0].startswith(MARK) else ''
+
+
+def ask_package(path: str, may_replace: bool) -> None:
+    """It raises Mistake where a GeoPackage may not be written: a file is there that this plugin hasn't written, or that
+    isn't to be replaced, or that a program has open."""
+    if not os.path.lexists(path):
+        return
+    if os.path.isdir(path):
+        raise Mistake("%s can't be written: it is a folder" % path)
+    if os.path.getsize(path) == 0:
+        return
+    if not is_database(path) or (not is_locked(path) and not digest_in(path)):
+        raise Mistake("%s wasn't written by this plugin, so it isn't replaced: name another file" % path)
+    if not may_replace:
+        raise Mistake("%s already exists: name another file, or allow that it is replaced" % path)
+    if is_locked(path):
+        raise Mistake("%s is open in another program: close it there, or name another file" % path)
+
+
+def is_database(path: str) -> bool:
+    """Whether a file is a database of SQLite."""
+    with open(path, 'rb') as file:
+        return file.read(16).startswith(b'SQLite format 3')
+
+
+def is_locked(path: str) -> bool:
+    """Whether a program has a GeoPackage open."""
+    if any(os.path.exists(path + it) for it in BESIDE):
+        return True
+    try:
+        with closing(sqlite3.connect(path, timeout=0, isolation_level=None)) as base:
+            base.execute('BEGIN EXCLUSIVE')
+            base.execute('ROLLBACK')
+    except sqlite3.Error:
+        return True
+    return False
 
 
 def reference_of(system: QgsCoordinateReferenceSystem) -> Optional[Any]:
@@ -135,5 +190,5 @@ def reference_of(system: QgsCoordinateReferenceSystem) -> Optional[Any]:
     if not system.isValid():
         return None
     made = osr.SpatialReference()
-    made.ImportFromWkt(system.toWkt(QgsCoordinateReferenceSystem.WKT_PREFERRED_GDAL))
+    made.ImportFromWkt(system.toWkt(QgsCoordinateReferenceSystem.WktVariant.WKT_PREFERRED_GDAL))
     return made

@@ -14,8 +14,9 @@ from dgnkit.format.limits import ELEMENTS_MOST
 from qgis.core import QgsFeatureRequest, QgsProcessingFeatureSource, QgsProject, QgsVectorLayer
 
 from .calls import Call
-from .layers import DIGEST, DRAWING, drawing_layers, is_of_drawing
+from .layers import DIGEST, DRAWING, drawing_layers, is_of_drawing, package_of
 from .opening import digest_of
+from .package import digest_in
 
 FIELD = 'number'
 ASKED = ('type', 'level')  # fields of a row that have to be those of its element
@@ -23,12 +24,14 @@ ASKED = ('type', 'level')  # fields of a row that have to be those of its elemen
 
 @dataclass
 class Selected:
-    """The elements that are selected in a layer, and the drawing that it was opened from, with its digest."""
+    """The elements that are selected in a layer, and the drawing that it was opened from, with its digest, and that of
+    the drawing which its GeoPackage holds now."""
 
     layer: str
     drawing: str
     digest: str
     numbers: List[int]
+    held: str
 
 
 @dataclass
@@ -50,10 +53,11 @@ def selected_in(call: Call, layers: Sequence[Any]) -> List[Selected]:
 
 def selected_of(layer: QgsVectorLayer) -> Selected:
     """What is selected in a layer."""
-    request = QgsFeatureRequest().setFlags(QgsFeatureRequest.NoGeometry)
+    request = QgsFeatureRequest().setFlags(QgsFeatureRequest.Flag.NoGeometry)
     request.setSubsetOfAttributes([FIELD], layer.fields())
     numbers = [int(it[FIELD]) for it in layer.getSelectedFeatures(request)]
-    return Selected(layer.name(), str(layer.customProperty(DRAWING)), str(layer.customProperty(DIGEST)), numbers)
+    drawing, digest = (str(layer.customProperty(it)) for it in (DRAWING, DIGEST))
+    return Selected(layer.name(), drawing, digest, numbers, digest_in(package_of(layer)) if numbers else '')
 
 
 def drawing_of(selected: Sequence[Selected]) -> str:
@@ -68,6 +72,9 @@ def ask_same(drawing: Drawing, selected: Sequence[Selected]) -> None:
     """It raises Mistake where a layer wasn't opened from this drawing, as it is."""
     digest = digest_of(drawing)
     for it in selected:
+        if it.held != it.digest:
+            said = 'The file of the layer %s has been written anew, so it may show other elements: open %s again.'
+            raise Mistake(said % (it.layer, it.drawing))
         if it.digest == digest:
             continue
         if it.drawing == os.path.abspath(drawing.path):
@@ -85,7 +92,7 @@ def rows_of(source: Optional[QgsProcessingFeatureSource]) -> List[Row]:
         said = 'The table has no field %r with the numbers of elements: there are %s'
         raise Mistake(said % (FIELD, ', '.join(names)))
     there = [it for it in ASKED if it in names]
-    request = QgsFeatureRequest().setFlags(QgsFeatureRequest.NoGeometry)
+    request = QgsFeatureRequest().setFlags(QgsFeatureRequest.Flag.NoGeometry)
     made = []
     for feature in source.getFeatures(request):
         number = whole(feature[FIELD])
@@ -164,9 +171,11 @@ def move_selection(project: QgsProject, old: str, new: str, numbers: Sequence[in
             select(layer, numbers)
 
 
-def select(layer: QgsVectorLayer, numbers: Sequence[int], method: Any = QgsVectorLayer.SetSelection) -> None:
+def select(
+    layer: QgsVectorLayer, numbers: Sequence[int], method: Any = QgsVectorLayer.SelectBehavior.SetSelection
+) -> None:
     """Selects the features that stand for some elements."""
-    request = QgsFeatureRequest().setFlags(QgsFeatureRequest.NoGeometry)
+    request = QgsFeatureRequest().setFlags(QgsFeatureRequest.Flag.NoGeometry)
     request.setSubsetOfAttributes(['number', 'last'], layer.fields())
     found = []
     for feature in layer.getFeatures(request):

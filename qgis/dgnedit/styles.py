@@ -77,15 +77,15 @@ def by_style(kind: str, styles: List[int]) -> QgsFeatureRenderer:
 def symbol_of(kind: str, style: int) -> QgsSymbol:
     """The line, or the outline, of a style."""
     pen = QgsSimpleLineSymbolLayer()
-    pen.setWidthUnit(QgsUnitTypes.RenderMillimeters)
-    pen.setDataDefinedProperty(QgsSymbolLayer.PropertyStrokeColor, QgsProperty.fromExpression(COLOUR))
-    pen.setDataDefinedProperty(QgsSymbolLayer.PropertyStrokeWidth, QgsProperty.fromExpression(WIDTH))
+    pen.setWidthUnit(QgsUnitTypes.RenderUnit.RenderMillimeters)
+    pen.setDataDefinedProperty(QgsSymbolLayer.Property.PropertyStrokeColor, QgsProperty.fromExpression(COLOUR))
+    pen.setDataDefinedProperty(QgsSymbolLayer.Property.PropertyStrokeWidth, QgsProperty.fromExpression(WIDTH))
     dashes = DASHES[style] if kind != 'ranges' else [0.5, 1.5]
     if dashes:
         pen.setUseCustomDashPattern(True)
-        pen.setCustomDashPatternUnit(QgsUnitTypes.RenderMillimeters)
+        pen.setCustomDashPatternUnit(QgsUnitTypes.RenderUnit.RenderMillimeters)
         pen.setCustomDashVector(dashes)
-        pen.setPenCapStyle(Qt.FlatCap)
+        pen.setPenCapStyle(Qt.PenCapStyle.FlatCap)
     return drawn_by(QgsLineSymbol() if kind == 'lines' else QgsFillSymbol(), pen)
 
 
@@ -99,14 +99,14 @@ def drawn_by(symbol: QgsSymbol, layer: QgsSymbolLayer) -> QgsSymbol:
 def marker() -> QgsSymbol:
     """A cross for an origin, and a dot, by its weight, for a line of one place."""
     dot = QgsSimpleMarkerSymbolLayer()
-    dot.setSizeUnit(QgsUnitTypes.RenderMillimeters)
+    dot.setSizeUnit(QgsUnitTypes.RenderUnit.RenderMillimeters)
     shape = "if(%s, 'cross2', 'circle')" % HEADERS
     size = 'if(%s, 1.8, 0.5 + 0.3 * "weight")' % HEADERS
     for name, expression in (
-        (QgsSymbolLayer.PropertyName, shape),
-        (QgsSymbolLayer.PropertySize, size),
-        (QgsSymbolLayer.PropertyFillColor, COLOUR),
-        (QgsSymbolLayer.PropertyStrokeColor, COLOUR),
+        (QgsSymbolLayer.Property.PropertyName, shape),
+        (QgsSymbolLayer.Property.PropertySize, size),
+        (QgsSymbolLayer.Property.PropertyFillColor, COLOUR),
+        (QgsSymbolLayer.Property.PropertyStrokeColor, COLOUR),
     ):
         dot.setDataDefinedProperty(name, QgsProperty.fromExpression(expression))
     return drawn_by(QgsMarkerSymbol(), dot)
@@ -115,26 +115,26 @@ def marker() -> QgsSymbol:
 def label_settings() -> QgsPalLayerSettings:
     """Labels that stand with their base line at the text's origin, all of them, as high as the text is."""
     form = QgsTextFormat()
-    form.setSizeUnit(QgsUnitTypes.RenderMapUnits)
+    form.setSizeUnit(QgsUnitTypes.RenderUnit.RenderMapUnits)
     form.setSize(1)
     made = QgsPalLayerSettings()
     made.fieldName = 'text'
     made.setFormat(form)
-    made.placement = QgsPalLayerSettings.OverPoint
+    made.placement = QgsPalLayerSettings.Placement.OverPoint
     made.displayAll = True
     made.obstacle = False
     made.scaleVisibility = False
     made.fontLimitPixelSize = False
-    made.upsidedownLabels = QgsPalLayerSettings.ShowAll
+    made.upsidedownLabels = QgsPalLayerSettings.UpsideDownLabels.ShowAll
     values = made.dataDefinedProperties()
     for name, expression in (
-        (QgsPalLayerSettings.Size, '"height" / %s' % CAPITAL),
-        (QgsPalLayerSettings.Color, COLOUR),
-        (QgsPalLayerSettings.PositionX, '$x'),
-        (QgsPalLayerSettings.PositionY, '$y'),
-        (QgsPalLayerSettings.Hali, "'Left'"),
-        (QgsPalLayerSettings.Vali, "'Base'"),
-        (QgsPalLayerSettings.LabelRotation, '-"angle"'),
+        (QgsPalLayerSettings.Property.Size, '"height" / %s' % CAPITAL),
+        (QgsPalLayerSettings.Property.Color, COLOUR),
+        (QgsPalLayerSettings.Property.PositionX, '$x'),
+        (QgsPalLayerSettings.Property.PositionY, '$y'),
+        (QgsPalLayerSettings.Property.Hali, "'Left'"),
+        (QgsPalLayerSettings.Property.Vali, "'Base'"),
+        (QgsPalLayerSettings.Property.LabelRotation, '-"angle"'),
     ):
         values.setProperty(name, QgsProperty.fromExpression(expression))
     made.setDataDefinedProperties(values)

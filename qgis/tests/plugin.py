@@ -58,11 +58,15 @@ class Feedback(QgsProcessingFeedback):
         self.lines: List[str] = []
         self.warnings: List[str] = []
         self.shares: List[float] = []
+        self.errors: List[str] = []
         self.stop_at = stop_at
         self.progressChanged.connect(self.shares.append)
 
     def pushInfo(self, info: str) -> None:
         self.lines.append(info)
+
+    def reportError(self, error: str, fatalError: bool = False) -> None:
+        self.errors.append(error)
 
     def pushWarning(self, warning: str) -> None:
         self.warnings.append(warning)
@@ -105,7 +109,9 @@ class InQgis(samples.WithProgram):
         raise AssertionError('%s was done' % name)
 
     def open(self, drawing: str, **more: Any) -> Dict[str, Any]:
-        return self.run_algorithm('open', DRAWING=drawing, OUTPUT=self.path('layers.gpkg'), **more)
+        names = (self.path('layers%s.gpkg' % it) for it in ('', *range(2, 99)))
+        package = next(it for it in names if not os.path.exists(it))
+        return self.run_algorithm('open', **{'DRAWING': drawing, 'OUTPUT': package, **more})
 
     def table(self, source: Any) -> List[QgsFeature]:
         """The rows of a layer, or of the file that holds one."""

@@ -16,11 +16,13 @@ class Edits(plugin.InQgis):
         super().setUp()
         self.example('town.dgn')
         self.town = self.mended(self.path('town.dgn'))
-        self.out = self.path('new.dgn')
+        self.out, self.count = self.path('new.dgn'), 0
 
     def edit(self, name: str, **parameters: Any) -> Dict[str, Any]:
         """Runs an edit, asks that the old drawing is as it was, and gives the results."""
         old = Path(self.town).read_bytes()
+        self.count += 1
+        self.out = self.path('new-%d.dgn' % self.count if self.count > 1 else 'new.dgn')
         made = self.run_algorithm(name, **{'OUTPUT': self.out, 'REFUSED': self.path('refused.gpkg'), **parameters})
         self.assertEqual(Path(self.town).read_bytes(), old)
         return made
@@ -139,8 +141,9 @@ class Edits(plugin.InQgis):
         self.assertEqual(made['ACCEPTED'], 3)  # the parcel 41 with its rings 42 and 43
         refused = self.rows(made['REFUSED'], 'number', 'why')
         self.assertEqual([(number, 'locked' in why) for number, why in refused], [(44, True), (45, True)])
-        self.run_algorithm('unlock', DRAWING=locked, NUMBERS='44-45', OUTPUT=self.out)
-        self.assertEqual(Path(self.out).read_bytes(), Path(self.town).read_bytes())
+        unlocked = self.path('unlocked.dgn')
+        self.run_algorithm('unlock', DRAWING=locked, NUMBERS='44-45', OUTPUT=unlocked)
+        self.assertEqual(Path(unlocked).read_bytes(), Path(self.town).read_bytes())
 
     def test_texts(self) -> None:
         self.open(self.town)
@@ -252,7 +255,7 @@ class Mistakes(plugin.InQgis):
         self.refuses(is_read, 'lock', **{**words, 'OUTPUT': self.town})
         self.refuses(is_read, 'look', COLOUR=3, PATCH=self.town, **words)
         self.refuses(is_read, 'lock', PATCH=self.town, **words)
-        self.refuses("isn't a GeoPackage", 'open', **{**words, 'OUTPUT': self.town})
+        self.refuses("wasn't written by this plugin", 'open', **{**words, 'OUTPUT': self.town})
         self.refuses('is a folder', 'look', COLOUR=3, **{**words, 'OUTPUT': str(self.folder)})
         self.assertEqual(Path(self.town).read_bytes(), before)
 

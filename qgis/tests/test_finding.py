@@ -103,9 +103,10 @@ class Finds(plugin.InQgis):
             model.addChildAlgorithm(child)
         out = self.path('new.dgn')
         context = QgsProcessingContext()
-        results, is_done = model.run({'look:new': out}, context, self.feedback)
+        name = model.outputDefinitions()[0].name()  # the child's name in front of it, or nothing
+        results, is_done = model.run({name: out}, context, self.feedback)
         self.assertTrue(is_done, self.feedback.warnings)
-        self.assertEqual(results['look:new'], out)
+        self.assertEqual(results[name], out)
         self.assertEqual([it for it, _ in self.changes(self.town, out)], ['shape 44', 'line string 45'])
 
     def test_nothing_is_found(self) -> None:

@@ -35,7 +35,7 @@ class WithLayers(plugin.InQgis):
         made = {}
         for it in layer.getFeatures():
             facts = {name: plugin.plain(it[name]) for name in names}
-            made[facts['number']] = {**facts, 'wkt': it.geometry().asWkt(6)}
+            made[facts['number']] = {**facts, 'wkt': it.geometry().asWkt(6).replace(' Z (', 'Z (')}
         self.assertEqual(len(made), layer.featureCount())
         return made
 
@@ -162,7 +162,9 @@ class Opened(WithLayers):
         self.assertEqual(len(labels), 4)
         for index, (label, (angle, height)) in enumerate(zip(labels, wanted)):
             turn = math.radians(angle)
-            self.assertAlmostEqual(math.sin(label.rotation), math.sin(turn), places=6)
+            start, end = label.cornerPoints[:2]
+            self.assertAlmostEqual((end.y() - start.y()) / start.distance(end), math.sin(turn), places=6)
+            self.assertAlmostEqual((end.x() - start.x()) / start.distance(end), math.cos(turn), places=6)
             # a capital letter is about 0.72 of the size of its font
             self.assertAlmostEqual(label.labelFont.pixelSize(), height * 2 / 0.72, delta=1)
             # the box of the label stands under its base line by what hangs below that, at right angles to it

@@ -40,7 +40,7 @@ class ByProcess(samples.WithProgram):
 
     def edited(self, name: str, **parameters: Any) -> Tuple[Dict[str, str], List[Tuple[int, Dict[str, Any]]]]:
         """The results of an edit, and what it changed, as dgnkit says it: elements, and their changes."""
-        results = self.done(name, DRAWING=self.town, OUTPUT=self.out, **parameters)
+        results = self.done(name, DRAWING=self.town, OUTPUT=self.out, OVERWRITE='true', **parameters)
         self.assertEqual(results['OUTPUT'], self.out)
         found = json.loads(self.said('diff', '--json', self.town, self.out, status=1))['elements']
         return results, [(it['after'], it['changes']) for it in found]
@@ -100,8 +100,9 @@ class ByProcess(samples.WithProgram):
                 self.assertEqual(changes[0][1]['moved']['resolution'], [2500, -1000])
             self.assertEqual((made['ACCEPTED'], made['REFUSED_COUNT']), ('1', '0'))
             self.assertTrue(Path(made['SCRIPT']).read_text().endswith('\n'))
-            self.done('patch', DRAWING=self.town, PATCH=made['PATCH'], OUTPUT=self.path('patched.dgn'))
-            self.assertEqual(Path(self.path('patched.dgn')).read_bytes(), Path(self.out).read_bytes())
+            patched = self.path('patched-%s.dgn' % name)
+            self.done('patch', DRAWING=self.town, PATCH=made['PATCH'], OUTPUT=patched)
+            self.assertEqual(Path(patched).read_bytes(), Path(self.out).read_bytes())
         self.done('script', DRAWING=self.town, SCRIPT=self.path('s.txt'), OUTPUT=self.path('scripted.dgn'))
         self.assertEqual(Path(self.path('scripted.dgn')).read_bytes(), Path(self.out).read_bytes())
 

@@ -4,7 +4,7 @@ from dataclasses import replace
 from typing import Any, List, Optional, Sequence, Tuple
 
 from dgnkit import files
-from dgnkit.cli import EXPECTED, reason_of, shortened
+from dgnkit.cli import reason_of, shortened
 from dgnkit.drawing.drawing import Drawing
 from dgnkit.errors import Mistake
 from qgis.core import (
@@ -126,7 +126,7 @@ class DgnAlgorithm(QgsProcessingAlgorithm):
         if text:
             parameter.setHelp(text)
         if is_advanced:
-            parameter.setFlags(parameter.flags() | QgsProcessingParameterDefinition.FlagAdvanced)
+            parameter.setFlags(parameter.flags() | QgsProcessingParameterDefinition.Flag.FlagAdvanced)
         self.addParameter(parameter)
 
     def add_drawing(
@@ -149,6 +149,7 @@ class DgnAlgorithm(QgsProcessingAlgorithm):
             QgsProcessingParameterBoolean('OPEN', 'Open the new drawing beside the old one', True),
             'Adds its layers to the project, and switches those of the old drawing off.',
         )
+        self.add_flag('OVERWRITE', 'Replace files that are already there', False, is_advanced=True)
         self.addOutput(QgsProcessingOutputNumber('ACCEPTED', 'How many edits were made'))
 
     def add_file(self, name: str, said: str, kinds: str, text: str = '') -> None:
@@ -182,7 +183,7 @@ class DgnAlgorithm(QgsProcessingAlgorithm):
 
     def add_number(self, name: str, said: str, most: int, text: str = '', is_optional: bool = True) -> None:
         """A whole number from 0 on."""
-        kind = QgsProcessingParameterNumber.Integer
+        kind = QgsProcessingParameterNumber.Type.Integer
         self.add(QgsProcessingParameterNumber(name, said, kind, None, is_optional, 0, most), text)
 
 
@@ -192,8 +193,9 @@ def said(run: Any) -> Any:
         return run()
     except Stopped:
         raise
-    except (Mistake, *EXPECTED) as why:
-        raise QgsProcessingException(shortened(reason_of(why)))
+    except Exception as why:  # of which QGIS would say nothing in the window
+        told = shortened(reason_of(why))
+    raise QgsProcessingException(told)  # here, so that it doesn't keep alive what was being made
 
 
 def opened(path: str) -> Drawing:

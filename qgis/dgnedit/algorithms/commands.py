@@ -26,7 +26,7 @@ class Move(CommandAlgorithm):
 
     def define_edit(self) -> None:
         for name, said in zip(AXES, ('to the east (x)', 'to the north (y)', 'upwards (z), in three dimensions')):
-            parameter = QgsProcessingParameterNumber(name, 'Distance ' + said, QgsProcessingParameterNumber.Double)
+            parameter = QgsProcessingParameterNumber(name, 'Distance ' + said, QgsProcessingParameterNumber.Type.Double)
             parameter.setDefaultValue(0)
             self.add(parameter, is_advanced=name == 'DZ')
 

@@ -24,7 +24,7 @@ from ..selection import Selected, chosen, drawing_of, move_selection, rows_of, s
 from .base import Results, opened
 from .results import PATCHES, SCRIPTS, MakesDrawing, Refusal, refusals_of
 
-ANY = QgsProcessing.TypeVectorAnyGeometry
+ANY = QgsProcessing.SourceType.TypeVectorAnyGeometry
 HELP = (
     'Edits the features that are selected in the layers of a drawing: in all its layers, or in those that you name. '
     'Instead you can give element numbers, or a table with a field "number". Whole trees are edited, such as a cell '
@@ -93,7 +93,7 @@ class EditAlgorithm(MakesDrawing):
             for line in parts_said(drawing, numbers, TOLD):
                 call.say('%s; the rest of its tree is not changed' % line)
         call.doing('The drawing is edited', 0.2)
-        out = call.target('OUTPUT')
+        out = self.out(call)
         made, refused = self.edit(call, drawing, numbers, out)
         if not made.accepted:
             call.warn('Nothing was changed: the new drawing is the same as the old one.')

@@ -58,7 +58,7 @@ MODES_SAID = [
 ]
 METHODS = ['new selection', 'add to the selection', 'do not select']
 FIELDS: Dict[str, type] = {'number': int, 'root': int, 'type': int, 'level': int, 'is': str}
-SETS, ADDS = QgsVectorLayer.SetSelection, QgsVectorLayer.AddToSelection
+SETS, ADDS = QgsVectorLayer.SelectBehavior.SetSelection, QgsVectorLayer.SelectBehavior.AddToSelection
 
 
 class Find(DgnAlgorithm):
@@ -93,7 +93,7 @@ class Find(DgnAlgorithm):
 
     def add_near(self) -> None:
         """A place, and how near."""
-        double, whole = QgsProcessingParameterNumber.Double, QgsProcessingParameterNumber.Integer
+        double, whole = QgsProcessingParameterNumber.Type.Double, QgsProcessingParameterNumber.Type.Integer
         self.add(QgsProcessingParameterPoint('NEAR', 'Near this place', None, True), is_advanced=True)
         self.add(
             QgsProcessingParameterNumber('WITHIN', 'Within this distance', double, None, True, 0), is_advanced=True

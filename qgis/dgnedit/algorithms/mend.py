@@ -44,7 +44,7 @@ class Mend(MakesDrawing):
         mending = mending_of(drawing)
         patch = patch_of(drawing, mending.changes)
         applied(drawing, patch, mending.changes)
-        out = call.target('OUTPUT')
+        out = self.out(call)
         call.doing('The drawing is mended', 0.3)
         made = run_patch(call, drawing, patch, call.target('PATCH'), out)
         made.accepted = len(mending.changes)

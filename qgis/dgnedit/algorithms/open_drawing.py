@@ -1,27 +1,34 @@
 """Opens a drawing."""
 
 import os
-from typing import Set
+from typing import List, Set
 
 from dgnkit.errors import Mistake
 from qgis.core import (
+    QgsCoordinateReferenceSystem,
+    QgsCoordinateTransform,
+    QgsCsException,
     QgsProcessing,
     QgsProcessingOutputNumber,
     QgsProcessingOutputVectorLayer,
     QgsProcessingParameterFileDestination,
+    QgsProject,
+    QgsRectangle,
+    QgsVectorLayer,
 )
 
 from ..calls import Call
 from ..layers import add_to_project, extent_of
 from ..opening import KINDS, Wishes, write_layers
+from ..package import ask_package
 from .base import UNITS, DgnAlgorithm, Results, opened
 
 TYPES = {
-    'texts': QgsProcessing.TypeVectorPoint,
-    'points': QgsProcessing.TypeVectorPoint,
-    'lines': QgsProcessing.TypeVectorLine,
-    'areas': QgsProcessing.TypeVectorPolygon,
-    'ranges': QgsProcessing.TypeVectorPolygon,
+    'texts': QgsProcessing.SourceType.TypeVectorPoint,
+    'points': QgsProcessing.SourceType.TypeVectorPoint,
+    'lines': QgsProcessing.SourceType.TypeVectorLine,
+    'areas': QgsProcessing.SourceType.TypeVectorPolygon,
+    'ranges': QgsProcessing.SourceType.TypeVectorPolygon,
 }
 NAMES = {
     'texts': 'Texts',
@@ -60,6 +67,8 @@ class OpenDrawing(DgnAlgorithm):
             QgsProcessingParameterFileDestination('OUTPUT', 'GeoPackage of the layers', 'GeoPackage (*.gpkg)'),
             'The file that the layers are kept in.',
         )
+        said = 'Only one that this plugin has written; others are never replaced.'
+        self.add_flag('OVERWRITE', 'Replace the GeoPackage if it is there', False, said, True)
         self.add_flag('LOAD', 'Add the layers to the project', True)
         for kind in KINDS:
             self.addOutput(QgsProcessingOutputVectorLayer(kind.upper(), NAMES[kind], TYPES[kind]))
@@ -78,6 +87,7 @@ class OpenDrawing(DgnAlgorithm):
         package = call.target('OUTPUT')
         if os.path.realpath(package) in self.in_use:
             raise Mistake('%s holds layers of this project: name another file, or remove these first' % package)
+        ask_package(package, call.flag('OVERWRITE'))
         count = len(drawing.elements)
         call.doing('The layers are written', 0.1)
         self.written = write_layers(drawing, package, wishes, lambda it: call.done(0.1 + 0.8 * it))
@@ -94,13 +104,28 @@ class OpenDrawing(DgnAlgorithm):
         if is_first:
             call.project.setCrs(self.written.wishes.system)
         if layers:
-            show(extent_of(layers))
+            show(call, layers)
 
 
-def show(extent: object) -> None:
-    """Lets the map, where there is a window, show a box."""
+def show(call: Call, layers: List[QgsVectorLayer]) -> None:
+    """Lets the map, where there is a window, show layers."""
     from qgis.utils import iface
 
-    if iface is not None and iface.mapCanvas() is not None:
-        iface.mapCanvas().setExtent(extent)
-        iface.mapCanvas().refresh()
+    if iface is not None and iface.mapCanvas() is not None and call.project is not None:
+        canvas = iface.mapCanvas()
+        canvas.setExtent(seen_extent(layers, canvas.mapSettings().destinationCrs(), call.project))
+        canvas.refresh()
+
+
+def seen_extent(
+    layers: List[QgsVectorLayer], system: QgsCoordinateReferenceSystem, project: QgsProject
+) -> QgsRectangle:
+    """The least box that holds layers, in a system of coordinates; in their own where one of both isn't known, or the
+    one can't be had of the other."""
+    extent, own = extent_of(layers), layers[0].crs()
+    if not own.isValid() or not system.isValid() or own == system:
+        return extent
+    try:
+        return QgsCoordinateTransform(own, system, project).transformBoundingBox(extent)
+    except QgsCsException:
+        return extent

@@ -4,10 +4,11 @@ import os
 from typing import Dict, Iterable, List, Optional, Tuple
 
 from dgnkit.drawing.drawing import Drawing
+from dgnkit.errors import Mistake
 from dgnkit.format.element import described
 from dgnkit.output import printable
 from dgnkit.program.grammar import kinds_of
-from qgis.core import QgsProcessingOutputNumber, QgsProcessingUtils
+from qgis.core import QgsProcessingOutputNumber, QgsProcessingParameterFileDestination, QgsProcessingUtils
 
 from ..calls import Call, Stopped
 from ..editing import Made
@@ -37,6 +38,27 @@ class MakesDrawing(DgnAlgorithm):
             'A row for each command that was refused, with its reason; the rest was done.',
         )
         self.addOutput(QgsProcessingOutputNumber('REFUSED_COUNT', 'How many were refused'))
+
+    def out(self, call: Call) -> str:
+        """The name of the new drawing. It raises Mistake where it may not be written, or a file beside it: one of the
+        project's drawings has that name, or a file that isn't to be replaced, or two of them have one name."""
+        out = call.target('OUTPUT')
+        beside = [call.target(it) for it in ('SCRIPT', 'PATCH') if self.is_written(it)]
+        names = [out, *(it for it in beside if it)]
+        places = [os.path.realpath(it) for it in names]
+        if len(set(places)) < len(places):
+            raise Mistake('The new drawing, the script and the patch file each need a name of their own.')
+        if places[0] in {os.path.realpath(it.drawing) for it in self.known}:
+            raise Mistake('%s is open in this project: name another file' % out)
+        read = os.path.realpath(call.file('DRAWING'))  # which is never replaced, as is said when it is to be
+        there = [it for it, place in zip(names, places) if os.path.isfile(it) and place != read]
+        if there and not call.flag('OVERWRITE'):
+            raise Mistake('%s already exists: name another file, or allow that it is replaced' % there[0])
+        return out
+
+    def is_written(self, name: str) -> bool:
+        """Whether a parameter is that of a file that is written."""
+        return isinstance(self.parameterDefinition(name), QgsProcessingParameterFileDestination)
 
     def give(self, call: Call, drawing: Drawing, out: str, made: Made, refused: List[Refusal]) -> Results:
         """Says what was made, writes the table, and prepares the layers of the new drawing."""

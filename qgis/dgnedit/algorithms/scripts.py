@@ -41,7 +41,7 @@ class RunScript(MakesDrawing):
         if bool(script) == bool(lines):
             raise Mistake('Name a script, or give the lines of one, and not both.')
         drawing = opened(call.file('DRAWING'))
-        out = call.target('OUTPUT')
+        out = self.out(call)
         call.doing('The script runs', 0.2)
         with folder() as place:
             if lines:
@@ -73,7 +73,7 @@ class ApplyPatch(MakesDrawing):
     def work(self, call: Call) -> Results:
         call.doing('The drawing is read', 0.0)
         drawing = opened(call.file('DRAWING'))
-        patch, out = call.file('PATCH'), call.target('OUTPUT')
+        patch, out = call.file('PATCH'), self.out(call)
         if os.path.isfile(patch) and not is_patch(patch):
             raise Mistake("%s isn't a patch file" % patch)
         call.doing('The patch file is applied', 0.2)
