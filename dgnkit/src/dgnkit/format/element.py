@@ -14,6 +14,7 @@ from .numbers import OFFSET, Point, long_at, longs_at, points_at, word_at
 HOLE = 0x8000  # of the properties
 PROPERTIES = 32  # where the word of properties stands
 LOCK_BYTE, LOCK_BIT = PROPERTIES + 1, tables.LOCKED >> 8  # the high byte of it, and the bit of that that says locked
+LOOK_BYTE, COLOUR_BYTE = 34, 35  # where the weight and the style stand, in one byte, and the colour
 RANGE = struct.Struct('<12H')
 RANGE_XY = struct.Struct('<4H4x4H')
 Bounds = Tuple[int, int, int, int]
@@ -63,17 +64,17 @@ class Element:
     @property
     def colour(self) -> int:
         """The colour, 0 to 255. Only of an element that is not silent; so are weight and style."""
-        return self.data[self.offset + 35]
+        return self.data[self.offset + COLOUR_BYTE]
 
     @property
     def weight(self) -> int:
         """The weight, 0 to 31."""
-        return self.data[self.offset + 34] >> 3
+        return self.data[self.offset + LOOK_BYTE] >> 3
 
     @property
     def style(self) -> int:
         """The style, 0 to 7."""
-        return self.data[self.offset + 34] & 7
+        return self.data[self.offset + LOOK_BYTE] & 7
 
     @property
     def properties(self) -> int:
@@ -141,6 +142,14 @@ class Element:
         if place is None:
             return []
         return points_at(self.data, self.offset + place, self.points_count, self.axes)
+
+    @property
+    def first_point(self) -> Optional[Point]:
+        """The first of these points, none where there is none."""
+        place = self.points_place
+        if place is None or not self.points_count:
+            return None
+        return points_at(self.data, self.offset + place, 1, self.axes)[0]
 
     @property
     def points_count(self) -> int:

@@ -86,10 +86,18 @@ class Elements(Sequence[Element]):
             return []
         return [number for number, mark in enumerate(self.marks) if mark & DELETED]
 
+    def _lock_bits(self) -> bytes:
+        """Of each element that isn't silent whether it is locked."""
+        places = map(LOCK_BYTE.__add__, compress(self.offsets, self.types.translate(IS_LOUD)))
+        return bytes(map(self.data.__getitem__, places)).translate(IS_ODD)
+
     def locked_count(self) -> int:
         """How many elements are locked."""
-        places = map(LOCK_BYTE.__add__, compress(self.offsets, self.types.translate(IS_LOUD)))
-        return bytes(map(self.data.__getitem__, places)).translate(IS_ODD).count(1)
+        return self._lock_bits().count(1)
+
+    def locked(self) -> List[int]:
+        """The numbers of the elements that are locked."""
+        return list(compress(self.of_types(classes.LOUD), self._lock_bits()))
 
     def counts(self) -> Dict[int, Dict[int, int]]:
         """How many elements each level has of each type, in the order in which they are first seen."""
