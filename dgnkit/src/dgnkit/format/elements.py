@@ -69,6 +69,10 @@ class Elements(Sequence[Element]):
         for number, (offset, size, kind, level, mark) in enumerate(rows):
             yield Element(number, offset, size, kind, level, YES_NO[mark & BIT_C], mark >= DELETED, data, axes)
 
+    def contents(self) -> Iterator[bytes]:
+        """The bytes of each element."""
+        return (self.data[at : at + size] for at, size in zip(self.offsets, self.sizes))
+
     @property
     def end(self) -> int:
         """Where the last element ends."""
