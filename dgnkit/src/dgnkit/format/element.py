@@ -21,6 +21,7 @@ Bounds = Tuple[int, int, int, int]
 POINTS_IN = {2: tables.POINTS_IN_PLANE, 3: tables.POINTS_IN_SPACE}
 TEXT_IN = {2: tables.TEXT_IN_PLANE, 3: tables.TEXT_IN_SPACE}
 TEXT_UNIT = Fraction(6, 1000)  # what one of a text's multipliers stands for, in units of resolution
+UNIT_OVER, UNIT_UNDER = TEXT_UNIT.numerator, TEXT_UNIT.denominator
 
 
 def decoded(characters: bytes) -> str:
@@ -138,10 +139,13 @@ class Element:
     @property
     def points(self) -> List[Point]:
         """The points of a line, string, shape or curve; the origin of a text, a cell or a text node; else none."""
-        place = self.points_place
-        if place is None:
+        kind, axes = self.type, self.axes
+        count = tables.COUNTS[kind]
+        if not count:
             return []
-        return points_at(self.data, self.offset + place, self.points_count, self.axes)
+        if count == tables.BY_WORD:
+            count = word_at(self.data, self.offset + tables.COUNT_AT)
+        return points_at(self.data, self.offset + POINTS_IN[axes][kind], count, axes)
 
     @property
     def first_point(self) -> Optional[Point]:
@@ -209,7 +213,12 @@ class Element:
         if self.type != classes.TEXT:
             return None
         width, height = self.multipliers
-        return width * TEXT_UNIT.numerator / TEXT_UNIT.denominator, height * TEXT_UNIT.numerator / TEXT_UNIT.denominator
+        return width * UNIT_OVER / UNIT_UNDER, height * UNIT_OVER / UNIT_UNDER
+
+    @property
+    def text_height(self) -> float:
+        """How high a sign of a text is, in units of resolution. Only of a text."""
+        return self.height_multiplier * UNIT_OVER / UNIT_UNDER
 
     @property
     def text_angle(self) -> Optional[float]:
