@@ -22,7 +22,8 @@ from ..output import few
 from ..waiting import Matcher
 from .drawing import Drawing
 from .duplicates import repeated
-from .fencing import MODES, corners_of, trees_of
+from .fencing import MODES, fenced, polygon_of, trees_of
+from .frames import frame_of
 from .nearness import Nearness
 from .spans import Spans, number_of, sizes_of
 from .tables import numbers_in
@@ -137,14 +138,16 @@ class Conditions:
         return tests
 
     def _place_tests(self) -> List[Test]:
-        """The tests on places: near one, or in a tree that the program takes by a box."""
+        """The tests on places: near one, or in a tree that the program takes by a fence."""
         tests: List[Test] = []
         if self.nearness is not None:
             tests.append(self.nearness.squares.__contains__)
         for mode in MODES:
-            boxes = [corners_of(it, self.scale) for it in getattr(self.arguments, mode) or []]
-            if boxes:
-                taken = (trees_of(self.drawing, it, mode, self.arguments.deleted) for it in boxes)
+            fences = [polygon_of(it, self.scale) for it in getattr(self.arguments, mode) or []]
+            numbers = getattr(self.arguments, mode + '_element') or []
+            fences += [fenced(frame_of(self.drawing, it)) for it in numbers]
+            if fences:
+                taken = (trees_of(self.drawing, it, mode, self.arguments.deleted) for it in fences)
                 tests.append(partial(_is_below, frozenset().union(*taken), self.drawing.nesting.roots))
         return tests
 
