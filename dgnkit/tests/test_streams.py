@@ -76,7 +76,7 @@ class AsAProcess(samples.WithProgram):
         path = self.gen(1, 200000)
 
         def limit() -> None:
-            resource.setrlimit(resource.RLIMIT_AS, (100 << 20, 100 << 20))
+            resource.setrlimit(resource.RLIMIT_AS, (72 << 20, 72 << 20))
 
         status, _, err = self.shell('exec "$@"', 'find', path, '--level', '1-63', '--json', limit=limit)
         self.assertEqual((status, err.rstrip().split('\n')[-1]), (2, 'dgnkit: there is not enough memory for it'))
@@ -297,7 +297,7 @@ class AsAProcess(samples.WithProgram):
             '    def find_spec(self, name, path, target=None):\n        if name == %r: raise %s\n'
             'sys.meta_path.insert(0, Stop())'
         )
-        for name in ('dgnkit.cli', 'dgnkit.waiting', 'dgnkit.commands.info', 'dgnkit.program.rows'):
+        for name in ('dgnkit.cli', 'dgnkit.waiting', 'dgnkit.commands.info', 'dgnkit.program.listings'):
             ran = self.begun_with(finder % (name, 'MemoryError'), 'info', self.example('valve.dgn'))
             self.assertEqual(ran, (2, '', 'dgnkit: there is not enough memory for it\n'), name)
             ran = self.begun_with(finder % (name, 'RecursionError'), 'info', self.example('valve.dgn'))
