@@ -14,6 +14,7 @@ from .element import LOCK_BYTE, Element
 
 BIT_C, DELETED = 1, 2
 NOT_C = bytes([0, DELETED])  # the marks of elements without bit C
+HAS_C = bytes(it & BIT_C for it in range(256))
 YES_NO = (False, True)
 IS_LOUD = bytes(kind in classes.LOUD for kind in range(256))
 IS_ODD = bytes(it & 1 for it in range(256))
@@ -82,7 +83,7 @@ class Elements(Sequence[Element]):
         """The numbers of the elements with bit C, but for element 0."""
         if not self.marks.translate(None, NOT_C):
             return []
-        return [number for number, mark in enumerate(self.marks) if mark & BIT_C and number]
+        return [it for it in compress(range(len(self)), self.marks.translate(HAS_C)) if it]
 
     def deleted(self) -> List[int]:
         """The numbers of the elements that are marked deleted themselves."""
