@@ -1,13 +1,19 @@
 """`find`: each condition by itself, on drawings of which one sees what meets it; and the scripts that it writes."""
 
+import contextlib
 import json
+import os
+import tracemalloc
 import unittest
 from typing import List, Tuple
+from unittest import mock
 
 import ogr
 import samples
 from samples import drawings, plan, with_units
 from test_info import ORIGIN, metric
+
+READ = 'dgnkit.drawing.drawing.read_drawing'
 
 
 class Find(samples.WithProgram):
@@ -70,6 +76,33 @@ class Find(samples.WithProgram):
         )
         self.assertIn('nothing matches --text A --text B --inside 1,1 2,2 --inside 3,3 4,4', err)
         self.assertIn('nothing matches --text A\n', self.kit('find', path, '--numbers', '--text', 'A')[2])
+
+    def test_little_is_kept_of_each_row(self) -> None:
+        count = 5000
+        file = drawings.drawing(plan.line(1, (0, 0), (9, 9)) * count)
+        path = self.put('many.dgn', file)
+        for form in ('--units=auto', '--csv', '--json'):
+            tracemalloc.start()
+            with open(os.devnull, 'w') as nowhere, contextlib.redirect_stdout(nowhere):
+                with contextlib.redirect_stderr(nowhere), mock.patch(READ, lambda _: file):
+                    self.assertEqual(samples.cli.main(['find', path, form]), 0)
+            peak = tracemalloc.get_traced_memory()[1]
+            tracemalloc.stop()
+            self.assertLess(peak / count, 400, form)  # bytes
+
+    def test_columns_are_as_wide_as_what_is_found(self) -> None:
+        said = self.said('find', self.plan, '--number', '3-6')
+        self.assertEqual(
+            said.split('\n'),
+            [
+                'number  root  type         level  colour   weight  style  state  text or cell',
+                '     3     3  line             2  0 white       0      0',
+                '     4     4  text             3  0 white       0      0         HOUSE 7',
+                '     5     5  line string     10  0 white       0      0',
+                '     6     6  cell            10  0 white       0      0         VLV',
+                '',
+            ],
+        )
 
     def test_duplicates(self) -> None:
         line, text = plan.line(1, (0, 0), (9, 9)), plan.text(3, (5, 5), b'AB')

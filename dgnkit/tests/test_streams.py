@@ -76,7 +76,7 @@ class AsAProcess(samples.WithProgram):
         path = self.gen(1, 200000)
 
         def limit() -> None:
-            resource.setrlimit(resource.RLIMIT_AS, (100 << 20, 100 << 20))
+            resource.setrlimit(resource.RLIMIT_AS, (72 << 20, 72 << 20))
 
         status, _, err = self.shell('exec "$@"', 'find', path, '--level', '1-63', '--json', limit=limit)
         self.assertEqual((status, err.rstrip().split('\n')[-1]), (2, 'dgnkit: there is not enough memory for it'))

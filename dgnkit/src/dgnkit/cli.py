@@ -17,6 +17,7 @@ from importlib import import_module
 from typing import TYPE_CHECKING, Any, Callable, List, NoReturn, Optional, Sequence
 
 from . import __version__, commands, files
+from .drawing.options import Corners, with_corners
 from .errors import Mistake
 from .output import note, printable
 from .stopping import catch_signals
@@ -26,8 +27,8 @@ if TYPE_CHECKING:
 
 NO_OPTION = re.compile(r'^-([\d.][\d.,]*-?[\d.,]*|[xy])$')
 ORDER = (
-    'info health find why run diff mend relevel retext rename lock unlock undelete draw text merge place each split '
-    'purge geojson script page open help completion'
+    'info health find why run diff mend relevel retext rename lock unlock undelete draw text merge place clip each '
+    'split purge geojson script page open help completion'
 ).split()
 ABOUT = (
     'Finds elements in design files, explains, mends and compares them, and writes scripts and patch files, from which '
@@ -45,6 +46,12 @@ class Parser(argparse.ArgumentParser):
     def __init__(self, *words: Any, **more: Any) -> None:
         super().__init__(*words, **more)
         self._negative_number_matcher = NO_OPTION
+
+    def parse_known_args(self, args: Any = None, namespace: Any = None) -> Any:
+        """As it is, where an option takes as many places as there are, and no word behind these."""
+        options = self._option_string_actions
+        words = None if args is None else with_corners(args, lambda it: isinstance(options.get(it), Corners))
+        return super().parse_known_args(words, namespace)
 
     def _print_message(self, message: str, file: Any = None) -> None:
         """Says something, and keeps no failure of that to itself. Where a stream is closed there is none."""

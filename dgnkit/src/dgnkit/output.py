@@ -8,8 +8,11 @@ import json
 import os
 import shlex
 import sys
+from itertools import chain, islice
 from pathlib import Path
-from typing import Any, Iterable, List, Sequence
+from typing import Any, Iterable, Iterator, List, Sequence
+
+AT_ONCE = 1024  # so many lines are said at once, where there are many
 
 
 def say(text: str) -> None:
@@ -35,13 +38,31 @@ def say_json(value: Any) -> None:
     say(json.dumps(value, indent=1))
 
 
+def say_lines(lines: Iterable[str]) -> None:
+    """Says many lines as `say` does, as they come."""
+    waiting = iter(lines)
+    while True:
+        some = list(islice(waiting, AT_ONCE))
+        if not some:
+            return
+        said = '\n'.join(some)
+        say_raw(said if said.replace('\n', '').isprintable() else '\n'.join(map(printable, said.split('\n'))))
+
+
 def say_csv(head: Sequence[str], rows: Iterable[Sequence[object]]) -> None:
     """Says rows as CSV, the names of the columns first; what isn't there is an empty field."""
+    say_lines(csv_lines(head, rows))
+
+
+def csv_lines(head: Sequence[str], rows: Iterable[Sequence[object]]) -> Iterator[str]:
+    """The rows of CSV, each without the end of its line."""
     text = io.StringIO()
     writer = csv.writer(text, lineterminator='\n')
-    writer.writerow(head)
-    writer.writerows(['' if it is None else it for it in row] for row in rows)
-    say(text.getvalue().rstrip('\n'))
+    for row in chain([head], rows):
+        writer.writerow(row)
+        yield text.getvalue()[:-1]
+        text.seek(0)
+        text.truncate()
 
 
 def table(head: Sequence[str], rows: Iterable[Sequence[object]], left: Sequence[str] = ()) -> List[str]:

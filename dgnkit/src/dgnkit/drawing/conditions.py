@@ -6,26 +6,29 @@ import argparse
 import contextlib
 import fnmatch
 import re
+from array import array
 from fractions import Fraction
 from functools import partial
-from typing import Callable, Iterable, List, Optional, Sequence, Set
+from typing import AbstractSet, Callable, Iterable, List, Optional, Sequence, Set
 
 from ..errors import Mistake
 from ..files import said_name
 from ..format import classes
-from ..format.element import Element
+from ..format.element import COLOUR_BYTE, LOOK_BYTE
+from ..format.elements import Elements
 from ..format.limits import COLOUR_MOST, ELEMENTS_MOST, LEVEL_MOST, STYLE_MOST, WEIGHT_MOST
 from ..format.places import Scale, coordinates
 from ..output import few
 from ..waiting import Matcher
 from .drawing import Drawing
 from .duplicates import repeated
-from .fencing import MODES, corners_of, trees_of
+from .fencing import MODES, fenced, polygon_of, trees_of
+from .frames import frame_of
 from .nearness import Nearness
 from .spans import Spans, number_of, sizes_of
 from .tables import numbers_in
 
-Test = Callable[[Element], bool]
+Test = Callable[[int], bool]  # whether the element of a number meets a condition
 
 
 class Conditions:
@@ -37,10 +40,11 @@ class Conditions:
         self.scale = Scale(drawing.units, arguments.units)
         self.nearness = nearness_of(drawing, arguments, self.scale)
         self.matcher = matcher_of(arguments)
-        self.tests = [*self._listed_tests(), *plain_tests(arguments, self.scale), *self._standing_tests()]
+        self.tests = [*self._listed_tests(), *plain_tests(drawing.elements, arguments, self.scale)]
+        self.tests += self._standing_tests()
         self.tests += self._place_tests()
         if self.matcher is not None:
-            self.tests.append(partial(_matches, self.matcher))
+            self.tests.append(partial(_matches, drawing.elements, self.matcher))
 
     @property
     def takes_trees(self) -> bool:
@@ -55,16 +59,16 @@ class Conditions:
     def chosen(self) -> List[int]:
         """The numbers of the elements that meet all conditions, or with --trees of the roots of their trees, in file
         order."""
-        met: Iterable[Element] = self._likely()
+        met: Iterable[int] = self._likely()
         with self.matcher.limited() if self.matcher is not None else contextlib.nullcontext():
             for test in self.tests:
-                met = [it for it in met if test(it)]
-        found = [it.number for it in met]
+                met = array('I', filter(test, met))
+        found = list(met)
         if self.arguments.nearest is not None:
             found = self._nearest(found)
         return self.roots_of(found) if self.takes_trees else found
 
-    def _likely(self) -> Iterable[Element]:
+    def _likely(self) -> Iterable[int]:
         """The elements of the levels and types that are asked for, which are found without a look at each."""
         arguments, elements = self.arguments, self.drawing.elements
         levels = Spans.read('level', arguments.level or ['0-%d' % LEVEL_MOST], LEVEL_MOST)
@@ -75,10 +79,12 @@ class Conditions:
             kinds &= {classes.TEXT}
         is_level = bytes(it in levels for it in range(LEVEL_MOST + 1))
         is_kind = bytes(it in kinds for it in range(classes.MOST + 1))
-        if all(is_level) and all(is_kind):
-            return elements
-        rows = enumerate(zip(elements.levels, elements.types))
-        return [elements[number] for number, (level, kind) in rows if is_level[level] and is_kind[kind]]
+        likely: Iterable[int] = range(len(elements))
+        for column, is_asked in ((elements.levels, is_level), (elements.types, is_kind)):
+            if not all(is_asked):
+                flags = column.translate(is_asked.ljust(256, b'\0'))
+                likely = array('I', (it for it in likely if flags[it]))
+        return likely
 
     def roots_of(self, numbers: Iterable[int]) -> List[int]:
         """The roots of the trees that elements stand in, each once."""
@@ -93,7 +99,9 @@ class Conditions:
     def in_order(self, numbers: Iterable[int]) -> List[int]:
         """Elements in the order in which they are listed: the nearest first where a place was asked for, else by their
         numbers."""
-        return sorted(numbers, key=lambda it: (0 if self.nearness is None else self.distance(it), it))
+        if self.nearness is None:
+            return sorted(numbers)
+        return sorted(numbers, key=lambda it: (self.distance(it), it))
 
     def distance(self, number: int) -> float:
         """How far from the place of --near an element is, in units of resolution."""
@@ -116,45 +124,43 @@ class Conditions:
             return []
         numbers = frozenset(numbers_in(file, self.arguments.field))
         ask_numbers(self.drawing, sorted(numbers), file)
-        return [lambda it: it.number in numbers]
+        return [numbers.__contains__]
 
     def _standing_tests(self) -> List[Test]:
         """How an element stands: deleted, locked, broken."""
-        dead = self.drawing.dead
+        arguments, dead = self.arguments, self.drawing.dead
         tests: List[Test] = []
-        if self.arguments.deleted:
-            tests.append(lambda it: it.number in dead)
+        if arguments.deleted:
+            tests.append(dead.__contains__)
         elif dead:
-            tests.append(lambda it: it.number not in dead)
-        if self.arguments.locked:
-            tests.append(lambda it: it.is_locked)
-        if self.arguments.wrong_range:
-            wrong = {it.number for it in self.drawing.findings}
-            tests.append(lambda it: it.number in wrong)
-        if self.arguments.duplicates:
-            again = repeated(self.drawing)
-            tests.append(lambda it: it.number in again)
-        if self.arguments.broken:
-            broken, roots = self.broken_roots, self.drawing.nesting.roots
-            tests.append(lambda it: roots[it.number] in broken)
+            tests.append(lambda it: it not in dead)
+        if arguments.locked:
+            tests.append(frozenset(self.drawing.elements.locked()).__contains__)
+        if arguments.wrong_range:
+            tests.append(frozenset(it.number for it in self.drawing.findings).__contains__)
+        if arguments.duplicates:
+            tests.append(repeated(self.drawing).__contains__)
+        if arguments.broken:
+            tests.append(partial(_is_below, self.broken_roots, self.drawing.nesting.roots))
         return tests
 
     def _place_tests(self) -> List[Test]:
-        """The tests on places: near one, or in a tree that the program takes by a box."""
+        """The tests on places: near one, or in a tree that the program takes by a fence."""
         tests: List[Test] = []
         if self.nearness is not None:
-            squares = self.nearness.squares
-            tests.append(lambda it: it.number in squares)
+            tests.append(self.nearness.squares.__contains__)
         for mode in MODES:
-            boxes = [corners_of(it, self.scale) for it in getattr(self.arguments, mode) or []]
-            if boxes:
-                taken = (trees_of(self.drawing, it, mode, self.arguments.deleted) for it in boxes)
+            fences = [polygon_of(it, self.scale) for it in getattr(self.arguments, mode) or []]
+            numbers = getattr(self.arguments, mode + '_element') or []
+            fences += [fenced(frame_of(self.drawing, it)) for it in numbers]
+            if fences:
+                taken = (trees_of(self.drawing, it, mode, self.arguments.deleted) for it in fences)
                 tests.append(partial(_is_below, frozenset().union(*taken), self.drawing.nesting.roots))
         return tests
 
 
-def _is_below(taken: frozenset[int], roots: Sequence[int], element: Element) -> bool:
-    return roots[element.number] in taken
+def _is_below(taken: AbstractSet[int], roots: Sequence[int], number: int) -> bool:
+    return roots[number] in taken
 
 
 def ask_numbers(drawing: Drawing, numbers: Sequence[int], file: str) -> None:
@@ -166,50 +172,52 @@ def ask_numbers(drawing: Drawing, numbers: Sequence[int], file: str) -> None:
         raise Mistake(said % (said_name(file), drawing.path, last, few(unknown)))
 
 
-def plain_tests(arguments: argparse.Namespace, scale: Scale) -> List[Test]:
-    """The conditions that ask an element alone."""
+def plain_tests(elements: Elements, arguments: argparse.Namespace, scale: Scale) -> List[Test]:
+    """The conditions that ask an element alone; that its level and type are asked for is known before."""
     tests: List[Test] = []
     if arguments.number:
-        numbers = Spans.read('element number', arguments.number, ELEMENTS_MOST - 1)
-        tests.append(lambda it: it.number in numbers)
+        tests.append(Spans.read('element number', arguments.number, ELEMENTS_MOST - 1).__contains__)
     if arguments.level:
-        levels = Spans.read('level', arguments.level, LEVEL_MOST)
-        tests.append(lambda it: it.level in levels)
+        Spans.read('level', arguments.level, LEVEL_MOST)
     if arguments.type:
-        types = types_of(arguments.type)
-        tests.append(lambda it: it.type in types)
-    looks: List[tuple[str, Optional[Sequence[str]], int, Callable[[Element], int]]] = [
-        ('colour', arguments.color, COLOUR_MOST, lambda it: it.colour),
-        ('weight', arguments.weight, WEIGHT_MOST, lambda it: it.weight),
-        ('style', arguments.style, STYLE_MOST, lambda it: it.style),
+        types_of(arguments.type)
+    looks: List[tuple[str, Optional[Sequence[str]], int, int, Callable[[int], int]]] = [
+        ('colour', arguments.color, COLOUR_MOST, COLOUR_BYTE, lambda it: it),
+        ('weight', arguments.weight, WEIGHT_MOST, LOOK_BYTE, lambda it: it >> 3),
+        ('style', arguments.style, STYLE_MOST, LOOK_BYTE, lambda it: it & 7),
     ]
-    for what, words, most, look in looks:
+    for what, words, most, place, value_of in looks:
         if words:
-            tests.append(partial(_looks, Spans.read(what, words, most), look))
+            values = Spans.read(what, words, most)
+            tests.append(partial(_looks, elements, place, bytes(value_of(it) in values for it in range(256))))
     if arguments.size:
-        tests.append(partial(_has_size, sizes_of(arguments.size), scale))
-    return tests + text_tests(arguments)
+        tests.append(partial(_has_size, elements, sizes_of(arguments.size), scale))
+    return tests + text_tests(elements, arguments)
 
 
-def text_tests(arguments: argparse.Namespace) -> List[Test]:
+def text_tests(elements: Elements, arguments: argparse.Namespace) -> List[Test]:
     """The conditions on characters and names."""
     tests: List[Test] = []
     if arguments.text:
-        tests.append(partial(_holds, [word_form(it, arguments.ignore_case) for it in arguments.text]))
+        tests.append(partial(_holds, elements, [word_form(it, arguments.ignore_case) for it in arguments.text]))
     if arguments.cell:
-        tests.append(partial(_is_called, [it.upper() for it in arguments.cell]))
+        tests.append(partial(_is_called, elements, [it.upper() for it in arguments.cell]))
     return tests
 
 
-def _looks(values: Spans, look: Callable[[Element], int], element: Element) -> bool:
-    return element.type in classes.LOUD and look(element) in values
+def _looks(elements: Elements, place: int, is_asked: bytes, number: int) -> bool:
+    """Whether the byte at a place of an element that is drawn is one that is asked for."""
+    is_loud = elements.types[number] in classes.LOUD
+    return is_loud and bool(is_asked[elements.data[elements.offsets[number] + place]])
 
 
-def _holds(forms: Sequence[re.Pattern[str]], element: Element) -> bool:
-    return element.type == classes.TEXT and any(it.search(element.text or '') for it in forms)
+def _holds(elements: Elements, forms: Sequence[re.Pattern[str]], number: int) -> bool:
+    text = elements[number].text
+    return text is not None and any(it.search(text) for it in forms)
 
 
-def _is_called(names: Sequence[str], element: Element) -> bool:
+def _is_called(elements: Elements, names: Sequence[str], number: int) -> bool:
+    element = elements[number]
     name = (element.cell_name or '').upper()
     return element.type == classes.CELL and any(fnmatch.fnmatchcase(name, it) for it in names)
 
@@ -220,12 +228,14 @@ def matcher_of(arguments: argparse.Namespace) -> Optional[Matcher]:
     return Matcher(*forms) if forms else None
 
 
-def _matches(matcher: Matcher, element: Element) -> bool:
-    return element.type == classes.TEXT and matcher.is_in(element.text or '')
+def _matches(elements: Elements, matcher: Matcher, number: int) -> bool:
+    text = elements[number].text
+    return text is not None and matcher.is_in(text)
 
 
-def _has_size(wanted: Sequence[tuple[str, str]], scale: Scale, element: Element) -> bool:
+def _has_size(elements: Elements, wanted: Sequence[tuple[str, str]], scale: Scale, number: int) -> bool:
     """Whether a text has one of these heights, which are compared as the multipliers that stand for them."""
+    element = elements[number]
     if element.type != classes.TEXT:
         return False
     there = element.height_multiplier

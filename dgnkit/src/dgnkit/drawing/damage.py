@@ -11,7 +11,7 @@ from ..format.element import Element
 from .drawing import Drawing
 
 RUN = 128  # so many zero bytes in a row are told
-ZEROS = re.compile(rb'\0{%d,}' % RUN)
+ZEROS, NOT_ZERO = bytes(RUN), re.compile(rb'[^\0]')
 
 
 @dataclass(frozen=True)
@@ -60,7 +60,12 @@ def may_have_zeros(element: Element) -> bool:
 
 def zero_runs(data: bytes, length: int) -> Iterator[tuple[int, int]]:
     """The runs of at least so many zero bytes in the first `length` bytes: where each begins, and where it ends."""
-    return (it.span() for it in ZEROS.finditer(data, 0, length))
+    start = data.find(ZEROS, 0, length)
+    while start >= 0:
+        after = NOT_ZERO.search(data, start, length)
+        end = length if after is None else after.start()
+        yield start, end
+        start = data.find(ZEROS, end, length)
 
 
 def bytes_behind(drawing: Drawing) -> int:

@@ -2,34 +2,48 @@
 
 from __future__ import annotations
 
-from typing import Callable, Dict, Hashable, Iterable, List, Set
+from array import array
+from functools import partial
+from typing import Callable, Dict, Hashable, Iterable, List, Sequence, Set
 
 from ..format import classes
 from .drawing import Drawing
 
 RANGE, GROUP, BEHIND = 4, 28, 30  # where the range and the graphic group stand, and what follows them
+Content = Callable[[Drawing, int], bytes]
 IS_LOUD = bytes(kind in classes.LOUD for kind in range(256))
 
 
 def duplicates(drawing: Drawing) -> List[List[int]]:
     """The roots of trees that are the same, those of one kind as a list, in file order. What is marked deleted or isn't
     drawn doesn't count."""
-    return sorted(_alike(drawing, content_of))
+    return sorted(_alike(drawing, front_of, content_of))
 
 
 def repeated(drawing: Drawing) -> Set[int]:
     """The roots of trees that repeat an earlier one: of the same types and levels with the same points; what has no
     such points of the same bytes, but for the range and the graphic group."""
-    return {it for group in _alike(drawing, geometry_of) for it in group[1:]}
+    return {it for group in _alike(drawing, geometry_of, geometry_of) for it in group[1:]}
 
 
-def _alike(drawing: Drawing, content: Callable[[Drawing, int], bytes]) -> List[List[int]]:
-    """The roots of live trees of one content, those of each as a list in file order."""
-    kinds, dead = classes.DRAWN | classes.COUNTED, drawing.dead
-    roots = (it for it in drawing.roots if drawing.elements.types[it] in kinds and it not in dead)
-    # few are the same by their hash, and of these alone the bytes are kept
-    likely = _groups(roots, lambda it: hash(content(drawing, it)))
-    return [group for some in likely for group in _groups(some, lambda it: content(drawing, it))]
+def _alike(drawing: Drawing, front: Content, content: Content) -> List[List[int]]:
+    """The roots of live trees of one content, those of each as a list in file order; trees of one content have one
+    front."""
+    depths, dead = drawing.nesting.depths, drawing.dead
+    drawn = drawing.elements.of_types(classes.DRAWN | classes.COUNTED)
+    roots = array('I', (it for it in drawn if depths[it] == 0 and it not in dead))
+    likely = _repeated(_repeated(roots, partial(front, drawing)), partial(content, drawing))
+    return _groups(likely, partial(content, drawing))
+
+
+def _repeated(roots: Sequence[int], key: Callable[[int], Hashable]) -> Sequence[int]:
+    """Those whose key has the same hash as that of another one: few, of which alone more than that is kept."""
+    hashes = array('q', (hash(key(it)) for it in roots))
+    seen: Set[int] = set()
+    again: Set[int] = set()
+    for it in hashes:
+        (again if it in seen else seen).add(it)
+    return array('I', (root for root, it in zip(roots, hashes) if it in again))
 
 
 def _groups(roots: Iterable[int], key: Callable[[int], Hashable]) -> List[List[int]]:
@@ -38,6 +52,12 @@ def _groups(roots: Iterable[int], key: Callable[[int], Hashable]) -> List[List[i
     for root in roots:
         found.setdefault(key(root), []).append(root)
     return [some for some in found.values() if len(some) > 1]
+
+
+def front_of(drawing: Drawing, root: int) -> bytes:
+    """The bytes of a root before its graphic group."""
+    at = drawing.elements.offsets[root]
+    return drawing.data[at : at + GROUP]
 
 
 def content_of(drawing: Drawing, root: int) -> bytes:

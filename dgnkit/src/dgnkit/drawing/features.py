@@ -17,11 +17,8 @@ from .placing import ONLY_RANGE, Placed, Placing
 from .spelling import Json
 
 Place = Callable[[Point], str]
-FEATURE = (
-    '{"type": "Feature", "id": %d, "properties": {"number": %d, "root": %d, "depth": %d, %s, %s, %s}, '
-    '"geometry": {"type": "%s", "coordinates": %s}}'
-)
 WORDS = '"text": %s, "height": %s, "angle": %s, "cell": %s'
+WORDY = frozenset([classes.TEXT, classes.CELL])
 NO_WORDS = WORDS % (('null',) * 4)
 STANDING = '"locked": %s, "broken": %s, "by_range": %s'
 LOOK = '"type": %d, "type_name": %s, "level": %d, "colour": %d, "rgb": "%s", "weight": %d, "style": %d'
@@ -43,6 +40,7 @@ class Features:
         self.placing = Placing(drawing, Json(place), has_members)
         self.standings = {key: STANDING % tuple(map(json.dumps, key)) for key in product((False, True), repeat=3)}
         self.looks: Dict[Tuple[int, int, bytes], str] = {}
+        self.roots, self.depths = drawing.nesting.roots, drawing.nesting.depths
         self.broken_roots = drawing.nesting.broken_roots
         self.scale = 1 / drawing.units.in_master if is_master else 1.0
         self.colours = drawing.palette.spelled
@@ -54,19 +52,22 @@ class Features:
 
     def feature(self, placed: Placed) -> str:
         """A feature: what it says of its element, and where that is."""
-        element = placed.element
-        nesting, number, kind = self.drawing.nesting, element.number, element.type
-        root = nesting.roots[number]
-        words = self.words(element) if kind in (classes.TEXT, classes.CELL) else NO_WORDS
+        element, _, _, geometry, coordinates = placed
+        number, kind = element.number, element.type
+        root = self.roots[number]
+        words = self.words(element) if kind in WORDY else NO_WORDS
         standing = self.standings[element.is_locked, root in self.broken_roots, kind in ONLY_RANGE]
-        front = number, number, root, nesting.depths[number]
-        return FEATURE % (*front, self.look(element), words, standing, placed.kind, placed.coordinates)
+        return (
+            f'{{"type": "Feature", "id": {number}, "properties": {{"number": {number}, "root": {root}, '
+            f'"depth": {self.depths[number]}, {self.look(element)}, {words}, {standing}}}, '
+            f'"geometry": {{"type": "{geometry}", "coordinates": {coordinates}}}}}'
+        )
 
     def words(self, element: Element) -> str:
         """What a feature says of a text or of a cell."""
         if element.type == classes.CELL:
             return WORDS % ('null', 'null', 'null', spelled(element.cell_name))
-        height = round((element.text_size or (0.0, 0.0))[1] * self.scale, 9)
+        height = round(element.text_height * self.scale, 9)
         return WORDS % (json.dumps(element.text), repr(height), repr(round(element.text_angle or 0.0, 6)), 'null')
 
     def look(self, element: Element) -> str:
@@ -88,4 +89,4 @@ def in_resolution(axes: int) -> Place:
 
 def in_master(units: Units) -> Place:
     """What spells a place in master units."""
-    return lambda point: '[%s]' % ', '.join(map(repr, units.to_master(point)))
+    return lambda point: '[%s]' % ', '.join([repr(it) for it in units.to_master(point)])

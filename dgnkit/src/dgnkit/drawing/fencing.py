@@ -1,4 +1,4 @@
-"""Which trees a box takes: the program is asked, by a fence around the box (docs/EDITING.md, Fences)."""
+"""Which trees a box or a polygon takes: the program is asked, by a fence (docs/EDITING.md, Fences)."""
 
 from __future__ import annotations
 
@@ -7,7 +7,8 @@ import tempfile
 from pathlib import Path
 from typing import Dict, FrozenSet, List, Sequence
 
-from ..format.limits import PLANE_HIGH, PLANE_LOW
+from ..errors import Mistake
+from ..format.limits import CORNERS_LEAST, CORNERS_MOST, PLANE_HIGH, PLANE_LOW
 from ..format.numbers import Point
 from ..format.patch import Patch
 from ..format.places import Scale, coordinates
@@ -32,6 +33,27 @@ def corners_of(words: Sequence[str], scale: Scale) -> List[Point]:
     high = [min(PLANE_HIGH, max(pair)) for pair in zip(first, second)]
     low, high = [min(pair) for pair in zip(low, high)], [max(pair) for pair in zip(low, high)]
     return [(low[0], low[1]), (high[0], low[1]), (high[0], high[1]), (low[0], high[1])]
+
+
+def polygon_of(words: Sequence[str], scale: Scale) -> List[Point]:
+    """The corners of a fence: of the box that two places span, or of the polygon through three and more. It raises
+    Mistake where these are none."""
+    if len(words) == 2:
+        return corners_of(words, scale)
+    return fenced([scale.nearest(coordinates(it)) for it in words])
+
+
+def fenced(points: Sequence[Point]) -> List[Point]:
+    """The points of a closed outline as the corners of a fence, the first one once. It raises Mistake where they are
+    fewer or more than a fence has."""
+    corners: List[Point] = [(it[0], it[1]) for it in points]
+    while len(corners) > 1 and corners[-1] == corners[0]:
+        corners.pop()
+    if len(set(corners)) < CORNERS_LEAST:
+        raise Mistake('a polygon needs %d different corners, and here are %d' % (CORNERS_LEAST, len(set(corners))))
+    if len(corners) > CORNERS_MOST:
+        raise Mistake('a polygon has at most %d corners, and here are %d' % (CORNERS_MOST, len(corners)))
+    return corners
 
 
 def trees_of(drawing: Drawing, corners: Sequence[Point], mode: str, takes_deleted: bool) -> FrozenSet[int]:

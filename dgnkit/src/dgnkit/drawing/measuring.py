@@ -43,7 +43,10 @@ class Sums:
 
     def at(self, level: int) -> Measures:
         """The sums of a level."""
-        return self.levels.setdefault(level, Measures())
+        found = self.levels.get(level)
+        if found is None:
+            found = self.levels[level] = Measures()
+        return found
 
     def leave(self, what: str) -> None:
         """Counts something that isn't in the sums."""
@@ -60,9 +63,10 @@ class Sums:
 def measures_of(drawing: Drawing) -> Sums:
     """The sums of what is live and drawn."""
     made = Sums()
-    for number in drawing.elements.of_types(OPEN | CLOSED | UNKNOWN):
-        if number not in drawing.dead and number not in drawing.defined:
-            _add(made, drawing, drawing.elements[number])
+    hidden, elements = drawing.dead | drawing.defined, drawing.elements
+    for number in elements.of_types(OPEN | CLOSED | UNKNOWN):
+        if number not in hidden:
+            _add(made, drawing, elements[number])
     return made
 
 
@@ -124,6 +128,8 @@ def level_of(drawing: Drawing, number: int) -> int:
     level of MicroStation's, that of the header above; of a complex shape on level 0 that of its first member that has
     another one."""
     parents, levels, types = drawing.nesting.parents, drawing.elements.levels, drawing.elements.types
+    if parents[number] < 0 and levels[number]:
+        return levels[number]
     at = number
     while parents[at] >= 0 and (levels[at] == 0 or types[parents[at]] in classes.JOINED):
         at = parents[at]
@@ -140,4 +146,4 @@ def level_of_tree(drawing: Drawing, number: int) -> int:
 
 def length_of(points: Sequence[Point]) -> float:
     """The length of a way through points."""
-    return sum(math.dist(a, b) for a, b in zip(points, points[1:]))
+    return sum(map(math.dist, points, points[1:]))

@@ -51,7 +51,7 @@ class Nesting:
         """Of each element the number behind the last that stands below it. Only once all trees are taken in."""
         count = len(self.depths)
         made = array('I', range(1, count + 1))
-        for number in range(count - 1, -1, -1):
+        for number in sorted({it for it in set(self.parents) if it >= 0}, reverse=True):
             end = number + 1
             while end < count and self.depths[end] > self.depths[number]:
                 end = made[end]

@@ -11,7 +11,7 @@ from .cells import names_said
 from .conditions import Conditions
 from .options import NAMES
 
-OPTIONS = {'wrong_range': 'wrong-range', 'numbers_file': 'numbers'}
+OPTIONS = {'numbers_file': 'numbers'}
 
 
 def nothing_said(conditions: Conditions) -> str:
@@ -32,7 +32,7 @@ def nothing_said(conditions: Conditions) -> str:
 
 def asked_said(name: str, value: object) -> str:
     """A condition as it was asked, as often as it was."""
-    option = '--' + OPTIONS.get(name, name)
+    option = '--' + OPTIONS.get(name, name.replace('_', '-'))
     if isinstance(value, str):
         return '%s %s' % (option, value)
     if isinstance(value, Sequence):

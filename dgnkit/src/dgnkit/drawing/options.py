@@ -3,11 +3,45 @@
 from __future__ import annotations
 
 import argparse
+import re
+from typing import Callable, List, Sequence
 
+PLACE = re.compile(r'[-+]?[\d.]+,[-+\d.,]+', re.ASCII)
 NAMES = (
     'number numbers_file level type color weight style size text pattern cell deleted locked broken wrong_range near '
-    'inside overlap void crossing duplicates'
+    'inside overlap void crossing inside_element overlap_element void_element crossing_element duplicates'
 ).split()
+
+
+class Corners(argparse.Action):
+    """An option that takes as many places as stand behind it, each time that it is given. They come to it as one word,
+    so that it takes no other word that stands behind them, such as the name of the drawing."""
+
+    def __call__(self, parser: object, arguments: argparse.Namespace, values: object, option: object = None) -> None:
+        setattr(arguments, self.dest, [*(getattr(arguments, self.dest) or []), values])
+
+
+def corners(word: str) -> List[str]:
+    """The places in a word. It raises ArgumentTypeError where there is one alone."""
+    places = word.split()
+    if len(places) < 2:
+        raise argparse.ArgumentTypeError('give two corners X,Y of a box, or three or more of a polygon')
+    return places
+
+
+def with_corners(words: Sequence[str], takes: Callable[[str], bool]) -> List[str]:
+    """Words in which the places behind each option that `takes` them are one word. The first two words behind it are
+    taken for places, whatever they are, so that one of them that is none is told."""
+    made: List[str] = []
+    count = -1  # places taken for the option before, or -1 where no more are
+    for word in words:
+        is_place = count >= 0 and (bool(PLACE.fullmatch(word)) or (count < 2 and not word.startswith('-')))
+        if is_place and count:
+            made[-1] += ' ' + word
+        else:
+            made.append(word)
+        count = count + 1 if is_place else 0 if takes(word) else -1
+    return made
 
 
 def add_conditions(parser: argparse.ArgumentParser, has_numbers: bool = True) -> None:
@@ -53,13 +87,20 @@ def add_places(group: argparse._ArgumentGroup) -> None:
     group.add_argument('--within', metavar='D', help='at most this far away')
     group.add_argument('--nearest', metavar='N', help='the N that are nearest to it')
     boxes = [
-        (['--inside'], 'in trees that lie inside the box with these corners'),
-        (['--overlap'], 'in trees with something inside the box or on its edge'),
-        (['--crossing'], 'in trees that cross an edge of the box or touch one'),
-        (['--void', '--outside'], 'in trees with nothing inside the box'),
+        (
+            ['--inside'],
+            'in trees that lie inside the box with these two corners, or the polygon with these three or more',
+        ),
+        (['--overlap'], 'in trees with something inside the box or polygon, or on its edge'),
+        (['--crossing'], 'in trees that cross an edge of the box or polygon, or touch one'),
+        (['--void', '--outside'], 'in trees with nothing inside the box or polygon'),
     ]
     for names, text in boxes:
-        group.add_argument(*names, metavar='X,Y', nargs=2, action='append', help=text)
+        group.add_argument(*names, metavar='X,Y', type=corners, action=Corners, help=text)
+    for names, _ in boxes:
+        words = [it + '-element' for it in names]
+        text = 'the same, by the shape or complex shape of this number'
+        group.add_argument(*words, metavar='N', action='append', help=text)
     which = group.add_mutually_exclusive_group()
     which.add_argument('--trees', action='store_true', help='take the whole tree of each')
     which.add_argument(

@@ -4,12 +4,13 @@ their order elements of one type and size are one."""
 
 from __future__ import annotations
 
+from array import array
 from bisect import bisect_left
 from collections import defaultdict, deque
 from difflib import SequenceMatcher
 from typing import Deque, Dict, Iterator, List, NamedTuple, Optional, Sequence, Tuple
 
-from ..format.element import Element
+from ..format.elements import Elements
 from .matching import matched
 
 Anchor = Tuple[int, int]
@@ -26,19 +27,28 @@ class Pair(NamedTuple):
     is_elsewhere: bool = False
 
 
-def agree(one: Element, other: Element) -> bool:
-    """Whether two elements may be one: their type and their size are the same."""
-    return one.type == other.type and one.size == other.size
-
-
 class Contents:
     """Of each element of two drawings a number, which is the same where the bytes are the same."""
 
-    def __init__(self, first: Sequence[Element], second: Sequence[Element]) -> None:
+    def __init__(self, first: Elements, second: Elements) -> None:
         numbers: Dict[bytes, int] = {}
         self.first, self.second = first, second
-        self.olds = [numbers.setdefault(it.content, len(numbers)) for it in first]
-        self.news = [numbers.setdefault(it.content, len(numbers)) for it in second]
+        self.olds = array('I', (numbers.setdefault(it, len(numbers)) for it in first.contents()))
+        self.news = array('I', (numbers.setdefault(it, len(numbers)) for it in second.contents()))
+
+    def agreeing(self) -> int:
+        """Up to which number the elements of one number may be one: their types and their sizes are the same."""
+        rows = zip(self.first.types, self.second.types, self.first.sizes, self.second.sizes)
+        agree = (kind == other and size == more for kind, other, size, more in rows)
+        common = min(len(self.olds), len(self.news))
+        return next((place for place, it in enumerate(agree) if not it), common)
+
+    def told(self, pair: Pair) -> bool:
+        """Whether a difference would be told of a pair."""
+        before, after, is_elsewhere = pair
+        if before is None or after is None:
+            return True
+        return is_elsewhere or self.olds[before] != self.news[after]
 
 
 def aligned(contents: Contents, start: int) -> List[Pair]:
@@ -171,6 +181,5 @@ def _by_kind(contents: Contents, olds: Sequence[int], news: Sequence[int]) -> Se
     return [(olds[it.a + at], news[it.b + at]) for it in blocks for at in range(it.size)]
 
 
-def _kinds(elements: Sequence[Element], numbers: Sequence[int]) -> List[Tuple[int, int]]:
-    chosen = (elements[it] for it in numbers)
-    return [(it.type, it.size) for it in chosen]
+def _kinds(elements: Elements, numbers: Sequence[int]) -> List[Tuple[int, int]]:
+    return [(elements.types[it], elements.sizes[it]) for it in numbers]

@@ -11,7 +11,7 @@ from ..format.element import Element, described
 from ..format.fields import field_name, points_span
 from ..format.numbers import Point
 from ..output import counted
-from .aligning import Contents, Pair, agree, aligned
+from .aligning import Contents, Pair, aligned
 
 
 @dataclass
@@ -34,7 +34,7 @@ class Difference:
 def differences(first: Drawing, second: Drawing) -> List[Difference]:
     """The elements that differ, in the order of the first drawing, and then what the second has more."""
     made = []
-    for before, after, is_elsewhere in pairs(first.elements, second.elements):
+    for before, after, is_elsewhere in differing(Contents(first.elements, second.elements)):
         if before is None:
             assert after is not None
             made.append(_alone(second.elements[after], None, after, 'appended'))
@@ -43,9 +43,7 @@ def differences(first: Drawing, second: Drawing) -> List[Difference]:
         elif is_elsewhere:
             made.append(_alone(first.elements[before], before, after, 'reordered', 'the same, in another order'))
         else:
-            old, new = first.elements[before], second.elements[after]
-            if old.content != new.content:
-                made.append(_Comparison(first, old, new).difference())
+            made.append(_Comparison(first, first.elements[before], second.elements[after]).difference())
     return made
 
 
@@ -55,33 +53,30 @@ def _alone(element: Element, before: Optional[int], after: Optional[int], name: 
     return made
 
 
-def pairs(first: Sequence[Element], second: Sequence[Element]) -> Sequence[Pair]:
-    """Which element of the second drawing is which of the first. The editor keeps numbers, and appends behind the last:
-    so those of one number are one, up to the first whose type and size don't agree. Or else elements came between,
-    went, or stand in another order: then those are one that are the same. Whichever tells of fewer elements is taken.
-    """
-    common = min(len(first), len(second))
-    same = next((it for it in range(common) if not agree(first[it], second[it])), common)
-    contents = Contents(first, second)
-    numbered = [*map(Pair, range(same), range(same)), *aligned(contents, same)]
-    if not any(_told(contents, it) for it in numbered[:same]):
+def differing(contents: Contents) -> Sequence[Pair]:
+    """Which element of the second drawing is which of the first, where they differ. The editor keeps numbers, and
+    appends behind the last: so those of one number are one, up to the first whose type and size don't agree. Or else
+    elements came between, went, or stand in another order: then those are one that are the same. Whichever tells of
+    fewer elements is taken."""
+    same = contents.agreeing()
+    changed = [Pair(it, it) for it in range(same) if contents.olds[it] != contents.news[it]]
+    numbered = [*changed, *filter(contents.told, aligned(contents, same))]
+    if not changed or _is_least(contents, numbered):
         return numbered
-    ways = [numbered, aligned(contents, 0)]
-    return min(ways, key=lambda way: _weight(contents, way))
+    return min([numbered, list(filter(contents.told, aligned(contents, 0)))], key=_weight)
 
 
-def _weight(contents: Contents, way: Sequence[Pair]) -> Tuple[int, int]:
-    """Of how many elements a difference would be told, and of how many another one than that of their order."""
-    told = [it for it in way if _told(contents, it)]
+def _is_least(contents: Contents, told: Sequence[Pair]) -> bool:
+    """Whether no other way tells of fewer elements: of those that differ, none is the same as one of the other drawing,
+    and as many as may be are told together."""
+    olds = [contents.olds[it.before] for it in told if it.before is not None]
+    news = [contents.news[it.after] for it in told if it.after is not None]
+    return len(told) == max(len(olds), len(news)) and set(olds).isdisjoint(news)
+
+
+def _weight(told: Sequence[Pair]) -> Tuple[int, int]:
+    """Of how many elements a difference is told, and of how many another one than that of their order."""
     return len(told), sum(not it.is_elsewhere for it in told)
-
-
-def _told(contents: Contents, pair: Pair) -> bool:
-    """Whether a difference would be told."""
-    before, after, is_elsewhere = pair
-    if before is None or after is None:
-        return True
-    return is_elsewhere or contents.olds[before] != contents.news[after]
 
 
 class _Comparison:

@@ -11,10 +11,12 @@ from ..output import few, listed
 
 def by_root(drawing: Drawing, numbers: Sequence[int]) -> Dict[int, List[int]]:
     """The members among elements whose root isn't among them, by that root."""
-    roots, there = drawing.nesting.roots, set(numbers)
+    roots, there = drawing.nesting.roots, bytearray(len(drawing.elements))
+    for number in numbers:
+        there[number] = 1
     made: Dict[int, List[int]] = {}
     for number in numbers:
-        if roots[number] not in there:
+        if not there[roots[number]]:
             made.setdefault(roots[number], []).append(number)
     return made
 

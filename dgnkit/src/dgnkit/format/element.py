@@ -14,12 +14,14 @@ from .numbers import OFFSET, Point, long_at, longs_at, points_at, word_at
 HOLE = 0x8000  # of the properties
 PROPERTIES = 32  # where the word of properties stands
 LOCK_BYTE, LOCK_BIT = PROPERTIES + 1, tables.LOCKED >> 8  # the high byte of it, and the bit of that that says locked
+LOOK_BYTE, COLOUR_BYTE = 34, 35  # where the weight and the style stand, in one byte, and the colour
 RANGE = struct.Struct('<12H')
 RANGE_XY = struct.Struct('<4H4x4H')
 Bounds = Tuple[int, int, int, int]
 POINTS_IN = {2: tables.POINTS_IN_PLANE, 3: tables.POINTS_IN_SPACE}
 TEXT_IN = {2: tables.TEXT_IN_PLANE, 3: tables.TEXT_IN_SPACE}
 TEXT_UNIT = Fraction(6, 1000)  # what one of a text's multipliers stands for, in units of resolution
+UNIT_OVER, UNIT_UNDER = TEXT_UNIT.numerator, TEXT_UNIT.denominator
 
 
 def decoded(characters: bytes) -> str:
@@ -63,17 +65,17 @@ class Element:
     @property
     def colour(self) -> int:
         """The colour, 0 to 255. Only of an element that is not silent; so are weight and style."""
-        return self.data[self.offset + 35]
+        return self.data[self.offset + COLOUR_BYTE]
 
     @property
     def weight(self) -> int:
         """The weight, 0 to 31."""
-        return self.data[self.offset + 34] >> 3
+        return self.data[self.offset + LOOK_BYTE] >> 3
 
     @property
     def style(self) -> int:
         """The style, 0 to 7."""
-        return self.data[self.offset + 34] & 7
+        return self.data[self.offset + LOOK_BYTE] & 7
 
     @property
     def properties(self) -> int:
@@ -137,10 +139,21 @@ class Element:
     @property
     def points(self) -> List[Point]:
         """The points of a line, string, shape or curve; the origin of a text, a cell or a text node; else none."""
-        place = self.points_place
-        if place is None:
+        kind, axes = self.type, self.axes
+        count = tables.COUNTS[kind]
+        if not count:
             return []
-        return points_at(self.data, self.offset + place, self.points_count, self.axes)
+        if count == tables.BY_WORD:
+            count = word_at(self.data, self.offset + tables.COUNT_AT)
+        return points_at(self.data, self.offset + POINTS_IN[axes][kind], count, axes)
+
+    @property
+    def first_point(self) -> Optional[Point]:
+        """The first of these points, none where there is none."""
+        place = self.points_place
+        if place is None or not self.points_count:
+            return None
+        return points_at(self.data, self.offset + place, 1, self.axes)[0]
 
     @property
     def points_count(self) -> int:
@@ -200,7 +213,12 @@ class Element:
         if self.type != classes.TEXT:
             return None
         width, height = self.multipliers
-        return width * TEXT_UNIT.numerator / TEXT_UNIT.denominator, height * TEXT_UNIT.numerator / TEXT_UNIT.denominator
+        return width * UNIT_OVER / UNIT_UNDER, height * UNIT_OVER / UNIT_UNDER
+
+    @property
+    def text_height(self) -> float:
+        """How high a sign of a text is, in units of resolution. Only of a text."""
+        return self.height_multiplier * UNIT_OVER / UNIT_UNDER
 
     @property
     def text_angle(self) -> Optional[float]:

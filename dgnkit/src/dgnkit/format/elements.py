@@ -14,6 +14,7 @@ from .element import LOCK_BYTE, Element
 
 BIT_C, DELETED = 1, 2
 NOT_C = bytes([0, DELETED])  # the marks of elements without bit C
+HAS_C = bytes(it & BIT_C for it in range(256))
 YES_NO = (False, True)
 IS_LOUD = bytes(kind in classes.LOUD for kind in range(256))
 IS_ODD = bytes(it & 1 for it in range(256))
@@ -69,6 +70,10 @@ class Elements(Sequence[Element]):
         for number, (offset, size, kind, level, mark) in enumerate(rows):
             yield Element(number, offset, size, kind, level, YES_NO[mark & BIT_C], mark >= DELETED, data, axes)
 
+    def contents(self) -> Iterator[bytes]:
+        """The bytes of each element."""
+        return (self.data[at : at + size] for at, size in zip(self.offsets, self.sizes))
+
     @property
     def end(self) -> int:
         """Where the last element ends."""
@@ -78,7 +83,7 @@ class Elements(Sequence[Element]):
         """The numbers of the elements with bit C, but for element 0."""
         if not self.marks.translate(None, NOT_C):
             return []
-        return [number for number, mark in enumerate(self.marks) if mark & BIT_C and number]
+        return [it for it in compress(range(len(self)), self.marks.translate(HAS_C)) if it]
 
     def deleted(self) -> List[int]:
         """The numbers of the elements that are marked deleted themselves."""
@@ -86,10 +91,18 @@ class Elements(Sequence[Element]):
             return []
         return [number for number, mark in enumerate(self.marks) if mark & DELETED]
 
+    def _lock_bits(self) -> bytes:
+        """Of each element that isn't silent whether it is locked."""
+        places = map(LOCK_BYTE.__add__, compress(self.offsets, self.types.translate(IS_LOUD)))
+        return bytes(map(self.data.__getitem__, places)).translate(IS_ODD)
+
     def locked_count(self) -> int:
         """How many elements are locked."""
-        places = map(LOCK_BYTE.__add__, compress(self.offsets, self.types.translate(IS_LOUD)))
-        return bytes(map(self.data.__getitem__, places)).translate(IS_ODD).count(1)
+        return self._lock_bits().count(1)
+
+    def locked(self) -> List[int]:
+        """The numbers of the elements that are locked."""
+        return list(compress(self.of_types(classes.LOUD), self._lock_bits()))
 
     def counts(self) -> Dict[int, Dict[int, int]]:
         """How many elements each level has of each type, in the order in which they are first seen."""

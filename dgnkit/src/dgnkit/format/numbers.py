@@ -10,6 +10,7 @@ Point = Tuple[int, ...]
 
 OFFSET = 2147483648  # what a range number has more than it means
 WHOLE = 4294967296
+PLACE = struct.Struct('<hHhH')  # a point of two axes
 
 
 def word_at(data: bytes, place: int) -> int:
@@ -55,6 +56,9 @@ def points_at(data: bytes, place: int, count: int, axes: int) -> List[Point]:
     """So many points of longs, one behind the other."""
     if axes == 3:
         return points_of(longs_at(data, place, 3 * count), 3)
+    if count == 1:
+        a, b, c, d = PLACE.unpack_from(data, place)
+        return [(a * 65536 + b, c * 65536 + d)]
     words = struct.unpack_from('<' + 'hHhH' * count, data, place)
     columns = words[0::4], words[1::4], words[2::4], words[3::4]
     return [(a * 65536 + b, c * 65536 + d) for a, b, c, d in zip(*columns)]

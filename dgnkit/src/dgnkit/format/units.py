@@ -96,7 +96,7 @@ class Units:
     def to_master(self, point: Sequence[int]) -> Tuple[float, ...]:
         """A place of the drawing in master units. Only where these are known."""
         whole, zeros = self._whole
-        return tuple(float((at - zero) / whole) for at, zero in zip(point, zeros))
+        return tuple([float((at - zero) / whole) for at, zero in zip(point, zeros)])
 
     @cached_property
     def _whole(self) -> Tuple[int, Tuple[Union[int, Fraction], ...]]:
@@ -135,5 +135,8 @@ def rounded(value: Fraction) -> int:
 
 def shortest(value: float) -> str:
     """A number with at most 15 digits, without needless ones behind the point, and without an exponent."""
-    said = format(Decimal('%.15g' % value), 'f')
+    said = '%.15g' % value
+    if 'e' not in said and 'n' not in said:
+        return said
+    said = format(Decimal(said), 'f')
     return said.rstrip('0').rstrip('.') if '.' in said else said

@@ -34,7 +34,7 @@ def answers_of(names: Sequence[str], said: Sequence[str]) -> List[Answer]:
     for name in names:
         if at >= len(said):
             raise ListingError("dgnedit didn't answer command %d, %r" % (len(made) + 1, name))
-        found = REFUSED.fullmatch(said[at])
+        found = REFUSED.fullmatch(said[at]) if said[at].startswith('refused') else None
         if found:
             answer, taken = Answer([], cause=found[1]), 1
         elif name in LISTS:

@@ -4,7 +4,8 @@ from __future__ import annotations
 
 import re
 from dataclasses import dataclass
-from typing import Callable, Dict, Iterable, List, Optional, Pattern, TypeVar
+from functools import lru_cache
+from typing import Callable, Dict, Iterable, List, Optional, Pattern, Tuple, TypeVar
 
 from ..errors import ListingError
 from ..format.element import decoded
@@ -18,9 +19,7 @@ ITEM = re.compile(r'(\d+) (\d+) (\d+) (\d+) (\d+) (\d+) (\d+) (path|text|box|cel
 PATH = re.compile(r'%s(?: %s)*' % (POINT, POINT))
 TEXT = re.compile(r'(%s) (.*)' % POINT, re.S)
 CELL = re.compile(r'\[(.{10})\] (%s)' % POINT)
-NODE = re.compile(
-    r'(\d+) (\d+) (\d+) (\d+) (leaf|group|run|loose) (live|deleted)( orphan)?',
-)
+STANDING = re.compile(r'(\d+) (\d+) (\d+) (leaf|group|run|loose) (live|deleted)( orphan)?')
 REFERENCE = re.compile(r'(\d+) (\d+) (\d+) (live|deleted)')
 LINK = re.compile(r'(\d+) (\d+) (dmrs|user|rest)')
 FINDING = re.compile(r'(\d+) (%s) (%s) (%s) (%s)' % (POINT, POINT, POINT, POINT))
@@ -189,11 +188,24 @@ def _rows(lines: Iterable[str], what: str, form: Pattern[str], make: Callable[..
 
 def nodes_of(lines: Iterable[str]) -> List[Node]:
     """The lines of a `tree`."""
+    made = []
+    for line in lines:
+        number, _, rest = line.partition(' ')
+        standing = standing_of(rest)
+        if standing is None or not (number.isdecimal() and number.isascii()):
+            raise ListingError("dgnedit listed an element of a tree as %r, which dgnkit doesn't understand" % line)
+        made.append(Node(int(number), *standing))
+    return made
 
-    def make(number: str, depth: str, kind: str, level: str, knot: str, live: str, orphan: Optional[str]) -> Node:
-        return Node(int(number), int(depth), int(kind), int(level), knot, live == 'deleted', orphan is not None)
 
-    return _rows(lines, 'an element of a tree', NODE, make)
+@lru_cache(maxsize=4096)
+def standing_of(words: str) -> Optional[Tuple[int, int, int, str, bool, bool]]:
+    """What stands in a line of `tree` behind the number, none where it can't be read; many elements have the same."""
+    found = STANDING.fullmatch(words)
+    if not found:
+        return None
+    depth, kind, level = map(int, found.groups()[:3])
+    return depth, kind, level, found[4], found[5] == 'deleted', found[6] is not None
 
 
 def references_of(lines: Iterable[str]) -> List[Reference]:

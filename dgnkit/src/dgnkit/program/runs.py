@@ -99,9 +99,10 @@ class Program:
         """The answers of a script of any length that lists and sets fences alone, cut in as many runs as it takes. It
         raises ListingError where one is refused."""
         answers = [answer for part in script.parts() for answer in self.edit(drawing, part)]
-        for answer, command in zip(answers, script.commands):
-            if answer.is_refused:
-                raise ListingError('dgnedit refused %r of %s: %s' % (command.text, drawing, answer.cause))
+        place = next((place for place, it in enumerate(answers) if it.is_refused), None)
+        if place is not None:
+            said = 'dgnedit refused %r of %s: %s'
+            raise ListingError(said % (script.commands[place].text, drawing, answers[place].cause))
         return answers
 
     def check(self, drawing: Name) -> int:

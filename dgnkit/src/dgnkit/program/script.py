@@ -73,9 +73,15 @@ class Script:
                 found.append(Command(number, line))
         return found
 
+    @property
+    def names(self) -> List[str]:
+        """The first piece of each line that is a command."""
+        bare = (line.strip(b' ') for line in self.lines)
+        return [it.split(b' ', 1)[0].decode('latin-1') for it in bare if it and not it.startswith(b'#')]
+
     def answers(self, said: Sequence[str]) -> List[Answer]:
         """What was said to each of its commands, in their order. It raises ListingError where that can't be matched."""
-        return answers_of([it.name for it in self.commands], said)
+        return answers_of(self.names, said)
 
     def add(self, line: Union[str, bytes]) -> Script:
         """Appends a line as it is."""
