@@ -1,6 +1,7 @@
 """`find`: each condition by itself, on drawings of which one sees what meets it; and the scripts that it writes."""
 
 import contextlib
+import gc
 import json
 import os
 import tracemalloc
@@ -78,17 +79,24 @@ class Find(samples.WithProgram):
         self.assertIn('nothing matches --text A\n', self.kit('find', path, '--numbers', '--text', 'A')[2])
 
     def test_little_is_kept_of_each_row(self) -> None:
-        count = 5000
+        few, many = 2000, 8000
+        for form in ('--units=auto', '--csv', '--json'):
+            self.peak(form, few)  # what is loaded and kept by the first run doesn't count
+            more = self.peak(form, many) - self.peak(form, few)
+            self.assertLess(more / (many - few), 200, form)  # bytes
+
+    def peak(self, form: str, count: int) -> int:
+        """The most bytes that are kept at once while so many lines are found."""
         file = drawings.drawing(plan.line(1, (0, 0), (9, 9)) * count)
         path = self.put('many.dgn', file)
-        for form in ('--units=auto', '--csv', '--json'):
-            tracemalloc.start()
-            with open(os.devnull, 'w') as nowhere, contextlib.redirect_stdout(nowhere):
-                with contextlib.redirect_stderr(nowhere), mock.patch(READ, lambda _: file):
-                    self.assertEqual(samples.cli.main(['find', path, form]), 0)
-            peak = tracemalloc.get_traced_memory()[1]
-            tracemalloc.stop()
-            self.assertLess(peak / count, 400, form)  # bytes
+        gc.collect()
+        tracemalloc.start()
+        with open(os.devnull, 'w') as nowhere, contextlib.redirect_stdout(nowhere):
+            with contextlib.redirect_stderr(nowhere), mock.patch(READ, lambda _: file):
+                self.assertEqual(samples.cli.main(['find', path, form]), 0)
+        made = tracemalloc.get_traced_memory()[1]
+        tracemalloc.stop()
+        return made
 
     def test_columns_are_as_wide_as_what_is_found(self) -> None:
         said = self.said('find', self.plan, '--number', '3-6')
