@@ -13,6 +13,7 @@ from datetime import datetime, timezone
 
 TOP = os.path.dirname(os.path.dirname(os.path.abspath(__file__)))
 OLDEST = 315532800    # the first of January 1980, the least that a zip file can say
+PROGRAM = 0o100755    # a plain file that may be run, as pip asks
 
 
 def text_of(name: str) -> str:
@@ -62,7 +63,7 @@ def zip_files(contents: dict[str, bytes], place: str, front: bytes = b'', progra
         with zipfile.ZipFile(file, 'w', zipfile.ZIP_DEFLATED, compresslevel=9) as made:
             for name in sorted(contents):
                 info = zipfile.ZipInfo(name, stamp)
-                info.create_system, info.external_attr = 3, (0o755 if name in programs else 0o644) << 16
+                info.create_system, info.external_attr = 3, (PROGRAM if name in programs else 0o644) << 16
                 info.compress_type = zipfile.ZIP_DEFLATED
                 made.writestr(info, contents[name])
 
