@@ -1,9 +1,9 @@
-/* dgnedit as a library: the program over files in memory. `make lib` makes dist/libdgnedit.a, which needs nothing but the C
-   library's malloc, realloc and free. docs/LIBRARY.md has an example, and says what is proved.
+/* dgnedit as a library: the program over files in memory. It needs nothing but the C library's malloc, realloc and free,
+   and what moves memory. docs/LIBRARY.md has an example, and says what is proved.
 
    What a caller owes:
    - Each pointer is valid for so many bytes or entries as the length beside it says, which is below 2^63; where that is 0,
-     the pointer may be any that isn't null.
+     the pointer may be any, NULL too.
    - The two buffers overlap neither each other nor what is handed in, and nobody else writes to any of it during the call.
    - malloc, realloc and free come from one allocator, and a block lies at each power of two up to 16 that divides its size.
    - The call isn't made from a signal handler, nor from the forked child of a process with threads. It can be made on
@@ -18,9 +18,27 @@
 #include <stddef.h>
 #include <stdint.h>
 
+#define DGNEDIT_VERSION_MAJOR 1
+#define DGNEDIT_VERSION_MINOR 1
+#define DGNEDIT_VERSION_PATCH 0
+
 #ifdef __cplusplus
 extern "C" {
 #endif
+
+/* How a run can end: the exit numbers of the program. docs/EDITING.md says when each comes. */
+enum dgnedit_status {
+    DGNEDIT_DONE = 0,
+    DGNEDIT_SOME_REFUSED = 1,    /* the file is written, and at least one command was refused */
+    DGNEDIT_USAGE = 2,           /* the words are of no form */
+    DGNEDIT_BAD_SCRIPT = 3,
+    DGNEDIT_BAD_DESIGN = 4,
+    DGNEDIT_FILE_MISSING = 5,    /* a file isn't handed in that the run comes to read */
+    DGNEDIT_NO_MEMORY = 7,
+    DGNEDIT_TOO_LONG = 8,
+    DGNEDIT_BAD_PATCH = 10,
+    DGNEDIT_PATCH_REFUSED = 11
+};
 
 /* Bytes that are handed in. A text is its characters in UTF-8, without a zero at the end. */
 typedef struct dgnedit_bytes {
@@ -38,7 +56,7 @@ typedef struct dgnedit_file {
 typedef struct dgnedit_ended {
     size_t text_length;     /* how many bytes the run says */
     size_t file_length;     /* how many bytes the file has that it writes; 0 where it writes none */
-    uint32_t status;        /* the exit number of the program, as in docs/EDITING.md */
+    uint32_t status;        /* one of enum dgnedit_status */
     bool file_written;      /* whether it writes a file */
 } dgnedit_ended;
 

@@ -9,19 +9,17 @@ use Rattle.range_code.specs.declared.Box3.{Box3}
 use Rattle.range_code.specs.Ranges.{join_of}
 use Rattle.dgn_drawing.specs.Element.{Element}
 use Rattle.dgn_drawing.specs.Rows.{row_of}
-use Rattle.dgn_drawing.specs.WellFormed.{IsDimension, IsWellFormed}
 use Rattle.dgn_drawing.specs.Nesting.{Forest, NoTree, Tree, flat, forest}
 use Rattle.dgn_drawing.specs.Numbering.{Mark, end_of, marks, marks_of}
-use Rattle.nest_tree.specs.Depths.{IsSized, IsWordTotal}
 use Rattle.nest_tree.proofs.NestingSteps.{flat-forest}
 use Rattle.nest_tree.proofs.MemberBytes.{all_drop}
 use Rattle.nest_tree.proofs.Depths.{depths_low}
-use Rattle.nest_tree.proofs.Elements.{element_row}
 use Rattle.elem_index.specs.declared.design.Design.{Design}
 use Rattle.elem_index.specs.Design.{elements, IsWhole}
 use Rattle.elem_index.proofs.Places.{axes_of}
 use Rattle.level_view.proofs.ItemsBack.{here_and_behind, length-marks}
 use Rattle.level_view.proofs.ElementRows.{marks_by_rows}
+use Rattle.level_view.proofs.RowSizes.{rows_fit}
 use Rattle.dgn_audit.specs.declared.reported.Reported.{Reported}
 use Rattle.dgn_audit.specs.declared.open_box.OpenBox.{OpenBox}
 use Rattle.dgn_audit.specs.Hulls.{tree_hull}
@@ -165,15 +163,6 @@ module _ (keep : Reported) (dim : ℕ) (es : List Element) where
       (among_with m.parent (tree_hull dim m.knot e.0 (box_for n (boxes_at (n + 1) count))) (without n (boxes_at (n + 1) count)) is.0 is.1.1.1.0
       (among_without n (boxes_at (n + 1) count) is.0 behind.0)) in
       (is.1.0 (boxes_at n (suc count)) here, omega (arith, among_few (boxes_at n (suc count)) is.0 here, is.1.1.0, low.0))
-
--- the rows of elements without a fault are of the sizes and totals by which none lies deep
-rows_fit : (dim : ℕ) → IsDimension dim → (es : List Element) → AllByRecursion (IsWellFormed dim) es → AllByRecursion IsSized (map row_of es)
-    × AllByRecursion IsWordTotal (map row_of es)
-rows_fit dim axes [] good = (tt, tt)
-rows_fit dim axes (e ∷ es) good =
-    let row = element_row dim e axes good.0 in
-    let rest = rows_fit dim axes es good.1 in
-    ((row.sized, rest.0), (row.word, rest.1))
 
 -- at most 3278 boxes are open at once
 pub few_open : (d : Design) → IsWhole d → (keep : Reported) (n count : ℕ) → n + count ≤ length (elements d)

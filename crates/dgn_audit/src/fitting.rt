@@ -1,4 +1,4 @@
-ghost use Rattle.std.specs.Prelude.{◌≡◌, ◌+◌, ◌<◌, ◌≤◌, ◌++◌, length, reverse, slice_get, option_map, IfOk, IfErr, IfSome, OnOk, IsTrue};
+ghost use Rattle.std.specs.Prelude.{◌≡◌, ◌+◌, ◌<◌, ◌≤◌, ◌++◌, length, reverse, slice_get, option_map, IfOk, IfErr, IfSome, OnOk, IsErrOf, IsTrue};
 ghost use Rattle.std.specs.List.{AllByRecursion};
 ghost use Rattle.patch_bytes.specs.PatchView.{put_of};
 ghost use Rattle.dgn_layout.specs.Classes.{class_of};
@@ -15,6 +15,7 @@ ghost use Rattle.dgn_audit.specs.FitCauses.{edit_cause};
 ghost use Rattle.dgn_drawing.specs.SpotNumbers.{number_in, range_put, range_puts};
 ghost use Rattle.dgn_audit.specs.Fitting.{against, lock_cause, first_locked, tree_cause, apply_fit};
 ghost use Rattle.dgn_audit.specs.Planned.{IsFitPlan, IsFitRefused, IsPlanOfRoot, ArePatchesOf, IsCause, IsSpotted};
+ghost use Rattle.dgn_audit.specs.Planned.{IsOpenToFit, IsRootOpenToFit};
 
 use crate::finding::Finding;
 use crate::fit_cause::FitCause;
@@ -45,12 +46,13 @@ const HIGH: u32 = 16;
 ///
 /// Refused comes exactly with the first cause that stands: Unknown; Broken, with the least broken number of the tree;
 /// Deleted, where its root is marked deleted; Locked, with the least fitted element that is locked. Memory says that
-/// there was none for it.
+/// there was none for it; before memory is taken, all but Locked is asked.
 ///
 /// It takes the time of that tree, not of the drawing.
 pub fn plan_fit(alloc: Global, d: &Drawing<'_>, n: u32) -> Result<PatchList, FitFault>
     ensures planned { IfOk result (IsFitPlan d.now.dim (elements d.now) n) }
     ensures refused { IfErr result (IsFitRefused (apply_fit d.now.dim (elements d.now) n)) }
+    ensures memory { IsErrOf result FitFault.Memory → IsOpenToFit (elements d.now) n }
 {
     d.is_whole();
     let Some(root) = d.root(n) else {
@@ -64,6 +66,7 @@ fn plan_root(alloc: Global, d: &Drawing<'_>, root: u32) -> Result<PatchList, Fit
     requires known { root < length (elements d.now) }
     ensures planned { IfOk result (IsPlanOfRoot d.now.dim (elements d.now) root) }
     ensures refused { IfErr result (IsCause (tree_cause d.now.dim (elements d.now) root)) }
+    ensures memory { IsErrOf result FitFault.Memory → IsRootOpenToFit (elements d.now) root }
 {
     if let Some(cause) = broken(d, root) {
         return Err(FitFault::Refused(cause));

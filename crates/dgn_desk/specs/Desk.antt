@@ -86,6 +86,13 @@ DoesNotFault (Err ends.Fault) = ⊥
 DoesNotFault (Err ends.TooLong) = ⊤
 DoesNotFault (Err ends.Memory) = ⊤
 
+-- a file was read: whole, or so far as shows that it is too long
+abbrev pub WasRead : {T : Type 0} → Result T ReadEnd → Type 0
+WasRead (Ok x) = ⊤
+WasRead (Err ends.Fault) = ⊥
+WasRead (Err ends.TooLong) = ⊤
+WasRead (Err ends.Memory) = ⊥
+
 -- what stands behind some first part of these bytes that has at most so many
 abbrev pub IsRestOf : ℕ → List ℕ → List ℕ → Type 0
 IsRestOf most bytes left = (count : ℕ) × (count ≤ most) × (left ≡ drop count bytes)

@@ -77,6 +77,8 @@ impl<D: Desk + Drop> Desk for BufferedDesk<D> {
 
     ghost willing = { λ d. D.willing d.desk };
 
+    ghost strict = { D.strict };
+
     ghost tells = { λ d willing. held_tells d.held.items (D.content d.desk) (D.tells d.desk willing) };
 
     fn begin_read(&mut self, name: &str) -> Result<(), Stop> {

@@ -1,4 +1,4 @@
-ghost use Rattle.std.specs.Prelude.{◌≡◌, ℕ, ◌≤◌, [], length, take, IfOk, Option, Bool, IsTrue, IsSome};
+ghost use Rattle.std.specs.Prelude.{◌≡◌, ℕ, ◌≤◌, [], length, take, IfOk, OnOk, Option, Bool, IsTrue, IsSome};
 ghost use Rattle.dgn_desk.specs.Content.{Content, opened, consumed, filed, written, spoken, HasFile, HasTarget};
 ghost use Rattle.dgn_desk.specs.Desk.{Counts, Changes, Reads, TakesSome, StaysWilling, DoesNotFail};
 
@@ -11,6 +11,8 @@ use crate::stop::Stop;
 ///
 /// A willing desk tells what it holds, stays willing, and doesn't fail where there is what a call asks
 /// for: the file that is to be read, and one that was begun to write to. It may still want memory.
+///
+/// A strict desk, if it tells what it holds, reads no file that isn't there.
 pub trait Desk {
     ghost read_faults: { Self → ℕ };
 
@@ -20,14 +22,18 @@ pub trait Desk {
 
     ghost willing: { Self → Bool };
 
+    // Of all desks of its type alike.
+    ghost strict: { Bool };
+
     /// Begins reading the named file at its front. A name that isn't there counts as an empty file,
-    /// unless the desk fails.
+    /// unless the desk fails, as a strict one does.
     fn begin_read(&mut self, name: &str) -> Result<(), Stop>
         ensures cause { Counts (read_faults self.old) (read_faults self.new) result }
         ensures other { write_faults self.new ≡ write_faults self.old }
         ensures changes { Changes result (λ _. opened name.now) (content self.old) (content self.new) }
         ensures stays_willing { StaysWilling (willing self.old) (willing self.new) }
-        ensures never_fails { IsTrue (willing self.old) → HasFile name.now (content self.old) → DoesNotFail result };
+        ensures never_fails { IsTrue (willing self.old) → HasFile name.now (content self.old) → DoesNotFail result }
+        ensures found { OnOk result (IsTrue strict → HasFile name.now (content self.old)) };
 
     /// Reads some bytes into the front of `buf` and answers how many. None, for a buffer with room,
     /// means the end of the file.

@@ -59,6 +59,8 @@ impl<R: Files + Print + Drop> Desk for HostDesk<R> {
 
     ghost willing = { λ _. false };
 
+    ghost strict = { false };
+
     ghost tells = { Prim.search rules };
 
     fn begin_read(&mut self, name: &str) -> Result<(), Stop>

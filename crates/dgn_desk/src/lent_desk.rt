@@ -1,4 +1,4 @@
-ghost use Rattle.std.specs.Prelude.{◌≡◌, [], None, Some, Err, true};
+ghost use Rattle.std.specs.Prelude.{◌≡◌, [], None, Some, Err, OnOk, IsTrue, true};
 ghost use Rattle.std.proofs.Common.{rules};
 ghost use Rattle.std.specs.Option.{option_copied};
 ghost use Rattle.std.specs.FinMap as maps;
@@ -107,12 +107,15 @@ impl<'a> Desk for LentDesk<'a> {
 
     ghost willing = { λ _. true };
 
+    ghost strict = { true };
+
     ghost tells = { Prim.search rules };
 
     fn begin_read(&mut self, name: &str) -> Result<(), Stop>
         ensures cause { Counts self.old.read_faults self.new.read_faults result }
         ensures changes { Changes result (λ _. opened name.now) (Some self.old.content) (Some self.new.content) }
         ensures never_fails { HasFile name.now (Some self.old.content) → DoesNotFail result }
+        ensures found { OnOk result (IsTrue true → HasFile name.now (Some self.old.content)) }
         ensures absent { maps.get self.old.content.files name.now ≡ None → result ≡ Err Stop.Failed }
     {
         match self.written.get(name) {

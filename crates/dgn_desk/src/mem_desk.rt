@@ -1,4 +1,4 @@
-ghost use Rattle.std.specs.Prelude.{◌≡◌, ◌≤◌, ◌||◌, length, ◌∷◌, ◌++◌, [], Some, None, take, IfOk, IsTrue, OnOk, OnErr};
+ghost use Rattle.std.specs.Prelude.{◌≡◌, ◌≤◌, ◌||◌, length, ◌∷◌, ◌++◌, [], Some, None, take, IfOk, IsTrue, OnOk, OnErr, true};
 ghost use Rattle.std.proofs.Common.{rules};
 ghost use Rattle.std.specs.Option.{option_copied};
 ghost use Rattle.std.specs.FinMap as maps;
@@ -136,6 +136,8 @@ impl Desk for MemDesk {
 
     ghost willing = { none_ahead };
 
+    ghost strict = { true };
+
     ghost tells = { Prim.search rules };
 
     #[tactic(auto, using(crate::proofs::Numbered::stays_ahead, crate::proofs::Numbered::unlisted))]
@@ -143,6 +145,7 @@ impl Desk for MemDesk {
         ensures cause { Counts self.old.read_faults self.new.read_faults result }
         ensures stays_willing { StaysWilling (none_ahead self.old) (none_ahead self.new) }
         ensures never_fails { IsTrue (none_ahead self.old) → HasFile name.now (Some self.old.content) → DoesNotFail result }
+        ensures found { OnOk result (IsTrue true → HasFile name.now (Some self.old.content)) }
         ensures exact { Answers act.BeginRead (is_listed self.old || is_missing name.now self.old.content)
             (λ _. opened name.now) result self.old self.new }
     {

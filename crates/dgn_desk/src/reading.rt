@@ -1,7 +1,7 @@
 ghost use Rattle.std.specs.Prelude.{◌≡◌, ◌+◌, ◌<◌, ◌≤◌, ◌^◌, length, vec_len, IfOk, IfSome, IsErrOf, IsTrue};
 ghost use Rattle.dgn_desk.specs.declared.reading.ReadEnd.TheVariants.{Memory};
 ghost use Rattle.dgn_desk.specs.Content.{bytes_of, consumed, OnlyLeftDiffers, HasFile};
-ghost use Rattle.dgn_desk.specs.Desk.{Counts, Changes, Reads, ReadCounts, StaysWilling, DoesNotFail, DoesNotFault, LeavesToRead, read_end_of};
+ghost use Rattle.dgn_desk.specs.Desk.{Counts, Changes, Reads, ReadCounts, StaysWilling, DoesNotFail, DoesNotFault, WasRead, LeavesToRead, read_end_of};
 
 use crate::desk::Desk;
 use crate::stop::Stop;
@@ -44,7 +44,7 @@ const PIECE: usize = 65536;
 ///
 /// `TooLong` comes exactly where the file has more than `limit` bytes, a fault and want of memory
 /// before that aside. `Fault` comes only where the desk's count of faults of reading rose in this
-/// call, and never over a willing desk that has the file. Over any desk it ends at `limit + 1` bytes at
+/// call, and never over a willing desk that has the file; a strict desk has each file that is read. Over any desk it ends at `limit + 1` bytes at
 /// the latest. Nothing but what is left to read changes: nothing is left of a file that was read whole,
 /// and else it is what was left before, or the file behind those bytes that were read. A willing desk
 /// stays willing.
@@ -64,6 +64,7 @@ pub fn read_all<D: Desk>(
     ensures left { LeavesToRead result limit (λ c. bytes_of c.files name.now) (D.content desk.old) (D.content desk.new) }
     ensures stays_willing { StaysWilling (D.willing desk.old) (D.willing desk.new) }
     ensures never_fails { IsTrue (D.willing desk.old) → HasFile name.now (D.content desk.old) → DoesNotFault result }
+    ensures found { WasRead result → IsTrue D.strict → HasFile name.now (D.content desk.old) }
 {
     desk.begin_read(name)?;
     let mut piece = zeros(alloc, PIECE)?;

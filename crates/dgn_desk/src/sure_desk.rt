@@ -1,4 +1,4 @@
-ghost use Rattle.std.specs.Prelude.{◌≡◌, ◌≤◌, [], length, take, Some, IfOk, OnOk, OnErr, true};
+ghost use Rattle.std.specs.Prelude.{◌≡◌, ◌≤◌, [], length, take, Some, IfOk, OnOk, OnErr, true, false};
 ghost use Rattle.std.proofs.Common.{rules};
 ghost use Rattle.std.specs.Option.{option_copied};
 ghost use Rattle.std.specs.FinMap as maps;
@@ -106,6 +106,8 @@ impl Desk for SureDesk {
     ghost content = { λ d. Some d.content };
 
     ghost willing = { λ _. true };
+
+    ghost strict = { false };
 
     ghost tells = { Prim.search rules };
 

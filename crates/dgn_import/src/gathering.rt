@@ -1,11 +1,11 @@
-ghost use Rattle.std.specs.Prelude.{◌≡◌, ◌<◌, ◌++◌, length, option_map, IfOk, IfErr, IfSome, OnOk, None};
+ghost use Rattle.std.specs.Prelude.{◌≡◌, ◌<◌, ◌++◌, length, option_map, IfOk, IfErr, IfSome, OnOk, IsErrOf, IsTrue, None};
 ghost use Rattle.dgn_drawing.specs.Nesting.{flat};
 ghost use Rattle.dgn_drawing.specs.Spelling.{spelling};
 ghost use Rattle.elem_index.specs.Design.{elements};
 ghost use Rattle.dgn_drawing.specs.Values.{IsShift};
 ghost use Rattle.dgn_import.specs.Seconds.{value_of, IsOpened};
 ghost use Rattle.dgn_import.specs.Gathering.{AreTrees, Trees, fits, gathered, gathered_in, taken, import_tree, import_trees, import_cause, cause_of_roots};
-ghost use Rattle.dgn_import.specs.Answers.{TellsFault, TellsCause};
+ghost use Rattle.dgn_import.specs.Answers.{TellsFault, TellsCause, IsOpenToGather};
 
 use crate::gathered::Gathered;
 use crate::import_fault::ImportFault;
@@ -26,7 +26,7 @@ use std::mem;
 /// Bad comes exactly where the second file doesn't open; else Dimension exactly where it has another dimension than
 /// `dim`, or `by` is given for other axes; else Refused exactly where the displacement of a tree is refused, with the
 /// first cause of the first such tree, whose number counts in the second file. Memory says that there was none for
-/// the trees.
+/// the trees of a file that is neither Bad nor of another Dimension.
 ///
 /// It takes the time of the second drawing.
 pub fn gather(
@@ -41,6 +41,8 @@ pub fn gather(
     ensures refused { IfErr result
         (TellsFault (gathered dim (value_of second.now) (option_map (λ b. b.now) by.entry))) }
     ensures trees { IfOk result (λ g. AreTrees dim g.bytes) }
+    ensures memory { IsErrOf result ImportFault.Memory
+        → IsOpenToGather dim (value_of second.now) (option_map (λ b. b.now) by.entry) }
 {
     match second {
         Second::Good(design, nest) => gather_from(alloc, dim, &Drawing::new(design, nest), by),
@@ -60,6 +62,8 @@ fn gather_from(
     ensures refused { IfErr result
         (TellsFault (gathered_in dim d.now.dim (elements d.now) (option_map (λ b. b.now) by.entry))) }
     ensures trees { IfOk result (λ g. AreTrees dim g.bytes) }
+    ensures memory { IsErrOf result ImportFault.Memory
+        → IsTrue (fits dim d.now.dim (option_map (λ b. b.now) by.entry)) }
 {
     d.is_whole();
     if !fits(dim, d.dim(), by) {

@@ -11,7 +11,7 @@ use std::alloc::{AllocError, Global};
 /// A second drawing, which is open, or why its file doesn't open.
 ///
 /// A contract sees its value (`SecondValue`): the dimension with the bytes of the body and of the tail, or the fault.
-/// One that `read_second` makes is sound (`IsSound`): the design is whole, and the nesting is that of its elements.
+/// One that `read_second` makes is sound (`IsOpened`): the design is whole, and the nesting is that of its elements.
 #[derive(Drop)]
 pub enum Second {
     /// The drawing, and the trees of its elements.

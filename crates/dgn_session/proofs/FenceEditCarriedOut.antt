@@ -1,6 +1,6 @@
 -- What a session comes to when the plan of an edit of all that a fence chooses is carried out on it.
 use Rattle.std.proofs.Common.{◌≡◌, ℕ, List, [], ◌∷◌, ◌++◌, length, reverse, Option, refl, sym, ap, ◌∙◌, subst, arith}
-use Rattle.std.specs.Prelude.{Some, option_map}
+use Rattle.std.specs.Prelude.{Some, IfSome, option_map}
 use Rattle.plane_geom.specs.declared.pt.Pt.{Pt}
 use Rattle.dgn_drawing.specs.declared.fence_edit.FenceEdit.{FenceEdit}
 use Rattle.dgn_drawing.specs.declared.mask.Mask.{Mask}
@@ -15,7 +15,9 @@ use Rattle.elem_index.specs.Design.{elements}
 use Rattle.edit_ops.specs.declared.types.plan.Plan.{Plan}
 use Rattle.edit_ops.specs.Applying.{Done}
 use Rattle.edit_ops.specs.Fenced.{apply_all, fenced_fields, AreRoots, IsFenceEdit}
+use Rattle.edit_ops.specs.FenceLaws.{ChangesFencedFields}
 use Rattle.edit_ops.specs.Planned.{IsFencePlan}
+use Rattle.edit_ops.proofs.FenceLaws.{fenced_changes}
 use Rattle.dgn_drawing.specs.Opening.{elements_of}
 use Rattle.dgn_session.proofs.DesignSeen.{as_seen}
 use Rattle.dgn_session.specs.SessionParts.{IsDesignOf}
@@ -52,6 +54,7 @@ pub record IsFenceEdited (e : FenceEdit) (old new : SessionValue) (ns : List ℕ
   pub value : Some new ≡ option_map (λ (ns : List ℕ). value_with (spelling (state_of new).top)
       (old.entries ++ fence_entry old.dim (state_of old).top e ns ∷ []) old) chosen
   pub count : Some (length ns) ≡ option_map (length {A = ℕ}) chosen
+  pub changed : IfSome chosen (λ (ns : List ℕ). ChangesFencedFields old.dim (state_of old).top e ns (state_of new).top)
 
 module _ (old : SessionValue) (sound : IsSessionValue old) (corners : List Pt) (mode : Mode) (is : old.fence ≡ Some corners) (ns : List ℕ)
     (are : ns ≡ selected old.dim old.mask corners mode (state_of old).top) (e : FenceEdit) (p : Plan) (fits : IsFenceEdit e)
@@ -91,4 +94,6 @@ module _ (old : SessionValue) (sound : IsSessionValue old) (corners : List Pt) (
         accepted = ap Some has.accepted;
         value = ap Some has.value;
         count = refl;
+        changed = fenced_changes (old.body ++ old.tail) old.dim (state_of old).top old.tail (length old.tail) e ns (state_of new).top fits roots opens.opens
+            has.accepted;
       })

@@ -1,4 +1,4 @@
-ghost use Rattle.std.specs.Prelude.{◌≡◌, ◌+◌, [], ◌∷◌, ◌++◌, length, None, IfErr, OnOk, OnErr};
+ghost use Rattle.std.specs.Prelude.{◌≡◌, ◌+◌, [], ◌∷◌, ◌++◌, length, None, IfErr, IsErrOf, OnOk, OnErr};
 ghost use Rattle.dgn_drawing.specs.Opening.{elements_of};
 ghost use Rattle.elem_index.specs.Design.{IsWhole};
 ghost use Rattle.edit_ops.specs.Causes.{too_long};
@@ -30,7 +30,8 @@ impl Session {
     /// patch.
     ///
     /// Refused comes with TooLong, exactly where body, tail and the bytes are together more than `MOST_DESIGN` bytes,
-    /// and with no other cause. Memory says that there was none for it. The session is then as before.
+    /// and with no other cause. Memory says that there was none for it, of bytes that aren't too long. The session is then
+    /// as before.
     pub fn append_trees(&mut self, bytes: &[u8]) -> Result<(), EditFault>
         requires trees { AreTrees self.old.dim bytes.now }
         ensures done { OnOk result
@@ -41,6 +42,8 @@ impl Session {
             (too_long (length self.old.body + length self.old.tail + length bytes.now) ≡ None) }
         ensures refused { IfErr result
             (IsTooLong (length self.old.body + length self.old.tail + length bytes.now)) }
+        ensures memory { IsErrOf result EditFault.Memory
+            → too_long (length self.old.body + length self.old.tail + length bytes.now) ≡ None }
         ensures kept { OnErr result (self.new ≡ self.old) }
     {
         if let Some(cause) = growth_cause(&self.design, bytes.len()) {

@@ -1,10 +1,11 @@
 // Stored ranges against hulls: what differs, and what a fit makes of it.
 
-ghost use Rattle.std.specs.Prelude.{◌≡◌, ◌∷◌, ◌++◌, [], IfOk, IfErr, OnOk, OnErr};
+ghost use Rattle.std.specs.Prelude.{◌≡◌, ◌∷◌, ◌++◌, [], IfOk, IfErr, IsErrOf, OnOk, OnErr};
 ghost use Rattle.dgn_drawing.specs.Spelling.{spelling};
 ghost use Rattle.edit_ops.specs.Applying.{Done};
 ghost use Rattle.edit_ops.specs.Planned.{IsRefused};
 ghost use Rattle.dgn_audit.specs.Findings.{findings};
+ghost use Rattle.dgn_audit.specs.Planned.{IsOpenToFit};
 ghost use Rattle.dgn_session.specs.State.{state_of, value_with};
 ghost use Rattle.dgn_session.specs.Fits.{fit_applied, after_fit, fit_entry, IsFit};
 
@@ -27,8 +28,9 @@ impl Session {
     /// findings of all other trees are as before.
     ///
     /// Refused comes with the first cause that stands, exactly where the fit is refused: Unknown; Broken; Deleted, of the
-    /// root of that tree; Locked, of the least fitted element that is locked. Memory says that there was none for it.
-    /// The session is then as before: all memory is taken before the first byte is written.
+    /// root of that tree; Locked, of the least fitted element that is locked. Memory says that there was none for it,
+    /// where none of the causes but Locked stands. The session is then as before: all memory is taken before the first
+    /// byte is written.
     pub fn fit(&mut self, n: u32) -> Result<(), EditFault>
         ensures done { OnOk result (state_of self.new ≡ after_fit n (state_of self.old)) }
         ensures accepted { OnOk result (fit_applied n (state_of self.old) ≡ Done (state_of self.new).top) }
@@ -36,6 +38,7 @@ impl Session {
             (self.old.entries ++ fit_entry self.old.dim (state_of self.old).top n ∷ []) self.old) }
         ensures fitted { OnOk result (IsFit self.old.dim (state_of self.old).top n (state_of self.new).top) }
         ensures refused { IfErr result (IsRefused (fit_applied n (state_of self.old))) }
+        ensures memory { IsErrOf result EditFault.Memory → IsOpenToFit (state_of self.old).top n }
         ensures kept { OnErr result (self.new ≡ self.old) }
     {
         let patches = plan_fit(self.alloc, &self.drawing(), n)?;

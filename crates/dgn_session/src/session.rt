@@ -1,11 +1,14 @@
-ghost use Rattle.std.specs.Prelude.{◌≡◌, ◌↔◌, [], ◌∷◌, ◌++◌, length, map, option_map, Some, None, Err, IfOk, IfErr, IsErr, OnOk, OnErr};
+ghost use Rattle.std.specs.Prelude.{◌≡◌, ◌↔◌, ◌<◌, [], ◌∷◌, ◌++◌, length, map, option_map, Some, None, Err, IfOk, IfErr, IfSome, IsErr, IsErrOf, OnOk, OnErr};
 ghost use Rattle.undo_log.specs.Entries.{IsUndone};
 ghost use Rattle.dgn_drawing.specs.Rows.{row_of};
 ghost use Rattle.dgn_drawing.specs.Spelling.{spelling};
 ghost use Rattle.dgn_drawing.specs.Shown.{shown};
 ghost use Rattle.elem_index.specs.Design.{elements, IsWhole};
 ghost use Rattle.edit_ops.specs.Applying.{Done, IsEdit};
+ghost use Rattle.edit_ops.specs.Causes.{target_of};
+ghost use Rattle.edit_ops.specs.Fenced.{IsFenceEdit};
 ghost use Rattle.edit_ops.specs.Laws.{ChangesItsFields};
+ghost use Rattle.edit_ops.specs.FenceLaws.{ChangesFencedFields};
 ghost use Rattle.edit_ops.specs.Planned.{IsRefused};
 ghost use Rattle.dgn_session.specs.State.{SessionValue, state_of, first_state, edit_applied, after_edit};
 ghost use Rattle.dgn_session.specs.State.{after_undo, with_mask, entry, value_with, value_with_mask};
@@ -81,8 +84,8 @@ impl Session {
     /// values are such as their type keeps, and no byte of the elements changes outside of its fields.
     ///
     /// Refused comes with the first cause that stands, exactly where the edit is refused (`edit_ops::plan`), and Memory
-    /// where there is no memory for it. The session is then as before: all memory is taken before the first byte is
-    /// written.
+    /// where there is no memory for it, of an edit whose element, where it names one, there is. The session is then as
+    /// before: all memory is taken before the first byte is written.
     pub fn edit(&mut self, e: &Edit) -> Result<(), EditFault>
         ensures done { OnOk result (state_of self.new ≡ after_edit e.now (state_of self.old)) }
         ensures accepted { OnOk result (edit_applied e.now (state_of self.old) ≡ Done (state_of self.new).top) }
@@ -92,6 +95,8 @@ impl Session {
         ensures changed { OnOk result
             (ChangesItsFields self.old.dim (state_of self.old).top e.now (state_of self.new).top) }
         ensures refused { IfErr result (IsRefused (edit_applied e.now (state_of self.old))) }
+        ensures known { IsErrOf result EditFault.Memory
+            → IfSome (target_of e.now) (λ n. n < length (state_of self.old).top) }
         ensures kept { OnErr result (self.new ≡ self.old) }
     {
         let plan = plan(self.alloc, &self.drawing(), e, 0)?;
@@ -101,7 +106,8 @@ impl Session {
 
     /// Makes an edit of all trees that the fence chooses in this mode: of each by itself, on the drawing as it was, and
     /// of all of them or of none. It is one edit for an undo, also where nothing is chosen. The answer is the number of
-    /// trees.
+    /// trees. The values of the edit are such as its type keeps, and no byte of the elements changes outside of its
+    /// fields.
     ///
     /// NoFence comes exactly where no fence is set, whatever else stands against the edit. Refused comes with the first
     /// cause of the first tree in file order that has one, exactly where one has; for a copy, the bytes that the trees
@@ -113,6 +119,9 @@ impl Session {
             (λ ns. value_with (spelling (state_of self.new).top)
             (self.old.entries ++ fence_entry self.old.dim (state_of self.old).top e.now ns ∷ []) self.old)
             (selection mode (state_of self.old))) }
+        ensures within { OnOk result (IsFenceEdit e.now) }
+        ensures changed { OnOk result (IfSome (selection mode (state_of self.old))
+            (λ ns. ChangesFencedFields self.old.dim (state_of self.old).top e.now ns (state_of self.new).top)) }
         ensures no_fence { (result ≡ Err FenceEditFault.NoFence) ↔ (self.old.fence ≡ None) }
         ensures refused { IfErr result (IsFenceRefused (fence_applied mode e.now (state_of self.old))) }
         ensures kept { OnErr result (self.new ≡ self.old) }

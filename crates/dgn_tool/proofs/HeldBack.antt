@@ -16,9 +16,9 @@ use Rattle.dgn_tool.specs.Status.{number_of}
 use Rattle.dgn_tool.specs.declared.status.Status.{Status}
 use Rattle.dgn_tool.specs.declared.status.Status.TheVariants as statuses
 use Rattle.dgn_tool.proofs.ToldContents.{where_told, said_behind, stopped_early}
-use Rattle.dgn_tool.specs.Outcome.{outcome_of}
+use Rattle.dgn_tool.specs.Outcome.{outcome_of, StoppedAs}
 use Rattle.dgn_tool.specs.EditedRuns.{EditsAsAsked}
-use Rattle.dgn_tool.specs.Runs.{Runs, IsSettled, flushed_status}
+use Rattle.dgn_tool.specs.Runs.{Runs, Concludes, IsSettled, flushed_status}
 
 -- A run that came to its ending had come to all of its outcome.
 
@@ -57,10 +57,10 @@ came_to : (request : Option Request) (old now : Seen) (status : Status) → Runs
     → IfSome old.content (λ c. Stops (outcome_of request c.files) c now.content)
 came_to request old now statuses.ReadFault run =
     where_told (λ c. (o : Outcome) → Stops o c now.content) (λ c. Stops (outcome_of request c.files) c now.content) old.content
-    (stopped_early old.content now.content (run.read_fault refl).2) (λ c stops. stops (outcome_of request c.files))
+    (stopped_early old.content now.content (run.concludes.read_fault refl).2) (λ c stops. stops (outcome_of request c.files))
 came_to request old now statuses.WriteFault run = run.prefix tt
 came_to request old now statuses.Memory run = run.prefix tt
-came_to request old now other run = all_stop (outcome_of request) other old.content now.content (run.outcome tt)
+came_to request old now other run = all_stop (outcome_of request) other old.content now.content (run.concludes.outcome tt)
 
 -- What was said without what is held back yet.
 
@@ -151,14 +151,23 @@ held_below o held None below now is settled stops = tt
 held_below o held (Some c) None now is settled stops = absurd (let e = sym is ∙ stops.told_is in cc)
 held_below o held (Some c) (Some b) now is settled stops = stops_below (o c.files) c b held settled (subst (λ n. Stops (o c.files) c n) is stops)
 
+-- What follows from what holds of a value, or of an error.
+
+ok_so : {T E : Type 0} {P Q : T → Type 0} (given : Result T E) → ((x : T) → P x → Q x) → IfOk given P → IfOk given Q
+ok_so (Ok x) so holds = so x holds
+ok_so (Err e) so holds = tt
+
+err_so : {T E : Type 0} {P Q : E → Type 0} (given : Result T E) → ((e : E) → P e → Q e) → IfErr given P → IfErr given Q
+err_so (Ok x) so holds = tt
+err_so (Err e) so holds = so e holds
+
 -- The whole run.
 
 -- a run that left the same of another desk
 as_seen : (request : Option Request) (old run new : Seen) (status : Status) → new.content ≡ run.content → new.read_faults ≡ run.read_faults
-    → new.write_faults ≡ run.write_faults → StaysWilling run.willing new.willing → Runs request old run status → Runs request old new status
+    → new.write_faults ≡ run.write_faults → StaysWilling run.willing new.willing → Concludes request old run status → Concludes request old new status
 as_seen request old run new status content reads writes stays r = record {
   outcome = λ ending. subst (λ k. IfSome old.content (λ c. Leaves (outcome_of request c.files) status c k)) (sym content) (r.outcome ending);
-  prefix = λ stopped. subst (λ k. IfSome old.content (λ c. Stops (outcome_of request c.files) c k)) (sym content) (r.prefix stopped);
   counted = λ ending. (reads ∙ (r.counted ending).0, writes ∙ (r.counted ending).1);
   usage = r.usage;
   improper = r.improper;
@@ -172,6 +181,7 @@ as_seen request old run new status content reads writes stays r = record {
       (λ rose. unwritten (subst (λ n. Rose old.write_faults n) (sym writes) rose));
   complete_willing = r.complete_willing;
   bytes = r.bytes;
+  found = r.found;
   never_fewer = subst (λ n. old.write_faults ≤ n) (sym writes) r.never_fewer;
   stays_willing = λ willing. stays (r.stays_willing willing);
   as_asked = subst (EditsAsAsked request status old.content) (sym content) r.as_asked;
@@ -185,18 +195,17 @@ unheld held (Some c) none = ap (λ t. Some (record c { since = t })) (ap (λ h. 
 rose_since : (before mid now : ℕ) → before ≤ mid → Rose mid now → Rose before now
 rose_since before mid now le rose = omega (arith, rose)
 
--- a run over a desk that holds back what is said, and then the flush of that, is a run over the desk below
-pub flushed_run : (request : Option Request) (old run new : Seen) (held : List ℕ) (flush : Result (Unit {0}) Stop) (ended : Status)
-    → Runs request old run ended
+-- a run over a desk that holds back what is said, and then the flush of that, concludes as a run over the desk below
+flushed_run : (request : Option Request) (old run new : Seen) (held : List ℕ) (flush : Result (Unit {0}) Stop) (ended : Status)
+    → Concludes request old run ended
     → Writes flush (λ told now. now ≡ told) run (record new { content = with_held held new.content })
-    → IfOk flush (λ _. held ≡ []) → IsSettled old.content → Runs request old new (flushed_status flush ended)
-flushed_run request old run new held (Ok x) ended r w none settled =
+    → IfOk flush (λ _. held ≡ []) → Concludes request old new (flushed_status flush ended)
+flushed_run request old run new held (Ok x) ended r w none =
     as_seen request old run new ended (sym (unheld held new.content none) ∙ w.changes) w.other w.cause w.stays_willing r
-flushed_run request old run new held (Err stops.Failed) ended r w none settled =
+flushed_run request old run new held (Err stops.Failed) ended r w none =
     let rose : Rose old.write_faults new.write_faults = rose_since old.write_faults run.write_faults new.write_faults r.never_fewer w.cause.1 in
     record {
       outcome = λ ending. absurd ending;
-      prefix = λ _. held_below (outcome_of request) held old.content new.content run.content (sym w.changes) settled (came_to request old run ended r);
       counted = λ ending. absurd ending;
       usage = λ is. absurd (let x = is in cc);
       improper = λ _ ending. absurd ending;
@@ -205,13 +214,13 @@ flushed_run request old run new held (Err stops.Failed) ended r w none settled =
       complete = λ _ unwritten. absurd (unwritten rose);
       complete_willing = λ willing _. absurd (w.never_fails (r.stays_willing willing));
       bytes = λ ending. absurd ending;
+      found = λ ending. absurd ending;
       never_fewer = let first = r.never_fewer in let second = w.cause.0 in omega arith;
       stays_willing = λ willing. w.stays_willing (r.stays_willing willing);
       as_asked = λ input script output asked written. absurd written;
     }
-flushed_run request old run new held (Err stops.Memory) ended r w none settled = record {
+flushed_run request old run new held (Err stops.Memory) ended r w none = record {
   outcome = λ ending. absurd ending;
-  prefix = λ _. held_below (outcome_of request) held old.content new.content run.content (sym w.changes) settled (came_to request old run ended r);
   counted = λ ending. absurd ending;
   usage = λ is. absurd (let x = is in cc);
   improper = λ _ ending. absurd ending;
@@ -220,10 +229,23 @@ flushed_run request old run new held (Err stops.Memory) ended r w none settled =
   complete = λ _ _. tt;
   complete_willing = λ _ _. tt;
   bytes = λ ending. absurd ending;
+  found = λ ending. absurd ending;
   never_fewer = let first = r.never_fewer in let second = w.cause in omega arith;
   stays_willing = λ willing. w.stays_willing (r.stays_willing willing);
   as_asked = λ input script output asked written. absurd written;
 }
+
+-- and where it was stopped, it stopped as a run over the desk below, if nothing had been said since the last file was begun
+flushed_stops : (request : Option Request) (old run new : Seen) (held : List ℕ) (flush : Result (Unit {0}) Stop) (ended : Status)
+    → Runs request old run ended
+    → Writes flush (λ told now. now ≡ told) run (record new { content = with_held held new.content })
+    → IfOk flush (λ _. held ≡ []) → IsSettled old.content → StoppedAs (flushed_status flush ended) (outcome_of request) old.content new.content
+flushed_stops request old run new held (Ok x) ended r w none settled =
+    subst (StoppedAs ended (outcome_of request) old.content) (sym w.changes ∙ unheld held new.content none) r.prefix
+flushed_stops request old run new held (Err stops.Failed) ended r w none settled =
+    λ _. held_below (outcome_of request) held old.content new.content run.content (sym w.changes) settled (came_to request old run ended r)
+flushed_stops request old run new held (Err stops.Memory) ended r w none settled =
+    λ _. held_below (outcome_of request) held old.content new.content run.content (sym w.changes) settled (came_to request old run ended r)
 
 -- what the flush left, by the desk below
 record Flushed (run told new : Seen) (held : List ℕ) (ended status : Status) : Type 0 where
@@ -233,39 +255,58 @@ record Flushed (run told new : Seen) (held : List ℕ) (ended status : Status) :
   status_is : status ≡ flushed_status flush ended
   told_is : told ≡ record new { content = with_held held new.content }
 
--- the number and the status of a run with this request that left this of the desk
+-- the number and the status of a run with this request that left this of the desk, and what a stop left
 abbrev Exits : Option Request → Seen → Seen → ℕ → Type 0
-Exits request old new number = (status : Status) × (number ≡ number_of status) × Runs request old new status
+Exits request old new number = (status : Status) × (number ≡ number_of status) × Concludes request old new status
 
-exits : (request : Option Request) {started old run told new last : Seen} {held : List ℕ} {ended status : Status} {number : ℕ} → started ≡ old
-    → last ≡ new → Flushed run told new held ended status → number ≡ number_of status → IsSettled old.content → Runs request started run ended
-    → Exits request old last number
-exits request {started = started} {old = old} {run = run} {told = told} {new = new} {last = last} {held = held} {ended = ended} {status = status} begun left
-    f numbered settled r =
-    let own : Runs request old run ended = subst (λ s. Runs request s run ended) begun r in
-    let writes : Writes f.flush (λ was now. now ≡ was) run (record new { content = with_held held new.content }) =
-    subst (λ t. Writes f.flush (λ was now. now ≡ was) run t) f.told_is f.writes in
-    let ran : Runs request old new (flushed_status f.flush ended) = flushed_run request old run new held f.flush ended own writes f.handed settled in
-    (status, numbered, subst (λ s. Runs request old s status) (sym left) (subst (Runs request old new) (sym f.status_is) ran))
+abbrev StopsSo : Option Request → Seen → Seen → ℕ → Type 0
+StopsSo request old new number = (status : Status) × (number ≡ number_of status) × StoppedAs status (outcome_of request) old.content new.content
+
+module _ (request : Option Request) {started old run told new last : Seen} {held : List ℕ} {ended status : Status} {number : ℕ} (begun : started ≡ old)
+    (left : last ≡ new) (f : Flushed run told new held ended status) (numbered : number ≡ number_of status) (r : Runs request started run ended) where
+  own : Runs request old run ended
+  own = subst (λ s. Runs request s run ended) begun r
+
+  writes : Writes f.flush (λ was now. now ≡ was) run (record new { content = with_held held new.content })
+  writes = subst (λ t. Writes f.flush (λ was now. now ≡ was) run t) f.told_is f.writes
+
+  exits : Exits request old last number
+  exits =
+      let ran : Concludes request old new (flushed_status f.flush ended) =
+      flushed_run request old run new held f.flush ended own.concludes writes f.handed in
+      (status, numbered, subst (λ s. Concludes request old s status) (sym left) (subst (Concludes request old new) (sym f.status_is) ran))
+
+  stops_so : IsSettled old.content → StopsSo request old last number
+  stops_so settled =
+      let stopped : StoppedAs (flushed_status f.flush ended) (outcome_of request) old.content new.content =
+      flushed_stops request old run new held f.flush ended own writes f.handed settled in (
+        status,
+        numbered,
+        subst (λ (s : Seen). StoppedAs status (outcome_of request) old.content s.content) (sym left)
+            (subst (λ (s : Status). StoppedAs s (outcome_of request) old.content new.content) (sym f.status_is) stopped),
+      )
 
 -- the same of words that were given, and of an error in their place
 
-pub ok_exits : {T E : Type 0} (given : Result T E) (asks : T → Option Request) {started old run told new last : Seen} {held : List ℕ}
-    {ended status : Status} {number : ℕ} → started ≡ old → last ≡ new
-    → (w : (flush : Result (Unit {0}) Stop) × Writes flush (λ was now. now ≡ was) run told × IfOk flush (λ _. held ≡ [])
+module _ {T E : Type 0} (given : Result T E) {started old run told new last : Seen} {held : List ℕ} {ended status : Status} {number : ℕ}
+    (begun : started ≡ old) (left : last ≡ new)
+    (w : (flush : Result (Unit {0}) Stop) × Writes flush (λ was now. now ≡ was) run told × IfOk flush (λ _. held ≡ [])
     × (status ≡ flushed_status flush ended))
-    → told ≡ record new { content = with_held held new.content } → number ≡ number_of status → IfOk given (λ x. Runs (asks x) started run ended)
-    → IfOk given (λ x. IsSettled old.content → Exits (asks x) old last number)
-ok_exits (Ok x) asks begun left w is numbered ran = λ settled.
-    exits (asks x) begun left (record { flush = w.0; writes = w.1; handed = w.2; status_is = w.3; told_is = is }) numbered settled ran
-ok_exits (Err e) asks begun left w is numbered ran = tt
+    (is : told ≡ record new { content = with_held held new.content }) (numbered : number ≡ number_of status) where
+  flushed : Flushed run told new held ended status
+  flushed = record { flush = w.0; writes = w.1; handed = w.2; status_is = w.3; told_is = is }
 
-pub err_exits : {T E : Type 0} (given : Result T E) (P : E → Type 0) (request : Option Request) {started old run told new last : Seen} {held : List ℕ}
-    {ended status : Status} {number : ℕ} → started ≡ old → last ≡ new
-    → (w : (flush : Result (Unit {0}) Stop) × Writes flush (λ was now. now ≡ was) run told × IfOk flush (λ _. held ≡ [])
-    × (status ≡ flushed_status flush ended))
-    → told ≡ record new { content = with_held held new.content } → number ≡ number_of status → IfErr given (λ e. P e → Runs request started run ended)
-    → IfErr given (λ e. P e → IsSettled old.content → Exits request old last number)
-err_exits (Ok x) P request begun left w is numbered ran = tt
-err_exits (Err e) P request begun left w is numbered ran = λ other settled.
-    exits request begun left (record { flush = w.0; writes = w.1; handed = w.2; status_is = w.3; told_is = is }) numbered settled (ran other)
+  pub ok_exits : (asks : T → Option Request) → IfOk given (λ x. Runs (asks x) started run ended) → IfOk given (λ x. Exits (asks x) old last number)
+  ok_exits asks ran = ok_so given (λ x r. exits (asks x) begun left flushed numbered r) ran
+
+  pub ok_stops : (asks : T → Option Request) → IfOk given (λ x. Runs (asks x) started run ended)
+      → IfOk given (λ x. IsSettled old.content → StopsSo (asks x) old last number)
+  ok_stops asks ran = ok_so given (λ x r. stops_so (asks x) begun left flushed numbered r) ran
+
+  pub err_exits : (P : E → Type 0) (request : Option Request) → IfErr given (λ e. P e → Runs request started run ended)
+      → IfErr given (λ e. P e → Exits request old last number)
+  err_exits P request ran = err_so given (λ e so such. exits request begun left flushed numbered (so such)) ran
+
+  pub err_stops : (P : E → Type 0) (request : Option Request) → IfErr given (λ e. P e → Runs request started run ended)
+      → IfErr given (λ e. P e → IsSettled old.content → StopsSo request old last number)
+  err_stops P request ran = err_so given (λ e so such. stops_so request begun left flushed numbered (so such)) ran

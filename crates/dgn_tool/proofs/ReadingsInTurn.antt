@@ -1,5 +1,5 @@
 -- Parts of a run that read, one after the other: what they leave of a desk together, by what the whole reads.
-use Rattle.std.proofs.Common.{◌≡◌, List, [], ◌∷◌, ◌++◌, Option, Some, None, Result, Ok, Err, refl, sym, ap, ◌∙◌, subst, append_assoc}
+use Rattle.std.proofs.Common.{◌≡◌, Bool, List, [], ◌∷◌, ◌++◌, Option, Some, None, Result, Ok, Err, refl, sym, ap, ◌∙◌, subst, append_assoc}
 use Rattle.std.specs.Prelude.{IfSome}
 use Rattle.std.specs.List.{AllByRecursion}
 use Rattle.dgn_desk.specs.declared.stop.Stop.{Stop}
@@ -11,7 +11,7 @@ use Rattle.dgn_desk.proofs.InTurn.{done_so, stopped_so}
 use Rattle.dgn_tool.specs.Ended.{Outcome}
 use Rattle.dgn_tool.specs.Leaving.{Stops}
 use Rattle.dgn_tool.specs.Ends.{status_said, Tells, end_of, IsRead, EndsThere, ComesTo}
-use Rattle.dgn_tool.specs.Readings.{Source, Reading, at_once, behind_sources, ◌>>=◌, ending_of, MayComeTo, IsThere, IsInBytes, AreThere, AreInBytes}
+use Rattle.dgn_tool.specs.Readings.{Source, Reading, at_once, behind_sources, ◌>>=◌, ending_of, MayComeTo, IsThere, IsGiven, AreThere, AreGiven}
 use Rattle.dgn_tool.specs.declared.ending.Ending.{Ending}
 use Rattle.dgn_tool.specs.declared.end.End.{End}
 use Rattle.dgn_tool.specs.declared.end.End.TheVariants as ends
@@ -80,7 +80,7 @@ ends_on before (Err o) next = refl
 
 -- nothing was read yet
 pub nothing_read : (old : Seen) → OnlyReads old old
-nothing_read old = record { changes = nothing_done old.content; calm = refl; quiet = refl; stays_willing = λ willing. willing }
+nothing_read old = record { changes = nothing_done old.content; calm = refl; quiet = refl; stays_willing = λ willing. willing; as_strict = refl }
 
 -- reading twice is reading
 reads_twice : {old mid new : Seen} → OnlyReads old mid → OnlyReads mid new → OnlyReads old new
@@ -89,13 +89,14 @@ reads_twice {old = old} {mid = mid} {new = new} first second = record {
   calm = second.calm ∙ first.calm;
   quiet = second.quiet ∙ first.quiet;
   stays_willing = λ willing. second.stays_willing (first.stays_willing willing);
+  as_strict = second.as_strict ∙ first.as_strict;
 }
 
 -- a value for which nothing is read
 pub gives : {T : Type 0} (value : T) (old : Seen) → IsRead (λ _. at_once (Ok value)) value old old
 gives {T} value old =
     let given : Result T Outcome = Ok value in
-    record { reads = nothing_read old; gives = where_all (λ c. (given ≡ given) × AreInBytes c.files []) old.content (λ c. (refl, tt)) }
+    record { reads = nothing_read old; gives = where_all (λ c. (given ≡ given) × AreGiven old.strict c.files []) old.content (λ c. (refl, tt)) }
 
 -- there was no memory for more than was read
 pub wants_more : {T : Type 0} (reading : Files → Reading T) (old new : Seen) → OnlyReads old new
@@ -113,8 +114,8 @@ wants_more reading old new reads = record {
 comes_at_once : (T : Type 0) (o : Outcome) (r : Result Ending Stop) (old new : Seen) → Writes r (Tells o r) old new
     → ComesTo {T = T} (λ _. at_once (Err o)) (Err (end_of r)) old new
 comes_at_once T o (Ok ending) old new comes =
-    done_so ending ending comes (λ tells. where_told _ (λ c. EndsThere {T = T} (at_once (Err o)) ending c new.content) old.content tells
-    (λ c leaves. record { outcome = o; answer_is = refl; leaves = leaves; bytes = tt }))
+    done_so ending ending comes (λ tells. where_told _ (λ c. EndsThere {T = T} old.strict (at_once (Err o)) ending c new.content) old.content tells
+    (λ c leaves. record { outcome = o; answer_is = refl; leaves = leaves; given = tt }))
 comes_at_once T o (Err stop) old new comes =
     stopped_so stop comes (λ tells. where_told (λ c. Stops o c new.content) (λ c. (q : Outcome) → o ≡ q → Stops q c new.content) old.content tells
     (λ c stops q is. subst (λ (x : Outcome). Stops x c new.content) is stops))
@@ -136,25 +137,25 @@ onto P S Q None mid only known also so = rw only.1 tt
 onto P S Q (Some c) mid only known also so = rw only.1 (so c.files known also)
 
 -- the whole reads what this part of it reads, and ends the run where it does
-record Covers {T U : Type 0} (files : Files) (whole : Reading T) (part : Reading U) : Type 0 where
+record Covers {T U : Type 0} (strict : Bool) (files : Files) (whole : Reading T) (part : Reading U) : Type 0 where
   there : AreThere files whole.sources → AreThere files part.sources
   may : (o : Outcome) → MayComeTo whole.answer o → MayComeTo part.answer o
-  ended : (o : Outcome) → part.answer ≡ Err o → AreInBytes files part.sources → (whole.answer ≡ Err o) × AreInBytes files whole.sources
+  ended : (o : Outcome) → part.answer ≡ Err o → AreGiven strict files part.sources → (whole.answer ≡ Err o) × AreGiven strict files whole.sources
 
 -- so where the part ended the run behind what was read, the whole did
 covers : {T U : Type 0} (whole : Files → Reading T) (part : Files → Reading U) (end : End) (old mid new : Seen) → OnlyReads old mid
-    → IfSome old.content (λ c. Covers c.files (whole c.files) (part c.files)) → ComesTo part (Err end) mid new → ComesTo whole (Err end) old new
+    → IfSome old.content (λ c. Covers old.strict c.files (whole c.files) (part c.files)) → ComesTo part (Err end) mid new → ComesTo whole (Err end) old new
 covers whole part (ends.Said ending) old mid new reads covered comes = record {
   cause = comes.cause ∙ reads.quiet;
   other = comes.other ∙ reads.calm;
-  changes = through _ _ (λ c. EndsThere (whole c.files) ending c new.content) old.content mid.content reads.changes covered comes.changes
+  changes = through _ _ (λ c. EndsThere old.strict (whole c.files) ending c new.content) old.content mid.content reads.changes covered comes.changes
       (λ c left by so.
-      let is = by.ended so.outcome so.answer_is so.bytes in
+      let is = by.ended so.outcome so.answer_is (subst (λ (s : Bool). AreGiven s c.files (part c.files).sources) reads.as_strict so.given) in
       record {
         outcome = so.outcome;
         answer_is = is.0;
         leaves = leaves_read so.outcome (status_said ending) left c new.content so.leaves;
-        bytes = is.1;
+        given = is.1;
       });
   stays_willing = λ willing. comes.stays_willing (reads.stays_willing willing);
   never_fails = λ _. tt;
@@ -165,8 +166,8 @@ covers whole part ends.ReadFault old mid new reads covered comes = record {
   stays_willing = λ willing. comes.stays_willing (reads.stays_willing willing);
   only = read_twice old.content mid.content new.content reads.changes comes.only;
   lacks = λ willing there. comes.lacks (reads.stays_willing willing)
-      (onto (λ files. Covers files (whole files) (part files)) (λ files. AreThere files (whole files).sources) (λ files. AreThere files (part files).sources)
-      old.content mid.content reads.changes covered there (λ files by all. by.there all));
+      (onto (λ files. Covers old.strict files (whole files) (part files)) (λ files. AreThere files (whole files).sources)
+      (λ files. AreThere files (part files).sources) old.content mid.content reads.changes covered there (λ files by all. by.there all));
 }
 covers whole part (ends.Stopped stop) old mid new reads covered comes =
     let stopped : Result Ending Stop = Err stop in
@@ -179,32 +180,39 @@ covers whole part (ends.Stopped stop) old mid new reads covered comes =
       never_fails = λ willing. comes.never_fails (reads.stays_willing willing);
     }
 
--- the whole reads these files, which are bytes, and then as the rest
-pub record Goes {T : Type 0} (files : Files) (whole rest : Reading T) : Type 0 where
+-- the whole reads these files, which were given, and then as the rest
+pub record Goes {T : Type 0} (strict : Bool) (files : Files) (whole rest : Reading T) : Type 0 where
   pub before : List Source
   pub sources : whole.sources ≡ before ++ rest.sources
   pub answer : whole.answer ≡ rest.answer
-  pub bytes : AreInBytes files before
+  pub given : AreGiven strict files before
 
-goes_bytes : {T : Type 0} (files : Files) (whole rest : Reading T) (g : Goes files whole rest) → AreInBytes files rest.sources → AreInBytes files whole.sources
-goes_bytes files whole rest g all = subst (AreInBytes files) (sym g.sources) (all_both (IsInBytes files) g.before rest.sources g.bytes all)
+goes_given : {T : Type 0} (strict : Bool) (files : Files) (whole rest : Reading T) (g : Goes strict files whole rest) → AreGiven strict files rest.sources
+    → AreGiven strict files whole.sources
+goes_given strict files whole rest g all =
+    subst (AreGiven strict files) (sym g.sources) (all_both (IsGiven strict files) g.before rest.sources g.given all)
 
 module _ {T : Type 0} (whole rest : Files → Reading T) where
   -- what the rest comes to, the whole comes to
-  pub continues : (r : Result T End) (old mid new : Seen) → OnlyReads old mid → IfSome old.content (λ c. Goes c.files (whole c.files) (rest c.files))
+  pub continues : (r : Result T End) (old mid new : Seen) → OnlyReads old mid → IfSome old.content (λ c. Goes old.strict c.files (whole c.files) (rest c.files))
       → ComesTo rest r mid new → ComesTo whole r old new
   continues (Ok value) old mid new reads goes comes = record {
     reads = reads_twice reads comes.reads;
-    gives = through _ _ (λ c. ((whole c.files).answer ≡ Ok value) × AreInBytes c.files (whole c.files).sources) old.content mid.content reads.changes goes
-        comes.gives (λ c left g so. (g.answer ∙ so.0, goes_bytes c.files (whole c.files) (rest c.files) g so.1));
+    gives = through _ _ (λ c. ((whole c.files).answer ≡ Ok value) × AreGiven old.strict c.files (whole c.files).sources) old.content mid.content
+        reads.changes goes comes.gives
+        (λ c left g so. (
+          g.answer ∙ so.0,
+          goes_given old.strict c.files (whole c.files) (rest c.files) g
+              (subst (λ (s : Bool). AreGiven s c.files (rest c.files).sources) reads.as_strict so.1),
+        ));
   }
   continues (Err end) old mid new reads goes comes =
       covers whole rest end old mid new reads
-      (where_told _ (λ c. Covers c.files (whole c.files) (rest c.files)) old.content goes
+      (where_told _ (λ c. Covers old.strict c.files (whole c.files) (rest c.files)) old.content goes
       (λ c g. record {
         there = λ all. (all_parts (IsThere c.files) g.before (rest c.files).sources (subst (AreThere c.files) g.sources all)).1;
         may = λ o may. subst (λ (a : Result T Outcome). MayComeTo a o) g.answer may;
-        ended = λ o is all. (g.answer ∙ is, goes_bytes c.files (whole c.files) (rest c.files) g all);
+        ended = λ o is all. (g.answer ∙ is, goes_given old.strict c.files (whole c.files) (rest c.files) g all);
       }))
       comes
 
@@ -212,12 +220,12 @@ module _ {T : Type 0} (whole rest : Files → Reading T) where
   pub same_reading : (r : Result T End) (old new : Seen) → ((files : Files) → whole files ≡ rest files) → ComesTo rest r old new → ComesTo whole r old new
   same_reading r old new same comes =
       continues r old old new (nothing_read old)
-      (where_all (λ c. Goes c.files (whole c.files) (rest c.files)) old.content
+      (where_all (λ c. Goes old.strict c.files (whole c.files) (rest c.files)) old.content
       (λ c. record {
         before = [];
         sources = ap (λ (x : Reading T). x.sources) (same c.files);
         answer = ap (λ (x : Reading T). x.answer) (same c.files);
-        bytes = tt;
+        given = tt;
       }))
       comes
 
@@ -238,13 +246,13 @@ module _ {A B : Type 0} (first : Files → Reading A) (next : Files → A → Re
   pub ends_first : (end : End) (old new : Seen) → ComesTo first (Err end) old new → ComesTo (λ files. first files >>= next files) (Err end) old new
   ends_first end old new comes =
       covers (λ files. first files >>= next files) first end old old new (nothing_read old)
-      (where_all (λ c. Covers c.files (first c.files >>= next c.files) (first c.files)) old.content
+      (where_all (λ c. Covers old.strict c.files (first c.files >>= next c.files) (first c.files)) old.content
       (λ c. record {
         there = first_all (next c.files) (IsThere c.files) (first c.files).sources (first c.files).answer;
         may = first_may (next c.files) (first c.files).sources (first c.files).answer;
         ended = λ o is all.
             let same = on_end (next c.files) (first c.files) o is in
-            (ap (λ (x : Reading B). x.answer) same, subst (λ (x : Reading B). AreInBytes c.files x.sources) (sym same) all);
+            (ap (λ (x : Reading B). x.answer) same, subst (λ (x : Reading B). AreGiven old.strict c.files x.sources) (sym same) all);
       }))
       comes
 
@@ -253,14 +261,14 @@ module _ {A B : Type 0} (first : Files → Reading A) (next : Files → A → Re
       → ComesTo (λ files. first files >>= next files) r old new
   then_comes x r old mid new read comes =
       continues (λ files. first files >>= next files) (λ files. next files x) r old mid new read.reads
-      (where_told _ (λ c. Goes c.files (first c.files >>= next c.files) (next c.files x)) old.content read.gives
+      (where_told _ (λ c. Goes old.strict c.files (first c.files >>= next c.files) (next c.files x)) old.content read.gives
       (λ c so.
       let same = on_value (next c.files) (first c.files) x so.0 in
       record {
         before = (first c.files).sources;
         sources = ap (λ (y : Reading B). y.sources) same;
         answer = ap (λ (y : Reading B). y.answer) same;
-        bytes = so.1;
+        given = so.1;
       })) comes
 
 module _ {A : Type 0} (first : Files → Reading A) (next : Files → A → Reading Outcome) where

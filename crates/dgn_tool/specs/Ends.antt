@@ -1,5 +1,5 @@
 -- How a part of a run ends the run, and what it leaves of the desk.
-use Rattle.std.specs.Prelude.{◌≡◌, Option, Result, Ok, Err, IfSome, IsTrue}
+use Rattle.std.specs.Prelude.{◌≡◌, Bool, Option, Result, Ok, Err, IfSome, IsTrue}
 use Rattle.dgn_desk.specs.declared.desk.Desk.{Ghosts}
 use Rattle.dgn_desk.specs.declared.stop.Stop.{Stop}
 use Rattle.dgn_desk.specs.declared.stop.Stop.TheVariants as stops
@@ -8,7 +8,7 @@ use Rattle.dgn_desk.specs.Desk.{Rose, StaysWilling}
 use Rattle.dgn_desk.specs.Seen.{Seen, seen, OnlyReads, Writes}
 use Rattle.dgn_tool.specs.Ended.{Outcome}
 use Rattle.dgn_tool.specs.Leaving.{Leaves, Stops}
-use Rattle.dgn_tool.specs.Readings.{Reading, ending_of, MayComeTo, AreThere, AreInBytes}
+use Rattle.dgn_tool.specs.Readings.{Reading, ending_of, MayComeTo, AreThere, AreGiven}
 use Rattle.dgn_tool.specs.declared.status.Status.{Status}
 use Rattle.dgn_tool.specs.declared.status.Status.TheVariants as statuses
 use Rattle.dgn_tool.specs.declared.ending.Ending.{Ending}
@@ -51,17 +51,19 @@ DeskComes g o old new result = Writes result (Tells o result) (seen g old) (seen
 
 -- Parts that read.
 
--- all was read: only that was done, and where files are told, it gives this value, and all of them are bytes
+-- all was read: only that was done, and where files are told, it gives this value, all of them are bytes, and a strict desk
+-- has them
 pub record IsRead {T : Type 0} (reading : Files → Reading T) (value : T) (old new : Seen) : Type 0 where
   pub reads : OnlyReads old new
-  pub gives : IfSome old.content (λ c. ((reading c.files).answer ≡ Ok value) × AreInBytes c.files (reading c.files).sources)
+  pub gives : IfSome old.content (λ c. ((reading c.files).answer ≡ Ok value) × AreGiven old.strict c.files (reading c.files).sources)
 
--- a run that told this content read so, and ended there with the outcome of that; the files that were read are bytes
-pub record EndsThere {T : Type 0} (reading : Reading T) (ending : Ending) (old : Content) (new : Option Content) : Type 0 where
+-- a run that told this content read so, and ended there with the outcome of that; the files that were read are bytes, and a
+-- strict desk has them
+pub record EndsThere {T : Type 0} (strict : Bool) (reading : Reading T) (ending : Ending) (old : Content) (new : Option Content) : Type 0 where
   pub outcome : Outcome
   pub answer_is : reading.answer ≡ Err outcome
   pub leaves : Leaves outcome (status_said ending) old new
-  pub bytes : AreInBytes old.files reading.sources
+  pub given : AreGiven strict old.files reading.sources
 
 -- a fault of reading: only that was done, and a willing desk lacks a file that is read
 pub record IsUnread {T : Type 0} (reading : Files → Reading T) (old new : Seen) : Type 0 where
@@ -76,7 +78,7 @@ pub record IsUnread {T : Type 0} (reading : Files → Reading T) (old new : Seen
 abbrev pub ComesTo : {T : Type 0} → (Files → Reading T) → Result T End → Seen → Seen → Type 0
 ComesTo reading (Ok value) old new = IsRead reading value old new
 ComesTo reading (Err (ends.Said ending)) old new =
-    Writes {T = Ending} (Ok ending) (λ told now. IfSome told (λ c. EndsThere (reading c.files) ending c now)) old new
+    Writes {T = Ending} (Ok ending) (λ told now. IfSome told (λ c. EndsThere old.strict (reading c.files) ending c now)) old new
 ComesTo reading (Err ends.ReadFault) old new = IsUnread reading old new
 ComesTo reading (Err (ends.Stopped stop)) old new =
     Writes {T = Ending} (Err stop)

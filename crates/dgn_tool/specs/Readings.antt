@@ -1,6 +1,6 @@
 -- Reading in a run: which files are read, in order, and what that gives. Where it can't go on, it gives the outcome with which
 -- the run ends there, and nothing behind it is read.
-use Rattle.std.specs.Prelude.{ℕ, ◌≡◌, ◌≤◌, nat_lt, if◌then◌else◌, List, [], ◌∷◌, ◌++◌, length, Result, Ok, Err, IsSome, ⊤}
+use Rattle.std.specs.Prelude.{ℕ, ◌≡◌, ◌≤◌, nat_lt, if◌then◌else◌, Bool, List, [], ◌∷◌, ◌++◌, length, Result, Ok, Err, IsSome, IsTrue, ⊤}
 use Rattle.std.specs.FinMap as maps
 use Rattle.std.specs.List.{AllByRecursion}
 use Rattle.dgn_desk.specs.Content.{Files, bytes_of}
@@ -68,3 +68,11 @@ AreThere files sources = AllByRecursion (IsThere files) sources
 -- each is in bytes
 abbrev pub AreInBytes : Files → List Source → Type 0
 AreInBytes files sources = AllByRecursion (IsInBytes files) sources
+
+-- it is so, and a strict desk has it
+abbrev pub IsGiven : Bool → Files → Source → Type 0
+IsGiven strict files source = IsInBytes files source × (IsTrue strict → IsThere files source)
+
+-- each is so
+abbrev pub AreGiven : Bool → Files → List Source → Type 0
+AreGiven strict files sources = AllByRecursion (IsGiven strict files) sources

@@ -1,6 +1,6 @@
 //! The editor's top calls: `run` does what the words of the command line ask for, with `edit`, `pack`, `apply`, `check` and
-//! `gen`; `run_given` and `run_flushed` take the words as the runtime gives them. And the parts of a run: the words, reading
-//! and opening files, writing them, and how a run ends.
+//! `gen`, and `run_flushed` takes the words as the runtime gives them. And the parts of a run: the words, reading and opening
+//! files, writing them, and how a run ends.
 #![tactic(auto)]
 
 mod apply;
@@ -29,4 +29,4 @@ pub use dgn_generator::generate;
 pub use request::Request;
 pub use runs::run;
 pub use status::Status;
-pub use words::{run_flushed, run_given};
+pub use words::run_flushed;

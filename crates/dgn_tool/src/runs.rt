@@ -33,15 +33,18 @@ use std::alloc::Global;
 /// there is no memory, the run ends at once and says nothing more: after WriteFault or Memory some first
 /// part of the outcome's text was said, the file that the outcome writes is as before or holds some first
 /// part of its bytes, and no other file changed. No fault is passed over: an ending comes only where neither
-/// count of faults changed. Where the desk doesn't fail, the run comes to its ending unless there is no
+/// count of faults changed, and so does Memory. Where the desk doesn't fail, the run comes to its ending unless there is no
 /// memory; and a willing desk doesn't fail, where it has the files that the run comes to read. Where a run over a desk that
-/// tells what it holds comes to an ending, each file that it read is bytes, numbers below 256, if it is within its limit.
+/// tells what it holds comes to an ending, each file that it read is bytes, numbers below 256, if it is within its limit,
+/// and a strict desk has all of them.
 pub fn run<D: Desk>(alloc: Global, words: &[String], desk: &mut D) -> Status
     ensures outcome { EndsAs result
         (outcome (map string_bytes words.now)) (D.content desk.old) (D.content desk.new) }
     ensures prefix { StoppedAs result
         (outcome (map string_bytes words.now)) (D.content desk.old) (D.content desk.new) }
     ensures counted { IsEnding result → (D.read_faults desk.new ≡ D.read_faults desk.old)
+        × (D.write_faults desk.new ≡ D.write_faults desk.old) }
+    ensures memory { result ≡ Status.Memory → (D.read_faults desk.new ≡ D.read_faults desk.old)
         × (D.write_faults desk.new ≡ D.write_faults desk.old) }
     ensures usage { result ≡ Status.Usage → IsNone (request_of (map string_bytes words.now)) }
     ensures improper { IsNone (request_of (map string_bytes words.now)) → IsEnding result
@@ -58,6 +61,8 @@ pub fn run<D: Desk>(alloc: Global, words: &[String], desk: &mut D) -> Status
         → IsFaultless result }
     ensures bytes { IsEnding result → IfSome (D.content desk.old)
         (λ c. FilesInBytes (request_of (map string_bytes words.now)) c.files) }
+    ensures found { IsEnding result → IsTrue D.strict → IfSome (D.content desk.old)
+        (λ c. HasFiles (request_of (map string_bytes words.now)) c.files) }
     ensures never_fewer { D.write_faults desk.old ≤ D.write_faults desk.new }
     ensures stays_willing { StaysWilling (D.willing desk.old) (D.willing desk.new) }
     ensures as_asked { EditsAsAsked (request_of (map string_bytes words.now)) result (D.content desk.old) (D.content desk.new) }

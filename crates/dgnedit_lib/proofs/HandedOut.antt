@@ -1,5 +1,5 @@
 -- What a run leaves is what is handed out.
-use Rattle.std.proofs.Common.{◌≡◌, ℕ, List, [], ◌++◌, length, Option, Some, None, option_map, unwrap_or, is_some}
+use Rattle.std.proofs.Common.{◌≡◌, ◌⊎◌, ℕ, List, [], ◌++◌, length, Option, Some, None, option_map, unwrap_or, is_some, inl, inr}
 use Rattle.std.proofs.Common.{Bool, true, false, nat_le, if◌then◌else◌, refl, sym, ap, ◌∙◌, arith}
 use Rattle.dgn_desk.specs.Content.{Files, Content, all_said}
 use Rattle.dgn_desk.specs.Desk.{Rose}
@@ -19,6 +19,14 @@ ends statuses.ReadFault read memory write = absurd (read refl)
 ends statuses.WriteFault read memory write = absurd (let low = write refl in omega arith)
 ends statuses.Memory read memory write = absurd (memory refl)
 ends _ read memory write = tt
+
+-- so where that of an ending is refuted, its number is one of these
+pub stops : (status : Status) (number : ℕ) → number ≡ number_of status → (status ≡ statuses.WriteFault → Rose 0 0) → ¬ IsEnding status
+    → (number ≡ 5) ⊎ (number ≡ 7)
+stops statuses.ReadFault number is write ending = inl is
+stops statuses.WriteFault number is write ending = absurd (let low = write refl in omega arith)
+stops statuses.Memory number is write ending = inr is
+stops _ number is write ending = absurd (ending tt)
 
 -- a file is there where its bytes are
 is_some-bytes : (file : Option (List ℕ × List ℕ)) → is_some (option_map (λ f. f.1) file) ≡ is_some file

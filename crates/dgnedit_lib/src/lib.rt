@@ -6,7 +6,7 @@ mod given;
 mod running;
 mod word;
 
-ghost use Rattle.std.specs.Prelude.{◌≡◌, [], None};
+ghost use Rattle.std.specs.Prelude.{◌≡◌, ◌⊎◌, [], None};
 ghost use Rattle.dgn_desk.specs.LentDesk.{lent_files};
 ghost use Rattle.dgn_tool.specs.Ended.{ended};
 ghost use Rattle.dgn_tool.specs.Request.{request_of};
@@ -27,8 +27,8 @@ pub use word::Word;
 /// other file, and writes none: the text that it says and the file that it writes stand in the two buffers, each where that
 /// has room for it; a buffer that is too small stays as it was, and the ending says how many bytes there are.
 ///
-/// The status is the exit number of the program, as are text and file. It is 5 where a file isn't handed in that the run
-/// comes to read, and 7 where there is no memory; then nothing is handed out.
+/// The status is the exit number of the program, as are text and file. Where a file isn't handed in that the run comes to
+/// read, and only there, it is 5, unless it is 7, where there is no memory; then nothing is handed out.
 #[unsafe(no_mangle)]
 pub extern "C" fn dgnedit_run(
     alloc: Global,
@@ -43,6 +43,8 @@ pub extern "C" fn dgnedit_run(
     ensures missing { result.status ≡ 5 → HandsOut (ended statuses.ReadFault []) result
         (record { text_before = text.old; text_after = text.new; file_before = file.old; file_after = file.new })
         × ¬ HasFiles (request_of (words_given (bytes_of_words words.now))) (lent_files files.now) }
+    ensures absent { ¬ HasFiles (request_of (words_given (bytes_of_words words.now))) (lent_files files.now)
+        → (result.status ≡ 5) ⊎ (result.status ≡ 7) }
     ensures memory { result.status ≡ 7 → HandsOut (ended statuses.Memory []) result
         (record { text_before = text.old; text_after = text.new; file_before = file.old; file_after = file.new }) }
 {
@@ -51,3 +53,6 @@ pub extern "C" fn dgnedit_run(
         Err(_) => Ended::with_text(Status::Memory, 0),
     }
 }
+
+#[cfg(test)]
+mod tests;

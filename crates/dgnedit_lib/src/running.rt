@@ -1,4 +1,4 @@
-ghost use Rattle.std.specs.Prelude.{◌≡◌, ◌≤◌, [], map, string_bytes, length, Some, None};
+ghost use Rattle.std.specs.Prelude.{◌≡◌, ◌≤◌, ◌⊎◌, [], map, string_bytes, length, Some, None};
 ghost use Rattle.std.specs.Option.{option_copied};
 ghost use Rattle.dgn_desk.specs.LentDesk.{lent_files};
 ghost use Rattle.dgn_tool.specs.Ended.{ended};
@@ -27,6 +27,8 @@ pub(crate) fn run_over(
     ensures missing { result.status ≡ 5 → HandsOut (ended statuses.ReadFault []) result
         (record { text_before = text.old; text_after = text.new; file_before = file.old; file_after = file.new })
         × ¬ HasFiles (request_of (map string_bytes words.now)) (lent_files files.now) }
+    ensures absent { ¬ HasFiles (request_of (map string_bytes words.now)) (lent_files files.now)
+        → (result.status ≡ 5) ⊎ (result.status ≡ 7) }
     ensures memory { result.status ≡ 7 → HandsOut (ended statuses.Memory []) result
         (record { text_before = text.old; text_after = text.new; file_before = file.old; file_after = file.new }) }
 {

@@ -1,6 +1,6 @@
 -- Whether an edit is refused, in the order in which its causes are asked.
 use Rattle.std.proofs.Common.{◌≡◌, ℕ, ◌<◌, List, [], length, Bool, cond, Option, Some, None, Result, Ok, Err, refl, sym, ap, ◌∙◌, subst}
-use Rattle.std.specs.Prelude.{nat_lt, ◌++◌}
+use Rattle.std.specs.Prelude.{nat_lt, ◌++◌, IfSome}
 use Rattle.std.specs.Option.{option_or}
 use Rattle.std.proofs.lemmas.Bool.{ltb-true, lt-ltb}
 use Rattle.dgn_drawing.specs.declared.edit.Edit.{Edit}
@@ -17,12 +17,12 @@ use Rattle.edit_ops.specs.declared.causes.edit_fault.EditFault.{EditFault}
 use Rattle.edit_ops.specs.declared.causes.edit_fault.EditFault.TheVariants as faults
 use Rattle.edit_ops.specs.declared.types.plan.Plan.{Plan}
 use Rattle.edit_ops.specs.Causes.{unknown, part_cause, causes_of, first_of, target_of, target_cause, cause_of}
-use Rattle.edit_ops.specs.Applying.{Refused, applied_unless, apply, changed_forest, copied, ChangesInPlace, IsEdit}
+use Rattle.edit_ops.specs.Applying.{Done, Refused, applied_unless, apply, changed_forest, copied, ChangesInPlace, IsEdit}
 use Rattle.edit_ops.specs.Written.{part_puts}
 use Rattle.edit_ops.specs.Copying.{AddsUnless}
 use Rattle.edit_ops.specs.Planned.{IsPlan, IsPlanBehind, PlansUnless}
 use Rattle.edit_ops.proofs.ListedLive.{or_assoc}
-use Rattle.edit_ops.proofs.AcceptedEdit.{met}
+use Rattle.edit_ops.proofs.AcceptedEdit.{met, named_cause, done_is}
 use Rattle.edit_ops.proofs.AppendedElements.{append_plan}
 use Rattle.edit_ops.proofs.CopyEdits.{copy_plan}
 use Rattle.edit_ops.proofs.EditInPlace.{in_place, plan_is}
@@ -34,6 +34,16 @@ known_is n es is = ltb-true n (length es) (met (nat_lt n (length es)) (causes.Un
 -- and then it isn't unknown
 not_unknown : (n : ℕ) (es : List Element) → n < length es → unknown n es ≡ None
 not_unknown n es known = ap (λ (t : Bool). cond t None (Some (causes.Unknown n))) (lt-ltb n (length es) known)
+
+-- so the element that an edit names is there, where the edit is done
+some_known : (es : List Element) (o : Option ℕ) → ((n : ℕ) → o ≡ Some n → n < length es) → IfSome o (λ n. n < length es)
+some_known es None each = tt
+some_known es (Some n) each = each n refl
+
+pub target_known : (dim : ℕ) (es : List Element) (rest : ℕ) (e : Edit) (made : List Element) → apply dim es rest e ≡ Done made
+    → IfSome (target_of e) (λ n. n < length es)
+target_known dim es rest e made done =
+    some_known es (target_of e) (λ n named. known_is n es (named_cause dim es rest e n named (done_is dim es rest e made done).0).0)
 
 -- the first cause of an edit of a part: there is no such element, or one of the later causes
 named_first : (dim : ℕ) (es : List Element) (rest : ℕ) (e : Edit) (n : ℕ) → target_of e ≡ Some n

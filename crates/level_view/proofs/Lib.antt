@@ -1,5 +1,6 @@
 pub mod Results
 pub mod ElementRows
+pub mod RowSizes
 pub mod Heads
 pub mod Numbers
 pub mod ItemJoins

@@ -115,10 +115,11 @@ impl<'a> Drawing<'a> {
         self.nest.parent(n)
     }
 
-    /// How many headers lie above element `n`. None exactly where there are no more than `n` elements.
+    /// How many headers lie above element `n`: at most 3278. None exactly where there are no more than `n` elements.
     pub fn depth(&self, n: u32) -> Option<u32>
         ensures none { IsNone result ↔ (length (elements self.now) ≤ n) }
         ensures depth { result ≡ depth_of row_of (elements self.now) n }
+        ensures low { IfSome result (λ d. d ≤ 3278) }
     {
         self.nest.depth(n)
     }

@@ -1,4 +1,4 @@
-use Rattle.std.proofs.Common.{◌++◌, [], Some, unwrap_or, append-nil, ap, sym, ◌∙◌}
+use Rattle.std.proofs.Common.{◌++◌, [], Some, IsSome, unwrap_or, append-nil, refl, ap, sym, subst, ◌∙◌}
 use Rattle.std.specs.FinMap as maps
 use Rattle.dgn_desk.specs.Content.{opened}
 use Rattle.dgn_desk.proofs.LentFiles.{get_written, get_lent, opened_over, none_there}
@@ -36,3 +36,12 @@ pub returns-in-None-find-clause-never_fails : goal.returns-in-None-find-clause-n
 returns-in-None-find-clause-never_fails c = λ there.
     absurd (none_there _ (sym (ap (λ d. maps.get d.content.files c.args.name.now) c.self.view_is)
     ∙ get_lent _ _ _ c.in-None.ensures ∙ ap (maps.get _) (sym c.as_bytes.ensures.value) ∙ sym c.in-None-find.ensures) there)
+
+pub returns-in_ok-self-inside-in-Some-clause-found : goal.returns-in_ok-self-inside-in-Some-clause-found
+returns-in_ok-self-inside-in-Some-clause-found c =
+    λ _. subst IsSome (sym (get_written _ _ _ _ c.in-Some.ensures) ∙ ap (λ d. maps.get d.content.files c.args.name.now) c.self.view_is) refl
+
+pub returns-in-Some-find-clause-found : goal.returns-in-Some-find-clause-found
+returns-in-Some-find-clause-found c =
+    λ _. subst IsSome (sym (get_lent _ _ _ c.in-None.ensures ∙ ap (maps.get _) (sym c.as_bytes.ensures.value) ∙ sym c.in-Some-find.ensures)
+    ∙ ap (λ d. maps.get d.content.files c.args.name.now) c.self.view_is) refl

@@ -55,3 +55,6 @@ returns-clause-done c =
 
 pub returns-clause-value : goal.returns-clause-value
 returns-clause-value c = (edited (goal.at.returns-clause-value c).In_ok-carry_out).value
+
+pub returns-clause-changed : goal.returns-clause-changed
+returns-clause-changed c = (edited (goal.at.returns-clause-changed c).In_ok-carry_out).changed
