@@ -86,6 +86,10 @@ class Call:
         """Says a line that one should read."""
         self.feedback.pushWarning(text)
 
+    def error(self, text: str) -> None:
+        """Says a line on what went wrong."""
+        self.feedback.reportError(text)
+
     def doing(self, text: str, share: float) -> None:
         """Says what is done next, and which share of all is done. It raises Stopped where the run was cancelled."""
         self.feedback.setProgressText(text)

@@ -1,5 +1,6 @@
 """Where the package dgnkit is: in the plugin's own folder, as its zip file has it, or in the sources."""
 
+import importlib
 import sys
 from pathlib import Path
 
@@ -15,3 +16,18 @@ def provide() -> None:
                 sys.path.insert(0, str(place))
             return
     raise ImportError('the package dgnkit is in none of %s: install the plugin from its zip file' % (PLACES,))
+
+
+def forget() -> None:
+    """Takes the modules of the plugin and of that package out, so that none of them is left when another version of the
+    plugin is loaded."""
+    own = {__name__.split('.')[0], 'dgnkit'}
+    folders = (PLUGIN, *PLACES)
+    for name, module in list(sys.modules.items()):
+        file = Path(getattr(module, '__file__', None) or '.').resolve()
+        if name.split('.')[0] in own and any(it in file.parents for it in folders):
+            del sys.modules[name]
+    for place in map(str, PLACES):
+        if place in sys.path:
+            sys.path.remove(place)
+    importlib.invalidate_caches()

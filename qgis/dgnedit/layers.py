@@ -3,7 +3,7 @@
 import os
 from dataclasses import dataclass
 from pathlib import Path
-from typing import Iterator, List, Optional, Sequence
+from typing import Dict, Iterator, List, Optional, Sequence, Tuple
 
 from dgnkit.drawing.drawing import Drawing
 from qgis.core import (
@@ -15,26 +15,38 @@ from qgis.core import (
     QgsVectorLayer,
 )
 
-from .opening import KINDS, Wishes, Written, digest_of
+from .forms import describe
+from .opening import KINDS, Written, digest_of
+from .rows import Wishes
 from .styles import dress
 
 DRAWING, DIGEST = 'dgnedit/drawing', 'dgnedit/digest'
 UNITS, FLAGS = 'dgnedit/units', 'dgnedit/flags'
+LEVEL, KIND, GROUP = 'dgnedit/level', 'dgnedit/kind', 'dgnedit/group'
+Identity = Tuple[str, str, str]  # what a layer shows: its drawing, the digest of this, and the GeoPackage that has it
 FLAG_NAMES = ('has_members', 'has_holes', 'has_deleted')
 
 
 @dataclass
 class Known:
-    """A drawing that is open in the project: its file, the digest of its bytes, and how it was opened."""
+    """A drawing that is open in the project: its file, the digest of its bytes, how it was opened, and the GeoPackage
+    of its layers; and whether one of these is being edited."""
 
     drawing: str
     digest: str
     wishes: Wishes
+    package: str = ''
+    is_edited: bool = False
+
+    @property
+    def identity(self) -> Identity:
+        """What tells its layers from others."""
+        return self.drawing, self.digest, self.package
 
 
 def add_to_project(project: QgsProject, written: Written) -> List[QgsVectorLayer]:
     """Adds a group for a drawing, on top of all, and gives its layers. Where that fails nothing of it is left."""
-    group = project.layerTreeRoot().insertGroup(0, Path(written.drawing).name)
+    group = new_group(project, written)
     made: List[QgsVectorLayer] = []
     try:
         fill_group(project, group, written, made)
@@ -45,34 +57,70 @@ def add_to_project(project: QgsProject, written: Written) -> List[QgsVectorLayer
     return made
 
 
+def new_group(project: QgsProject, written: Written) -> QgsLayerTreeGroup:
+    """A group for a drawing, on top of all."""
+    group = project.layerTreeRoot().insertGroup(0, Path(written.drawing).name)
+    group.setCustomProperty(GROUP, True)
+    return group
+
+
 def fill_group(project: QgsProject, group: QgsLayerTreeGroup, written: Written, made: List[QgsVectorLayer]) -> None:
     """Adds the layers of a drawing to its group, by level, and to a list."""
-    group.setCustomProperty(DRAWING, written.drawing)
     for level in sorted({level for level, _ in written.styles}):
-        below = group.addGroup('level %d' % level)
         for kind in KINDS:
             if (level, kind) in written.styles:
-                layer = layer_of(written, level, kind)
-                project.addMapLayer(layer, False)
-                below.addLayer(layer).setExpanded(False)
-                made.append(layer)
-        below.setExpanded(False)
+                made.append(add_layer(project, group, written, level, kind))
+
+
+def add_layer(project: QgsProject, group: QgsLayerTreeGroup, written: Written, level: int, kind: str) -> QgsVectorLayer:
+    """Adds the layer of a level and a kind to the group of its drawing."""
+    layer = layer_of(written, level, kind)
+    project.addMapLayer(layer, False)
+    below = level_group(group, level)
+    kinds = [it.customProperty(KIND) for it in below.findLayers()]
+    above = [it for it in kinds if it in KINDS and KINDS.index(it) < KINDS.index(kind)]
+    node = below.insertLayer(len(above), layer)
+    node.setCustomProperty(KIND, kind)
+    node.setExpanded(False)
+    return layer
+
+
+def level_group(group: QgsLayerTreeGroup, level: int) -> QgsLayerTreeGroup:
+    """The group of a level, which is made where there is none, behind those of lower levels."""
+    groups = {int(it.customProperty(LEVEL, -1)): it for it in group.children()}
+    if level not in groups:
+        made = groups[level] = group.insertGroup(sum(it < level for it in groups), 'level %d' % level)
+        made.setCustomProperty(LEVEL, level)
+        made.setExpanded(False)
+    return groups[level]
 
 
 def layer_of(written: Written, level: int, kind: str) -> QgsVectorLayer:
     """The layer of a level and a kind."""
     source = '%s|layername=%s|subset="level" = %d' % (written.package, kind, level)
-    name = '%s %d %s' % (Path(written.drawing).stem, level, kind)
+    name = name_of(written.drawing, level, kind)
     layer = QgsVectorLayer(source, name, 'ogr', QgsVectorLayer.LayerOptions(loadDefaultStyle=False))
     layer.setCrs(written.wishes.system)
     wishes = written.wishes
     flags = ','.join(it for it in FLAG_NAMES if getattr(wishes, it))
-    properties = {DRAWING: written.drawing, DIGEST: written.digest, UNITS: wishes.units, FLAGS: flags}
+    properties = {DRAWING: written.drawing, DIGEST: written.digest, UNITS: wishes.units, FLAGS: flags, KIND: kind}
     for key, value in properties.items():
         layer.setCustomProperty(key, value)
+    layer.setCustomProperty(LEVEL, level)
     dress(layer, kind, written.styles[level, kind])
+    describe(layer)
     layer.setReadOnly(True)
     return layer
+
+
+def name_of(drawing: str, level: int, kind: str) -> str:
+    """What a layer of a drawing is called, unless one calls it otherwise."""
+    return '%s %d %s' % (Path(drawing).stem, level, kind)
+
+
+def place_of(layer: QgsVectorLayer) -> Tuple[int, str]:
+    """The level and the kind of a layer."""
+    return int(layer.customProperty(LEVEL, -1)), str(layer.customProperty(KIND))
 
 
 def drawing_layers(project: Optional[QgsProject]) -> Iterator[QgsVectorLayer]:
@@ -94,11 +142,26 @@ def package_of(layer: QgsVectorLayer) -> str:
 
 def known_drawings(project: Optional[QgsProject]) -> List[Known]:
     """The drawings that are open in a project; to be asked in the main thread."""
-    found = {}
+    found: Dict[Identity, Known] = {}
     for layer in drawing_layers(project):
-        drawing, digest = (str(layer.customProperty(it)) for it in (DRAWING, DIGEST))
-        found[drawing, digest] = Known(drawing, digest, wishes_of(layer))
+        known = known_of(layer)
+        if known is not None:
+            known.is_edited = found.setdefault(known.identity, known).is_edited or known.is_edited
+            found[known.identity] = known
     return list(found.values())
+
+
+def known_of(layer: Optional[QgsMapLayer]) -> Optional[Known]:
+    """The drawing of a layer, none where it is one of none."""
+    if layer is None or not is_of_drawing(layer):
+        return None
+    drawing, digest, package = identity_of(layer)
+    return Known(drawing, digest, wishes_of(layer), package, bool(layer.isEditable()))
+
+
+def identity_of(layer: QgsVectorLayer) -> Identity:
+    """What a layer shows."""
+    return str(layer.customProperty(DRAWING)), str(layer.customProperty(DIGEST)), package_of(layer)
 
 
 def wishes_of(layer: QgsVectorLayer) -> Wishes:
@@ -119,10 +182,19 @@ def wishes_for(known: Sequence[Known], drawing: Drawing) -> Wishes:
 
 def hide_drawing(project: QgsProject, path: str) -> None:
     """Hides the groups of a drawing."""
-    for group in project.layerTreeRoot().findGroups():
-        if group.customProperty(DRAWING) == path:
+    for layer in drawing_layers(project):
+        group = group_of(project, layer) if layer.customProperty(DRAWING) == path else None
+        if group is not None:
             group.setItemVisibilityChecked(False)
             group.setExpanded(False)
+
+
+def group_of(project: QgsProject, layer: QgsVectorLayer) -> Optional[QgsLayerTreeGroup]:
+    """The group of the drawing of a layer, none where the layer isn't in one any more."""
+    node = project.layerTreeRoot().findLayer(layer.id())
+    while node is not None and not node.customProperty(GROUP):
+        node = node.parent()
+    return node
 
 
 def extent_of(layers: List[QgsVectorLayer]) -> QgsRectangle:

@@ -27,7 +27,7 @@ from qgis.core import (
 from qgis.PyQt.QtCore import QMetaType, QVariant
 
 from .calls import Call
-from .opening import Wishes
+from .rows import Wishes
 from .styles import dress_marks
 
 Row = Sequence[Any]
@@ -40,8 +40,7 @@ SHARE = 0.002  # how much of the drawing a box is wider on each side than its el
 WIDE = {'is': 240, 'command': 200, 'changes': 160, 'finding': 780, 'why': 780, 'words': 480}  # pixels
 ZOOM = (
     'from qgis.utils import iface\n'
-    "layer = QgsProject.instance().mapLayer('[% @layer_id %]')\n"
-    'iface.mapCanvas().zoomToFeatureIds(layer, [int([% $id %])])\n'
+    "iface.mapCanvas().zoomToFeatureIds(QgsProject.instance().mapLayer('[% @layer_id %]'), [int([% $id %])])\n"
 )
 
 

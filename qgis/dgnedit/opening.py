@@ -7,10 +7,9 @@ from typing import Callable, Dict, Set, Tuple
 
 from dgnkit.drawing.drawing import Drawing
 from osgeo import ogr
-from qgis.core import QgsCoordinateReferenceSystem
 
 from .package import Package
-from .rows import FIELDS, kind_of, rows_of
+from .rows import FIELDS, Rows, Wishes
 
 KINDS = ('texts', 'points', 'lines', 'areas', 'ranges')  # the topmost first
 GEOMETRIES = {
@@ -21,17 +20,6 @@ GEOMETRIES = {
     'ranges': ogr.wkbPolygon,
 }
 STEP = 2048  # so many elements are written between two looks at the progress
-
-
-@dataclass
-class Wishes:
-    """How a drawing is opened: its units, the system of its coordinates, and what of it."""
-
-    units: str = 'auto'
-    system: QgsCoordinateReferenceSystem = field(default_factory=QgsCoordinateReferenceSystem)
-    has_members: bool = False
-    has_holes: bool = True
-    has_deleted: bool = False
 
 
 @dataclass
@@ -54,19 +42,18 @@ def digest_of(drawing: Drawing) -> str:
 def write_layers(drawing: Drawing, package: str, wishes: Wishes, tell: Callable[[float], None]) -> Written:
     """Writes the tables. `tell` is told the share that is done, and may raise what ends it; nothing is left then."""
     written = Written(package, os.path.abspath(drawing.path), digest_of(drawing), wishes)
-    rows = rows_of(drawing, wishes.units, wishes.has_members, wishes.has_holes, wishes.has_deleted)
+    rows = Rows(drawing, wishes)
     is_solid = drawing.axes == 3
     tables = {it: ogr.GT_SetZ(geometry) if is_solid else geometry for it, geometry in GEOMETRIES.items()}
     made = Package(package, wishes.system, tables, FIELDS)
     try:
         count = max(len(drawing.elements), 1)
-        for index, placed in enumerate(rows.placing.all()):
+        for index, row in enumerate(rows.all()):
             if index % STEP == 0:
-                tell(placed.element.number / count)
-            kind = kind_of(placed)
-            made.put(kind, rows.geometry(placed), rows.values(placed))
-            written.counts[kind] += 1
-            written.styles.setdefault((placed.level, kind), set()).add(placed.look.style)
+                tell(row.number / count)
+            made.filling.put(row.kind, row.number, row.geometry, row.values)
+            written.counts[row.kind] += 1
+            written.styles.setdefault((row.level, row.kind), set()).add(row.style)
         made.close('level', written.digest)
     except BaseException:
         made.drop()

@@ -13,13 +13,59 @@ from dgnkit.errors import Mistake
 from osgeo import gdal, ogr, osr
 from qgis.core import QgsCoordinateReferenceSystem
 
-GEOMETRY = 'geom'
+NUMBER, GEOMETRY = 'fid', 'geom'  # how GDAL calls the number of a row, and what we call its place
 FRONT = struct.Struct('<2sBBi')  # what stands in front of a geometry: GP, version, flags, its system
 LITTLE = 1  # the flag that numbers have their low byte first
 MANY = 4096  # so many rows are put in at once
 Field = Tuple[str, int, int]  # a name, a type and a subtype of GDAL
 BESIDE = ('-wal', '-shm', '-journal')  # what SQLite may leave beside a file
 MARK = 'layers of a design file by dgnedit, SHA-256 '  # how the tables of a drawing are described, with its digest
+
+
+class Filling:
+    """The tables of an open GeoPackage, into which rows are put, many at once."""
+
+    def __init__(self, path: str, base: sqlite3.Connection, tables: Sequence[str], fields: Sequence[str]) -> None:
+        """It raises sqlite3.Error where a table isn't there."""
+        self.path, self.base, self.tables = path, base, tables
+        self.rows: Dict[str, List[Tuple[Any, ...]]] = {name: [] for name in tables}
+        self.fronts = {name: FRONT.pack(b'GP', 0, LITTLE, self.system_of(name)) for name in tables}
+        names = ', '.join('"%s"' % it for it in (NUMBER, GEOMETRY, *fields))
+        marks = ', '.join('?' * (len(fields) + 2))
+        self.orders = {it: 'INSERT INTO "%s" (%s) VALUES (%s)' % (it, names, marks) for it in tables}
+
+    def system_of(self, table: str) -> int:
+        """The number of the system of a table's coordinates."""
+        order = 'SELECT srs_id FROM gpkg_geometry_columns WHERE table_name = ?'
+        found = self.base.execute(order, (table,)).fetchone()
+        if found is None:
+            raise sqlite3.DatabaseError('there is no table %s' % table)
+        return int(found[0])
+
+    def put(self, table: str, number: int, geometry: bytes, values: Sequence[Any]) -> None:
+        """Puts a row in, with the number of its element, which is that of the row."""
+        rows = self.rows[table]
+        rows.append((number, self.fronts[table] + geometry, *values))
+        if len(rows) >= MANY:
+            self.flush(table)
+
+    def flush(self, table: str) -> None:
+        """Writes the rows of a table that wait. It raises Mistake where they can't be written."""
+        try:
+            self.base.executemany(self.orders[table], self.rows[table])
+        except sqlite3.Error as why:
+            raise not_written(self.path, why)
+        self.rows[table].clear()
+
+    def flush_all(self) -> None:
+        """Writes all rows that wait."""
+        for table in self.tables:
+            self.flush(table)
+
+
+def not_written(path: str, why: Exception) -> Mistake:
+    """What is wrong with a file that can't be written."""
+    return Mistake("%s can't be written: %s" % (path, why))
 
 
 class Package:
@@ -30,66 +76,37 @@ class Package:
     ) -> None:
         """Makes it with these tables by their types of geometry. It raises Mistake where it can't be made."""
         self.path, self.tables = path, list(tables)
-        self.rows: Dict[str, List[Tuple[Any, ...]]] = {name: [] for name in tables}
         self.is_open = False
         self.made = name_beside(path)
         try:
             make_tables(self.made, system, tables, fields)
             self.base = sqlite3.connect(self.made, isolation_level=None)
             self.is_open = True
-            self.fronts = {name: FRONT.pack(b'GP', 0, LITTLE, self.system_of(name)) for name in tables}
+            self.filling = Filling(path, self.base, self.tables, [it[0] for it in fields])
             for order in ('PRAGMA synchronous = OFF', 'PRAGMA journal_mode = MEMORY', 'BEGIN'):
                 self.base.execute(order)
         except (sqlite3.Error, RuntimeError) as why:
             self.drop()
-            raise self.mistake(why)
-        names = ', '.join('"%s"' % it for it in (GEOMETRY, *(it[0] for it in fields)))
-        marks = ', '.join('?' * (len(fields) + 1))
-        self.orders = {it: 'INSERT INTO "%s" (%s) VALUES (%s)' % (it, names, marks) for it in tables}
-
-    def system_of(self, table: str) -> int:
-        """The number of the system of a table's coordinates."""
-        order = 'SELECT srs_id FROM gpkg_geometry_columns WHERE table_name = ?'
-        return int(self.base.execute(order, (table,)).fetchone()[0])
-
-    def mistake(self, why: Exception) -> Mistake:
-        """What is wrong with it."""
-        return Mistake("%s can't be written: %s" % (self.path, why))
-
-    def put(self, table: str, geometry: bytes, values: Sequence[Any]) -> None:
-        """Puts a row in."""
-        rows = self.rows[table]
-        rows.append((self.fronts[table] + geometry, *values))
-        if len(rows) >= MANY:
-            self.flush(table)
-
-    def flush(self, table: str) -> None:
-        """Writes the rows that wait."""
-        try:
-            self.base.executemany(self.orders[table], self.rows[table])
-        except sqlite3.Error as why:
-            raise self.mistake(why)
-        self.rows[table].clear()
+            raise not_written(path, why)
 
     def close(self, indexed: str, digest: str) -> None:
         """Writes what waits, makes an index of the places of each table and one of a field, marks it as that of a
         drawing, and puts it in its place."""
-        for table in self.tables:
-            self.flush(table)
+        self.filling.flush_all()
         try:
             for table in self.tables:
                 self.base.execute('CREATE INDEX "%s_%s" ON "%s" ("%s")' % (table, indexed, table, indexed))
-            self.base.execute('UPDATE gpkg_contents SET description = ?', (MARK + digest,))
+            set_digest(self.base, digest)
             self.base.execute('COMMIT')
         except sqlite3.Error as why:
-            raise self.mistake(why)
+            raise not_written(self.path, why)
         self.base.close()
         self.is_open = False
         make_indexes(self.made, self.tables)
         try:
             os.replace(self.made, self.path)
         except OSError as why:
-            raise self.mistake(why)
+            raise not_written(self.path, why)
 
     def drop(self) -> None:
         """Leaves nothing of it; what was in its place stays."""
@@ -138,14 +155,24 @@ def name_beside(path: str) -> str:
     return name
 
 
+def set_digest(base: sqlite3.Connection, digest: str) -> None:
+    """Marks the tables of an open GeoPackage as those of a drawing."""
+    base.execute('UPDATE gpkg_contents SET description = ?', (MARK + digest,))
+
+
 def digest_in(path: str) -> str:
     """The digest of the drawing whose layers a GeoPackage holds, nothing where it isn't one of this plugin's."""
-    order = "SELECT DISTINCT description FROM gpkg_contents WHERE data_type = 'features'"
     try:
         with closing(sqlite3.connect('file:%s?mode=ro' % quote(path), uri=True)) as base:
-            found = [str(it[0]) for it in base.execute(order)]
+            return held_in(base)
     except sqlite3.Error:
         return ''
+
+
+def held_in(base: sqlite3.Connection) -> str:
+    """The digest of the drawing whose layers an open GeoPackage holds, nothing where it isn't one of this plugin's."""
+    order = "SELECT DISTINCT description FROM gpkg_contents WHERE data_type = 'features'"
+    found = [str(it[0]) for it in base.execute(order)]
     return found[0][len(MARK) :] if len(found) == 1 and found[0].startswith(MARK) else ''
 
 

@@ -1,11 +1,13 @@
 """Finds the program dgnedit: by a setting, in the folder of the plugin, by $DGNEDIT, or on the path."""
 
 import os
+import platform
 import shutil
 from typing import Iterator, Tuple
 
 from dgnkit.errors import MissingProgram
 from dgnkit.program.runs import Program
+from dgnkit.system import PROGRAM
 from processing.core.ProcessingConfig import ProcessingConfig, Setting
 from qgis.PyQt.QtGui import QIcon
 
@@ -14,11 +16,12 @@ from .kit import PLUGIN
 GROUP = 'dgnedit'
 SETTING = 'DGNEDIT_PROGRAM'
 ICON = str(PLUGIN / 'icon.svg')
+OWN = PLUGIN / 'bin' / PROGRAM  # the program that the zip file of the plugin has
+MACHINES = ('x86_64', 'AMD64')  # those that it is for, as Linux and Windows call them
 WHERE = 'Settings, Options, Processing, Providers, dgnedit'
 NOWHERE = (
     "The program dgnedit wasn't found: not by the setting (%s), in the folder of the plugin (%s), by $DGNEDIT, or on "
-    'the path. Install dgnedit_VERSION_amd64.deb, or unpack dgnedit-VERSION-x86_64.tar.gz and name its file dgnedit in '
-    'that setting.'
+    'the path. Install it, and name its file in that setting.'
 )
 
 
@@ -36,6 +39,7 @@ def remove_setting() -> None:
 
 def find_program() -> Program:
     """The program. It raises MissingProgram, which says what to install, where there is none."""
+    allow_own()
     for what, named in places():
         found = shutil.which(named)
         if found:
@@ -45,12 +49,22 @@ def find_program() -> Program:
     raise MissingProgram(NOWHERE % (WHERE, PLUGIN))
 
 
+def allow_own() -> None:
+    """Lets the plugin's own program be run: QGIS unpacks it as a file that can't be."""
+    if OWN.is_file() and not os.access(OWN, os.X_OK):
+        try:
+            OWN.chmod(0o755)
+        except OSError:
+            pass  # then it isn't found there
+
+
 def places() -> Iterator[Tuple[str, str]]:
     """Where the program may be, the first place first, each with what names it; nothing where it need not be there."""
     named = ProcessingConfig.getSetting(SETTING)
     if named:
         yield 'the setting (%s)' % WHERE, str(named)
-    yield '', str(PLUGIN / 'dgnedit')
+    if platform.machine() in MACHINES:
+        yield '', str(OWN)
     if os.environ.get('DGNEDIT'):
         yield '$DGNEDIT', os.environ['DGNEDIT']
     yield '', 'dgnedit'

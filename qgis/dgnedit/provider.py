@@ -1,14 +1,19 @@
 """The provider of the plugin's algorithms."""
 
-from qgis.core import QgsProcessingProvider
+from typing import Optional
+
+from qgis.core import QgsProcessingProvider, QgsProject
 from qgis.PyQt.QtGui import QIcon
 
 from .algorithms import ALGORITHMS
+from .paths import Paths
 from .program import ICON, add_setting, remove_setting
 
 
 class DgneditProvider(QgsProcessingProvider):
-    """All algorithms, and the setting that names the program."""
+    """All algorithms, the setting that names the program, and the names of drawings in project files."""
+
+    paths: Optional[Paths] = None
 
     def id(self) -> str:
         return 'dgnedit'
@@ -27,11 +32,15 @@ class DgneditProvider(QgsProcessingProvider):
 
     def load(self) -> bool:
         add_setting()
+        self.paths = Paths(QgsProject.instance())
         self.refreshAlgorithms()
         return True
 
     def unload(self) -> None:
         remove_setting()
+        if self.paths is not None:
+            self.paths.leave()
+            self.paths = None
 
     def loadAlgorithms(self) -> None:
         for algorithm in ALGORITHMS:

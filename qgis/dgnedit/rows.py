@@ -1,6 +1,7 @@
 """The rows of the tables of a drawing: what is said of each element that is drawn, and where it is."""
 
-from typing import Any, Dict, Tuple
+from dataclasses import dataclass, field
+from typing import Any, Dict, Iterable, Iterator, NamedTuple, Optional, Tuple
 
 from dgnkit.drawing.broken import why_broken
 from dgnkit.drawing.drawing import Drawing
@@ -10,8 +11,10 @@ from dgnkit.format import classes
 from dgnkit.format.element import Element, described
 from dgnkit.format.places import Scale
 from osgeo import ogr
+from qgis.core import QgsCoordinateReferenceSystem
 
 from .package import Field
+from .strokes import STROKED, Strokes
 
 NUMBER, TEXT, REAL, FLAG = (
     (ogr.OFTInteger, ogr.OFSTNone),
@@ -36,6 +39,10 @@ FIELDS: Tuple[Field, ...] = (
     ('height', *REAL),
     ('angle', *REAL),
     ('cell', *TEXT),
+    ('graphic_group', *NUMBER),
+    ('mslink', *NUMBER),
+    ('entity', *NUMBER),
+    ('fill', *TEXT),
     ('deleted', *FLAG),
     ('locked', *FLAG),
     ('broken', *FLAG),
@@ -44,25 +51,71 @@ FIELDS: Tuple[Field, ...] = (
 OF_GEOMETRY = {'Point': 'points', 'LineString': 'lines', 'MultiLineString': 'lines', 'Polygon': 'areas'}
 NO_WORDS = (None,) * 4
 Values = Tuple[Any, ...]
+Reasons = Dict[int, str]
+
+
+@dataclass
+class Wishes:
+    """How a drawing is opened: its units, the system of its coordinates, and what of it."""
+
+    units: str = 'auto'
+    system: QgsCoordinateReferenceSystem = field(default_factory=QgsCoordinateReferenceSystem)
+    has_members: bool = False
+    has_holes: bool = True
+    has_deleted: bool = False
+
+
+class Row(NamedTuple):
+    """A row: its table, the level and the style that it is drawn with, its element, where this is, and its fields."""
+
+    kind: str
+    level: int
+    style: int
+    number: int
+    geometry: bytes
+    values: Values
 
 
 class Rows:
     """Makes the rows of a drawing, of those that are placed; places are in the units that are wished."""
 
-    def __init__(self, drawing: Drawing, placing: Placing[bytes], spelling: Wkb, units: str) -> None:
-        self.drawing, self.placing, self.spelling = drawing, placing, spelling
-        self.scale = 1 / drawing.units.in_master if Scale(drawing.units, units).is_master else 1.0
+    def __init__(self, drawing: Drawing, wishes: Wishes, reasons: Optional[Reasons] = None) -> None:
+        """`reasons` are those of the broken trees, where they are known already."""
+        scale = Scale(drawing.units, wishes.units)
+        self.drawing, self.spelling = drawing, Wkb(drawing.units, drawing.axes, scale.is_master)
+        self.placing = Placing(drawing, self.spelling, wishes.has_members, wishes.has_holes, wishes.has_deleted)
+        self.scale = 1 / drawing.units.in_master if scale.is_master else 1.0
         self.nesting, self.dead = drawing.nesting, drawing.dead
-        self.reasons = reasons_of(drawing)
+        self.strokes = Strokes(drawing, self.spelling)
+        self.reasons = reasons_of(drawing) if reasons is None else reasons
         self.looks: Dict[Tuple[int, int, bytes], Values] = {}
 
-    def geometry(self, placed: Placed) -> bytes:
-        """Where an element is: a line as one of several, which the table of lines has."""
+    def all(self) -> Iterator[Row]:
+        """All rows, in the order of their elements."""
+        return map(self.row, self.placing.all())
+
+    def of(self, numbers: Iterable[int]) -> Iterator[Row]:
+        """The rows of the elements with these numbers, which are those of whole trees; the drawing needn't have all."""
+        elements = self.drawing.elements
+        return map(self.row, self.placing.of(elements[it] for it in numbers if it < len(elements)))
+
+    def row(self, placed: Placed) -> Row:
+        """The row of an element."""
+        kind, geometry = self.shape(placed)
+        return Row(kind, placed.level, placed.look.style, placed.element.number, geometry, self.values(placed))
+
+    def shape(self, placed: Placed) -> Tuple[str, bytes]:
+        """The table of an element, and where it is: a line as one of several, which the table of lines has."""
         coordinates = placed.coordinates
         assert isinstance(coordinates, bytes)
+        if placed.element.type in STROKED and placed.kind != 'Point':
+            line = self.strokes.line(placed.element)
+            if line is not None:
+                return 'lines', line
+        kind = kind_of(placed)
         if placed.kind == 'LineString':
-            return self.spelling.whole('MultiLineString', self.spelling.lines([coordinates]))
-        return self.spelling.whole(placed.kind, coordinates)
+            return kind, self.spelling.whole('MultiLineString', self.spelling.lines([coordinates]))
+        return kind, self.spelling.whole(placed.kind, coordinates)
 
     def values(self, placed: Placed) -> Values:
         """What is said of an element, field by field."""
@@ -71,8 +124,10 @@ class Rows:
         root = nesting.roots[number]
         front = number, placed.last, root, nesting.depths[number]
         words = self.words(element) if element.type in (classes.TEXT, classes.CELL) else NO_WORDS
+        links = element.group or None, *self.strokes.linked(element)
         why = self.reasons.get(root)
-        return (*front, *self.look(placed), *words, number in self.dead, element.is_locked, why is not None, why)
+        state = number in self.dead, element.is_locked, why is not None, why
+        return (*front, *self.look(placed), *words, *links, *state)
 
     def look(self, placed: Placed) -> Values:
         """The type, the level and the look; many elements have the same."""
@@ -94,12 +149,6 @@ class Rows:
         return text, round(height, 9), round(element.text_angle or 0.0, 6), None
 
 
-def rows_of(drawing: Drawing, units: str, has_members: bool, has_holes: bool, has_deleted: bool) -> Rows:
-    """The rows of a drawing in these units."""
-    spelling = Wkb(drawing.units, drawing.axes, Scale(drawing.units, units).is_master)
-    return Rows(drawing, Placing(drawing, spelling, has_members, has_holes, has_deleted), spelling, units)
-
-
 def kind_of(placed: Placed) -> str:
     """The table of an element."""
     if placed.element.type in ONLY_RANGE:
@@ -107,9 +156,9 @@ def kind_of(placed: Placed) -> str:
     return 'texts' if placed.element.type == classes.TEXT else OF_GEOMETRY[placed.kind]
 
 
-def reasons_of(drawing: Drawing) -> Dict[int, str]:
+def reasons_of(drawing: Drawing) -> Reasons:
     """By the root of a tree that is broken why it is."""
-    made: Dict[int, str] = {}
+    made: Reasons = {}
     for number in drawing.nesting.broken:
         root = drawing.nesting.roots[number]
         why = why_broken(drawing, number)

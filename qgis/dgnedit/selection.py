@@ -135,13 +135,13 @@ def numbers_of(word: str) -> List[int]:
     return [number for low, high in spans for number in range(low, high + 1)]
 
 
-def chosen(drawing: Drawing, selected: Sequence[Selected], word: str, rows: Sequence[Row]) -> List[int]:
+def chosen(drawing: Drawing, selected: Sequence[Selected], named: Sequence[int], rows: Sequence[Row]) -> List[int]:
     """The numbers of all that is chosen, each once. It raises Mistake where nothing is, or not of this drawing."""
     ask_same(drawing, selected)
     ask_rows(drawing, rows)
     found = {number for it in selected for number in it.numbers}
     found.update(it.number for it in rows)
-    found.update(numbers_of(word))
+    found.update(named)
     if not found:
         raise Mistake('Nothing is selected: select features of the drawing, or give the numbers of its elements.')
     made = sorted(found)

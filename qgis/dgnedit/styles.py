@@ -12,6 +12,7 @@ from qgis.core import (
     QgsPalLayerSettings,
     QgsProperty,
     QgsRendererCategory,
+    QgsSimpleFillSymbolLayer,
     QgsSimpleLineSymbolLayer,
     QgsSimpleMarkerSymbolLayer,
     QgsSingleSymbolRenderer,
@@ -35,6 +36,7 @@ STYLE_NAMES = (
     'dash double-dot',
     'long dash - short dash',
 )
+STYLE = 'style'  # the field
 # Dashes and gaps of each style in millimetres.
 DASHES: List[List[float]] = [
     [],
@@ -70,8 +72,26 @@ def dress(layer: QgsVectorLayer, kind: str, styles: Iterable[int]) -> None:
 
 def by_style(kind: str, styles: List[int]) -> QgsFeatureRenderer:
     """A category for each style."""
-    categories = [QgsRendererCategory(it, symbol_of(kind, it), STYLE_NAMES[it]) for it in styles]
-    return QgsCategorizedSymbolRenderer('style', categories)
+    return QgsCategorizedSymbolRenderer(STYLE, [category(kind, it) for it in styles])
+
+
+def category(kind: str, style: int) -> QgsRendererCategory:
+    """The category of a style."""
+    return QgsRendererCategory(style, symbol_of(kind, style), STYLE_NAMES[style])
+
+
+def add_styles(layer: QgsVectorLayer, kind: str, styles: Iterable[int]) -> None:
+    """Lets a layer that has come to have more styles show these too, where it has a category for each."""
+    renderer = layer.renderer()
+    if not isinstance(renderer, QgsCategorizedSymbolRenderer) or renderer.classAttribute() != STYLE:
+        return
+    made = renderer.clone()
+    there = [it.value() for it in made.categories()]
+    for style in sorted(it for it in styles if it not in there):
+        made.addCategory(category(kind, style))
+        made.moveCategory(len(there), sum(it < style for it in there if isinstance(it, int)))
+        there.append(style)
+    layer.setRenderer(made)
 
 
 def symbol_of(kind: str, style: int) -> QgsSymbol:
@@ -86,7 +106,19 @@ def symbol_of(kind: str, style: int) -> QgsSymbol:
         pen.setCustomDashPatternUnit(QgsUnitTypes.RenderUnit.RenderMillimeters)
         pen.setCustomDashVector(dashes)
         pen.setPenCapStyle(Qt.PenCapStyle.FlatCap)
-    return drawn_by(QgsLineSymbol() if kind == 'lines' else QgsFillSymbol(), pen)
+    made = drawn_by(QgsLineSymbol() if kind == 'lines' else QgsFillSymbol(), pen)
+    if kind == 'areas':
+        made.insertSymbolLayer(0, fill())
+    return made
+
+
+def fill() -> QgsSymbolLayer:
+    """The fill of those areas that have one."""
+    made = QgsSimpleFillSymbolLayer()
+    made.setStrokeStyle(Qt.PenStyle.NoPen)
+    colour = '''coalesce("fill", '0,0,0,0')'''
+    made.setDataDefinedProperty(QgsSymbolLayer.Property.PropertyFillColor, QgsProperty.fromExpression(colour))
+    return made
 
 
 def drawn_by(symbol: QgsSymbol, layer: QgsSymbolLayer) -> QgsSymbol:

@@ -3,6 +3,7 @@ what is seen is edited."""
 
 import os
 import re
+import shutil
 import sqlite3
 import unittest
 from contextlib import closing
@@ -11,7 +12,9 @@ from unittest import mock
 
 import plugin
 from dgnedit.algorithms.open_drawing import seen_extent
-from dgnedit.opening import Wishes, write_layers
+from dgnedit.layers import drawing_layers
+from dgnedit.opening import write_layers
+from dgnedit.rows import Wishes
 from qgis.core import QgsCoordinateReferenceSystem
 
 SOURCES = Path(plugin.__file__).resolve().parents[1] / 'dgnedit'
@@ -126,6 +129,50 @@ class Files(plugin.InQgis):
         valve = self.example('valve.dgn')
         self.open(valve)
         self.assertIn('is open in this project', self.fails('look', **words, OUTPUT=valve, OVERWRITE=True))
+
+
+class Projects(plugin.InQgis):
+    """A project that is saved, and moved with its drawing."""
+
+    def setUp(self) -> None:
+        super().setUp()
+        self.here, self.there = (Path(self.path(it)) for it in ('here', 'there'))
+        self.here.mkdir()
+
+    def saved(self, drawing: str) -> str:
+        """Opens a drawing in a project and saves that; its file is given as text."""
+        self.open(drawing, OUTPUT=str(self.here / 'layers.gpkg'))
+        project = str(self.here / 'project.qgs')
+        self.assertTrue(self.project.write(project))
+        self.assertEqual({it.customProperty('dgnedit/drawing') for it in drawing_layers(self.project)}, {drawing})
+        return Path(project).read_text(encoding='utf-8')
+
+    def test_its_drawing_is_found_where_both_were_moved(self) -> None:
+        drawing = str(shutil.copy(self.example('town.dgn'), self.here))
+        said = self.saved(drawing)
+        self.assertNotIn(drawing, said)
+        self.project.clear()
+        self.here.rename(self.there)
+        self.assertTrue(self.project.read(str(self.there / 'project.qgs')))
+        self.assertFalse(self.project.isDirty())
+        self.select('town 12 lines', '"number" = 12')
+        self.run_algorithm('look', COLOUR=9, OUTPUT=str(self.there / 'new.dgn'))
+        self.assertEqual(self.groups(), ['new.dgn'])
+        changes = self.changes(str(self.there / 'town.dgn'), str(self.there / 'new.dgn'))
+        self.assertEqual([name for name, _ in changes], ['line string 12'])
+
+    def test_a_drawing_elsewhere_is_named_whole(self) -> None:
+        drawing = self.example('town.dgn')
+        self.assertIn('value="%s"' % drawing, self.saved(drawing))
+
+    def test_a_project_that_is_saved_in_another_place_too(self) -> None:
+        drawing = str(shutil.copy(self.example('town.dgn'), self.here))
+        self.saved(drawing)
+        self.there.mkdir()
+        self.assertTrue(self.project.write(str(self.there / 'project.qgs')))
+        self.project.clear()
+        self.assertTrue(self.project.read(str(self.there / 'project.qgs')))
+        self.assertEqual({it.customProperty('dgnedit/drawing') for it in drawing_layers(self.project)}, {drawing})
 
 
 class Sources(unittest.TestCase):

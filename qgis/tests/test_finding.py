@@ -7,6 +7,7 @@ from pathlib import Path
 from typing import Any, Dict, List, Tuple
 
 import plugin
+from dgnedit.wording import here
 from plugin import ogr, samples
 from qgis.core import (
     QgsCoordinateReferenceSystem,
@@ -122,7 +123,7 @@ class Finds(plugin.InQgis):
             ({'NEAR': '1,2'}, ['--near', '1,2']),
         ]:
             said = self.fails('find', DRAWING=self.town, **parameters)
-            self.assertEqual(said, self.sentence('find', self.town, *words))
+            self.assertEqual(said, here(self.sentence('find', self.town, *words)))
 
     def selected(self) -> samples.Json:
         layers = self.project.mapLayers().values()

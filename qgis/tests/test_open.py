@@ -5,22 +5,31 @@ import math
 import re
 import unittest
 from collections import Counter
-from typing import Dict, List
+from typing import Any, Dict, List, Sequence, Tuple
+from unittest import mock
 
 import plugin
 from plugin import ogr, samples
 from qgis.core import (
     QgsCoordinateReferenceSystem,
+    QgsExpression,
+    QgsExpressionContext,
     QgsGeometry,
     QgsMapRendererSequentialJob,
     QgsMapSettings,
+    QgsPointXY,
     QgsRectangle,
     QgsVectorLayer,
     QgsWkbTypes,
 )
 from qgis.PyQt.QtCore import QSize
+from qgis.PyQt.QtGui import QImage
 from samples import drawings, plan, with_units
 
+import curved
+import pictures
+
+LINKED = 0x800  # of the properties
 KINDS = ('texts', 'points', 'lines', 'areas', 'ranges')
 
 
@@ -186,6 +195,51 @@ class Opened(WithLayers):
             [it['rgb'] for it in self.layer('in 1 lines').getFeatures()], ['#ff0000', '#ffffff', '#0000ff']
         )
 
+    def test_links_to_a_database_and_graphic_groups(self) -> None:
+        linked = bytearray(drawings.line(properties=LINKED, data=bytes([0, 0, 5, 0, 0x39, 0x30, 0, 0])))
+        linked[28:30] = (258).to_bytes(2, 'little')
+        lines = self.features(self.open(self.put('in.dgn', drawings.drawing(bytes(linked), drawings.line()))), 'lines')
+        names = ('entity', 'mslink', 'graphic_group')
+        self.assertEqual([[lines[it][name] for name in names] for it in (1, 2)], [[5, 12345, 258], [None] * 3])
+
+    def test_fills(self) -> None:
+        square = [(0, 0), (100, 0), (100, 100), (0, 100), (0, 0)]
+        beside = [(x + 200, y) for x, y in square]
+        plain, filled = plan.path(6, 1, square), curved.filled(plan.path(6, 1, beside), 3)
+        self.open(self.put('in.dgn', drawings.drawing(plain, filled)))
+        self.assertEqual([it['fill'] for it in self.features_of('in 1 areas')], [None, '#ff0000'])
+        image = self.drawn(QgsRectangle(-50, -50, 350, 150))
+        self.assertEqual([image.pixelColor(it, 200).name() for it in (200, 600)], ['#ffffff', '#ff0000'])
+
+    def features_of(self, name: str) -> List[Dict[str, Any]]:
+        """The fields of the features of a layer."""
+        layer = self.layer(name)
+        names = layer.fields().names()
+        return [{key: plugin.plain(it[key]) for key in names} for it in layer.getFeatures()]
+
+    def drawn(self, extent: QgsRectangle) -> QImage:
+        """The map of a part of the drawing, two pixels a unit."""
+        settings = QgsMapSettings()
+        settings.setLayers(self.project.layerTreeRoot().layerOrder())
+        settings.setOutputSize(QSize(int(2 * extent.width()), int(2 * extent.height())))
+        settings.setExtent(extent)
+        job = QgsMapRendererSequentialJob(settings)
+        job.start()
+        job.waitForFinished()
+        return job.renderedImage()
+
+    def test_fields_have_names_and_features_map_tips(self) -> None:
+        self.open(self.example('plan.dgn'))
+        layer = self.layer('plan 10 lines')
+        self.assertEqual(
+            [it for index, it in enumerate(layer.fields().names()) if not layer.attributeAlias(index)], ['fid']
+        )
+        context = QgsExpressionContext()
+        context.setFeature(next(it for it in layer.getFeatures() if it['number'] == 5))
+        tip = QgsExpression.replaceExpressionText(layer.mapTipTemplate(), context)
+        self.assertIn('<b>line string 5</b>', tip)
+        self.assertIn('level 10, colour 0', tip)
+
     def test_layers_can_not_be_edited_themselves(self) -> None:
         self.open(self.example('plan.dgn'))
         self.assertEqual({it.startEditing() for it in self.project.mapLayers().values()}, {False})
@@ -213,6 +267,13 @@ class Opened(WithLayers):
         self.assertFalse(any(it.name.startswith('stopped') for it in self.folder.iterdir()))
 
 
+METRES = ('m', 'dm'), (0, 0, 0)
+ROUND = (
+    curved.arc((1000, 1000), (500, 300), 10, 200, 15),
+    curved.arc((0, 0), (700, 700), 80, -30),
+    curved.ellipse((3000, 1000), (500, 300), 20),
+)
+CURVE = curved.curve([(0, 0), (100, 0), (1000, 500), (2000, 0), (2500, 800), (3000, 0), (3100, 0)])
 CELLS = [(35, 37), (38, 40), (41, 43)]  # the cells of examples/town.dgn with two rings, by their first and last element
 
 
@@ -266,6 +327,32 @@ class AsOgr(WithLayers):
             self.assertGreater(self.ask_same(self.example(name)), 2)
         self.example('town.dgn')
         self.assertGreater(self.ask_same(self.mended(self.path('town.dgn'))), 19)
+
+    def test_of_arcs_ellipses_and_curves(self) -> None:
+        path = self.put('plane.dgn', with_units(drawings.drawing(*(it for it, _ in ROUND), CURVE), 10, 10, *METRES))
+        self.assertEqual(self.ask_same(path), len(ROUND) + 1)
+
+    def ask_near(self, path: str, arcs: Sequence[Tuple[bytes, List[pictures.Point]]], **more: Any) -> None:
+        """Asks that arcs lie where their definition says, in master units or in those of resolution."""
+        self.project.clear()
+        lines = self.features(self.open(path, **more), 'lines')
+        unit = 1 if more else 100
+        for number, (_, line) in enumerate(arcs, 1):
+            true = QgsGeometry.fromPolylineXY([QgsPointXY(x / unit, y / unit) for x, y in line])
+            found = QgsGeometry.fromWkt(lines[number]['wkt'])
+            self.assertLess(found.hausdorffDistanceDensify(true, 0.5) * unit, 3, number)
+
+    def test_arcs_and_ellipses_lie_where_they_are_defined_with_ogr_and_without(self) -> None:
+        around = [math.cos(0.3), 0, 0, math.sin(0.3)]
+        solid = [curved.arc_of_space((500, 100), (300, 200), it, around) for it in ((10, 250), None)]
+        for name, arcs, axes in (('plane', ROUND, 2), ('space', solid, 3)):
+            file = drawings.drawing(*(it for it, _ in arcs), axes=axes)
+            path = self.put(name + '.dgn', with_units(file, 10, 10, *METRES))
+            self.ask_near(path, arcs)
+            self.ask_near(path, arcs, UNITS=2)
+            with mock.patch('dgnedit.strokes.opened', lambda path: None):
+                self.ask_near(path, arcs)
+                self.ask_near(path, arcs, UNITS=2)
 
     def test_of_what_gen_makes(self) -> None:
         self.assertGreater(self.ask_same(self.gen(7, 3000)), 2000)

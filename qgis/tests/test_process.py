@@ -121,6 +121,15 @@ class ByProcess(samples.WithProgram):
         self.done('undelete', DRAWING=self.path('deleted.dgn'), NUMBERS=46, OUTPUT=self.path('back.dgn'))
         self.assertEqual(Path(self.path('back.dgn')).read_bytes(), self.before)
 
+    def test_draw(self) -> None:
+        cases: List[Tuple[str, Dict[str, Any]]] = [
+            ('draw', {'GEOMETRY': 'LineString (1010 2020, 1030 2040)'}),
+            ('text', {'PLACE': '1010,2020', 'TEXT': 'north gate', 'HEIGHT': 2.5}),
+        ]
+        for name, more in cases:
+            made, changes = self.edited(name, LEVEL=7, **more)
+            self.assertEqual((made['ACCEPTED'], changes), ('1', [(54, {'appended': True})]))
+
     def test_what_is_refused_is_a_table(self) -> None:
         made, _ = self.edited('look', NUMBERS='15,44', COLOUR=3, REFUSED=self.path('refused.gpkg'))
         self.assertEqual((made['ACCEPTED'], made['REFUSED_COUNT'], self.count(made['REFUSED'])), ('1', '1', 1))

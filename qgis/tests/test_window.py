@@ -20,9 +20,9 @@ class ZipFile(unittest.TestCase):
         with tempfile.TemporaryDirectory() as one, tempfile.TemporaryDirectory() as other:
             first = window.make_zip(Path(one))
             copy = Path(other) / 'sources'
-            for name in ('qgis', 'dgnkit', 'tools', 'VERSION', 'LICENSE'):
-                copy.mkdir(exist_ok=True)
-                subprocess.run(['cp', '-r', str(plugin.TOP / name), str(copy)], check=True)
+            for name in ('qgis', 'dgnkit', 'tools', 'VERSION', 'LICENSE', 'docs/CONTACT'):
+                (copy / name).parent.mkdir(parents=True, exist_ok=True)
+                subprocess.run(['cp', '-r', str(plugin.TOP / name), str(copy / name)], check=True)
             for file in copy.rglob('*'):
                 os.utime(file, (time.time() - 1e6, time.time() - 1e6))
                 file.chmod(0o755)
@@ -43,22 +43,31 @@ class NewUser(samples.WithProgram):
         found = window.run('user.py', samples.PROGRAM)
         self.assertNotIn('wrong', found, found.get('wrong'))
         self.assertEqual(found['installed'], ['dgnedit'])
-        self.assertIn('Install dgnedit_VERSION_amd64.deb', found['missing'])
+        self.assertIn('Install it, and name its file in that setting', found['missing'])
         self.assertFalse(found['missing_written'])
-        self.assertEqual([ok for _, ok in found['steps']], [[False], *[[True]] * 6])
+        self.assertEqual([ok for _, ok in found['steps']], [[False], *[[True]] * 9])
         self.assertEqual((found['findings'], found['groups'], found['system']), (11, ['mended.dgn'], 'EPSG:25832'))
         # colour 3 of the usual table, and colour 5
         self.assertEqual((found['road'], found['road_after']), ('#ff0000', '#ff00ff'))
         moved = [round(b - a, 6) for a, b in zip(found['parcel'], found['parcel_after'])]
         self.assertEqual(moved, [12.5, 45, 12.5, 45])
         self.assertEqual(found['selected'], [15])
-        self.assertEqual(found['shown'], {'mended.dgn': False, 'road.dgn': False, 'parcel.dgn': True})
+        self.assertEqual(found['shown'], {'parcel.dgn': True})
         words = dict(found['changes'])
         self.assertEqual(len(words), 13)  # the chain with nine members, and the parcel with two rings
         self.assertIn('12500,45000', words['cell 38 on level 20'])
         self.assertRegex(words['complex chain 15 on level 12'], '#ff0000.*#ff00ff')
         self.assertEqual((found['zoom'], found['zoomed']), (['Zoom to it'], True))
+        step = found['step']
+        for wanted, before, after in zip([2 * step, -step] * 2, found['garden'], found['garden_after']):
+            self.assertAlmostEqual(after - before, wanted, delta=step / 5)
+        self.assertEqual(len(found['drawn']), 1)
+        for corner, place in zip(found['corners'], found['drawn'][0]):
+            self.assertLess(max(abs(a - b) for a, b in zip(corner, place)), step / 5)
+        self.assertTrue(found['dropped'].endswith('/valve.dgn'))
         self.assertEqual((found['off'], found['on']), ([True] * 2, [True] * 3))
+        self.assertEqual(found['old_modules'], [])
+        self.assertGreater(found['modules'], 80)
 
 
 if __name__ == '__main__':

@@ -8,12 +8,15 @@ import shutil
 import sys
 import time
 import traceback
+import zipfile
 from pathlib import Path
 from typing import Any, Callable, Dict, List, Optional
 
 from processing.gui.AlgorithmDialog import AlgorithmDialog
-from qgis.core import QgsApplication, QgsProject, QgsSettings, QgsVectorLayer
-from qgis.PyQt.QtCore import QTimer
+from qgis.core import QgsApplication, QgsPointXY, QgsProject, QgsSettings, QgsVectorLayer
+from qgis.PyQt.QtCore import QMimeData, QPoint, QPointF, Qt, QTimer, QUrl
+from qgis.PyQt.QtGui import QDragEnterEvent, QDropEvent
+from qgis.PyQt.QtTest import QTest
 from qgis.PyQt.QtWidgets import QAction, QApplication, QDialogButtonBox, QTextEdit
 from qgis.utils import active_plugins, iface, loadPlugin, startPlugin, unloadPlugin
 
@@ -45,9 +48,13 @@ def menu_action(title: str) -> QAction:
     return actions[0]
 
 
-def by_dialogue(title: str, parameters: Dict[str, Any], name: str = '') -> List[str]:
-    """Opens the dialogue of an algorithm by the menu, fills it in, presses Run, and closes it; what its log says."""
+def by_dialogue(
+    title: str, parameters: Dict[str, Any], name: str = '', start: Optional[Callable[[], None]] = None
+) -> List[str]:
+    """Opens the dialogue of an algorithm, by the menu unless by something else, fills it in, presses Run, and closes
+    it; what its log says."""
     said: List[str] = []
+    before = len(found['steps'])
 
     def fill() -> None:
         shown = [it for it in QApplication.topLevelWidgets() if isinstance(it, AlgorithmDialog) and it.isVisible()]
@@ -56,6 +63,9 @@ def by_dialogue(title: str, parameters: Dict[str, Any], name: str = '') -> List[
             return
         dialogue = shown[0]
         try:
+            wait(0.3)
+            drawing = dialogue.mainWidget().wrappers['DRAWING'] if start else None
+            found['preset'] = drawing.parameterValue() if drawing else None
             dialogue.setParameters(parameters)
             wait(0.3)
             if name:
@@ -71,7 +81,8 @@ def by_dialogue(title: str, parameters: Dict[str, Any], name: str = '') -> List[
             dialogue.buttonBox().button(QDialogButtonBox.Close).click()
 
     QTimer.singleShot(50, fill)
-    menu_action(title).trigger()
+    (start or menu_action(title).trigger)()
+    wait(60, lambda: len(found['steps']) > before or 'wrong' in found)
     return said
 
 
@@ -185,6 +196,64 @@ def zoom_to_a_change() -> None:
     found['zoomed'] = box.width() < before.width() and box.contains(feature.geometry().boundingBox())
 
 
+def click(place: QgsPointXY, button: Qt.MouseButton = Qt.MouseButton.LeftButton) -> None:
+    """Clicks on a place of the map."""
+    pixel = iface.mapCanvas().getCoordinateTransform().transform(place)
+    where = QPoint(round(pixel.x()), round(pixel.y()))
+    QTest.mouseClick(iface.mapCanvas().viewport(), button, Qt.KeyboardModifier.NoModifier, where)
+    wait(0.1)
+
+
+def with_the_mouse() -> None:
+    """A garden is moved by two clicks; a line is drawn by three, and an end."""
+    canvas = iface.mapCanvas()
+    iface.setActiveLayer(layer('parcel 5 areas'))
+    layer('parcel 5 areas').selectByExpression('"number" = 44')
+    canvas.setExtent(layer('parcel 5 areas').extent().buffered(30))
+    wait(1)
+    middle, step = canvas.extent().center(), 10 * canvas.mapUnitsPerPixel()
+    found['garden'] = places_of('parcel 5 areas')['44']
+
+    def move() -> None:
+        menu_action('Move with the mouse').trigger()
+        click(middle)
+        click(QgsPointXY(middle.x() + 2 * step, middle.y() - step))
+
+    by_dialogue('Move', {'OUTPUT': str(WORK / 'garden.dgn')}, start=move)
+    found['garden_after'], found['step'] = places_of('garden 5 areas')['44'], step
+    corners = [QgsPointXY(middle.x() + 3 * step * it, middle.y() + step * it * it) for it in range(3)]
+
+    def draw() -> None:
+        menu_action('Draw a line on the map').trigger()
+        for corner in corners:
+            click(corner)
+        click(corners[-1], Qt.MouseButton.RightButton)
+
+    by_dialogue('Draw a line or an area', {'LEVEL': 61, 'OUTPUT': str(WORK / 'drawn.dgn')}, start=draw)
+    found['drawn'] = [it.geometry().asMultiPolyline()[0] for it in layer('drawn 61 lines').getFeatures()]
+    found['drawn'] = [[[it.x(), it.y()] for it in line] for line in found['drawn']]
+    found['corners'] = [[it.x(), it.y()] for it in corners]
+
+
+def drop() -> None:
+    """A design file is dropped onto the window; the dialogue asks how it is to be opened."""
+    shutil.copy(Path(FACTS['top']) / 'examples' / 'valve.dgn', WORK / 'valve.dgn')
+    data = QMimeData()
+    data.setUrls([QUrl.fromLocalFile(str(WORK / 'valve.dgn'))])
+    place, copy = QPointF(300, 300), Qt.DropAction.CopyAction
+    buttons, keys = Qt.MouseButton.LeftButton, Qt.KeyboardModifier.NoModifier
+    enter, event = (
+        it(at, copy, data, buttons, keys) for it, at in ((QDragEnterEvent, place.toPoint()), (QDropEvent, place))
+    )
+
+    def send() -> None:
+        for it in (enter, event):
+            QApplication.sendEvent(iface.mainWindow(), it)
+
+    by_dialogue('Open a drawing', {}, start=send)
+    found['dropped'] = found['preset']
+
+
 def keep_wrong(kind: Any, why: BaseException, trace: Any) -> None:
     """What goes wrong within QGIS is kept, and no window says it, which nobody would close."""
     found['wrong'] = ''.join(traceback.format_exception(kind, why, trace))
@@ -195,6 +264,20 @@ def take_out() -> None:
     registry = QgsApplication.processingRegistry()
     found['off'] = [unloadPlugin('dgnedit'), registry.providerById('dgnedit') is None]
     found['on'] = [loadPlugin('dgnedit'), startPlugin('dgnedit'), registry.providerById('dgnedit') is not None]
+
+
+def upgrade() -> None:
+    """Another version is installed over this one; each of its modules says so."""
+    import pyplugin_installer
+
+    other = str(WORK / 'other.zip')
+    with zipfile.ZipFile(FACTS['zip']) as packed, zipfile.ZipFile(other, 'w') as made:
+        for name in packed.namelist():
+            made.writestr(name, packed.read(name) + (b'\nOTHER = True\n' if name.endswith('.py') else b''))
+    pyplugin_installer.instance().installFromZipFile(other)
+    loaded = {name: it for name, it in sys.modules.items() if name.split('.')[0] in ('dgnedit', 'dgnkit')}
+    found['modules'] = len(loaded)
+    found['old_modules'] = sorted(name for name, it in loaded.items() if not hasattr(it, 'OTHER'))
 
 
 def all_of_it() -> None:
@@ -208,7 +291,7 @@ def all_of_it() -> None:
     iface.mainWindow().findChild(object, 'Browser') and iface.mainWindow().findChild(object, 'Browser').hide()
     steps = [install, without_the_program, name_the_program, mend_and_open, recolour_a_road, move_a_parcel, compare]
     try:
-        for step in [*steps, zoom_to_a_change, take_out]:
+        for step in [*steps, zoom_to_a_change, with_the_mouse, drop, take_out, upgrade]:
             step()
     except Exception:
         found['wrong'] = traceback.format_exc()

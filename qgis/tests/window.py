@@ -17,7 +17,7 @@ TOP = HERE.parents[1]
 QGIS = shutil.which('qgis.bin') or shutil.which('qgis')
 SCREEN = shutil.which('Xvfb')
 PATH = '/usr/bin:/bin'  # where no other Python is found than that of QGIS, and no dgnedit
-PATIENCE = 90  # seconds that all of it may take
+PATIENCE = 180  # seconds that all of it may take
 SETTINGS = '[PythonPlugins]\nprocessing=true\n'
 
 

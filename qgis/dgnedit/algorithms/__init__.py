@@ -6,6 +6,7 @@ from .base import DgnAlgorithm
 from .check import Check
 from .commands import Copy, Delete, Look, Move
 from .compare import Compare
+from .drawn import DrawLine, DrawText
 from .fields import Lock, Relevel, Retext, Undelete, Unlock
 from .find import Find
 from .mend import Mend
@@ -27,6 +28,8 @@ ALGORITHMS: List[Type[DgnAlgorithm]] = [
     Lock,
     Unlock,
     Undelete,
+    DrawLine,
+    DrawText,
     RunScript,
     ApplyPatch,
 ]

@@ -1,7 +1,8 @@
 """What all algorithms share: their names, the parameters that several have, and errors as sentences."""
 
+import os
 from dataclasses import replace
-from typing import Any, List, Optional, Sequence, Tuple
+from typing import Any, List, Optional, Sequence, Set, Tuple
 
 from dgnkit import files
 from dgnkit.cli import reason_of, shortened
@@ -25,11 +26,14 @@ from qgis.PyQt.QtGui import QIcon
 
 from ..calls import Call, Parameters, Stopped
 from ..layers import Known, known_drawings, wishes_for
-from ..opening import Wishes
+from ..package import ask_package
 from ..program import ICON, find_program
+from ..rows import Wishes
+from ..wording import here
 
 Results = Parameters
 DRAWINGS = 'Design files (*.dgn *.DGN);;All files (*)'
+PACKAGES = 'GeoPackage (*.gpkg)'
 UNITS = ['auto', 'master', 'resolution']
 UNITS_SAID = ['master units, if the drawing defines them', 'master units', 'units of resolution']
 
@@ -46,6 +50,7 @@ class DgnAlgorithm(QgsProcessingAlgorithm):
     TAGS = ''
     call: Optional[Call] = None  # the run that goes on, none where it was cancelled
     known: Sequence[Known] = ()  # the drawings that are open in the project
+    in_use: Set[str] = set()  # the files of the project's layers
 
     def name(self) -> str:
         return self.NAME
@@ -94,11 +99,16 @@ class DgnAlgorithm(QgsProcessingAlgorithm):
     def finish(self, call: Call) -> None:
         """What has to be done with layers and the project, in the main thread."""
 
+    def leave(self) -> None:
+        """Leaves what was prepared for that undone."""
+
     def prepareAlgorithm(
         self, parameters: Parameters, context: QgsProcessingContext, feedback: QgsProcessingFeedback
     ) -> bool:
         call = Call(self, parameters, context, feedback)
         self.known = known_drawings(call.project)
+        layers = call.project.mapLayers().values() if call.project is not None else ()
+        self.in_use = {os.path.realpath(str(it.source()).split('|')[0]) for it in layers}
         said(lambda: self.prepare(call))
         return True
 
@@ -112,8 +122,12 @@ class DgnAlgorithm(QgsProcessingAlgorithm):
             return made
         except Stopped as why:
             feedback.pushInfo(str(why))
+            self.leave()
             self.call = None
             return {}
+        except QgsProcessingException:
+            self.leave()
+            raise
 
     def postProcessAlgorithm(self, context: QgsProcessingContext, feedback: QgsProcessingFeedback) -> Results:
         if self.call is not None:
@@ -145,16 +159,32 @@ class DgnAlgorithm(QgsProcessingAlgorithm):
             QgsProcessingParameterFileDestination('OUTPUT', 'New drawing', 'Design files (*.dgn)'),
             'A file of its own: the old drawing is never overwritten.',
         )
-        self.add(
-            QgsProcessingParameterBoolean('OPEN', 'Open the new drawing beside the old one', True),
-            'Adds its layers to the project, and switches those of the old drawing off.',
+        self.add_flag(
+            'OPEN', 'Show the new drawing', True, 'The layers of the old drawing become those of the new one.'
+        )
+        self.add_file(
+            'LAYERS_FILE',
+            'Save layers to',
+            PACKAGES,
+            'A GeoPackage. The new drawing is then opened beside the old one, in layers that stay when QGIS is closed.',
+            True,
         )
         self.add_flag('OVERWRITE', 'Replace files that are already there', False, is_advanced=True)
         self.addOutput(QgsProcessingOutputNumber('ACCEPTED', 'How many edits were made'))
 
-    def add_file(self, name: str, said: str, kinds: str, text: str = '') -> None:
+    def add_file(self, name: str, said: str, kinds: str, text: str = '', is_advanced: bool = False) -> None:
         """A file that is written where it is wished."""
-        self.add(QgsProcessingParameterFileDestination(name, said, kinds, optional=True, createByDefault=False), text)
+        file = QgsProcessingParameterFileDestination(name, said, kinds, optional=True, createByDefault=False)
+        self.add(file, text, is_advanced)
+
+    def layers_file(self, call: Call, name: str) -> str:
+        """The file that layers are to be saved to, or nothing. It raises Mistake where it may not be written."""
+        package = call.target(name)
+        if package and os.path.realpath(package) in self.in_use:
+            raise Mistake('%s holds layers of this project: name another file, or remove these first' % package)
+        if package:
+            ask_package(package, call.flag('OVERWRITE'))
+        return package
 
     def add_system(self) -> None:
         """The coordinate reference system of layers, and the units of their coordinates."""
@@ -194,7 +224,7 @@ def said(run: Any) -> Any:
     except Stopped:
         raise
     except Exception as why:  # of which QGIS would say nothing in the window
-        told = shortened(reason_of(why))
+        told = here(shortened(reason_of(why)))
     raise QgsProcessingException(told)  # here, so that it doesn't keep alive what was being made
 
 

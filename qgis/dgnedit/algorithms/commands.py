@@ -4,7 +4,7 @@ from dgnkit.drawing.drawing import Drawing
 from dgnkit.errors import Mistake
 from dgnkit.format.limits import COLOUR_MOST, STYLE_MOST, WEIGHT_MOST
 from dgnkit.format.places import Scale
-from dgnkit.format.units import rounded
+from dgnkit.format.units import rounded, shortest
 from qgis.core import QgsProcessingParameterEnum, QgsProcessingParameterNumber
 
 from ..calls import Call
@@ -12,6 +12,13 @@ from ..styles import STYLE_NAMES
 from .edits import CommandAlgorithm
 
 AXES = ('DX', 'DY', 'DZ')
+TOO_SHORT = 'The drawing holds nothing smaller than %s, and the distance is less than half of that. %s'
+LEFT_OUT = 'The drawing holds nothing smaller than %s: a distance of less than half of that is taken as 0.'
+
+
+def least_said(scale: Scale) -> str:
+    """The smallest distance that there is, in words."""
+    return '%s %s' % (shortest(1 / scale.units.in_master), scale.units.name) if scale.is_master else '1'
 
 
 class Move(CommandAlgorithm):
@@ -23,6 +30,7 @@ class Move(CommandAlgorithm):
     MORE = 'The vector is in the units of the layers: master units, or units of resolution if they were opened so.'
     TAGS = 'move shift translate displace'
     WORD = 'move'
+    NOWHERE = 'Nothing would be moved: give a distance to the east or to the north.'
 
     def define_edit(self) -> None:
         for name, said in zip(AXES, ('to the east (x)', 'to the north (y)', 'upwards (z), in three dimensions')):
@@ -32,9 +40,14 @@ class Move(CommandAlgorithm):
 
     def template(self, call: Call, drawing: Drawing) -> str:
         scale = Scale(drawing.units, self.wishes(call, drawing).units)
-        shift = [rounded(scale.signed_length(call.decimal(it) or '0')) for it in AXES]
-        if drawing.axes == 2 and shift.pop():
+        exact = [scale.signed_length(call.decimal(it) or '0') for it in AXES]
+        if drawing.axes == 2 and exact.pop():
             raise Mistake('The drawing has two dimensions: nothing in it can be moved upwards.')
+        shift = [rounded(it) for it in exact]
+        if not any(shift):
+            raise Mistake(TOO_SHORT % (least_said(scale), self.NOWHERE) if any(exact) else self.NOWHERE)
+        if any(it and not there for it, there in zip(exact, shift)):
+            call.warn(LEFT_OUT % least_said(scale))
         return ' '.join([self.WORD, '{n}', *map(str, shift)])
 
 
@@ -46,6 +59,7 @@ class Copy(Move):
     SHORT = 'Appends a copy of what is selected, moved by a vector.'
     TAGS = 'copy duplicate'
     WORD = 'copy'
+    NOWHERE = 'The copy would lie where it was copied: give a distance to the east or to the north.'
 
 
 class Look(CommandAlgorithm):

@@ -4,7 +4,7 @@ from typing import List, Tuple
 
 from dgnkit.commands._fields import parts_of
 from dgnkit.drawing.drawing import Drawing
-from dgnkit.errors import Mistake
+from dgnkit.drawing.tables import numbers_in
 from dgnkit.explain.members import parts_said
 from dgnkit.output import counted, few
 from dgnkit.propose.field_edits import FieldEdits
@@ -14,17 +14,18 @@ from dgnkit.propose.writing import applied, patch_of
 from qgis.core import (
     QgsProcessing,
     QgsProcessingParameterFeatureSource,
+    QgsProcessingParameterFile,
     QgsProcessingParameterMultipleLayers,
     QgsProcessingParameterString,
 )
 
 from ..calls import Call
 from ..editing import Made, run_lines, run_patch
-from ..selection import Selected, chosen, drawing_of, move_selection, rows_of, selected_in
+from ..selection import FIELD, Selected, chosen, drawing_of, move_selection, numbers_of, rows_of, selected_in
 from .base import Results, opened
 from .results import PATCHES, SCRIPTS, MakesDrawing, Refusal, refusals_of
 
-ANY = QgsProcessing.SourceType.TypeVectorAnyGeometry
+ANY, TABLES = QgsProcessing.SourceType.TypeVectorAnyGeometry, QgsProcessing.SourceType.TypeVector
 HELP = (
     'Edits the features that are selected in the layers of a drawing: in all its layers, or in those that you name. '
     'Instead you can give element numbers, or a table with a field "number". Whole trees are edited, such as a cell '
@@ -33,6 +34,8 @@ HELP = (
     'never changed. Anything that is refused, such as a locked element, is in a table with the reason; the rest is '
     'done.'
 )
+LISTS = 'Lists of elements (*.csv *.txt *.geojson *.json);;All files (*)'
+NOTHING = 'Nothing is selected and no drawing is named: select features in the layers of a drawing.'
 TOLD = 8
 
 
@@ -62,8 +65,13 @@ class EditAlgorithm(MakesDrawing):
             True,
         )
         self.add(
-            QgsProcessingParameterFeatureSource('TABLE', 'Or the elements of this table', [ANY], None, True),
-            'A layer or a table with a field "number", for models and batches.',
+            QgsProcessingParameterFeatureSource('TABLE', 'Or the elements of this table', [TABLES], None, True),
+            'A layer or a table with a field "number".',
+            True,
+        )
+        self.add(
+            QgsProcessingParameterFile('FILE', 'Or the elements that this file lists', fileFilter=LISTS, optional=True),
+            'A CSV file with a column "number", a list with a number in each line, or a GeoJSON file.',
             True,
         )
         self.add_outcome()
@@ -78,14 +86,16 @@ class EditAlgorithm(MakesDrawing):
 
     def prepare(self, call: Call) -> None:
         layers = self.parameterAsLayerList(call.parameters, 'LAYERS', call.context)
-        is_named = bool(call.text('NUMBERS')) or call.parameters.get('TABLE') is not None
+        is_named = any(call.parameters.get(it) not in (None, '') for it in ('NUMBERS', 'TABLE', 'FILE'))
         self.selected = [] if is_named and not layers else selected_in(call, layers)
 
     def work(self, call: Call) -> Results:
         call.doing('The drawing is read', 0.0)
-        drawing = opened(call.file('DRAWING') or drawing_of(self.selected) or self.only_one())
+        drawing = opened(call.file('DRAWING') or drawing_of(self.selected) or self.only_one(NOTHING))
         rows = rows_of(self.parameterAsSource(call.parameters, 'TABLE', call.context))
-        self.chosen = numbers = chosen(drawing, self.selected, call.text('NUMBERS'), rows)
+        named = numbers_of(call.text('NUMBERS'))
+        named += numbers_in(call.file('FILE'), FIELD) if call.file('FILE') else []
+        self.chosen = numbers = chosen(drawing, self.selected, named, rows)
         if call.flag('TREES'):
             numbers = sorted({drawing.nesting.roots[it] for it in numbers})
         else:
@@ -104,13 +114,6 @@ class EditAlgorithm(MakesDrawing):
         super().finish(call)
         if self.selected and self.written is not None and call.project is not None:
             move_selection(call.project, self.selected[0].drawing, self.written.drawing, self.chosen)
-
-    def only_one(self) -> str:
-        """The only drawing that is open in the project."""
-        names = {it.drawing for it in self.known}
-        if len(names) != 1:
-            raise Mistake('Nothing is selected and no drawing is named: select features in the layers of a drawing.')
-        return names.pop()
 
     def edit(self, call: Call, drawing: Drawing, numbers: List[int], out: str) -> Tuple[Made, List[Refusal]]:
         """Makes the new drawing, and says what was refused."""
@@ -136,13 +139,11 @@ class CommandAlgorithm(EditAlgorithm):
         template = self.template(call, drawing)
         lines = [line_of(template, it) for it in numbers]
         made = run_lines(call, drawing, lines, (call.target('SCRIPT'), call.target('PATCH')), out)
-        return made, list(refusals_of(made))
+        return made, [(number, self.TITLE, why) for number, _, why in refusals_of(made)]
 
 
 class FieldAlgorithm(EditAlgorithm):
     """An edit of single fields, for which the editor has no command: by a patch file."""
-
-    WORD = ''
 
     def fields(self, call: Call, drawing: Drawing, numbers: List[int]) -> FieldEdits:
         """The changes of these elements."""
@@ -155,7 +156,7 @@ class FieldAlgorithm(EditAlgorithm):
         applied(drawing, patch, edits.changes)
         made = run_patch(call, drawing, patch, call.target('PATCH'), out)
         made.accepted = len(edits.changes)
-        return made, [(number, self.WORD, why) for number, why in edits.left]
+        return made, [(number, self.TITLE, why) for number, why in edits.left]
 
 
 def tell_broken(call: Call, drawing: Drawing, numbers: List[int]) -> None:

@@ -9,12 +9,24 @@ from dgnkit.errors import Mistake
 from dgnkit.format.limits import LEVEL_MOST
 from dgnkit.propose.field_edits import FieldEdits, Replacement, relevel, retext, set_lock, undelete
 from dgnkit.waiting import Matcher
-from qgis.core import QgsProcessingParameterString
+from qgis.core import QgsProcessingParameterEnum, QgsProcessingParameterString
 
 from ..calls import Call
+from .base import DgnAlgorithm
 from .edits import FieldAlgorithm
 
+ENCODINGS = ['', 'utf-8', 'latin-1']
+ENCODINGS_SAID = ['that of the other texts of the drawing', 'UTF-8', 'Latin-1']
 WHOLE = re.compile(r'\A.*\Z', re.S)
+
+
+def add_encoding(algorithm: DgnAlgorithm) -> None:
+    """Adds a parameter for the encoding of a text."""
+    algorithm.add(
+        QgsProcessingParameterEnum('ENCODING', 'Encoding of characters beyond ASCII', ENCODINGS_SAID, False, 0),
+        'Such as ä and ß, if the text that changes has none yet.',
+        True,
+    )
 
 
 class Relevel(FieldAlgorithm):
@@ -24,7 +36,6 @@ class Relevel(FieldAlgorithm):
     TITLE = 'Put on another level'
     SHORT = 'Puts what is selected on another level.'
     TAGS = 'level layer'
-    WORD = 'level'
 
     def define_edit(self) -> None:
         self.add_number('LEVEL', 'Level', LEVEL_MOST, 'From 1 to 63, or 0, which members of cells may have.', False)
@@ -41,7 +52,6 @@ class Retext(FieldAlgorithm):
     SHORT = 'Replaces a word in the texts that are selected, or the whole of each.'
     MORE = "A text can become shorter, or stay as long as it was. It can't become longer: there is no room for it."
     TAGS = 'text label replace'
-    WORD = 'text'
 
     def define_edit(self) -> None:
         self.add(
@@ -49,6 +59,7 @@ class Retext(FieldAlgorithm):
             'Only as a whole word.',
         )
         self.add(QgsProcessingParameterString('NEW', 'New text'))
+        add_encoding(self)
         self.add_flag('REGEX', 'The word is a regular expression', False, is_advanced=True)
         self.add_flag('IGNORE_CASE', 'Ignore case', False, is_advanced=True)
 
@@ -60,7 +71,8 @@ class Retext(FieldAlgorithm):
         if old:
             form = (form_of if call.flag('REGEX') else word_form)(old, call.flag('IGNORE_CASE'))
         is_plain = not (old and call.flag('REGEX'))
-        wanted = Replacement(Matcher(form), new.replace('\\', '\\\\') if is_plain else new, None)
+        encoding = call.choice('ENCODING', ENCODINGS) or None
+        wanted = Replacement(Matcher(form), new.replace('\\', '\\\\') if is_plain else new, encoding)
         return retext(drawing, numbers, wanted)
 
 
@@ -71,7 +83,6 @@ class Lock(FieldAlgorithm):
     TITLE = 'Lock'
     SHORT = 'Locks what is selected, so that edits of it are refused.'
     TAGS = 'lock protect'
-    WORD = 'lock'
     IS_LOCKED = True
 
     def fields(self, call: Call, drawing: Drawing, numbers: List[int]) -> FieldEdits:
@@ -85,7 +96,6 @@ class Unlock(Lock):
     TITLE = 'Unlock'
     SHORT = 'Unlocks what is selected.'
     TAGS = 'unlock'
-    WORD = 'unlock'
     IS_LOCKED = False
 
 
@@ -97,7 +107,6 @@ class Undelete(FieldAlgorithm):
     SHORT = 'Takes the deletion of what is selected back.'
     MORE = 'To see what is deleted, open the drawing with "Also what is marked deleted".'
     TAGS = 'undelete restore'
-    WORD = 'undelete'
 
     def fields(self, call: Call, drawing: Drawing, numbers: List[int]) -> FieldEdits:
         return undelete(drawing, numbers)

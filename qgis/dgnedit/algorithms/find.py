@@ -25,7 +25,8 @@ from qgis.core import (
 from ..calls import Call
 from ..layers import DIGEST, drawing_layers
 from ..marks import Boxes, Marks, sink_parameter
-from ..opening import Wishes, digest_of
+from ..opening import digest_of
+from ..rows import Wishes
 from ..selection import select, spelled
 from .base import DgnAlgorithm, Results, opened
 

@@ -1,9 +1,7 @@
 """Opens a drawing."""
 
-import os
-from typing import List, Set
+from typing import List
 
-from dgnkit.errors import Mistake
 from qgis.core import (
     QgsCoordinateReferenceSystem,
     QgsCoordinateTransform,
@@ -19,9 +17,9 @@ from qgis.core import (
 
 from ..calls import Call
 from ..layers import add_to_project, extent_of
-from ..opening import KINDS, Wishes, write_layers
-from ..package import ask_package
-from .base import UNITS, DgnAlgorithm, Results, opened
+from ..opening import KINDS, write_layers
+from ..rows import Wishes
+from .base import PACKAGES, UNITS, DgnAlgorithm, Results, opened
 
 TYPES = {
     'texts': QgsProcessing.SourceType.TypeVectorPoint,
@@ -47,15 +45,14 @@ class OpenDrawing(DgnAlgorithm):
     SHORT = 'Opens a design file as layers, by level and by geometry, with its colours, weights, styles and texts.'
     HELP = (
         'Each drawing is a group, with a group for each level. In it are layers of lines, areas, points, texts and '
-        "ranges: the boxes of arcs and other elements whose coordinates aren't read. Each feature has the number of "
-        'its element, by which it is edited, and that of the root of its tree.\n\n'
+        "ranges: the boxes of elements whose coordinates aren't read, such as dimensions. Each feature has the number "
+        'of its element, by which it is edited, and that of the root of its tree.\n\n'
         "Coordinates are in master units, such as metres, if the drawing defines them. The drawing doesn't say which "
         'coordinate reference system they are in: choose one, or leave it open.\n\n'
         'The layers are kept in a GeoPackage. Name a file for it, or they are lost when QGIS is closed. They are '
         'read-only: edit the drawing with the other commands of this plugin.'
     )
     TAGS = 'open read load import layers cad'
-    in_use: Set[str] = set()  # the files of the project's layers
 
     def define(self) -> None:
         self.add_drawing()
@@ -64,7 +61,7 @@ class OpenDrawing(DgnAlgorithm):
         self.add_flag('MEMBERS', 'Also the members of complex chains and shapes', False, is_advanced=True)
         self.add_flag('DELETED', 'Also what is marked deleted', False, is_advanced=True)
         self.add(
-            QgsProcessingParameterFileDestination('OUTPUT', 'GeoPackage of the layers', 'GeoPackage (*.gpkg)'),
+            QgsProcessingParameterFileDestination('OUTPUT', 'Save layers to', PACKAGES),
             'The file that the layers are kept in.',
         )
         said = 'Only one that this plugin has written; others are never replaced.'
@@ -74,20 +71,13 @@ class OpenDrawing(DgnAlgorithm):
             self.addOutput(QgsProcessingOutputVectorLayer(kind.upper(), NAMES[kind], TYPES[kind]))
             self.addOutput(QgsProcessingOutputNumber(kind.upper() + '_COUNT', NAMES[kind] + ': how many'))
 
-    def prepare(self, call: Call) -> None:
-        layers = call.project.mapLayers().values() if call.project is not None else ()
-        self.in_use = {os.path.realpath(it.source().split('|')[0]) for it in layers}
-
     def work(self, call: Call) -> Results:
         call.doing('The drawing is read', 0.0)
         drawing = opened(call.file('DRAWING'))
         wishes = Wishes(
             call.choice('UNITS', UNITS), call.system(), call.flag('MEMBERS'), call.flag('HOLES'), call.flag('DELETED')
         )
-        package = call.target('OUTPUT')
-        if os.path.realpath(package) in self.in_use:
-            raise Mistake('%s holds layers of this project: name another file, or remove these first' % package)
-        ask_package(package, call.flag('OVERWRITE'))
+        package = self.layers_file(call, 'OUTPUT')
         count = len(drawing.elements)
         call.doing('The layers are written', 0.1)
         self.written = write_layers(drawing, package, wishes, lambda it: call.done(0.1 + 0.8 * it))

@@ -1,20 +1,28 @@
 """Algorithms that make a new drawing: the new one is opened beside the old one, and what was refused is a table."""
 
 import os
-from typing import Dict, Iterable, List, Optional, Tuple
+from typing import Dict, Iterable, List, Optional, Sequence, Tuple
 
 from dgnkit.drawing.drawing import Drawing
 from dgnkit.errors import Mistake
 from dgnkit.format.element import described
 from dgnkit.output import printable
 from dgnkit.program.grammar import kinds_of
-from qgis.core import QgsProcessingOutputNumber, QgsProcessingParameterFileDestination, QgsProcessingUtils
+from qgis.core import (
+    QgsApplication,
+    QgsProcessingOutputNumber,
+    QgsProcessingParameterFileDestination,
+    QgsProcessingUtils,
+)
 
 from ..calls import Call, Stopped
 from ..editing import Made
 from ..layers import add_to_project, hide_drawing
 from ..marks import Boxes, Marks, sink_parameter
-from ..opening import Wishes, Written, write_layers
+from ..opening import Written, digest_of, write_layers
+from ..renewal import Renewal
+from ..rows import Wishes
+from ..wording import here
 from .base import DgnAlgorithm, Results
 
 REFUSED_FIELDS: Dict[str, type] = {'number': int, 'root': int, 'is': str, 'command': str, 'why': str}
@@ -22,12 +30,15 @@ PATCHES = 'Patch files (*.patch);;All files (*)'
 SCRIPTS = 'Scripts (*.txt);;All files (*)'
 Refusal = Tuple[Optional[int], str, str]  # the element, the command, and why
 MOST_SAID = 20  # so many refusals are said in the log
+BESIDE = "The layers of %s can't become those of the new drawing, which is opened beside it: %s"
+NOT_SHOWN = 'The layers still show %s: %s. The new drawing is written: open %s to see it.'
 
 
 class MakesDrawing(DgnAlgorithm):
     """An algorithm that writes a new drawing."""
 
     written: Optional[Written] = None
+    renewals: Sequence[Renewal] = ()
     old = ''
 
     def add_outcome(self) -> None:
@@ -43,18 +54,26 @@ class MakesDrawing(DgnAlgorithm):
         """The name of the new drawing. It raises Mistake where it may not be written, or a file beside it: one of the
         project's drawings has that name, or a file that isn't to be replaced, or two of them have one name."""
         out = call.target('OUTPUT')
-        beside = [call.target(it) for it in ('SCRIPT', 'PATCH') if self.is_written(it)]
+        beside = [call.target(it) for it in ('SCRIPT', 'PATCH', 'LAYERS_FILE') if self.is_written(it)]
         names = [out, *(it for it in beside if it)]
         places = [os.path.realpath(it) for it in names]
         if len(set(places)) < len(places):
-            raise Mistake('The new drawing, the script and the patch file each need a name of their own.')
+            raise Mistake('The new drawing and the files beside it each need a name of their own.')
         if places[0] in {os.path.realpath(it.drawing) for it in self.known}:
             raise Mistake('%s is open in this project: name another file' % out)
         read = os.path.realpath(call.file('DRAWING'))  # which is never replaced, as is said when it is to be
+        self.layers_file(call, 'LAYERS_FILE')
         there = [it for it, place in zip(names, places) if os.path.isfile(it) and place != read]
         if there and not call.flag('OVERWRITE'):
             raise Mistake('%s already exists: name another file, or allow that it is replaced' % there[0])
         return out
+
+    def only_one(self, why: str) -> str:
+        """The only drawing that is open in the project. It raises Mistake with the reason where there isn't one."""
+        names = {it.drawing for it in self.known}
+        if len(names) != 1:
+            raise Mistake(why)
+        return names.pop()
 
     def is_written(self, name: str) -> bool:
         """Whether a parameter is that of a file that is written."""
@@ -64,6 +83,7 @@ class MakesDrawing(DgnAlgorithm):
         """Says what was made, writes the table, and prepares the layers of the new drawing."""
         for line in made.said:
             call.say(printable(line))
+        refused = [(number, command, here(why)) for number, command, why in refused]
         for number, command, why in refused[:MOST_SAID]:
             call.warn('%s: %s' % (printable(command), printable(why)))
         if len(refused) > MOST_SAID:
@@ -76,27 +96,74 @@ class MakesDrawing(DgnAlgorithm):
         if not refused:
             marks.do_not_load(call)
         if call.flag('OPEN') and call.project is not None:
-            self.open(call, Drawing(out, drawing.program), wishes)
-            self.old = os.path.abspath(drawing.path)
+            self.show(call, drawing, Drawing(os.path.abspath(out), drawing.program), wishes)
         results = {'OUTPUT': out, 'ACCEPTED': made.accepted}
         if self.parameterDefinition('REFUSED') is not None:
             results['REFUSED_COUNT'] = len(refused)
         return {**results, 'REFUSED': marks.id} if marks.id else results
 
-    def open(self, call: Call, drawing: Drawing, wishes: Wishes) -> None:
-        """Writes the layers of the new drawing, which is there already: where this is cancelled, it stays."""
-        package = QgsProcessingUtils.generateTempFilename('layers.gpkg')
+    def show(self, call: Call, old: Drawing, new: Drawing, wishes: Wishes) -> None:
+        """Prepares that the layers of the old drawing become those of the new one, or are beside these. The new drawing
+        is there already: where this is cancelled, it stays."""
+        self.old = os.path.abspath(old.path)
         try:
-            call.doing('The layers of the new drawing are written', 0.5)
-            self.written = write_layers(drawing, package, wishes, lambda it: call.done(0.5 + 0.4 * it))
+            if not self.renew(call, old, new):
+                self.open(call, new, wishes)
         except Stopped:
             call.warn('Stopped: the new drawing is written, but not opened.')
 
+    def renew(self, call: Call, old: Drawing, new: Drawing) -> bool:
+        """Prepares that the layers of the old drawing become those of the new one; whether there are such, and they
+        can."""
+        digest = digest_of(old)
+        shown = [it for it in self.known if (it.drawing, it.digest) == (self.old, digest)]
+        if not shown or call.target('LAYERS_FILE') or QgsApplication.platform() == 'qgis_process':
+            return False
+        call.doing('The layers are changed', 0.5)
+        made: List[Renewal] = []
+        try:
+            for it in shown:
+                made.append(Renewal(it, old, new, lambda share: call.done(0.5 + 0.4 * share)))
+        except Mistake as why:
+            drop_all(made)
+            if isinstance(why, Stopped):
+                raise
+            call.warn(BESIDE % (self.old, why))
+            return False
+        except BaseException:
+            drop_all(made)
+            raise
+        self.renewals = made
+        return True
+
+    def open(self, call: Call, new: Drawing, wishes: Wishes) -> None:
+        """Writes the layers of the new drawing."""
+        package = call.target('LAYERS_FILE') or QgsProcessingUtils.generateTempFilename('layers.gpkg')
+        call.doing('The layers of the new drawing are written', 0.5)
+        self.written = write_layers(new, package, wishes, lambda it: call.done(0.5 + 0.4 * it))
+
+    def leave(self) -> None:
+        drop_all(self.renewals)
+
     def finish(self, call: Call) -> None:
-        """Opens the new drawing, and hides the old one, which stays in the project."""
-        if self.written is not None and call.project is not None:
+        """Shows the new drawing in the layers of the old one; or beside these, which are hidden and stay."""
+        if call.project is None:
+            self.leave()
+            return
+        for it in self.renewals:
+            try:
+                it.keep(call.project)
+            except Mistake as why:
+                call.error(NOT_SHOWN % (self.old, why, it.written.drawing))
+        if self.written is not None:
             hide_drawing(call.project, self.old)
             add_to_project(call.project, self.written)
+
+
+def drop_all(renewals: Iterable[Renewal]) -> None:
+    """Leaves the layers of all as they are."""
+    for it in renewals:
+        it.drop()
 
 
 def refused_row(drawing: Drawing, refused: Refusal) -> List[object]:
