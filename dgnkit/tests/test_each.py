@@ -11,6 +11,9 @@ from typing import List
 import samples
 
 
+JOURNAL = '.dgnkit-journal.jsonl'
+
+
 class Each(samples.WithProgram):
     def setUp(self) -> None:
         super().setUp()
@@ -20,7 +23,7 @@ class Each(samples.WithProgram):
         self.into = self.path('out')
 
     def written(self) -> List[str]:
-        return sorted(it.name for it in (self.folder / 'out').iterdir())
+        return sorted(it.name for it in (self.folder / 'out').iterdir() if it.name != JOURNAL)
 
     def test_each_drawing_is_what_the_program_makes_of_it(self) -> None:
         for jobs in (1, 3):
@@ -71,8 +74,9 @@ class Each(samples.WithProgram):
             self.assertEqual((status, out, err.count('\n')), (2, '', 1), words)
         status, _, err = self.kit('each', self.script, self.names[0], '--into', self.path('in'), '--force')
         self.assertEqual((status, 'name another folder' in err), (2, True))
-        self.said('each', self.script, self.names[0], '--into', self.into)
-        status, _, err = self.kit('each', self.script, self.names[0], '--into', self.into)
+        (self.folder / 'other').mkdir()
+        self.put('other/0.dgn', 'of somebody else')
+        status, _, err = self.kit('each', self.script, self.names[0], '--into', self.path('other'))
         self.assertEqual((status, '--force' in err), (2, True))
 
     def test_the_script_is_not_written_over(self) -> None:

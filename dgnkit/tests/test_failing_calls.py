@@ -6,6 +6,7 @@ from __future__ import annotations
 import builtins
 import errno
 import io
+import json
 import os
 import subprocess
 import tempfile
@@ -17,6 +18,7 @@ import samples
 from samples import drawings, plan
 
 Ran = Tuple[int, str, str]
+JOURNAL = '.dgnkit-journal.jsonl'
 
 
 class Calls:
@@ -105,7 +107,11 @@ class FailingCalls(samples.WithProgram):
             (self.work / name).write_bytes(content)
 
     def files(self) -> Dict[str, bytes]:
-        return {str(it.relative_to(self.work)): it.read_bytes() for it in self.work.rglob('*') if it.is_file()}
+        found = {it: it.read_bytes() for it in self.work.rglob('*') if it.is_file()}
+        for it in found:
+            if it.name == JOURNAL:  # that has times, and says what is done so far
+                self.assertTrue(all(map(json.loads, found[it].splitlines())))
+        return {str(it.relative_to(self.work)): content for it, content in found.items() if it.name != JOURNAL}
 
     def run_with(self, calls: Calls, words: List[str]) -> Ran:
         """Runs a command, of whose calls one fails."""

@@ -265,7 +265,7 @@ class Liars(samples.WithProgram):
                 self.assertEqual((status, 'there is no' in err), (2, True))
             status, out, _ = self.kit('each', script, valve, '--into', self.path('into'), '--json')
             self.assertEqual((status, json.loads(out)[0]['out']), (1, ''))
-            self.assertEqual(list((self.folder / 'into').iterdir()), [])
+            self.assertEqual([it.name for it in (self.folder / 'into').iterdir()], ['.dgnkit-journal.jsonl'])
 
     def test_a_drawing_that_is_saved_meanwhile(self) -> None:
         valve = self.example('valve.dgn')

@@ -36,7 +36,8 @@ for (const [owner, names] of [[program, ['check', 'edit', 'ask']], [store, ['all
 }
 '''
 
-# A walk by a seed through drawings that are given by their names; gives what is open in the end.
+# A walk by a seed through drawings that are given by their names; gives what is open in the end, or null where every
+# opening was stopped.
 WALK = '''
 const [seed, drawings, acts, done] = arguments, { work, opener } = page;
 let state = seed;
@@ -69,11 +70,12 @@ const walk = async () => {
     }
     const { document: made, keeper } = work, all = await work.around.store.all();
     const record = all.find(({ id }) => id === keeper.id);
-    done({ name: made.original.name, acts: made.acts, bytes: btoa(String.fromCharCode(...made.made.bytes)),
+    done(made === null ? null : {
+        name: made.original.name, acts: made.acts, bytes: btoa(String.fromCharCode(...made.made.bytes)),
         kept: record === undefined ? null : record.acts, shown: page.drawing.name, fault: keeper.fault,
         script: [...document.querySelectorAll('#script code')].map((it) => it.textContent) });
 };
-walk();
+walk().catch((why) => done(String(why)));
 '''
 
 
@@ -106,6 +108,8 @@ class InChromium(WithEditor):
         lines = 0
         for seed in range(1, 41):
             held = self.seen.run_slowly(WALK, seed, drawings, ACTS)
+            if held is None:
+                continue
             with self.subTest(seed, acts=json.dumps(held['acts'])):
                 script = lines_of(held['acts'])
                 lines += len(script)

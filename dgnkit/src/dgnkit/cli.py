@@ -28,7 +28,7 @@ if TYPE_CHECKING:
 NO_OPTION = re.compile(r'^-([\d.][\d.,]*-?[\d.,]*|[xy])$')
 ORDER = (
     'info health find why run diff mend relevel retext rename lock unlock undelete draw text merge place clip each '
-    'split purge geojson script page open help completion'
+    'journal split purge geojson script page open help completion'
 ).split()
 ABOUT = (
     'Finds elements in design files, explains, mends and compares them, and writes scripts and patch files, from which '

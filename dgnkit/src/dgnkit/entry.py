@@ -28,6 +28,9 @@ def command() -> NoReturn:
 
 def _run() -> int:
     open_streams()
+    from .system import write_plainly
+
+    write_plainly()
     from .cli import main
     from .waiting import watch
 

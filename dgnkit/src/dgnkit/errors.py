@@ -10,6 +10,10 @@ class Mistake(Exception):
     """Something that was asked for can't be done: one clear line for standard error, and the status 2."""
 
 
+class NothingThere(Mistake):
+    """What was named isn't in the drawing, so there is nothing to change."""
+
+
 class MissingProgram(Mistake):
     """The program dgnedit is nowhere to be found, or can't be started."""
 

@@ -7,10 +7,13 @@ import io
 import json
 import os
 import shlex
+import subprocess
 import sys
 from itertools import chain, islice
 from pathlib import Path
 from typing import Any, Iterable, Iterator, List, Sequence
+
+from .system import IS_WINDOWS
 
 AT_ONCE = 1024  # so many lines are said at once, where there are many
 
@@ -102,7 +105,9 @@ def listed(words: Sequence[object]) -> str:
 
 
 def quoted(*words: object) -> str:
-    """Words as a shell reads them."""
+    """Words as the system's shell reads them."""
+    if IS_WINDOWS:
+        return subprocess.list2cmdline([str(it) for it in words])
     return ' '.join(shlex.quote(str(it)) for it in words)
 
 

@@ -18,9 +18,16 @@ from .errors import Mistake
 from .files import READ, STANDARD_INPUT, Name, front_of, handle_of, kind_of_stream, mistake_of
 from .format.tcb import kind_of
 from .output import printable
+from .system import IS_WINDOWS, TO_FLUSH
 
 DRAWINGS = ('design', 'v8', 'library')
-NO_LINKS = (errno.EPERM, errno.ENOTSUP, errno.ENOSYS, errno.EMLINK)  # of file systems that know no second name
+NO_LINKS = (
+    errno.EPERM,
+    errno.ENOTSUP,
+    errno.ENOSYS,
+    errno.EMLINK,
+    errno.EINVAL,
+)  # of file systems that know no second name
 NOT_ALLOWED = (errno.EACCES, errno.EPERM, errno.EROFS)  # where it is the folder that may not be written to
 NO_SYNC = (errno.EINVAL, errno.ENOTSUP, errno.EACCES, errno.ENOSYS)  # where a file or a folder can't be made safe
 
@@ -182,9 +189,11 @@ def _link(made: Name, place: str) -> None:
 
 
 def make_safe(name: Name) -> None:
-    """Waits until the disk has a file, or the names in a folder."""
+    """Waits until the disk has a file, or the names in a folder, which Windows opens to nobody."""
+    if IS_WINDOWS and os.path.isdir(name):
+        return
     try:
-        handle = os.open(name, os.O_RDONLY)
+        handle = os.open(name, TO_FLUSH)
         try:
             os.fsync(handle)
         finally:
@@ -200,8 +209,9 @@ def _take_mode(made: Name, place: str) -> None:
         facts = os.stat(place)
     except FileNotFoundError:
         return
-    with contextlib.suppress(OSError):
-        os.chown(made, facts.st_uid, facts.st_gid)
+    if not IS_WINDOWS:
+        with contextlib.suppress(OSError):
+            os.chown(made, facts.st_uid, facts.st_gid)
     os.chmod(made, stat.S_IMODE(facts.st_mode))
 
 

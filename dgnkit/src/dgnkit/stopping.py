@@ -9,7 +9,7 @@ import time
 from types import FrameType
 from typing import Iterator, Optional
 
-SIGNALS = ('SIGINT', 'SIGTERM', 'SIGHUP')
+SIGNALS = ('SIGINT', 'SIGTERM', 'SIGHUP', 'SIGBREAK')  # of which each system has some
 AT_ONCE = 1.0  # so many seconds another signal is taken for the same one, while what was begun is cleared away
 
 
@@ -43,7 +43,7 @@ def catch_signals() -> None:
     """Lets the signals that end a program end it in order, so that no temporary file is left. Those that were ignored
     when it began, as by nohup, stay ignored."""
     if threading.current_thread() is threading.main_thread():
-        for number in (getattr(signal, name) for name in SIGNALS):
+        for number in (getattr(signal, name) for name in SIGNALS if hasattr(signal, name)):
             if signal.getsignal(number) is not signal.SIG_IGN:
                 signal.signal(number, STOP)
 

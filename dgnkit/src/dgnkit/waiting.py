@@ -13,6 +13,7 @@ from typing import Iterable, Iterator, Optional, Pattern, TypeVar
 
 from .errors import Mistake
 from .output import note
+from .system import has_timer
 
 Item = TypeVar('Item')
 
@@ -49,9 +50,10 @@ class Matcher:
 
     @contextlib.contextmanager
     def limited(self) -> Iterator[None]:
-        """Stops matches that take too long. In another thread than the main one there is no limit: a match keeps the
-        interpreter for itself, and only the main thread is ever interrupted in one."""
-        if threading.current_thread() is not threading.main_thread():
+        """Stops matches that take too long. In another thread than the main one there is no limit, and none where the
+        system has no timer: a match keeps the interpreter for itself, and only the main thread is ever interrupted in
+        one."""
+        if threading.current_thread() is not threading.main_thread() or not has_timer():
             yield
             return
         kept = signal.signal(signal.SIGALRM, self._look)

@@ -3,9 +3,10 @@
 from __future__ import annotations
 
 import argparse
+from shlex import quote
 from typing import TYPE_CHECKING, Dict, Iterator, List
 
-from ..output import quoted, say_raw
+from ..output import say_raw
 
 if TYPE_CHECKING:
     from ..cli import Parser, Subparsers
@@ -81,18 +82,18 @@ def bash_of(parsers: Dict[str, Parser]) -> str:
     for name, parser in parsers.items():
         told = list(options_of(parser))
         words = ' '.join(word for it in told for word in it.option_strings)
-        options.append('        %s) options=%s ;;' % (name, quoted(words)))
+        options.append('        %s) options=%s ;;' % (name, quote(words)))
         for it in (it for it in told if it.choices):
             forms = '|'.join('%s:%s' % (name, word) for word in it.option_strings)
-            values.append('        %s) values=%s ;;' % (forms, quoted(' '.join(map(str, it.choices or ())))))
+            values.append('        %s) values=%s ;;' % (forms, quote(' '.join(map(str, it.choices or ())))))
     values.append('        completion:completion) values="bash zsh" ;;')
-    values.append('        help:help) values=%s ;;' % quoted(' '.join(parsers)))
-    return BASH % (quoted(' '.join(parsers)), '\n'.join(options), '\n'.join(values))
+    values.append('        help:help) values=%s ;;' % quote(' '.join(parsers)))
+    return BASH % (quote(' '.join(parsers)), '\n'.join(options), '\n'.join(values))
 
 
 def zsh_of(parsers: Dict[str, Parser], helps: Dict[str, str]) -> str:
     """The script for zsh, with what each command and option is for."""
-    commands = ['        %s' % quoted('%s:%s' % (name, helps[name])) for name in parsers]
+    commands = ['        %s' % quote('%s:%s' % (name, helps[name])) for name in parsers]
     cases = []
     for name, parser in parsers.items():
         told: List[str] = [_zsh_option(it, word) for it in options_of(parser) for word in it.option_strings]
@@ -111,4 +112,4 @@ def _zsh_option(action: argparse.Action, word: str) -> str:
     elif action.nargs != 0:
         name = action.metavar if isinstance(action.metavar, str) else action.dest
         value = ':%s:%s' % (name, '_files' if name in FILES else ' ')
-    return quoted('*%s[%s]%s' % (word, said, value.replace("'", '')))
+    return quote('*%s[%s]%s' % (word, said, value.replace("'", '')))

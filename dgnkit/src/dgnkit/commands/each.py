@@ -1,55 +1,60 @@
-"""`dgnkit each SCRIPT IN .. --into DIR`: one script, or one patch file, over many drawings at once."""
+"""`dgnkit each SCRIPT IN .. --into DIR`: one script, patch file or change over many drawings and folders of them."""
 
 from __future__ import annotations
 
 import argparse
-import contextlib
 import os
 import sys
-from dataclasses import dataclass
-from pathlib import Path
-from typing import TYPE_CHECKING, Any, Dict, Generator, List, Sequence, Tuple
+from typing import TYPE_CHECKING, Any, Dict, List, Tuple
 
+from ..archive.changing import Change, Changer, commands_of
+from ..archive.hands import Cluster, Local
+from ..archive.journal import Entry, Journal
+from ..archive.running import Archive, Hands, Options, ask_places
+from ..archive.walking import Sheet, Walk, names_in
 from ..drawing.spans import number_of
-from ..errors import BadDesign, Mistake, ReadFault, WriteFault, ending_of
-from ..explain.explaining import imports_of, why_bad_design, why_not_read
-from ..files import ask_drawing, mistake_of, read_file, said_name
-from ..format.limits import PATCH_LONGEST, SCRIPT_LONGEST
+from ..errors import Mistake
+from ..explain.explaining import imports_of
+from ..files import ask_drawing, mistake_of, note_inputs, said_name
 from ..output import counted, note, say, say_csv, say_json, table
-from ..program.answers import answers_of
-from ..program.many import run_all
-from ..program.runs import Program, lines_of, stopped_said
-from ..program.script import Script
-from ..saving import ask_target, folder_in, make_safe, put_in_place
+from ..program.runs import Program
 from ..waiting import is_terminal, tells_itself
 from ._options import add_force
-from ._runs import ask_inputs, is_patch, on_disk
+from ._runs import is_patch, on_disk
 
 if TYPE_CHECKING:
     from ..cli import Subparsers
 
 WIDTH = 30
 JOBS_MOST = 1024
-UNREADABLE = 5  # how dgnedit ends where a file can't be read
-
-
-@dataclass(frozen=True)
-class Outcome:
-    """What became of a drawing: how the program ended, how many commands it refused, and the file that it wrote."""
-
-    drawing: str
-    status: int
-    ending: str
-    refused: int
-    out: str
 
 
 def register(words: Subparsers) -> None:
-    parser = words.add_parser('each', help='run one script or patch file over many drawings at once')
-    parser.add_argument('script', metavar='SCRIPT', help='a script or a patch file')
-    parser.add_argument('drawings', metavar='IN', nargs='+', help='the drawings')
+    parser = words.add_parser('each', help='run one script, patch file or change over many drawings and folders')
+    parser.add_argument('names', metavar='SCRIPT IN', nargs='*', help='a script or a patch file; drawings and folders')
     parser.add_argument('--into', metavar='DIR', required=True, help='the folder that the new drawings are written to')
+    parser.add_argument(
+        '--from', metavar='FILE', dest='listed', help='more drawings: a list, one name a line; - reads it'
+    )
+    parser.add_argument(
+        '-0', dest='ends_with_zero', action='store_true', help='in the list each name ends with a zero byte'
+    )
+    parser.add_argument(
+        '--find', metavar='CONDITIONS', default='', help='in place of SCRIPT: a line for each element found'
+    )
+    parser.add_argument(
+        '--edit', metavar='LINE', action='append', default=[], help='that line, with {n} for its number'
+    )
+    parser.add_argument(
+        '--propose',
+        metavar='WORDS',
+        action='append',
+        default=[],
+        help='in place of SCRIPT: a command such as relevel, with the words that follow IN and PATCH there',
+    )
     parser.add_argument('--jobs', metavar='N', default=str(os.cpu_count() or 1), help='how many at a time')
+    parser.add_argument('--scheduler', metavar='ADDRESS', help='have the workers of this Dask scheduler do it')
+    parser.add_argument('--anew', action='store_true', help='begin again: what DIR has from earlier runs is made anew')
     add_force(parser)
     form = parser.add_mutually_exclusive_group()
     form.add_argument('--json', action='store_true', help='print it as JSON')
@@ -64,117 +69,123 @@ def run(arguments: argparse.Namespace) -> int:
     jobs = number_of(arguments.jobs, 'number of jobs', JOBS_MOST)
     if jobs < 1:
         raise Mistake('--jobs must be at least 1')
-    with on_disk(arguments.script) as script:
-        ask_inputs(arguments.drawings, [script])
-        steps = Steps(program, script, said_name(arguments.script))
-        targets = targets_of(arguments.drawings, arguments.into, arguments.force)
-        outcomes = Runs(steps, arguments.drawings, targets, arguments.force).all(arguments.into, jobs)
-    if arguments.json:
-        say_json([vars(it) for it in outcomes])
-    elif arguments.csv:
-        say_csv(list(vars(outcomes[0])), [list(vars(it).values()) for it in outcomes])
-    else:
-        tell(outcomes)
-    return int(any(it.status for it in outcomes))
+    commands = commands_of(arguments.find, arguments.edit, arguments.propose)
+    if commands:
+        return run_on(arguments, arguments.names, Change(program.path, commands=commands), jobs)
+    if not arguments.names:
+        raise Mistake('which script? name it before the drawings, or give --find with --edit, or --propose')
+    with on_disk(arguments.names[0]) as script:
+        called = said_name(arguments.names[0])
+        change = Change(program.path, os.path.abspath(script), is_patch(script), called)
+        return run_on(arguments, arguments.names[1:], change, jobs)
 
 
-def targets_of(drawings: Sequence[str], folder: str, may_replace: bool) -> List[Path]:
-    """The files that are written, by the drawings' own names. It raises Mistake where two have one name, or where a
-    file stands there already."""
+def run_on(arguments: argparse.Namespace, names: List[str], change: Change, jobs: int) -> int:
+    """Runs a change on drawings and folders, and tells what came of it."""
+    folder = arguments.into
+    Changer(change)  # which reads the script
+    walk = Walk(folder)
+    listed = names_in(arguments.listed, arguments.ends_with_zero) if arguments.listed else []
+    sheets = walk.sheets(names, listed)
+    if not sheets:
+        raise Mistake('no drawing is named, and none is in the folders that are')
+    ask_inputs(change, sheets, folder)
     try:
         os.makedirs(folder, exist_ok=True)
     except OSError as why:
         raise mistake_of(folder, why)
-    by_name: Dict[str, str] = {}
-    for name in drawings:
-        target = Path(folder) / Path(name).name
-        if target.name in by_name:
-            raise Mistake('%s and %s would both be written to %s' % (by_name[target.name], name, target))
-        if target.exists() and os.path.exists(name) and os.path.samefile(name, target):
-            raise Mistake('%s is itself in %s: name another folder' % (name, folder))
-        ask_target(target, may_replace, True)
-        by_name[target.name] = name
-    return [Path(folder) / name for name in by_name]
+    options = Options(arguments.force, arguments.anew)
+    journal = Journal(folder, arguments.anew)
+    try:
+        ask_places(folder, sheets, journal, change, options)
+    except Mistake:
+        journal.drop()
+        raise
+    try:
+        archive = Archive(folder, change, options, journal)
+        hands: Hands = Local(change, min(jobs, len(sheets)), journal.file)
+        if arguments.scheduler:
+            hands = Cluster(change, arguments.scheduler)
+        archive.run(sheets, hands, lambda done: show_progress(done, len(sheets)))
+        tell(arguments, walk, sheets, archive)
+        return int(any(entry_in(journal, it).status for it in sheets))
+    finally:
+        journal.close()
 
 
-class Steps:
-    """A script or a patch file that is run on many drawings; `called` is what it is called in words."""
-
-    def __init__(self, program: Program, script: str, called: str) -> None:
-        self.program, self.script, self.called, self.is_patch = program, script, called, is_patch(script)
-        content = read_file(script, PATCH_LONGEST if self.is_patch else SCRIPT_LONGEST)
-        self.commands = [] if self.is_patch else [it.name for it in Script.from_bytes(content).commands]
-
-    def words(self, drawing: str, out: str) -> List[str]:
-        """The command that runs it on a drawing."""
-        return [self.program.path, 'apply' if self.is_patch else 'edit', drawing, self.script, out]
-
-    def refused(self, lines: List[str]) -> int:
-        """How many commands were refused, of a run that said these lines and refused some."""
-        return 0 if self.is_patch else sum(it.is_refused for it in answers_of(self.commands, lines))
-
-    def ending(self, status: int, lines: List[str], name: str) -> str:
-        """Why the program ended without writing a drawing, without the drawing's name in front."""
-        ending = ending_of(status, lines, name)
-        said = str(ending)
-        if isinstance(ending, BadDesign):
-            said = why_bad_design(name, ending)
-        elif isinstance(ending, ReadFault):
-            said = why_not_read([name, self.script, *imports_of(self.script)]).replace(self.script, self.called)
-        elif isinstance(ending, WriteFault):
-            said += ' completely, perhaps because the disk is full: nothing is written'
-        return without_name(said, name)
+def ask_inputs(change: Change, sheets: List[Sheet], folder: str) -> None:
+    """Keeps in mind what the run reads, which none of what it writes may be. It raises Mistake where a script imports
+    what is no file on disk, or a drawing would be written over itself."""
+    imports = [] if change.commands or change.is_patch else imports_of(change.file)
+    for name in imports:
+        ask_drawing(name)
+    note_inputs([*filter(None, [change.file]), *imports, *(it.source for it in sheets)])
+    for sheet in sheets:
+        target = os.path.join(folder, sheet.place)
+        if os.path.exists(target) and os.path.exists(sheet.source) and os.path.samefile(sheet.source, target):
+            raise Mistake('%s is itself in %s: name another folder' % (sheet.source, folder))
 
 
-def without_name(said: str, name: str) -> str:
-    """What is said of a drawing, without its name in front."""
-    return said[len(name) + 1 :] if said.startswith(name + ' ') else said
+def entry_in(journal: Journal, sheet: Sheet) -> Entry:
+    """What the journal says of a drawing."""
+    return journal.entry(sheet.place) or Entry(sheet.place, ending='not done')
 
 
-class Runs:
-    """Runs of one script or patch file over drawings, each into a file of its own."""
+def tell(arguments: argparse.Namespace, walk: Walk, sheets: List[Sheet], archive: Archive) -> None:
+    """Says what became of each drawing that was named, and of those of folders and lists what isn't done."""
+    journal = archive.journal
+    if arguments.json or arguments.csv:
+        rows = [as_row(entry_in(journal, it), it, arguments.into) for it in sheets]
+        if arguments.json:
+            say_json(rows)
+        else:
+            say_csv(list(rows[0]), [list(it.values()) for it in rows])
+        return
+    is_short = bool(arguments.listed) or any(os.path.isdir(it) for it in arguments.names)
+    counts = {'failed': 0, 'partly': 0}
+    shown: List[Tuple[Sheet, Entry]] = []
+    for sheet in sheets:
+        entry = entry_in(journal, sheet)
+        counts['failed'] += not entry.written
+        counts['partly'] += bool(entry.refused)
+        if entry.status or not is_short:
+            shown.append((sheet, entry))
+    if shown:
+        cells: List[List[Any]] = [[it.source, entry.status, entry.refused, entry.ending] for it, entry in shown]
+        for line in table(['drawing', 'status', 'refused', 'ending'], cells, left=('drawing',)):
+            say(line)
+    say(
+        '%s, %d not written, %d with refused commands'
+        % (counted(len(sheets), 'drawing'), counts['failed'], counts['partly'])
+    )
+    for said in notes(walk, archive):
+        note(said)
 
-    def __init__(self, steps: Steps, drawings: List[str], targets: List[Path], may_replace: bool) -> None:
-        self.steps, self.drawings, self.targets, self.may_replace = steps, drawings, targets, may_replace
 
-    def all(self, folder: str, jobs: int) -> List[Outcome]:
-        """Runs them all. A drawing is put in its place once it is whole; nothing else is left, however this ends."""
-        made: Dict[int, Outcome] = {}
-        with folder_in(folder, folder) as place, contextlib.closing(self._outcomes(place, jobs)) as outcomes:
-            for index, outcome in outcomes:
-                made[index] = outcome
-                show_progress(len(made), len(self.drawings))
-        make_safe(folder)
-        return [made[index] for index in range(len(self.drawings))]
+def as_row(entry: Entry, sheet: Sheet, folder: str) -> Dict[str, Any]:
+    """What became of a drawing, as it is told to other programs."""
+    out = os.path.join(folder, sheet.place) if entry.written else ''
+    return {
+        'drawing': sheet.source,
+        'status': entry.status,
+        'ending': entry.ending,
+        'refused': entry.refused,
+        'out': out,
+    }
 
-    def _outcomes(self, place: str, jobs: int) -> Generator[Tuple[int, Outcome], None, None]:
-        """The outcomes, as the runs end; those of files that can't be run on come first."""
-        commands: Dict[int, List[str]] = {}
-        for index, name in enumerate(self.drawings):
-            try:
-                ask_drawing(name)
-                commands[index] = self.steps.words(name, os.path.join(place, str(index)))
-            except Mistake as why:
-                yield index, Outcome(name, UNREADABLE, without_name(str(why), said_name(name)), 0, '')
-        indices = list(commands)
-        with contextlib.closing(run_all(commands.values(), jobs)) as runs:
-            for at, status, said in runs:
-                yield indices[at], self._outcome(indices[at], status, said, commands[indices[at]][-1])
 
-    def _outcome(self, index: int, status: int, said: bytes, out: str) -> Outcome:
-        """What became of a drawing, whose file is put in its place where it is whole."""
-        name, target = self.drawings[index], self.targets[index]
-        if status < 0:
-            return Outcome(name, status, stopped_said(-status), 0, '')
-        try:
-            lines = lines_of(said)
-            if status not in (0, 1):
-                return Outcome(name, status, self.steps.ending(status, lines, name), 0, '')
-            refused = self.steps.refused(lines) if status == 1 else 0
-            put_in_place(out, target, self.may_replace, False)
-        except Mistake as why:
-            return Outcome(name, -1, str(why), 0, '')
-        return Outcome(name, status, 'done' if status == 0 else 'some refused', refused, str(target))
+def notes(walk: Walk, archive: Archive) -> List[str]:
+    """What was left, and why."""
+    said = []
+    if archive.left:
+        said.append('%s of an earlier run' % counted(archive.left, 'drawing'))
+    if walk.links:
+        said.append('%s left out' % counted(walk.links, 'link'))
+    if walk.others:
+        kinds = {'v8': 'of version 8', 'library': 'cell libraries'}
+        more = ', '.join('%d %s' % (count, kinds[kind]) for kind, count in sorted(walk.kinds.items()))
+        said.append('%s left out, no drawings of version 7%s' % (counted(walk.others, 'file'), more and ' (%s)' % more))
+    return said
 
 
 def show_progress(done: int, count: int) -> None:
@@ -184,12 +195,3 @@ def show_progress(done: int, count: int) -> None:
         print('\r[%s] %d of %d' % (bar, done, count), end='\n' if done == count else '', file=sys.stderr, flush=True)
     elif done * 10 // count != (done - 1) * 10 // count:
         note('%d of %d' % (done, count))
-
-
-def tell(outcomes: Sequence[Outcome]) -> None:
-    rows: List[List[Any]] = [[it.drawing, it.status, it.refused, it.ending] for it in outcomes]
-    for line in table(['drawing', 'status', 'refused', 'ending'], rows, left=('drawing',)):
-        say(line)
-    failed = sum(not it.out for it in outcomes)
-    partly = sum(bool(it.refused) for it in outcomes)
-    say('%s, %d not written, %d with refused commands' % (counted(len(outcomes), 'drawing'), failed, partly))

@@ -4,7 +4,7 @@ from __future__ import annotations
 
 from typing import List
 
-from ..errors import Mistake
+from ..errors import NothingThere
 from ..format import classes
 from ..format.element import Element
 from .drawing import Drawing
@@ -29,5 +29,5 @@ def cells_called(drawing: Drawing, name: str, takes_deleted: bool = False) -> Li
     wanted = name.strip().upper()
     found = [it for it in cells_of(drawing, takes_deleted) if (it.cell_name or '').upper() == wanted]
     if not found:
-        raise Mistake('no cell is called %r: %s' % (name, names_said(drawing)))
+        raise NothingThere('no cell is called %r: %s' % (name, names_said(drawing)))
     return found

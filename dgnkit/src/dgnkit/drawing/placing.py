@@ -2,7 +2,8 @@
 
 from __future__ import annotations
 
-from typing import Generic, Iterator, List, NamedTuple, Optional, Sequence, Set
+from functools import cached_property
+from typing import Generic, Iterable, Iterator, List, NamedTuple, Optional, Sequence, Set, Tuple
 
 from ..format import classes
 from ..format.element import Element
@@ -55,12 +56,21 @@ class Placing(Generic[Spelled]):
         of an area and its holes is one area, and `has_deleted` whether what is marked deleted is placed."""
         self.drawing, self.spelling = drawing, spelling
         self.has_members, self.has_holes, self.has_deleted = has_members, has_holes, has_deleted
-        self.extent = drawing.extent
+
+    @cached_property
+    def extent(self) -> Optional[Tuple[Point, Point]]:
+        """What all that is drawn lies in."""
+        return self.drawing.extent
 
     def all(self) -> Iterator[Placed]:
         """All that is drawn, in file order."""
+        elements = self.drawing.elements
+        return self.of(told('features', elements, len(elements)))
+
+    def of(self, chosen: Iterable[Element]) -> Iterator[Placed]:
+        """What is drawn of the elements of whole trees, which are in file order."""
         elements, hidden, covered = self.drawing.elements, self.hidden, -1
-        for element in told('features', elements, len(elements)):
+        for element in chosen:
             number = element.number
             if element.type not in classes.LOUD or number in hidden or number <= covered:
                 continue
@@ -102,14 +112,19 @@ class Placing(Generic[Spelled]):
     def origin(self, header: Element) -> Optional[Geometry[Spelled]]:
         """Where a cell or a text node is: its origin, or the middle of its range where that lies outside of all that is
         drawn, as GDAL's cells have their origin."""
-        points, extent = header.points, self.extent
+        points = header.points
         if self.drawing.nesting.knot(header.number) != 'group' or not points:
             return None
-        point = points[0]
-        if extent is not None and not all(a <= it <= b for a, it, b in zip(extent[0], point, extent[1])):
-            low, high = header.range or extent
-            point = tuple((a + b) // 2 for a, b in zip(low, high))
+        point, stored = points[0], header.range
+        if stored is not None and self.is_outside(point):
+            point = tuple((a + b) // 2 for a, b in zip(*stored))
         return Geometry('Point', self.spelling.place(point))
+
+    def is_outside(self, point: Point) -> bool:
+        """Whether a place lies outside of all that is drawn."""
+        if self.extent is None:
+            return False
+        return not all(a <= it <= b for a, it, b in zip(self.extent[0], point, self.extent[1]))
 
     def path(self, points: Sequence[Point], is_closed: bool) -> Optional[Geometry[Spelled]]:
         """A line, or an outline; a point where there is one alone."""

@@ -7,6 +7,7 @@ import shutil
 import signal
 import subprocess
 import sys
+import tempfile
 from dataclasses import dataclass
 from functools import cached_property
 from pathlib import Path
@@ -16,6 +17,7 @@ from ..errors import ListingError, MissingProgram, ending_of
 from ..format.elements import Elements
 from ..format.walking import elements_in
 from ..stopping import held
+from ..system import PIPED, PROGRAM
 from ..waiting import doing
 from .answers import Answer
 from .script import Script
@@ -53,10 +55,10 @@ class Program:
             if not place:
                 raise MissingProgram("$DGNEDIT names %s, which isn't a program that can be run" % named)
             return cls(os.path.abspath(place))
-        beside = Path(sys.argv[0]).resolve().parent / 'dgnedit'
+        beside = Path(sys.argv[0]).resolve().parent / PROGRAM
         if beside.is_file() and os.access(beside, os.X_OK):
             return cls(beside)
-        found = shutil.which('dgnedit')
+        found = shutil.which(PROGRAM)
         if not found:
             raise MissingProgram("dgnedit wasn't found: not through $DGNEDIT, not beside dgnkit and not on the path")
         return cls(found)
@@ -75,7 +77,7 @@ class Program:
 
     def edit(self, drawing: Name, script: Script, out: Name = NOWHERE) -> List[Answer]:
         """Runs a script, and gives the answers to its commands. It raises an Ending where it wasn't run whole."""
-        ran = self.run('edit', drawing, '/dev/stdin', out, given=script.text)
+        ran = self._ran(drawing, script, out)
         if ran.status not in (0, 1):
             raise ending_of(ran.status, ran.said, str(drawing))
         answers = script.answers(ran.said)
@@ -83,6 +85,16 @@ class Program:
             raise ListingError("dgnedit ended with %d, which doesn't match its answers" % ran.status)
         ask_written(out)
         return answers
+
+    def _ran(self, drawing: Name, script: Script, out: Name) -> Run:
+        """Runs a script, which the program reads from its standard input, or from a file that is gone afterwards."""
+        if PIPED:
+            return self.run('edit', drawing, PIPED, out, given=script.text)
+        with tempfile.TemporaryDirectory(prefix='dgnkit-') as folder:
+            name = os.path.join(folder, 'script')
+            with open(name, 'wb') as file:
+                file.write(script.text)
+            return self.run('edit', drawing, name, out)
 
     def elements(self, drawing: Name, data: bytes, axes: int) -> Elements:
         """The elements of a drawing whose bytes are `data`. It raises an Ending where the program doesn't open it."""

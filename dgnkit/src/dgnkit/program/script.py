@@ -2,6 +2,7 @@
 
 from __future__ import annotations
 
+import os
 from dataclasses import dataclass
 from pathlib import Path
 from typing import Iterable, List, Optional, Sequence, Union
@@ -10,6 +11,7 @@ from ..errors import Mistake
 from ..files import read_file
 from ..format.limits import IMPORTS_MOST, NAME_LONGEST, SCRIPT_LONGEST
 from ..output import quoted
+from ..system import IS_WINDOWS
 from .answers import Answer, answers_of
 
 Change = Optional[int]
@@ -220,13 +222,14 @@ def importable(name: str) -> str:
         raise Mistake("%r can't be in an import line: a name there has 1 to %d characters" % (name, NAME_LONGEST))
     if any(not '!' <= sign <= '~' for sign in name):
         said = "%r can't be in an import line, since it has a space or a character beyond ASCII: name a copy or a link"
-        raise Mistake((said + ' without one, as from ln -s %s %s') % (name, quoted(name), plain_name(name)))
+        how = 'copy' if IS_WINDOWS else 'ln -s'
+        raise Mistake((said + ' without one, as from %s %s %s') % (name, how, quoted(name), plain_name(name)))
     return name
 
 
 def plain_name(name: str) -> str:
     """A name of a file, in this folder, that can stand in an import line."""
-    last = name.rsplit('/', 1)[-1]
+    last = os.path.basename(name)
     return ''.join(it if it.isascii() and it.isalnum() or it in '.-_' else '_' for it in last)
 
 
