@@ -3,10 +3,7 @@
 PREFIX  = /usr/local
 PROGRAM = crates/dgnedit/out/dgnedit
 
-BIN = $(DESTDIR)$(PREFIX)/bin
-MAN = $(DESTDIR)$(PREFIX)/share/man/man1
-DOC = $(DESTDIR)$(PREFIX)/share/doc/dgnedit
-APP = $(DESTDIR)$(PREFIX)/share/dgnedit
+ROOT = $(DESTDIR)$(PREFIX)
 
 .PHONY: build check examples install uninstall lib web card dist clean help
 
@@ -20,19 +17,10 @@ examples: build ## runs every example of the documents on the program
 	tools/run_examples
 
 install: build  ## installs the program, the companion dgnkit, man pages and documents below PREFIX (/usr/local)
-	install -d "$(BIN)" "$(MAN)" "$(DOC)/docs" "$(DOC)/examples"
-	install -m 755 $(PROGRAM) "$(BIN)/dgnedit"
-	tools/make_dgnkit "$(BIN)/dgnkit"
-	install -m 644 docs/man/*.1 "$(MAN)"
-	install -m 644 README.md CHANGELOG.md LICENSE "$(DOC)"
-	install -m 644 docs/*.md docs/*.svg docs/*.png "$(DOC)/docs"
-	cp examples/* "$(DOC)/examples"
-	test ! -f dist/dgnedit-card.html || install -m 644 dist/dgnedit-card.html "$(DOC)"
-	test ! -f dist/dgnedit.html || install -D -m 644 dist/dgnedit.html "$(APP)/dgnedit.html"
+	tools/install $(PROGRAM) "$(ROOT)"
 
 uninstall:      ## removes what install has installed
-	rm -f "$(BIN)/dgnedit" "$(BIN)/dgnkit" "$(MAN)/dgnedit.1" "$(MAN)/dgnkit.1"
-	rm -rf "$(DOC)" "$(APP)"
+	tools/install --remove "$(ROOT)"
 
 lib:            ## makes the library for C: dist/libdgnedit.a and dist/dgnedit.h
 	tools/make_library lib dist
@@ -44,11 +32,13 @@ web:            ## makes the editor in a browser: dist/dgnedit.html, with the pr
 card:           ## makes the quick card of all commands, which prints on two pages: dist/dgnedit-card.html
 	tools/make_card
 
-dist: build web card ## makes dist/: archive, Debian package, wheels for pip, the editor in a browser, and SHA256SUMS
-	tools/make_dist $(PROGRAM) dist
-	tools/make_wheel dist $(PROGRAM)
+dist: build lib web card ## makes dist/: archives, Debian packages, wheels for pip, the editor in a browser, and SHA256SUMS
+	tools/make_program x86_64 aarch64 windows dist
+	tools/make_library dll dist
+	tools/make_dist dist
+	tools/make_wheel dist
 	tools/make_qgis dist
-	cd dist && find . -type f ! -name SHA256SUMS -printf '%P\n' | LC_ALL=C sort | xargs sha256sum >SHA256SUMS
+	cd dist && find . -maxdepth 1 -type f ! -name SHA256SUMS -printf '%P\n' | LC_ALL=C sort | xargs sha256sum >SHA256SUMS
 
 clean:          ## removes what was built here
 	rm -rf dist crates/*/out

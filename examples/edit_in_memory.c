@@ -1,6 +1,6 @@
 /* Edits a drawing by the library: reads IN and SCRIPT, writes OUT, and prints what the program says.
 
-       cc examples/edit_in_memory.c -Iinclude dist/libdgnedit.a -o edit_in_memory
+       cc examples/edit_in_memory.c $(pkg-config --cflags --libs dgnedit) -o edit_in_memory
        ./edit_in_memory IN SCRIPT OUT                                                    */
 
 #include "dgnedit.h"
@@ -33,6 +33,8 @@ static bool write_file(const char *path, const uint8_t *at, size_t length)
     return stream != NULL && fclose(stream) == 0 && is_written;
 }
 
+enum { COULD_NOT_WRITE = 6 };    /* the exit number of the program, which the library never has */
+
 static dgnedit_bytes text(const char *chars)
 {
     return (dgnedit_bytes){(const uint8_t *)chars, strlen(chars)};
@@ -49,7 +51,7 @@ int main(int count, char **arguments)
     /* Room for the answers of a script without listings, and for what it may well append. */
     size_t text_room = 2 * files[1].bytes.length + 4096, file_room = files[0].bytes.length + 65536;
     uint8_t *said = malloc(text_room), *made = malloc(file_room);
-    dgnedit_ended ended = {0, 0, 7, false};
+    dgnedit_ended ended = {0, 0, DGNEDIT_NO_MEMORY, false};
     if (said != NULL && made != NULL)
         ended = dgnedit_run(words, 4, files, 2, said, text_room, made, file_room);
     if (ended.text_length > text_room || ended.file_length > file_room) {
@@ -59,14 +61,14 @@ int main(int count, char **arguments)
         free(made);
         said = malloc(text_room);
         made = malloc(file_room);
-        ended = (dgnedit_ended){0, 0, 7, false};
+        ended = (dgnedit_ended){0, 0, DGNEDIT_NO_MEMORY, false};
         if (said != NULL && made != NULL)
             ended = dgnedit_run(words, 4, files, 2, said, text_room, made, file_room);
     }
     if (ended.text_length > 0)
         fwrite(said, 1, ended.text_length, stdout);
     if (ended.file_written && !write_file(arguments[3], made, ended.file_length))
-        ended.status = 6;
+        ended.status = COULD_NOT_WRITE;
     free(said);
     free(made);
     free((void *)files[0].bytes.at);

@@ -1,11 +1,11 @@
-"""The program as a function in Python, by the library.
+"""The program as a function in Python, by the library, whose place is LIBRARY, such as lib/libdgnedit.so.1.
 
-    cc -shared -o libdgnedit.so -Wl,--whole-archive dist/libdgnedit.a -Wl,--no-whole-archive
-    python3 examples/edit_in_memory.py ./libdgnedit.so IN SCRIPT OUT"""
+    python3 examples/edit_in_memory.py LIBRARY IN SCRIPT OUT"""
 
 from __future__ import annotations
 
 import ctypes
+import os
 import sys
 
 
@@ -46,7 +46,7 @@ def main() -> int:
     place, drawing, script, output = sys.argv[1:]
     with open(drawing, 'rb') as first, open(script, 'rb') as second:
         files = {'IN': first.read(), 'SCRIPT': second.read()}
-    status, text, file = run(ctypes.CDLL(place), ['edit', 'IN', 'SCRIPT', 'OUT'], files)
+    status, text, file = run(ctypes.CDLL(os.path.abspath(place)), ['edit', 'IN', 'SCRIPT', 'OUT'], files)
     sys.stdout.buffer.write(text)
     if file is not None:
         with open(output, 'wb') as out:
