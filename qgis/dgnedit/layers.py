@@ -19,11 +19,19 @@ from .forms import describe
 from .opening import KINDS, Written, digest_of
 from .rows import Wishes
 from .styles import dress
+from .translation import tr
 
 DRAWING, DIGEST = 'dgnedit/drawing', 'dgnedit/digest'
 UNITS, FLAGS = 'dgnedit/units', 'dgnedit/flags'
 LEVEL, KIND, GROUP = 'dgnedit/level', 'dgnedit/kind', 'dgnedit/group'
 Identity = Tuple[str, str, str]  # what a layer shows: its drawing, the digest of this, and the GeoPackage that has it
+KINDS_SAID = {
+    'texts': tr('texts'),
+    'points': tr('points'),
+    'lines': tr('lines'),
+    'areas': tr('areas'),
+    'ranges': tr('ranges'),
+}
 FLAG_NAMES = ('has_members', 'has_holes', 'has_deleted')
 
 
@@ -89,7 +97,7 @@ def level_group(group: QgsLayerTreeGroup, level: int) -> QgsLayerTreeGroup:
     """The group of a level, which is made where there is none, behind those of lower levels."""
     groups = {int(it.customProperty(LEVEL, -1)): it for it in group.children()}
     if level not in groups:
-        made = groups[level] = group.insertGroup(sum(it < level for it in groups), 'level %d' % level)
+        made = groups[level] = group.insertGroup(sum(it < level for it in groups), tr('level %d') % level)
         made.setCustomProperty(LEVEL, level)
         made.setExpanded(False)
     return groups[level]
@@ -115,7 +123,7 @@ def layer_of(written: Written, level: int, kind: str) -> QgsVectorLayer:
 
 def name_of(drawing: str, level: int, kind: str) -> str:
     """What a layer of a drawing is called, unless one calls it otherwise."""
-    return '%s %d %s' % (Path(drawing).stem, level, kind)
+    return '%s %d %s' % (Path(drawing).stem, level, KINDS_SAID.get(kind, kind))
 
 
 def place_of(layer: QgsVectorLayer) -> Tuple[int, str]:

@@ -26,10 +26,11 @@ from .opening import STEP, Written, digest_of
 from .package import not_written
 from .rows import Row, Rows
 from .styles import add_styles
+from .translation import tr
 from .update import Update
 
 MOST = 0.3  # of a greater share of the elements not only the rows of these are written, but all
-IS_EDITED = 'one of its layers is being edited'
+IS_EDITED = tr('one of its layers is being edited')
 Tell = Callable[[float], None]
 
 
@@ -42,7 +43,7 @@ class Renewal:
         if known.is_edited:
             raise Mistake(IS_EDITED)
         if old.axes != new.axes:
-            raise Mistake('the new drawing has %d dimensions' % new.axes)
+            raise Mistake(tr('the new drawing has %d dimensions') % new.axes)
         self.known, self.written = known, Written(known.package, new.path, digest_of(new), known.wishes)
         self.update = Update(known.package, known.digest)
         try:

@@ -26,15 +26,17 @@ from qgis.core import (
 from qgis.PyQt.QtCore import Qt
 from qgis.PyQt.QtGui import QColor
 
+from .translation import tr
+
 STYLE_NAMES = (
-    'solid',
-    'dotted',
-    'medium dashed',
-    'long dashed',
-    'dot-dashed',
-    'short dashed',
-    'dash double-dot',
-    'long dash - short dash',
+    tr('solid'),
+    tr('dotted'),
+    tr('medium dashed'),
+    tr('long dashed'),
+    tr('dot-dashed'),
+    tr('short dashed'),
+    tr('dash double-dot'),
+    tr('long dash - short dash'),
 )
 STYLE = 'style'  # the field
 # Dashes and gaps of each style in millimetres.

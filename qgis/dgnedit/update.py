@@ -10,9 +10,10 @@ from qgis.core import QgsGeometry
 from .opening import KINDS
 from .package import GEOMETRY, NUMBER, Filling, held_in, not_written, set_digest
 from .rows import FIELDS, Row
+from .translation import tr
 
 PATIENCE = 2.0  # so many seconds another program may keep the file for itself
-HELD = 'its layers are those of another drawing, or of another version of this plugin'
+HELD = tr('its layers are those of another drawing, or of another version of this plugin')
 COLUMNS = [NUMBER, GEOMETRY, *(it[0] for it in FIELDS)]
 INDEX = 'rtree_%s_' + GEOMETRY  # the index of places of a table
 TRIGGERS = (INDEX + '_', 'trigger_insert_feature_count_%s', 'trigger_delete_feature_count_%s')

@@ -78,7 +78,7 @@ def by_dialogue(
             said.extend(it.toPlainText() for it in dialogue.findChildren(QTextEdit))
             found['steps'].append([title, ended])
         finally:
-            dialogue.buttonBox().button(QDialogButtonBox.Close).click()
+            dialogue.buttonBox().button(QDialogButtonBox.StandardButton.Close).click()
 
     QTimer.singleShot(50, fill)
     (start or menu_action(title).trigger)()
