@@ -16,9 +16,9 @@ from qgis.core import (
 )
 
 from .forms import describe
+from .legend import dress
 from .opening import KINDS, Written, digest_of
 from .rows import Wishes
-from .styles import dress
 from .translation import tr
 
 DRAWING, DIGEST = 'dgnedit/drawing', 'dgnedit/digest'
@@ -74,9 +74,9 @@ def new_group(project: QgsProject, written: Written) -> QgsLayerTreeGroup:
 
 def fill_group(project: QgsProject, group: QgsLayerTreeGroup, written: Written, made: List[QgsVectorLayer]) -> None:
     """Adds the layers of a drawing to its group, by level, and to a list."""
-    for level in sorted({level for level, _ in written.styles}):
+    for level in sorted({level for level, _ in written.looks}):
         for kind in KINDS:
-            if (level, kind) in written.styles:
+            if (level, kind) in written.looks:
                 made.append(add_layer(project, group, written, level, kind))
 
 
@@ -115,7 +115,7 @@ def layer_of(written: Written, level: int, kind: str) -> QgsVectorLayer:
     for key, value in properties.items():
         layer.setCustomProperty(key, value)
     layer.setCustomProperty(LEVEL, level)
-    dress(layer, kind, written.styles[level, kind])
+    dress(layer, kind, written.looks[level, kind], written.colours)
     describe(layer)
     layer.setReadOnly(True)
     return layer

@@ -92,9 +92,12 @@ def layer(name: str) -> QgsVectorLayer:
 
 
 def open_levels() -> None:
-    """Shows the layers of the topmost group."""
+    """Shows the levels of the drawing, and the legend of a layer."""
     for group in QgsProject.instance().layerTreeRoot().children():
         group.setExpanded(True)
+    node = QgsProject.instance().layerTreeRoot().findLayer(layer('mended 12 lines').id())
+    node.parent().setExpanded(True)
+    node.setExpanded(True)
 
 
 def say_of(name: str, field: str) -> Dict[str, Any]:
