@@ -78,9 +78,7 @@ class Look(CommandAlgorithm):
     NAME = 'look'
     TITLE = tr('Colour, weight and style')
     SHORT = tr('Gives what is selected another colour, weight or style. What is left empty stays.')
-    CHANGES = tr(
-        'The colour, the weight and the style of what is selected, of those the ones that you give. All else stays.'
-    )
+    CHANGES = tr('Of what is selected the colour, the weight and the style, as far as you give them. All else stays.')
     TAGS = 'color colour recolour weight style line symbology'
 
     def define_edit(self) -> None:
