@@ -10,6 +10,9 @@ kit.provide()
 
 def classFactory(iface: Any) -> Any:
     """The plugin, as QGIS asks for it."""
+    from . import translation
+
+    translation.begin()  # before what has texts is loaded
     from .plugin import DgneditPlugin
 
     return DgneditPlugin(iface)

@@ -12,6 +12,8 @@ from qgis.core import (
     QgsProject,
 )
 
+from .translation import tr
+
 Parameters = Dict[str, Any]
 
 
@@ -103,4 +105,4 @@ class Call:
     def ask(self) -> None:
         """It raises Stopped where the run was cancelled."""
         if self.feedback.isCanceled():
-            raise Stopped('Stopped: nothing was written.')
+            raise Stopped(tr('Stopped: nothing was written.'))

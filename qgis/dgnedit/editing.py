@@ -20,6 +20,7 @@ from dgnkit.propose.writing import script_names
 from dgnkit.saving import ask_target, write_files
 
 from .calls import Call
+from .translation import tr
 
 Refused = Dict[str, Any]  # a refused line, as `dgnkit run --json` has it
 
@@ -115,7 +116,7 @@ def packed(program: Program, drawing: str, script: Script, place: Path) -> bytes
             drawing = out
     made = whole.to_bytes()
     if len(made) > PATCH_LONGEST:
-        raise Mistake('the patch file would have more than %d bytes' % PATCH_LONGEST)
+        raise Mistake(tr('the patch file would have more than %d bytes') % PATCH_LONGEST)
     return made
 
 

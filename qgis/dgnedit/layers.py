@@ -16,14 +16,22 @@ from qgis.core import (
 )
 
 from .forms import describe
+from .legend import dress
 from .opening import KINDS, Written, digest_of
 from .rows import Wishes
-from .styles import dress
+from .translation import tr
 
 DRAWING, DIGEST = 'dgnedit/drawing', 'dgnedit/digest'
 UNITS, FLAGS = 'dgnedit/units', 'dgnedit/flags'
 LEVEL, KIND, GROUP = 'dgnedit/level', 'dgnedit/kind', 'dgnedit/group'
 Identity = Tuple[str, str, str]  # what a layer shows: its drawing, the digest of this, and the GeoPackage that has it
+KINDS_SAID = {
+    'texts': tr('texts'),
+    'points': tr('points'),
+    'lines': tr('lines'),
+    'areas': tr('areas'),
+    'ranges': tr('ranges'),
+}
 FLAG_NAMES = ('has_members', 'has_holes', 'has_deleted')
 
 
@@ -66,9 +74,9 @@ def new_group(project: QgsProject, written: Written) -> QgsLayerTreeGroup:
 
 def fill_group(project: QgsProject, group: QgsLayerTreeGroup, written: Written, made: List[QgsVectorLayer]) -> None:
     """Adds the layers of a drawing to its group, by level, and to a list."""
-    for level in sorted({level for level, _ in written.styles}):
+    for level in sorted({level for level, _ in written.looks}):
         for kind in KINDS:
-            if (level, kind) in written.styles:
+            if (level, kind) in written.looks:
                 made.append(add_layer(project, group, written, level, kind))
 
 
@@ -89,7 +97,7 @@ def level_group(group: QgsLayerTreeGroup, level: int) -> QgsLayerTreeGroup:
     """The group of a level, which is made where there is none, behind those of lower levels."""
     groups = {int(it.customProperty(LEVEL, -1)): it for it in group.children()}
     if level not in groups:
-        made = groups[level] = group.insertGroup(sum(it < level for it in groups), 'level %d' % level)
+        made = groups[level] = group.insertGroup(sum(it < level for it in groups), tr('level %d') % level)
         made.setCustomProperty(LEVEL, level)
         made.setExpanded(False)
     return groups[level]
@@ -107,7 +115,7 @@ def layer_of(written: Written, level: int, kind: str) -> QgsVectorLayer:
     for key, value in properties.items():
         layer.setCustomProperty(key, value)
     layer.setCustomProperty(LEVEL, level)
-    dress(layer, kind, written.styles[level, kind])
+    dress(layer, kind, written.looks[level, kind], written.colours)
     describe(layer)
     layer.setReadOnly(True)
     return layer
@@ -115,7 +123,7 @@ def layer_of(written: Written, level: int, kind: str) -> QgsVectorLayer:
 
 def name_of(drawing: str, level: int, kind: str) -> str:
     """What a layer of a drawing is called, unless one calls it otherwise."""
-    return '%s %d %s' % (Path(drawing).stem, level, kind)
+    return '%s %d %s' % (Path(drawing).stem, level, KINDS_SAID.get(kind, kind))
 
 
 def place_of(layer: QgsVectorLayer) -> Tuple[int, str]:

@@ -29,6 +29,7 @@ from qgis.PyQt.QtCore import QMetaType, QVariant
 from .calls import Call
 from .rows import Wishes
 from .styles import dress_marks
+from .translation import tr
 
 Row = Sequence[Any]
 # The types of fields, which are those of QMetaType from QGIS 3.38 on.
@@ -129,7 +130,7 @@ KEPT: List[Dress] = []  # what QGIS keeps no reference to until it is called
 
 def add_zoom(layer: QgsVectorLayer) -> None:
     """Adds the button."""
-    action = QgsAction(QgsAction.ActionType.GenericPython, 'Zoom to it', ZOOM, False)
+    action = QgsAction(QgsAction.ActionType.GenericPython, tr('Zoom to it'), ZOOM, False)
     action.setActionScopes({'Feature', 'Canvas'})
     layer.actions().addAction(action)
     config = layer.attributeTableConfig()

@@ -3,7 +3,7 @@
 import hashlib
 import os
 from dataclasses import dataclass, field
-from typing import Callable, Dict, Set, Tuple
+from typing import Callable, Dict, Sequence, Tuple
 
 from dgnkit.drawing.drawing import Drawing
 from osgeo import ogr
@@ -24,13 +24,15 @@ STEP = 2048  # so many elements are written between two looks at the progress
 
 @dataclass
 class Written:
-    """The tables that were written: of which drawing, how, and which styles each has on each level."""
+    """The tables that were written: of which drawing, how, the colours by their numbers, and how many rows of each
+    table and level have which look."""
 
     package: str
     drawing: str
     digest: str
     wishes: Wishes
-    styles: Dict[Tuple[int, str], Set[int]] = field(default_factory=dict)
+    colours: Sequence[str]
+    looks: Dict[Tuple[int, str], Dict[int, int]] = field(default_factory=dict)
     counts: Dict[str, int] = field(default_factory=lambda: dict.fromkeys(KINDS, 0))
 
 
@@ -41,7 +43,7 @@ def digest_of(drawing: Drawing) -> str:
 
 def write_layers(drawing: Drawing, package: str, wishes: Wishes, tell: Callable[[float], None]) -> Written:
     """Writes the tables. `tell` is told the share that is done, and may raise what ends it; nothing is left then."""
-    written = Written(package, os.path.abspath(drawing.path), digest_of(drawing), wishes)
+    written = Written(package, os.path.abspath(drawing.path), digest_of(drawing), wishes, drawing.palette.spelled)
     rows = Rows(drawing, wishes)
     is_solid = drawing.axes == 3
     tables = {it: ogr.GT_SetZ(geometry) if is_solid else geometry for it, geometry in GEOMETRIES.items()}
@@ -53,7 +55,8 @@ def write_layers(drawing: Drawing, package: str, wishes: Wishes, tell: Callable[
                 tell(row.number / count)
             made.filling.put(row.kind, row.number, row.geometry, row.values)
             written.counts[row.kind] += 1
-            written.styles.setdefault((row.level, row.kind), set()).add(row.style)
+            looks = written.looks.setdefault((row.level, row.kind), {})
+            looks[row.look] = looks.get(row.look, 0) + 1
         made.close('level', written.digest)
     except BaseException:
         made.drop()

@@ -13,6 +13,8 @@ from dgnkit.errors import Mistake
 from osgeo import gdal, ogr, osr
 from qgis.core import QgsCoordinateReferenceSystem
 
+from .translation import tr
+
 NUMBER, GEOMETRY = 'fid', 'geom'  # how GDAL calls the number of a row, and what we call its place
 FRONT = struct.Struct('<2sBBi')  # what stands in front of a geometry: GP, version, flags, its system
 LITTLE = 1  # the flag that numbers have their low byte first
@@ -65,7 +67,7 @@ class Filling:
 
 def not_written(path: str, why: Exception) -> Mistake:
     """What is wrong with a file that can't be written."""
-    return Mistake("%s can't be written: %s" % (path, why))
+    return Mistake(tr("%s can't be written: %s") % (path, why))
 
 
 class Package:
@@ -127,7 +129,7 @@ def make_tables(
     finally:
         gdal.PopErrorHandler()
     if source is None:
-        raise Mistake("%s can't be written: %s" % (path, gdal.GetLastErrorMsg() or 'no reason is said'))
+        raise Mistake(tr("%s can't be written: %s") % (path, gdal.GetLastErrorMsg() or tr('no reason is said')))
     options = ['SPATIAL_INDEX=NO', 'GEOMETRY_NAME=' + GEOMETRY]
     for name, geometry in tables.items():
         layer = source.CreateLayer(name, reference_of(system), geometry, options)
@@ -149,7 +151,7 @@ def name_beside(path: str) -> str:
     try:
         handle, name = tempfile.mkstemp(prefix='.dgnedit-', suffix='.gpkg', dir=os.path.dirname(os.path.abspath(path)))
     except OSError as why:
-        raise Mistake("%s can't be written: %s" % (path, why.strerror or why))
+        raise Mistake(tr("%s can't be written: %s") % (path, why.strerror or why))
     os.close(handle)
     os.remove(name)
     return name
@@ -182,15 +184,15 @@ def ask_package(path: str, may_replace: bool) -> None:
     if not os.path.lexists(path):
         return
     if os.path.isdir(path):
-        raise Mistake("%s can't be written: it is a folder" % path)
+        raise Mistake(tr("%s can't be written: it is a folder") % path)
     if os.path.getsize(path) == 0:
         return
     if not is_database(path) or (not is_locked(path) and not digest_in(path)):
-        raise Mistake("%s wasn't written by this plugin, so it isn't replaced: name another file" % path)
+        raise Mistake(tr("%s wasn't written by this plugin, so it isn't replaced: name another file") % path)
     if not may_replace:
-        raise Mistake("%s already exists: name another file, or allow that it is replaced" % path)
+        raise Mistake(tr("%s already exists: name another file, or allow that it is replaced") % path)
     if is_locked(path):
-        raise Mistake("%s is open in another program: close it there, or name another file" % path)
+        raise Mistake(tr("%s is open in another program: close it there, or name another file") % path)
 
 
 def is_database(path: str) -> bool:

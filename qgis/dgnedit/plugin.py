@@ -4,8 +4,8 @@ from typing import Any, Callable, Dict, List, Optional
 
 from qgis.core import QgsApplication, QgsProject
 from qgis.PyQt.QtGui import QIcon
-from qgis.PyQt.QtWidgets import QAction
 
+from . import translation
 from .algorithms import ALGORITHMS
 from .dropping import Dropping
 from .kit import forget
@@ -13,14 +13,20 @@ from .layers import Known, known_drawings, known_of
 from .pointing import Parameters, Pointing, distance, in_system, line
 from .program import ICON
 from .provider import DgneditProvider
+from .translation import tr
+
+try:
+    from qgis.PyQt.QtGui import QAction  # as Qt 6 has it
+except ImportError:
+    from qgis.PyQt.QtWidgets import QAction
 
 MENU = 'dgnedit'
 PRESET = ('check', 'mend', 'find', 'draw', 'text', 'script', 'patch')  # what asks for a drawing
 # What is pointed at: its title, how many places it takes at most, 0 for any, what asks for the rest, its parameters.
 POINTED = (
-    ('Move with the mouse', 2, 'move', distance),
-    ('Copy with the mouse', 2, 'copy', distance),
-    ('Draw a line on the map', 0, 'draw', line),
+    (tr('Move with the mouse'), 2, 'move', distance),
+    (tr('Copy with the mouse'), 2, 'copy', distance),
+    (tr('Draw a line on the map'), 0, 'draw', line),
 )
 
 
@@ -103,4 +109,5 @@ class DgneditPlugin:
         if self.provider is not None:
             QgsApplication.processingRegistry().removeProvider(self.provider)
             self.provider = None
+        translation.end()
         forget()

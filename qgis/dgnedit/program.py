@@ -12,14 +12,15 @@ from processing.core.ProcessingConfig import ProcessingConfig, Setting
 from qgis.PyQt.QtGui import QIcon
 
 from .kit import PLUGIN
+from .translation import tr
 
 GROUP = 'dgnedit'
 SETTING = 'DGNEDIT_PROGRAM'
 ICON = str(PLUGIN / 'icon.svg')
 OWN = PLUGIN / 'bin' / PROGRAM  # the program that the zip file of the plugin has
 MACHINES = ('x86_64', 'AMD64')  # those that it is for, as Linux and Windows call them
-WHERE = 'Settings, Options, Processing, Providers, dgnedit'
-NOWHERE = (
+WHERE = tr('Settings, Options, Processing, Providers, dgnedit')
+NOWHERE = tr(
     "The program dgnedit wasn't found: not by the setting (%s), in the folder of the plugin (%s), by $DGNEDIT, or on "
     'the path. Install it, and name its file in that setting.'
 )
@@ -28,7 +29,7 @@ NOWHERE = (
 def add_setting() -> None:
     """Adds the setting that names the program."""
     ProcessingConfig.settingIcons[GROUP] = QIcon(ICON)
-    ProcessingConfig.addSetting(Setting(GROUP, SETTING, 'The program dgnedit', '', valuetype=Setting.FILE))
+    ProcessingConfig.addSetting(Setting(GROUP, SETTING, tr('The program dgnedit'), '', valuetype=Setting.FILE))
     ProcessingConfig.readSettings()
 
 
@@ -45,7 +46,7 @@ def find_program() -> Program:
         if found:
             return Program(os.path.abspath(found))
         if what:
-            raise MissingProgram("%s names %s, which can't be run as a program" % (what, named))
+            raise MissingProgram(tr("%s names %s, which can't be run as a program") % (what, named))
     raise MissingProgram(NOWHERE % (WHERE, PLUGIN))
 
 
@@ -62,7 +63,7 @@ def places() -> Iterator[Tuple[str, str]]:
     """Where the program may be, the first place first, each with what names it; nothing where it need not be there."""
     named = ProcessingConfig.getSetting(SETTING)
     if named:
-        yield 'the setting (%s)' % WHERE, str(named)
+        yield tr('the setting (%s)') % WHERE, str(named)
     if platform.machine() in MACHINES:
         yield '', str(OWN)
     if os.environ.get('DGNEDIT'):

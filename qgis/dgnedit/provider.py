@@ -8,6 +8,7 @@ from qgis.PyQt.QtGui import QIcon
 from .algorithms import ALGORITHMS
 from .paths import Paths
 from .program import ICON, add_setting, remove_setting
+from .translation import tr
 
 
 class DgneditProvider(QgsProcessingProvider):
@@ -22,7 +23,7 @@ class DgneditProvider(QgsProcessingProvider):
         return 'dgnedit'
 
     def longName(self) -> str:
-        return 'dgnedit: design files of MicroStation'
+        return tr('dgnedit: design files of MicroStation')
 
     def icon(self) -> QIcon:
         return QIcon(ICON)

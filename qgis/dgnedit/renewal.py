@@ -22,14 +22,15 @@ from .layers import (
     new_group,
     place_of,
 )
+from .legend import renew_legend
 from .opening import STEP, Written, digest_of
 from .package import not_written
 from .rows import Row, Rows
-from .styles import add_styles
+from .translation import tr
 from .update import Update
 
 MOST = 0.3  # of a greater share of the elements not only the rows of these are written, but all
-IS_EDITED = 'one of its layers is being edited'
+IS_EDITED = tr('one of its layers is being edited')
 Tell = Callable[[float], None]
 
 
@@ -42,8 +43,10 @@ class Renewal:
         if known.is_edited:
             raise Mistake(IS_EDITED)
         if old.axes != new.axes:
-            raise Mistake('the new drawing has %d dimensions' % new.axes)
-        self.known, self.written = known, Written(known.package, new.path, digest_of(new), known.wishes)
+            raise Mistake(tr('the new drawing has %d dimensions') % new.axes)
+        self.known, self.written = known, Written(
+            known.package, new.path, digest_of(new), known.wishes, new.palette.spelled
+        )
         self.update = Update(known.package, known.digest)
         try:
             before, after = Rows(old, known.wishes), Rows(new, known.wishes)
@@ -71,9 +74,9 @@ class Renewal:
     def exchange(self, rows: Sequence[Row]) -> None:
         """Exchanges the rows of all that differs."""
         places = self.update.places(None if self.is_all else self.numbers) | {(it.level, it.kind) for it in rows}
-        self.before = self.update.styles(places)
+        self.before = self.update.looks(places)
         self.update.exchange(rows, self.written.digest)
-        self.written.styles = self.update.styles(places)
+        self.written.looks = self.update.looks(places)
 
     def drop(self) -> None:
         """Leaves all as it is."""
@@ -109,7 +112,7 @@ class Renewal:
     def added(self, project: QgsProject, layers: Sequence[QgsVectorLayer]) -> List[QgsVectorLayer]:
         """Adds a layer for each place that had nothing, and now has."""
         there = {place_of(it) for it in layers}
-        wanted = sorted(it for it, styles in self.written.styles.items() if styles and not self.before[it])
+        wanted = sorted(it for it, looks in self.written.looks.items() if looks and not self.before[it])
         missing = [it for it in wanted if it not in there]
         if not missing:
             return []
@@ -120,7 +123,7 @@ class Renewal:
     def renew(self, layer: QgsVectorLayer, selected: Set[int]) -> None:
         """Lets a layer show what its table holds now, with the same features selected."""
         place = place_of(layer)
-        add_styles(layer, place[1], self.written.styles[place] - self.before[place])
+        renew_legend(layer, place[1], self.before[place], self.written.looks[place], self.written.colours)
         layer.reload()
         layer.updateExtents(True)
         moved = selected.intersection(self.numbers)

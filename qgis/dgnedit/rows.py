@@ -48,6 +48,8 @@ FIELDS: Tuple[Field, ...] = (
     ('broken', *FLAG),
     ('why', *TEXT),
 )
+STYLES = 8
+LOOK = '%d * "colour" + "style"' % STYLES  # of a row, for QGIS and SQLite
 OF_GEOMETRY = {'Point': 'points', 'LineString': 'lines', 'MultiLineString': 'lines', 'Polygon': 'areas'}
 NO_WORDS = (None,) * 4
 Values = Tuple[Any, ...]
@@ -66,11 +68,11 @@ class Wishes:
 
 
 class Row(NamedTuple):
-    """A row: its table, the level and the style that it is drawn with, its element, where this is, and its fields."""
+    """A row: its table, the level and the look that it is drawn with, its element, where this is, and its fields."""
 
     kind: str
     level: int
-    style: int
+    look: int  # its colour and its style, as one number
     number: int
     geometry: bytes
     values: Values
@@ -102,7 +104,8 @@ class Rows:
     def row(self, placed: Placed) -> Row:
         """The row of an element."""
         kind, geometry = self.shape(placed)
-        return Row(kind, placed.level, placed.look.style, placed.element.number, geometry, self.values(placed))
+        look = look_of(placed.look.colour, placed.look.style)
+        return Row(kind, placed.level, look, placed.element.number, geometry, self.values(placed))
 
     def shape(self, placed: Placed) -> Tuple[str, bytes]:
         """The table of an element, and where it is: a line as one of several, which the table of lines has."""
@@ -147,6 +150,11 @@ class Rows:
         height = (element.text_size or (0.0, 0.0))[1] * self.scale
         text = (element.text or '').replace('\0', '\\x00')  # a field can hold no such sign
         return text, round(height, 9), round(element.text_angle or 0.0, 6), None
+
+
+def look_of(colour: int, style: int) -> int:
+    """A colour and a style as one number, as LOOK has it."""
+    return STYLES * colour + style
 
 
 def kind_of(placed: Placed) -> str:

@@ -17,6 +17,7 @@ from .calls import Call
 from .layers import DIGEST, DRAWING, drawing_layers, is_of_drawing, package_of
 from .opening import digest_of
 from .package import digest_in
+from .translation import tr
 
 FIELD = 'number'
 ASKED = ('type', 'level')  # fields of a row that have to be those of its element
@@ -47,7 +48,7 @@ def selected_in(call: Call, layers: Sequence[Any]) -> List[Selected]:
     asked = list(layers) or list(drawing_layers(call.project))
     for layer in asked:
         if not is_of_drawing(layer):
-            raise Mistake("%s isn't a layer that this plugin opened from a drawing" % layer.name())
+            raise Mistake(tr("%s isn't a layer that this plugin opened from a drawing") % layer.name())
     return [it for it in map(selected_of, asked) if it.numbers]
 
 
@@ -64,7 +65,7 @@ def drawing_of(selected: Sequence[Selected]) -> str:
     """The one drawing that things are selected in, or nothing. It raises Mistake where there are several."""
     names = sorted({it.drawing for it in selected})
     if len(names) > 1:
-        raise Mistake('Things are selected in several drawings: %s. Name the drawing.' % ', '.join(names))
+        raise Mistake(tr('Things are selected in several drawings: %s. Name the drawing.') % ', '.join(names))
     return names[0] if names else ''
 
 
@@ -73,14 +74,14 @@ def ask_same(drawing: Drawing, selected: Sequence[Selected]) -> None:
     digest = digest_of(drawing)
     for it in selected:
         if it.held != it.digest:
-            said = 'The file of the layer %s has been written anew, so it may show other elements: open %s again.'
+            said = tr('The file of the layer %s has been written anew, so it may show other elements: open %s again.')
             raise Mistake(said % (it.layer, it.drawing))
         if it.digest == digest:
             continue
         if it.drawing == os.path.abspath(drawing.path):
-            said = '%s: the drawing %s was changed since this layer was opened from it: open it again.'
+            said = tr('%s: the drawing %s was changed since this layer was opened from it: open it again.')
             raise Mistake(said % (it.layer, it.drawing))
-        raise Mistake('The layer %s was opened from %s, not from %s.' % (it.layer, it.drawing, drawing.path))
+        raise Mistake(tr('The layer %s was opened from %s, not from %s.') % (it.layer, it.drawing, drawing.path))
 
 
 def rows_of(source: Optional[QgsProcessingFeatureSource]) -> List[Row]:
@@ -89,7 +90,7 @@ def rows_of(source: Optional[QgsProcessingFeatureSource]) -> List[Row]:
         return []
     names = source.fields().names()
     if FIELD not in names:
-        said = 'The table has no field %r with the numbers of elements: there are %s'
+        said = tr('The table has no field %r with the numbers of elements: there are %s')
         raise Mistake(said % (FIELD, ', '.join(names)))
     there = [it for it in ASKED if it in names]
     request = QgsFeatureRequest().setFlags(QgsFeatureRequest.Flag.NoGeometry)
@@ -97,7 +98,7 @@ def rows_of(source: Optional[QgsProcessingFeatureSource]) -> List[Row]:
     for feature in source.getFeatures(request):
         number = whole(feature[FIELD])
         if number is None:
-            raise Mistake('A row of the table has no number of an element: %r' % feature[FIELD])
+            raise Mistake(tr('A row of the table has no number of an element: %r') % feature[FIELD])
         facts = {name: whole(feature[name]) for name in there}
         made.append(Row(number, {name: value for name, value in facts.items() if value is not None}))
     return made
@@ -116,12 +117,12 @@ def ask_rows(drawing: Drawing, rows: Sequence[Row]) -> None:
     """It raises Mistake where a row is of another element than the drawing has: it is a row of another drawing."""
     for row in rows:
         if row.number >= len(drawing.elements):
-            said = "The table isn't of %s: it has an element %d, but the drawing has 0 to %d."
+            said = tr("The table isn't of %s: it has an element %d, but the drawing has 0 to %d.")
             raise Mistake(said % (drawing.path, row.number, len(drawing.elements) - 1))
         element = drawing.elements[row.number]
         for name, value in row.facts.items():
             if value != getattr(element, name):
-                said = "The table isn't of %s: its element %d has the %s %d, but in the drawing it is %s."
+                said = tr("The table isn't of %s: its element %d has the %s %d, but in the drawing it is %s.")
                 raise Mistake(said % (drawing.path, row.number, name, value, described(element)))
 
 
@@ -131,7 +132,7 @@ def numbers_of(word: str) -> List[int]:
         return []
     spans = Spans.read('number of an element', [word], ELEMENTS_MOST - 1).spans
     if sum(high - low + 1 for low, high in spans) > ELEMENTS_MOST:
-        raise Mistake('%r names too many elements' % word)
+        raise Mistake(tr('%r names too many elements') % word)
     return [number for low, high in spans for number in range(low, high + 1)]
 
 
@@ -143,7 +144,7 @@ def chosen(drawing: Drawing, selected: Sequence[Selected], named: Sequence[int],
     found.update(it.number for it in rows)
     found.update(named)
     if not found:
-        raise Mistake('Nothing is selected: select features of the drawing, or give the numbers of its elements.')
+        raise Mistake(tr('Nothing is selected: select features of the drawing, or give the numbers of its elements.'))
     made = sorted(found)
     ask_numbers(drawing, made, 'the selection')
     return made

@@ -1,17 +1,13 @@
-"""How layers look: by the drawing's colours, weights and styles, with labels of the texts' sizes and angles."""
+"""What is drawn: by the drawing's colours, weights and styles, with labels of the texts' sizes and angles."""
 
-from typing import Iterable, List
+from typing import List
 
 from qgis.core import (
-    QgsCategorizedSymbolRenderer,
-    QgsFeatureRenderer,
     QgsFillSymbol,
     QgsLineSymbol,
     QgsMarkerSymbol,
-    QgsNullSymbolRenderer,
     QgsPalLayerSettings,
     QgsProperty,
-    QgsRendererCategory,
     QgsSimpleFillSymbolLayer,
     QgsSimpleLineSymbolLayer,
     QgsSimpleMarkerSymbolLayer,
@@ -21,20 +17,21 @@ from qgis.core import (
     QgsTextFormat,
     QgsUnitTypes,
     QgsVectorLayer,
-    QgsVectorLayerSimpleLabeling,
 )
 from qgis.PyQt.QtCore import Qt
 from qgis.PyQt.QtGui import QColor
 
+from .translation import tr
+
 STYLE_NAMES = (
-    'solid',
-    'dotted',
-    'medium dashed',
-    'long dashed',
-    'dot-dashed',
-    'short dashed',
-    'dash double-dot',
-    'long dash - short dash',
+    tr('solid'),
+    tr('dotted'),
+    tr('medium dashed'),
+    tr('long dashed'),
+    tr('dot-dashed'),
+    tr('short dashed'),
+    tr('dash double-dot'),
+    tr('long dash - short dash'),
 )
 STYLE = 'style'  # the field
 # Dashes and gaps of each style in millimetres.
@@ -49,54 +46,16 @@ DASHES: List[List[float]] = [
     [3.6, 0.8, 1.0, 0.8],
 ]
 # White is drawn black on the white paper of a map, as MicroStation draws it on a white ground.
-COLOUR = '''if("rgb" = '#ffffff', '#000000', "rgb")'''
+WHITE, BLACK = '#ffffff', '#000000'
+COLOUR = '''if("rgb" = '%s', '%s', "rgb")''' % (WHITE, BLACK)
 WIDTH = '0.26 + 0.16 * "weight"'  # millimetres
 HEADERS = '"type" in (2, 7)'  # cells and text nodes, of which a point is the origin
 CAPITAL = 0.72  # how high a capital letter is, by the size of its font
 
 
-def dress(layer: QgsVectorLayer, kind: str, styles: Iterable[int]) -> None:
-    """Gives a layer of this kind its look; `styles` are those that it has."""
-    if kind == 'texts':
-        layer.setRenderer(QgsNullSymbolRenderer())
-        layer.setLabeling(QgsVectorLayerSimpleLabeling(label_settings()))
-        layer.setLabelsEnabled(True)
-    elif kind == 'points':
-        layer.setRenderer(QgsSingleSymbolRenderer(marker()))
-    else:
-        layer.setRenderer(by_style(kind, sorted(styles)))
-    layer.setDisplayExpression(
-        '''concat("type_name", ' ', "number", coalesce(' ' || "cell", ''), coalesce(' ' || "text", ''))'''
-    )
-
-
-def by_style(kind: str, styles: List[int]) -> QgsFeatureRenderer:
-    """A category for each style."""
-    return QgsCategorizedSymbolRenderer(STYLE, [category(kind, it) for it in styles])
-
-
-def category(kind: str, style: int) -> QgsRendererCategory:
-    """The category of a style."""
-    return QgsRendererCategory(style, symbol_of(kind, style), STYLE_NAMES[style])
-
-
-def add_styles(layer: QgsVectorLayer, kind: str, styles: Iterable[int]) -> None:
-    """Lets a layer that has come to have more styles show these too, where it has a category for each."""
-    renderer = layer.renderer()
-    if not isinstance(renderer, QgsCategorizedSymbolRenderer) or renderer.classAttribute() != STYLE:
-        return
-    made = renderer.clone()
-    there = [it.value() for it in made.categories()]
-    for style in sorted(it for it in styles if it not in there):
-        made.addCategory(category(kind, style))
-        made.moveCategory(len(there), sum(it < style for it in there if isinstance(it, int)))
-        there.append(style)
-    layer.setRenderer(made)
-
-
-def symbol_of(kind: str, style: int) -> QgsSymbol:
-    """The line, or the outline, of a style."""
-    pen = QgsSimpleLineSymbolLayer()
+def symbol_of(kind: str, style: int, colour: str = BLACK) -> QgsSymbol:
+    """The line, or the outline, of a style. What is drawn has the colour of its element; a legend has this one."""
+    pen = QgsSimpleLineSymbolLayer(QColor(colour))
     pen.setWidthUnit(QgsUnitTypes.RenderUnit.RenderMillimeters)
     pen.setDataDefinedProperty(QgsSymbolLayer.Property.PropertyStrokeColor, QgsProperty.fromExpression(COLOUR))
     pen.setDataDefinedProperty(QgsSymbolLayer.Property.PropertyStrokeWidth, QgsProperty.fromExpression(WIDTH))
@@ -114,7 +73,7 @@ def symbol_of(kind: str, style: int) -> QgsSymbol:
 
 def fill() -> QgsSymbolLayer:
     """The fill of those areas that have one."""
-    made = QgsSimpleFillSymbolLayer()
+    made = QgsSimpleFillSymbolLayer(QColor(0, 0, 0, 0))
     made.setStrokeStyle(Qt.PenStyle.NoPen)
     colour = '''coalesce("fill", '0,0,0,0')'''
     made.setDataDefinedProperty(QgsSymbolLayer.Property.PropertyFillColor, QgsProperty.fromExpression(colour))
@@ -128,9 +87,11 @@ def drawn_by(symbol: QgsSymbol, layer: QgsSymbolLayer) -> QgsSymbol:
     return symbol
 
 
-def marker() -> QgsSymbol:
-    """A cross for an origin, and a dot, by its weight, for a line of one place."""
+def marker(colour: str = BLACK) -> QgsSymbol:
+    """A cross for an origin, and a dot, by its weight, for a line of one place; of this colour in a legend."""
     dot = QgsSimpleMarkerSymbolLayer()
+    dot.setColor(QColor(colour))
+    dot.setStrokeColor(QColor(colour))
     dot.setSizeUnit(QgsUnitTypes.RenderUnit.RenderMillimeters)
     shape = "if(%s, 'cross2', 'circle')" % HEADERS
     size = 'if(%s, 1.8, 0.5 + 0.3 * "weight")' % HEADERS

@@ -9,10 +9,11 @@ from qgis.core import QgsGeometry
 
 from .opening import KINDS
 from .package import GEOMETRY, NUMBER, Filling, held_in, not_written, set_digest
-from .rows import FIELDS, Row
+from .rows import FIELDS, LOOK, Row
+from .translation import tr
 
 PATIENCE = 2.0  # so many seconds another program may keep the file for itself
-HELD = 'its layers are those of another drawing, or of another version of this plugin'
+HELD = tr('its layers are those of another drawing, or of another version of this plugin')
 COLUMNS = [NUMBER, GEOMETRY, *(it[0] for it in FIELDS)]
 INDEX = 'rtree_%s_' + GEOMETRY  # the index of places of a table
 TRIGGERS = (INDEX + '_', 'trigger_insert_feature_count_%s', 'trigger_delete_feature_count_%s')
@@ -71,10 +72,10 @@ class Update:
         order = order if self.is_all else '%s WHERE %s' % (order, CHANGED % NUMBER)
         return {(int(level), kind) for kind in KINDS for (level,) in self.base.execute(order % kind)}
 
-    def styles(self, places: Iterable[Place]) -> Dict[Place, Set[int]]:
-        """The styles that some levels of tables have; none of one that has no rows."""
-        order = 'SELECT DISTINCT style FROM %s WHERE level = ?'
-        return {it: {int(style) for (style,) in self.base.execute(order % it[1], it[:1])} for it in places}
+    def looks(self, places: Iterable[Place]) -> Dict[Place, Dict[int, int]]:
+        """How many rows of some levels of tables have which look; nothing of one that has no rows."""
+        order = 'SELECT %s, count(*) FROM %s WHERE level = ? GROUP BY 1'
+        return {it: dict(self.base.execute(order % (LOOK, it[1]), it[:1])) for it in places}
 
     def exchange(self, rows: Iterable[Row], digest: str) -> None:
         """Takes the rows of all that differs out, puts others in, and marks all as that of a drawing."""

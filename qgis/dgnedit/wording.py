@@ -3,18 +3,20 @@
 import re
 from typing import Dict, Match
 
+from .translation import tr
+
 # A command of dgnkit, and what is said of it where the plugin needs no patch file in between.
 COMMAND = re.compile(r'`dgnkit (\w+)[^`]*`(?: writes a patch file that (\w+ it)\b)?')
 OPTION = re.compile(r'(?<![\w-])--[a-z][a-z-]*(?: X,Y)?')
 OTHERS = {'health': 'check', 'diff': 'compare', 'run': 'script'}  # commands that are called otherwise here
 OPTIONS = {
-    '--encoding': 'Encoding of characters beyond ASCII',
-    '--force': 'Replace files that are already there',
-    '--members': 'Whole trees',
-    '--near': 'Near this place',
-    '--near X,Y': 'Near this place',
-    '--nearest': 'Only the nearest, this many',
-    '--within': 'Within this distance',
+    '--encoding': tr('Encoding of characters beyond ASCII'),
+    '--force': tr('Replace files that are already there'),
+    '--members': tr('Whole trees'),
+    '--near': tr('Near this place'),
+    '--near X,Y': tr('Near this place'),
+    '--nearest': tr('Only the nearest, this many'),
+    '--within': tr('Within this distance'),
 }
 
 

@@ -188,12 +188,28 @@ class Opened(WithLayers):
             it[34], it[35] = look, colour
         self.open(self.put('in.dgn', drawings.drawing(*map(bytes, elements))))
         categories = self.layer('in 1 lines').renderer().categories()
-        self.assertEqual([it.value() for it in categories], [0, 2])
-        dashes = [it.symbol().symbolLayer(0).customDashVector() for it in categories if it.value() == 2]
-        self.assertTrue(dashes and dashes[0])
+        labels = ['colour 0, medium dashed (1)', 'colour 1, medium dashed (1)', 'colour 3 (1)']
+        self.assertEqual([it.label() for it in categories], labels)
+        pens = [it.symbol().symbolLayer(0) for it in categories]
+        self.assertEqual([it.useCustomDashPattern() for it in pens], [True, True, False])
+        # white is drawn black
+        self.assertEqual([it.color().name() for it in pens], ['#000000', '#0000ff', '#ff0000'])
+        image = self.drawn(QgsRectangle(-50, -50, 150, 50))
+        for line in range(3):
+            dark = [it for it in range(100, 300) if image.pixelColor(it, 100 - 20 * line).lightness() < 250]
+            self.assertGreater(len(dark), 50, 'line %d is drawn' % line)
         self.assertEqual(
             [it['rgb'] for it in self.layer('in 1 lines').getFeatures()], ['#ff0000', '#ffffff', '#0000ff']
         )
+
+    def test_a_legend_of_too_many_colours_is_one_of_styles(self) -> None:
+        for count, labels in ((40, ['colour %d (2)' % it for it in range(40)]), (60, ['solid (120)'])):
+            self.project.clear()
+            lines = [bytearray(plan.line(1, (0, 10 * it), (100, 10 * it))) for it in range(2 * count)]
+            for number, it in enumerate(lines):
+                it[34], it[35] = 0, number // 2
+            self.open(self.put('in.dgn', drawings.drawing(*map(bytes, lines))))
+            self.assertEqual([it.label() for it in self.layer('in 1 lines').renderer().categories()], labels)
 
     def test_links_to_a_database_and_graphic_groups(self) -> None:
         linked = bytearray(drawings.line(properties=LINKED, data=bytes([0, 0, 5, 0, 0x39, 0x30, 0, 0])))

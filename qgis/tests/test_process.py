@@ -5,6 +5,7 @@ import os
 import unittest
 from pathlib import Path
 from typing import Any, Dict, List, Set, Tuple
+from unittest import mock
 
 import plugin
 from dgnedit.algorithms import ALGORITHMS
@@ -61,6 +62,25 @@ class ByProcess(samples.WithProgram):
             made.initAlgorithm()
             self.assertGreater(len(made.shortHelpString()), 100, algorithm)
             self.assertTrue(made.shortDescription().endswith('.'), algorithm)
+            page = made.shortHelpString().split('\n')
+            self.assertTrue(algorithm.CHANGES.endswith('.') and algorithm.CHANGES in page, algorithm)
+            for it in made.parameterDefinitions():
+                self.assertTrue(it.help().endswith('.'), (algorithm, it.name()))
+                self.assertIn('<b>%s</b>: %s' % (it.description(), it.help()), page)
+            for it in (it for it in made.outputDefinitions() if made.parameterDefinition(it.name()) is None):
+                self.assertIn('<b>%s</b>: %s' % (it.name(), it.description()), page)
+
+    def test_help_is_where_the_metadata_say(self) -> None:
+        cases = (
+            '',
+            'repository=https://example.org/r',
+            'homepage=https://example.org/h\nrepository=https://example.org/r',
+        )
+        wanted = ('', 'https://example.org/r', 'https://example.org/h')
+        for said, address in zip(cases, wanted):
+            self.put('metadata.txt', '[general]\nabout=100% of it\n' + said)
+            with mock.patch('dgnedit.algorithms.pages.PLUGIN', self.folder):
+                self.assertEqual(ALGORITHMS[0]().helpUrl(), address)
 
     def test_open(self) -> None:
         made = self.done('open', DRAWING=self.town, OUTPUT=self.path('town.gpkg'), CRS='EPSG:25832')

@@ -3,8 +3,10 @@ did, and know which drawing they are of; or they stay those of the old drawing."
 
 import os
 import random
+import re
 import sqlite3
 import unittest
+from collections import Counter
 from contextlib import closing, contextmanager
 from pathlib import Path
 from typing import Any, Dict, Iterator, List, Tuple
@@ -70,21 +72,34 @@ class Renewals(plugin.InQgis):
         self.assertEqual(tables(self.package), tables(fresh), said)
         there = {place_of(it): it for it in self.layers()}
         self.assertEqual(len(there), len(self.layers()))
-        self.assertLessEqual(set(written.styles), set(there), said)
+        self.assertLessEqual(set(written.looks), set(there), said)
         for place, layer in there.items():
             source = '%s|layername=%s|subset="level" = %d' % (fresh, place[1], place[0])
             same = QgsVectorLayer(source, 'fresh', 'ogr')
             self.assertEqual(shown(layer), shown(same), (said, place))
             self.assertEqual(layer.featureCount(), same.featureCount(), (said, place))
             self.assertTrue(layer.extent() == same.extent() or not same.featureCount(), (said, place))
-            drawn = {it.value() for it in layer.renderer().categories()} if place[1] in ('lines', 'areas') else set()
-            self.assertTrue(place[1] not in ('lines', 'areas') or written.styles.get(place, set()) <= drawn, said)
+            if place[1] != 'texts':
+                self.ask_legend(layer, (said, place))
         digest = digest_in(self.package)
         self.assertEqual({it.customProperty('dgnedit/digest') for it in self.layers()}, {digest})
         self.assertEqual(digest, written.digest)
         self.assertEqual({it.customProperty('dgnedit/drawing') for it in self.layers()}, {self.drawing})
         self.assertEqual(self.groups(), [Path(self.drawing).name])
         os.remove(fresh)
+
+    def ask_legend(self, layer: QgsVectorLayer, said: object) -> None:
+        """Asks that the legend of a layer says how many of its features have which colour, and that all are drawn."""
+        there = Counter(it['colour'] for it in layer.getFeatures())
+        legend: Counter[int] = Counter()
+        for label in (it.label() for it in layer.renderer().categories()):
+            colour, count = re.fullmatch(r'colour (\d+)(?:, [a-z -]+)? \((\d+)\)', label).groups()  # type: ignore
+            legend[int(colour)] += int(count)
+        self.assertEqual(+legend, there, said)
+        categories = [it.value() for it in layer.renderer().categories()]
+        looks = {8 * it['colour'] + it['style'] for it in layer.getFeatures()}
+        self.assertLessEqual(looks if place_of(layer)[1] in ('lines', 'areas') else set(there), set(categories), said)
+        self.assertEqual(len(set(categories)), len(categories), said)
 
     def edits(self, chance: random.Random, count: int) -> Dict[str, Dict[str, Any]]:
         """One of each edit, of a drawing with so many elements."""
@@ -134,12 +149,18 @@ class Renewals(plugin.InQgis):
         root.findLayer(hidden.id()).setItemVisibilityChecked(False)
         other.setRenderer(QgsSingleSymbolRenderer(symbol_of('areas', 3)))
         kept.setName('my valves')
+        pipes = hidden.renderer().clone()
+        pipes.updateCategoryLabel(0, 'pipes')
+        hidden.setRenderer(pipes)
         self.edit('look', NUMBERS='1-53', COLOUR=5, STYLE=2)
         self.assertEqual(self.groups(), ['edited-1.dgn'])
         names = ['edited-1 12 lines', 'edited-1 20 areas', 'my valves']
         self.assertEqual([it.name() for it in (hidden, other, kept)], names)
         self.assertFalse(root.findLayer(hidden.id()).itemVisibilityChecked())
         self.assertIsInstance(other.renderer(), QgsSingleSymbolRenderer)
+        labels = {it.label() for it in hidden.renderer().categories()}
+        self.assertIn('pipes', labels)
+        self.assertIn('colour 5, medium dashed (%d)' % hidden.featureCount(), labels)
         self.assertEqual({it['style'] for it in hidden.getFeatures()}, {2})
 
     def test_a_new_level_has_a_layer_where_it_belongs(self) -> None:

@@ -78,7 +78,7 @@ def by_dialogue(
             said.extend(it.toPlainText() for it in dialogue.findChildren(QTextEdit))
             found['steps'].append([title, ended])
         finally:
-            dialogue.buttonBox().button(QDialogButtonBox.Close).click()
+            dialogue.buttonBox().button(QDialogButtonBox.StandardButton.Close).click()
 
     QTimer.singleShot(50, fill)
     (start or menu_action(title).trigger)()
@@ -92,9 +92,12 @@ def layer(name: str) -> QgsVectorLayer:
 
 
 def open_levels() -> None:
-    """Shows the layers of the topmost group."""
+    """Shows the levels of the drawing, and the legend of a layer."""
     for group in QgsProject.instance().layerTreeRoot().children():
         group.setExpanded(True)
+    node = QgsProject.instance().layerTreeRoot().findLayer(layer('mended 12 lines').id())
+    node.parent().setExpanded(True)
+    node.setExpanded(True)
 
 
 def say_of(name: str, field: str) -> Dict[str, Any]:

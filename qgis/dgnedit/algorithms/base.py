@@ -29,13 +29,16 @@ from ..layers import Known, known_drawings, wishes_for
 from ..package import ask_package
 from ..program import ICON, find_program
 from ..rows import Wishes
+from ..translation import tr
 from ..wording import here
+from .pages import address, page_of
 
 Results = Parameters
-DRAWINGS = 'Design files (*.dgn *.DGN);;All files (*)'
-PACKAGES = 'GeoPackage (*.gpkg)'
+DRAWINGS = tr('Design files (*.dgn *.DGN);;All files (*)')
+PACKAGES = tr('GeoPackage (*.gpkg)')
+REPLACES = tr('Otherwise nothing is written where a file has the name. A drawing that is open is never replaced.')
 UNITS = ['auto', 'master', 'resolution']
-UNITS_SAID = ['master units, if the drawing defines them', 'master units', 'units of resolution']
+UNITS_SAID = [tr('master units, if the drawing defines them'), tr('master units'), tr('units of resolution')]
 
 
 class DgnAlgorithm(QgsProcessingAlgorithm):
@@ -44,9 +47,10 @@ class DgnAlgorithm(QgsProcessingAlgorithm):
 
     NAME = ''
     TITLE = ''
-    GROUP: Tuple[str, str] = ('drawing', 'Drawings')
+    GROUP: Tuple[str, str] = ('drawing', tr('Drawings'))
     SHORT = ''
     HELP = ''
+    CHANGES = ''  # what it changes, and what stays
     TAGS = ''
     call: Optional[Call] = None  # the run that goes on, none where it was cancelled
     known: Sequence[Known] = ()  # the drawings that are open in the project
@@ -68,7 +72,14 @@ class DgnAlgorithm(QgsProcessingAlgorithm):
         return self.SHORT
 
     def shortHelpString(self) -> str:
-        return '%s\n\n%s' % (self.SHORT, self.HELP)
+        return page_of(self, self.texts())
+
+    def texts(self) -> Tuple[str, ...]:
+        """What is said of it, besides its parameters."""
+        return self.SHORT, self.HELP
+
+    def helpUrl(self) -> str:
+        return address()
 
     def tags(self) -> List[str]:
         return ['dgn', 'microstation', *self.TAGS.split()]
@@ -144,33 +155,36 @@ class DgnAlgorithm(QgsProcessingAlgorithm):
         self.addParameter(parameter)
 
     def add_drawing(
-        self, name: str = 'DRAWING', said: str = 'Drawing', is_optional: bool = False, is_advanced: bool = False
+        self, name: str = 'DRAWING', said: str = tr('Drawing'), is_optional: bool = False, is_advanced: bool = False
     ) -> None:
         """A drawing that is read."""
         self.add(
             QgsProcessingParameterFile(name, said, fileFilter=DRAWINGS, optional=is_optional),
-            'A MicroStation design file of version 7. It is only read, never changed.',
+            tr('A MicroStation design file of version 7. It is only read, never changed.'),
             is_advanced,
         )
 
     def add_result(self) -> None:
         """The drawing that is written, and whether it is opened."""
         self.add(
-            QgsProcessingParameterFileDestination('OUTPUT', 'New drawing', 'Design files (*.dgn)'),
-            'A file of its own: the old drawing is never overwritten.',
+            QgsProcessingParameterFileDestination('OUTPUT', tr('New drawing'), tr('Design files (*.dgn)')),
+            tr('A file of its own: the old drawing is never overwritten.'),
         )
         self.add_flag(
-            'OPEN', 'Show the new drawing', True, 'The layers of the old drawing become those of the new one.'
+            'OPEN', tr('Show the new drawing'), True, tr('The layers of the old drawing become those of the new one.')
         )
         self.add_file(
             'LAYERS_FILE',
-            'Save layers to',
+            tr('Save layers to'),
             PACKAGES,
-            'A GeoPackage. The new drawing is then opened beside the old one, in layers that stay when QGIS is closed.',
+            tr(
+                'A GeoPackage. The new drawing is then opened beside the old one, in layers that stay when QGIS is '
+                'closed.'
+            ),
             True,
         )
-        self.add_flag('OVERWRITE', 'Replace files that are already there', False, is_advanced=True)
-        self.addOutput(QgsProcessingOutputNumber('ACCEPTED', 'How many edits were made'))
+        self.add_flag('OVERWRITE', tr('Replace files that are already there'), False, REPLACES, True)
+        self.addOutput(QgsProcessingOutputNumber('ACCEPTED', tr('How many edits were made')))
 
     def add_file(self, name: str, said: str, kinds: str, text: str = '', is_advanced: bool = False) -> None:
         """A file that is written where it is wished."""
@@ -181,7 +195,7 @@ class DgnAlgorithm(QgsProcessingAlgorithm):
         """The file that layers are to be saved to, or nothing. It raises Mistake where it may not be written."""
         package = call.target(name)
         if package and os.path.realpath(package) in self.in_use:
-            raise Mistake('%s holds layers of this project: name another file, or remove these first' % package)
+            raise Mistake(tr('%s holds layers of this project: name another file, or remove these first') % package)
         if package:
             ask_package(package, call.flag('OVERWRITE'))
         return package
@@ -189,12 +203,13 @@ class DgnAlgorithm(QgsProcessingAlgorithm):
     def add_system(self) -> None:
         """The coordinate reference system of layers, and the units of their coordinates."""
         self.add(
-            QgsProcessingParameterCrs('CRS', 'Coordinate reference system', optional=True),
-            "The system of the drawing's coordinates. The drawing itself doesn't name one.",
+            QgsProcessingParameterCrs('CRS', tr('Coordinate reference system'), optional=True),
+            tr("The system of the drawing's coordinates. The drawing itself doesn't name one."),
         )
         self.add(
-            QgsProcessingParameterEnum('UNITS', 'Units of the coordinates', UNITS_SAID, defaultValue=0),
-            is_advanced=True,
+            QgsProcessingParameterEnum('UNITS', tr('Units of the coordinates'), UNITS_SAID, defaultValue=0),
+            tr('Units of resolution are the whole numbers that the drawing stores.'),
+            True,
         )
 
     def wishes(self, call: Call, drawing: Drawing) -> Wishes:
@@ -231,5 +246,5 @@ def said(run: Any) -> Any:
 def opened(path: str) -> Drawing:
     """A drawing that is to be read. It raises Mistake where none is named, it can't be read, or there is no program."""
     if not path:
-        raise Mistake('No drawing is named.')
+        raise Mistake(tr('No drawing is named.'))
     return Drawing(path, find_program())

@@ -22,15 +22,16 @@ from ..calls import Call
 from ..editing import Made, folder, run_files, scripts_in
 from ..rows import Wishes
 from ..styles import STYLE_NAMES
+from ..translation import tr
 from .base import Results, opened
 from .fields import ENCODINGS, add_encoding
 from .results import MakesDrawing
 
 # Of each part of the look the parameter, what is said of it, its greatest value, the usual one, and dgnkit's word.
 LOOKS = (
-    ('LEVEL', 'Level', LEVEL_MOST, 1, 'level'),
-    ('COLOUR', 'Colour', COLOUR_MOST, 0, 'color'),
-    ('WEIGHT', 'Weight', WEIGHT_MOST, 0, 'weight'),
+    ('LEVEL', tr('Level'), LEVEL_MOST, 1, 'level'),
+    ('COLOUR', tr('Colour'), COLOUR_MOST, 0, 'color'),
+    ('WEIGHT', tr('Weight'), WEIGHT_MOST, 0, 'weight'),
 )
 LETTERING = {'font': '1', 'justification': '0'}
 
@@ -38,20 +39,22 @@ LETTERING = {'font': '1', 'justification': '0'}
 class Draws(MakesDrawing):
     """An algorithm that draws one thing."""
 
-    GROUP = ('draw', 'Draw')
-    HELP = (
-        'It is appended to the drawing. The result is a new drawing, which the layers then show; the old one is never '
-        'changed. Coordinates are in the units of the layers.'
+    GROUP = ('draw', tr('Draw'))
+    HELP = tr(
+        'The result is a new drawing, which the layers then show; the old one is never changed. Coordinates are in the '
+        'units of the layers.'
     )
+    CHANGES = tr('What is drawn is appended behind the last element. All else stays.')
 
     def define(self) -> None:
-        self.add_drawing(said='Drawing (if not the one that is open)', is_optional=True)
+        self.add_drawing(said=tr('Drawing (if not the one that is open)'), is_optional=True)
         self.define_drawn()
         whole = QgsProcessingParameterNumber.Type.Integer
+        text = tr('Of what is drawn, from 0 to %d.')
         for name, said, most, usual, _ in LOOKS:
-            self.add(QgsProcessingParameterNumber(name, said, whole, usual, False, 0, most))
+            self.add(QgsProcessingParameterNumber(name, said, whole, usual, False, 0, most), text % most)
         options = ['%d %s' % it for it in enumerate(STYLE_NAMES[: STYLE_MOST + 1])]
-        self.add(QgsProcessingParameterEnum('STYLE', 'Style', options, False, 0))
+        self.add(QgsProcessingParameterEnum('STYLE', tr('Style'), options, False, 0), text % STYLE_MOST)
         self.add_result()
 
     def define_drawn(self) -> None:
@@ -68,15 +71,15 @@ class Draws(MakesDrawing):
         return Defaults('', look, call.decimal('HEIGHT'), call.decimal('ANGLE') or '0', LETTERING)
 
     def work(self, call: Call) -> Results:
-        call.doing('The drawing is read', 0.0)
-        drawing = opened(call.file('DRAWING') or self.only_one('No drawing is named.'))
+        call.doing(tr('The drawing is read'), 0.0)
+        drawing = opened(call.file('DRAWING') or self.only_one(tr('No drawing is named.')))
         wishes = self.wishes(call, drawing)
         scale = Scale(drawing.units, wishes.units)
         reader = Reader(self.rows(call, wishes), drawing.axes, scale, self.defaults(call))
         encoding = call.choice('ENCODING', ENCODINGS) if self.parameterDefinition('ENCODING') is not None else ''
         appending = Appender(drawing, scale, True, encoding).appending(reader.wishes())
         out = self.out(call)
-        call.doing('It is drawn', 0.2)
+        call.doing(tr('It is drawn'), 0.2)
         return self.give(call, drawing, out, appended(call, drawing, appending, out), [])
 
 
@@ -96,26 +99,26 @@ class DrawLine(Draws):
     """A line or an area."""
 
     NAME = 'draw'
-    TITLE = 'Draw a line or an area'
-    SHORT = 'Draws a line through places, or the outline of an area.'
+    TITLE = tr('Draw a line or an area')
+    SHORT = tr('Draws a line through places, or the outline of an area.')
     TAGS = 'draw line polyline polygon area append digitize'
 
     def define_drawn(self) -> None:
         self.add(
-            QgsProcessingParameterGeometry('GEOMETRY', 'Line or area, as text (WKT)'),
-            'Such as LineString (10 20, 30 40). "Draw a line on the map" of the menu fills it in.',
+            QgsProcessingParameterGeometry('GEOMETRY', tr('Line or area, as text (WKT)')),
+            tr('Such as LineString (10 20, 30 40). "Draw a line on the map" of the menu fills it in.'),
         )
 
     def rows(self, call: Call, wishes: Wishes) -> List[Row]:
         geometry = self.parameterAsGeometry(call.parameters, 'GEOMETRY', call.context)
         if geometry.isNull() or geometry.isEmpty():
-            raise Mistake('There is no line and no area to draw.')
+            raise Mistake(tr('There is no line and no area to draw.'))
         if geometry.isMultipart() and geometry.constGet().numGeometries() > 1:
-            raise Mistake('It has several parts: draw one after the other.')
+            raise Mistake(tr('It has several parts: draw one after the other.'))
         geometry.convertToSingleType()
         shape = geometry.constGet().segmentize()
         if shape.ringCount() > 1:
-            raise Mistake("It has a hole, which can't be drawn.")
+            raise Mistake(tr("It has a hole, which can't be drawn."))
         kind = 'shape' if shape.dimension() == 2 else 'line'
         places = [[shortest(it.x()), shortest(it.y()), kind] for it in shape.vertices()]
         return [Row('the line', at, fields) for at, fields in enumerate([['x', 'y', 'kind'], *places])]
@@ -125,16 +128,22 @@ class DrawText(Draws):
     """A text."""
 
     NAME = 'text'
-    TITLE = 'Draw a text'
-    SHORT = 'Draws a text at a place, which is its lower left corner.'
+    TITLE = tr('Draw a text')
+    SHORT = tr('Draws a text at a place, which is its lower left corner.')
     TAGS = 'draw text label append'
 
     def define_drawn(self) -> None:
         real = QgsProcessingParameterNumber.Type.Double
-        self.add(QgsProcessingParameterPoint('PLACE', 'Place'))
-        self.add(QgsProcessingParameterString('TEXT', 'Text'))
-        self.add(QgsProcessingParameterNumber('HEIGHT', 'Height', real, None, False, 0))
-        self.add(QgsProcessingParameterNumber('ANGLE', 'Angle in degrees, anticlockwise', real, 0))
+        self.add(QgsProcessingParameterPoint('PLACE', tr('Place')), tr('The lower left corner of the text.'))
+        self.add(QgsProcessingParameterString('TEXT', tr('Text')), tr('The text itself.'))
+        self.add(
+            QgsProcessingParameterNumber('HEIGHT', tr('Height'), real, None, False, 0),
+            tr('In the units of the layers.'),
+        )
+        self.add(
+            QgsProcessingParameterNumber('ANGLE', tr('Angle in degrees, anticlockwise'), real, 0),
+            tr('From the direction to the right.'),
+        )
         add_encoding(self)
 
     def rows(self, call: Call, wishes: Wishes) -> List[Row]:

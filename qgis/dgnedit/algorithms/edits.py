@@ -22,56 +22,59 @@ from qgis.core import (
 from ..calls import Call
 from ..editing import Made, run_lines, run_patch
 from ..selection import FIELD, Selected, chosen, drawing_of, move_selection, numbers_of, rows_of, selected_in
+from ..translation import tr
 from .base import Results, opened
-from .results import PATCHES, SCRIPTS, MakesDrawing, Refusal, refusals_of
+from .results import PATCHES, SAME_EDIT, SCRIPTS, MakesDrawing, Refusal, refusals_of
 
 ANY, TABLES = QgsProcessing.SourceType.TypeVectorAnyGeometry, QgsProcessing.SourceType.TypeVector
-HELP = (
+HELP = tr(
     'Edits the features that are selected in the layers of a drawing: in all its layers, or in those that you name. '
     'Instead you can give element numbers, or a table with a field "number". Whole trees are edited, such as a cell '
     'with everything in it, unless you switch that off.\n\n'
-    'The result is a new drawing, which is opened beside the old one, with the same features selected. The old one is '
-    'never changed. Anything that is refused, such as a locked element, is in a table with the reason; the rest is '
-    'done.'
+    'The result is a new drawing, which the layers then show, with the same features selected. The old one is never '
+    'changed. Anything that is refused, such as a locked element, is in a table with the reason; the rest is done.'
 )
-LISTS = 'Lists of elements (*.csv *.txt *.geojson *.json);;All files (*)'
-NOTHING = 'Nothing is selected and no drawing is named: select features in the layers of a drawing.'
+LISTS = tr('Lists of elements (*.csv *.txt *.geojson *.json);;All files (*)')
+NOTHING = tr('Nothing is selected and no drawing is named: select features in the layers of a drawing.')
 TOLD = 8
 
 
 class EditAlgorithm(MakesDrawing):
     """An edit of what is selected."""
 
-    GROUP = ('edit', 'Edit what is selected')
-    MORE = ''
+    GROUP = ('edit', tr('Edit what is selected'))
     selected: List[Selected] = []
     chosen: List[int] = []
 
-    def shortHelpString(self) -> str:
-        return '\n\n'.join(it for it in (self.SHORT, self.MORE, HELP) if it)
+    def texts(self) -> Tuple[str, ...]:
+        return self.SHORT, self.HELP, HELP
 
     def define(self) -> None:
         self.define_edit()
-        self.add_flag('TREES', 'Whole trees', True, 'Such as a whole cell, if one of its features is selected.')
-        self.add_drawing(said='Drawing (if not that of the selection)', is_optional=True, is_advanced=True)
+        self.add_flag('TREES', tr('Whole trees'), True, tr('Such as a whole cell, if one of its features is selected.'))
+        self.add_drawing(said=tr('Drawing (if not that of the selection)'), is_optional=True, is_advanced=True)
         self.add(
-            QgsProcessingParameterMultipleLayers('LAYERS', 'Only what is selected in these layers', ANY, None, True),
-            'If you name none: what is selected in all layers of the drawing.',
+            QgsProcessingParameterMultipleLayers(
+                'LAYERS', tr('Only what is selected in these layers'), ANY, None, True
+            ),
+            tr('If you name none: what is selected in all layers of the drawing.'),
             True,
         )
         self.add(
-            QgsProcessingParameterString('NUMBERS', 'Or the elements with these numbers', None, False, True),
-            'Such as 12 or 3-5,9. The selection is then ignored, except in layers that you name.',
+            QgsProcessingParameterString('NUMBERS', tr('Or the elements with these numbers'), None, False, True),
+            tr('Such as 12 or 3-5,9. The selection is then ignored, except in layers that you name.'),
             True,
         )
         self.add(
-            QgsProcessingParameterFeatureSource('TABLE', 'Or the elements of this table', [TABLES], None, True),
-            'A layer or a table with a field "number".',
+            QgsProcessingParameterFeatureSource('TABLE', tr('Or the elements of this table'), [TABLES], None, True),
+            tr('A layer or a table with a field "number".'),
             True,
         )
         self.add(
-            QgsProcessingParameterFile('FILE', 'Or the elements that this file lists', fileFilter=LISTS, optional=True),
-            'A CSV file with a column "number", a list with a number in each line, or a GeoJSON file.',
+            QgsProcessingParameterFile(
+                'FILE', tr('Or the elements that this file lists'), fileFilter=LISTS, optional=True
+            ),
+            tr('A CSV file with a column "number", a list with a number in each line, or a GeoJSON file.'),
             True,
         )
         self.add_outcome()
@@ -82,7 +85,7 @@ class EditAlgorithm(MakesDrawing):
 
     def define_files(self) -> None:
         """Adds the files that can be saved."""
-        self.add_file('PATCH', 'Patch file of the edit', PATCHES, 'To make the same edit in a copy of the drawing.')
+        self.add_file('PATCH', tr('Patch file of the edit'), PATCHES, SAME_EDIT)
 
     def prepare(self, call: Call) -> None:
         layers = self.parameterAsLayerList(call.parameters, 'LAYERS', call.context)
@@ -90,7 +93,7 @@ class EditAlgorithm(MakesDrawing):
         self.selected = [] if is_named and not layers else selected_in(call, layers)
 
     def work(self, call: Call) -> Results:
-        call.doing('The drawing is read', 0.0)
+        call.doing(tr('The drawing is read'), 0.0)
         drawing = opened(call.file('DRAWING') or drawing_of(self.selected) or self.only_one(NOTHING))
         rows = rows_of(self.parameterAsSource(call.parameters, 'TABLE', call.context))
         named = numbers_of(call.text('NUMBERS'))
@@ -101,12 +104,12 @@ class EditAlgorithm(MakesDrawing):
         else:
             numbers = topmost(drawing, numbers, Proposal())
             for line in parts_said(drawing, numbers, TOLD):
-                call.say('%s; the rest of its tree is not changed' % line)
-        call.doing('The drawing is edited', 0.2)
+                call.say(tr('%s; the rest of its tree is not changed') % line)
+        call.doing(tr('The drawing is edited'), 0.2)
         out = self.out(call)
         made, refused = self.edit(call, drawing, numbers, out)
         if not made.accepted:
-            call.warn('Nothing was changed: the new drawing is the same as the old one.')
+            call.warn(tr('Nothing was changed: the new drawing is the same as the old one.'))
         return {**self.give(call, drawing, out, made, refused), **self.files(call)}
 
     def finish(self, call: Call) -> None:
@@ -128,7 +131,7 @@ class CommandAlgorithm(EditAlgorithm):
     """An edit by a command of the editor's script, a line for each element."""
 
     def define_files(self) -> None:
-        self.add_file('SCRIPT', 'Script of the edit', SCRIPTS, 'Without the lines that were refused.')
+        self.add_file('SCRIPT', tr('Script of the edit'), SCRIPTS, tr('Without the lines that were refused.'))
         super().define_files()
 
     def template(self, call: Call, drawing: Drawing) -> str:
@@ -163,5 +166,7 @@ def tell_broken(call: Call, drawing: Drawing, numbers: List[int]) -> None:
     """Says which elements stand in broken trees, so that it isn't known what belongs to them."""
     broken = [it for it in numbers if drawing.nesting.roots[it] in drawing.nesting.broken_roots]
     if broken:
-        said = "It isn't known what belongs to %s in broken trees (%s), so only these change: mend the drawing first."
+        said = tr(
+            "It isn't known what belongs to %s in broken trees (%s), so only these change: mend the drawing first."
+        )
         call.warn(said % (counted(len(broken), 'element'), few(broken)))

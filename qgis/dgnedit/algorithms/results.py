@@ -22,16 +22,18 @@ from ..marks import Boxes, Marks, sink_parameter
 from ..opening import Written, digest_of, write_layers
 from ..renewal import Renewal
 from ..rows import Wishes
+from ..translation import tr
 from ..wording import here
 from .base import DgnAlgorithm, Results
 
 REFUSED_FIELDS: Dict[str, type] = {'number': int, 'root': int, 'is': str, 'command': str, 'why': str}
-PATCHES = 'Patch files (*.patch);;All files (*)'
-SCRIPTS = 'Scripts (*.txt);;All files (*)'
+PATCHES = tr('Patch files (*.patch);;All files (*)')
+SCRIPTS = tr('Scripts (*.txt);;All files (*)')
+SAME_EDIT = tr('To make the same edit in a copy of the drawing.')
 Refusal = Tuple[Optional[int], str, str]  # the element, the command, and why
 MOST_SAID = 20  # so many refusals are said in the log
-BESIDE = "The layers of %s can't become those of the new drawing, which is opened beside it: %s"
-NOT_SHOWN = 'The layers still show %s: %s. The new drawing is written: open %s to see it.'
+BESIDE = tr("The layers of %s can't become those of the new drawing, which is opened beside it: %s")
+NOT_SHOWN = tr('The layers still show %s: %s. The new drawing is written: open %s to see it.')
 
 
 class MakesDrawing(DgnAlgorithm):
@@ -45,10 +47,10 @@ class MakesDrawing(DgnAlgorithm):
         """The new drawing, and the table of what was refused."""
         self.add_result()
         self.add(
-            sink_parameter('REFUSED', 'What was refused'),
-            'A row for each command that was refused, with its reason; the rest was done.',
+            sink_parameter('REFUSED', tr('What was refused')),
+            tr('A row for each command that was refused, with its reason; the rest was done.'),
         )
-        self.addOutput(QgsProcessingOutputNumber('REFUSED_COUNT', 'How many were refused'))
+        self.addOutput(QgsProcessingOutputNumber('REFUSED_COUNT', tr('How many were refused')))
 
     def out(self, call: Call) -> str:
         """The name of the new drawing. It raises Mistake where it may not be written, or a file beside it: one of the
@@ -58,14 +60,14 @@ class MakesDrawing(DgnAlgorithm):
         names = [out, *(it for it in beside if it)]
         places = [os.path.realpath(it) for it in names]
         if len(set(places)) < len(places):
-            raise Mistake('The new drawing and the files beside it each need a name of their own.')
+            raise Mistake(tr('The new drawing and the files beside it each need a name of their own.'))
         if places[0] in {os.path.realpath(it.drawing) for it in self.known}:
-            raise Mistake('%s is open in this project: name another file' % out)
+            raise Mistake(tr('%s is open in this project: name another file') % out)
         read = os.path.realpath(call.file('DRAWING'))  # which is never replaced, as is said when it is to be
         self.layers_file(call, 'LAYERS_FILE')
         there = [it for it, place in zip(names, places) if os.path.isfile(it) and place != read]
         if there and not call.flag('OVERWRITE'):
-            raise Mistake('%s already exists: name another file, or allow that it is replaced' % there[0])
+            raise Mistake(tr('%s already exists: name another file, or allow that it is replaced') % there[0])
         return out
 
     def only_one(self, why: str) -> str:
@@ -87,8 +89,8 @@ class MakesDrawing(DgnAlgorithm):
         for number, command, why in refused[:MOST_SAID]:
             call.warn('%s: %s' % (printable(command), printable(why)))
         if len(refused) > MOST_SAID:
-            call.warn('and %d more: see the table of what was refused' % (len(refused) - MOST_SAID))
-        call.say('%s: written' % out)
+            call.warn(tr('and %d more: see the table of what was refused') % (len(refused) - MOST_SAID))
+        call.say(tr('%s: written') % out)
         wishes = self.wishes(call, drawing)
         marks = Marks(call, 'REFUSED', REFUSED_FIELDS, wishes)
         boxes = Boxes(drawing, wishes)
@@ -110,7 +112,7 @@ class MakesDrawing(DgnAlgorithm):
             if not self.renew(call, old, new):
                 self.open(call, new, wishes)
         except Stopped:
-            call.warn('Stopped: the new drawing is written, but not opened.')
+            call.warn(tr('Stopped: the new drawing is written, but not opened.'))
 
     def renew(self, call: Call, old: Drawing, new: Drawing) -> bool:
         """Prepares that the layers of the old drawing become those of the new one; whether there are such, and they
@@ -119,7 +121,7 @@ class MakesDrawing(DgnAlgorithm):
         shown = [it for it in self.known if (it.drawing, it.digest) == (self.old, digest)]
         if not shown or call.target('LAYERS_FILE') or QgsApplication.platform() == 'qgis_process':
             return False
-        call.doing('The layers are changed', 0.5)
+        call.doing(tr('The layers are changed'), 0.5)
         made: List[Renewal] = []
         try:
             for it in shown:
@@ -139,7 +141,7 @@ class MakesDrawing(DgnAlgorithm):
     def open(self, call: Call, new: Drawing, wishes: Wishes) -> None:
         """Writes the layers of the new drawing."""
         package = call.target('LAYERS_FILE') or QgsProcessingUtils.generateTempFilename('layers.gpkg')
-        call.doing('The layers of the new drawing are written', 0.5)
+        call.doing(tr('The layers of the new drawing are written'), 0.5)
         self.written = write_layers(new, package, wishes, lambda it: call.done(0.5 + 0.4 * it))
 
     def leave(self) -> None:
@@ -177,7 +179,7 @@ def refused_row(drawing: Drawing, refused: Refusal) -> List[object]:
 def refusals_of(made: Made) -> Iterable[Refusal]:
     """What was refused of scripts, each with the element that the command names."""
     for it in made.refused:
-        yield element_of(str(it['command'])), 'line %s: %s' % (it['line'], it['command']), str(it['why'])
+        yield element_of(str(it['command'])), tr('line %s: %s') % (it['line'], it['command']), str(it['why'])
 
 
 def element_of(command: str) -> Optional[int]:

@@ -11,6 +11,7 @@ from qgis.core import QgsProcessingParameterFile, QgsProcessingParameterString
 
 from ..calls import Call
 from ..editing import folder, run_files
+from ..translation import tr
 from .base import Results, opened
 from .results import PATCHES, SCRIPTS, MakesDrawing, refusals_of
 
@@ -19,30 +20,40 @@ class RunScript(MakesDrawing):
     """Runs a script."""
 
     NAME = 'script'
-    TITLE = 'Run a script'
-    GROUP = ('files', 'Scripts and patch files')
-    SHORT = 'Runs a script of the editor on a drawing: a file, or the lines that are given.'
-    HELP = (
+    TITLE = tr('Run a script')
+    GROUP = ('files', tr('Scripts and patch files'))
+    SHORT = tr('Runs a script of the editor on a drawing: a file, or the lines that are given.')
+    HELP = tr(
         'A script has a line for each command, such as "move 12 2500 0"; its lengths are in units of resolution. '
         'Listings are in the log. Refused commands are in a table with the reason, and the rest is done. If a line '
         "isn't a command, nothing is done."
+    )
+    CHANGES = tr(
+        'The result is a new drawing, in which what the commands edit has changed. All else stays, and so does the old '
+        'drawing.'
     )
     TAGS = 'script commands'
 
     def define(self) -> None:
         self.add_drawing()
-        self.add(QgsProcessingParameterFile('SCRIPT', 'Script', fileFilter=SCRIPTS, optional=True))
-        self.add(QgsProcessingParameterString('LINES', 'Or the lines of a script', None, True, True))
+        self.add(
+            QgsProcessingParameterFile('SCRIPT', tr('Script'), fileFilter=SCRIPTS, optional=True),
+            tr('The file of a script.'),
+        )
+        self.add(
+            QgsProcessingParameterString('LINES', tr('Or the lines of a script'), None, True, True),
+            tr('Such as sym 12 3 - -, a command in each line.'),
+        )
         self.add_outcome()
 
     def work(self, call: Call) -> Results:
-        call.doing('The drawing is read', 0.0)
+        call.doing(tr('The drawing is read'), 0.0)
         script, lines = call.file('SCRIPT'), call.text('LINES')
         if bool(script) == bool(lines):
-            raise Mistake('Name a script, or give the lines of one, and not both.')
+            raise Mistake(tr('Name a script, or give the lines of one, and not both.'))
         drawing = opened(call.file('DRAWING'))
         out = self.out(call)
-        call.doing('The script runs', 0.2)
+        call.doing(tr('The script runs'), 0.2)
         with folder() as place:
             if lines:
                 file = place / 'lines.txt'
@@ -56,27 +67,34 @@ class ApplyPatch(MakesDrawing):
     """Applies a patch file."""
 
     NAME = 'patch'
-    TITLE = 'Apply a patch file'
-    GROUP = ('files', 'Scripts and patch files')
-    SHORT = 'Applies a patch file, such as a correction from another office, to a drawing.'
-    HELP = (
+    TITLE = tr('Apply a patch file')
+    GROUP = ('files', tr('Scripts and patch files'))
+    SHORT = tr('Applies a patch file, such as a correction from another office, to a drawing.')
+    HELP = tr(
         'The patch file is applied as a whole or not at all: it is refused if the drawing has other bytes than it '
         'expects, and the reason names the first place. If it was made for another drawing, check the new one.'
+    )
+    CHANGES = tr(
+        'The result is a new drawing, in which what the patch file says has changed. All else stays, and so does the '
+        'old drawing.'
     )
     TAGS = 'patch correction apply'
 
     def define(self) -> None:
         self.add_drawing()
-        self.add(QgsProcessingParameterFile('PATCH', 'Patch file', fileFilter=PATCHES))
+        self.add(
+            QgsProcessingParameterFile('PATCH', tr('Patch file'), fileFilter=PATCHES),
+            tr('The file with the edits.'),
+        )
         self.add_result()
 
     def work(self, call: Call) -> Results:
-        call.doing('The drawing is read', 0.0)
+        call.doing(tr('The drawing is read'), 0.0)
         drawing = opened(call.file('DRAWING'))
         patch, out = call.file('PATCH'), self.out(call)
         if os.path.isfile(patch) and not is_patch(patch):
-            raise Mistake("%s isn't a patch file" % patch)
-        call.doing('The patch file is applied', 0.2)
+            raise Mistake(tr("%s isn't a patch file") % patch)
+        call.doing(tr('The patch file is applied'), 0.2)
         made = run_files(call, drawing, [patch], out)
         made.accepted = len(Patch.from_bytes(read_file(patch, PATCH_LONGEST)).entries)
         return self.give(call, drawing, out, made, [])
